@@ -1,0 +1,4 @@
+pub mod Names
+pub mod Tree
+pub mod Values
+pub mod Devices

@@ -1,0 +1,13 @@
+-- Values, and how results of arithmetic wrap to 32 bits.
+use Rattle.std.specs.Prelude.{◌≡◌, ℕ, ℤ, pos, ◌+ℤ◌, ◌*ℤ◌, ◌^◌, FitsSigned}
+use Rattle.std.specs.Int.{int_wrap, w32}
+
+-- w has 32 bits and differs from n by a multiple of 2^32
+pub record IsWrapped (n w : ℤ) : Type 0 where
+  pub fits : FitsSigned w32 w
+  pub turns : ℤ
+  pub same_class : n ≡ w +ℤ turns *ℤ pos (2 ^ 32)
+
+-- the one number of 32 bits that equals n modulo 2^32
+abbrev pub wrap : ℤ → ℤ
+wrap n = int_wrap w32 n

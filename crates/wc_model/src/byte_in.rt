@@ -1,0 +1,34 @@
+ghost use Rattle.std.specs.Prelude.{◌≡◌, ℕ, List, Option, None};
+ghost use Rattle.std.specs.Io.{ReadsAtMost};
+ghost use Rattle.std.specs.Io.KnownBytes.{ReadConsumes};
+ghost use Rattle.wc_model.specs.Devices.{failures_after_read, spent_after_read};
+
+use std::io;
+
+/// A reader that counts what it did. `read` is that of `std::io::Read`.
+pub trait ByteIn {
+    /// The bytes that reads will give from here on, where they are known.
+    ghost bytes_left: { Self → Option (List ℕ) } = { λ _. None };
+
+    /// How many calls of `read` failed, up to the greatest number of 64 bits.
+    ghost failure_count: { Self → ℕ };
+
+    /// The bytes given and the calls of `read`, up to the greatest number of 64 bits.
+    ghost spent_count: { Self → ℕ };
+
+    /// Reads into the front of `buffer`, and answers how many bytes. 0 is the end, or no room.
+    fn read(&mut self, buffer: &mut [u8]) -> io::Result<usize>
+        ensures bound { ReadsAtMost result buffer.new }
+        // A failed call takes none.
+        ensures bytes { ReadConsumes (bytes_left self.old) (bytes_left self.new) result buffer.new }
+        ensures failures { failure_count self.new ≡ failures_after_read (failure_count self.old) result }
+        ensures spent { spent_count self.new ≡ spent_after_read (spent_count self.old) result };
+
+    /// How many calls of `read` failed. It stops at the greatest value.
+    fn failures(&self) -> u64
+        ensures { result ≡ failure_count self.now };
+
+    /// The bytes given and the calls of `read`. It stops at the greatest value.
+    fn spent(&self) -> u64
+        ensures { result ≡ spent_count self.now };
+}

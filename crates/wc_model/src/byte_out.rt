@@ -1,0 +1,27 @@
+ghost use Rattle.std.specs.Prelude.{◌≡◌, ℕ, List, Option, None};
+ghost use Rattle.std.specs.Io.{WritesAtMost};
+ghost use Rattle.std.specs.Io.KnownBytes.{WriteAppends};
+ghost use Rattle.wc_model.specs.Devices.{failures_after_write};
+
+use std::io;
+
+/// A writer that counts what failed. `write` is that of `std::io::Write`.
+pub trait ByteOut {
+    /// The bytes that the writer took so far, where they are known.
+    ghost bytes_taken: { Self → Option (List ℕ) } = { λ _. None };
+
+    /// How many calls of `write` failed, up to the greatest number of 64 bits.
+    ghost failure_count: { Self → ℕ };
+
+    /// Takes a front of `piece`, and answers how many bytes. To take none of a piece that has some is
+    /// a failed call, as is an error.
+    fn write(&mut self, piece: &[u8]) -> io::Result<usize>
+        ensures bound { WritesAtMost result piece.now }
+        // A failed call takes none.
+        ensures bytes { WriteAppends (bytes_taken self.old) (bytes_taken self.new) result piece.now }
+        ensures failures { failure_count self.new ≡ failures_after_write (failure_count self.old) result piece.now };
+
+    /// How many calls of `write` failed. It stops at the greatest value.
+    fn failures(&self) -> u64
+        ensures { result ≡ failure_count self.now };
+}

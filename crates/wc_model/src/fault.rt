@@ -1,0 +1,13 @@
+/// Why a library call gave no result.
+#[derive(Clone, Copy, Debug, PartialEq, Eq)]
+pub enum Fault {
+    /// The input breaks a rule.
+    Refused {
+        /// The rule's number, by the list of refusals.
+        number: u16,
+        /// The line or row that breaks it, counted from 1; 0 where no line does.
+        place: u32,
+    },
+    /// A growth was refused for want of memory.
+    Memory,
+}

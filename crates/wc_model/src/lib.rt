@@ -1,0 +1,33 @@
+//! The types that all crates of the weighing controller share, and, in `specs/`, the definitions that
+//! their contracts cite.
+#![tactic(auto)]
+
+mod block;
+mod byte_in;
+mod byte_out;
+mod code;
+mod device;
+mod fault;
+mod image;
+mod kind;
+mod operand;
+mod operator;
+mod place;
+mod source;
+mod tree;
+mod value;
+
+pub use block::StandardBlock;
+pub use byte_in::ByteIn;
+pub use byte_out::ByteOut;
+pub use code::{Code, CodeOperand};
+pub use device::Device;
+pub use fault::Fault;
+pub use image::{Image, Outputs, Steps};
+pub use kind::{Kind, SlotKind};
+pub use operand::{Operand, Word};
+pub use operator::{Condition, Operator, Storing};
+pub use place::{Path, Place};
+pub use source::{Decl, Initial, Section, Source, Unit, UnitKind};
+pub use tree::{Argument, Instr, Line};
+pub use value::Value;

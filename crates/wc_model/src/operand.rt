@@ -1,0 +1,28 @@
+use crate::value::Value;
+
+/// A piece of the text, and the line of its token.
+#[derive(Clone, Copy, Debug)]
+pub struct Word<'a> {
+    /// As it is spelled.
+    pub text: &'a [u8],
+    /// Counted from 1.
+    pub line: u32,
+}
+
+/// What an instruction works on (IEC 61131-3:2003, 3.2.2).
+#[derive(Clone, Copy, Debug)]
+pub enum Operand<'a> {
+    /// A literal. A whole number is a `Dint`, also where it serves as a BOOL.
+    Literal(Value),
+    /// A directly represented variable.
+    Address(Word<'a>),
+    /// A variable, or an instance.
+    Name(Word<'a>),
+    /// A field of an instance.
+    Field {
+        /// The instance.
+        instance: Word<'a>,
+        /// The field.
+        field: Word<'a>,
+    },
+}

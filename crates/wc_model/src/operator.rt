@@ -1,0 +1,63 @@
+/// An operator with two operands (IEC 61131-3:2003, table 52), which may also be deferred by a
+/// parenthesis.
+#[derive(Clone, Copy, Debug, PartialEq, Eq)]
+pub enum Operator {
+    /// AND and `&`.
+    And,
+    /// ANDN and `&N`: the operand is negated first.
+    Andn,
+    /// OR.
+    Or,
+    /// ORN: the operand is negated first.
+    Orn,
+    /// XOR.
+    Xor,
+    /// XORN: the operand is negated first.
+    Xorn,
+    /// ADD.
+    Add,
+    /// SUB.
+    Sub,
+    /// MUL.
+    Mul,
+    /// DIV, toward zero.
+    Div,
+    /// MOD, with the sign of the dividend.
+    Mod,
+    /// GT, greater.
+    Gt,
+    /// GE, greater or equal.
+    Ge,
+    /// EQ, equal.
+    Eq,
+    /// NE, not equal.
+    Ne,
+    /// LE, less or equal.
+    Le,
+    /// LT, less.
+    Lt,
+}
+
+/// When a jump, a call or a return acts (IEC 61131-3:2003, table 51, modifiers C and N).
+#[derive(Clone, Copy, Debug, PartialEq, Eq)]
+pub enum Condition {
+    /// Always: JMP, CAL, RET.
+    Always,
+    /// Where the current result is TRUE: JMPC, CALC, RETC.
+    IfTrue,
+    /// Where the current result is FALSE: JMPCN, CALCN, RETCN.
+    IfFalse,
+}
+
+/// What is stored of the current result (IEC 61131-3:2003, table 52).
+#[derive(Clone, Copy, Debug, PartialEq, Eq)]
+pub enum Storing {
+    /// ST: the result.
+    Result,
+    /// STN: its negation.
+    Negation,
+    /// S: TRUE where the result is TRUE, else nothing.
+    Set,
+    /// R: FALSE where the result is TRUE, else nothing.
+    Reset,
+}

@@ -1,0 +1,68 @@
+use crate::operand::Word;
+use crate::tree::Line;
+use crate::value::Value;
+use std::alloc::Global;
+
+/// A program text as a tree. Names borrow the text.
+#[derive(Debug, Drop)]
+pub struct Source<'a> {
+    /// The function blocks in text order, and then the program.
+    pub units: Vec<Unit<'a>, Global>,
+}
+
+/// What a program organisation unit is (IEC 61131-3:2003, 2.5).
+#[derive(Clone, Copy, Debug, PartialEq, Eq)]
+pub enum UnitKind {
+    /// FUNCTION_BLOCK.
+    FunctionBlock,
+    /// PROGRAM.
+    Program,
+}
+
+/// A program organisation unit (IEC 61131-3:2003, 2.5).
+#[derive(Debug, Drop)]
+pub struct Unit<'a> {
+    /// A function block or the program.
+    pub kind: UnitKind,
+    /// The line of its first keyword.
+    pub line: u32,
+    /// Its name.
+    pub name: Word<'a>,
+    /// Its declarations in text order.
+    pub declarations: Vec<Decl<'a>, Global>,
+    /// Its lines.
+    pub body: Vec<Line<'a>, Global>,
+}
+
+/// Which variables a section declares (IEC 61131-3:2003, table 16a).
+#[derive(Clone, Copy, Debug, PartialEq, Eq)]
+pub enum Section {
+    /// VAR_INPUT.
+    Input,
+    /// VAR_OUTPUT.
+    Output,
+    /// VAR.
+    Own,
+}
+
+/// A declaration: names of one type, with a value that they have at first.
+#[derive(Debug, Drop)]
+pub struct Decl<'a> {
+    /// The section in which it stands.
+    pub section: Section,
+    /// The names in text order.
+    pub names: Vec<Word<'a>, Global>,
+    /// The type.
+    pub type_name: Word<'a>,
+    /// The value after `:=`.
+    pub initial: Option<Initial>,
+}
+
+/// The value after `:=` in a declaration.
+#[derive(Clone, Copy, Debug)]
+pub struct Initial {
+    /// The literal. A whole number is a `Dint`, also where it serves as a BOOL.
+    pub value: Value,
+    /// The line of its token.
+    pub line: u32,
+}

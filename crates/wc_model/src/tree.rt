@@ -1,0 +1,100 @@
+use crate::operand::{Operand, Word};
+use crate::operator::{Condition, Operator, Storing};
+use std::alloc::Global;
+
+/// A line of a body: a label, an instruction, or both.
+#[cycle(tree)]
+#[derive(Debug, Drop)]
+pub struct Line<'a> {
+    /// The label before the instruction, with its line.
+    pub label: Option<Word<'a>>,
+    /// The instruction, which a label alone has not.
+    pub instr: Option<Instr<'a>>,
+}
+
+/// An instruction (IEC 61131-3:2003, 3.2). `line` is the line of its first token after any label.
+#[cycle(tree)]
+#[derive(Debug, Drop)]
+pub enum Instr<'a> {
+    /// LD, or LDN where negated.
+    Load {
+        /// Whether the operand is negated.
+        negated: bool,
+        /// What is loaded.
+        operand: Operand<'a>,
+        /// Its line.
+        line: u32,
+    },
+    /// ST, STN, S, R.
+    Store {
+        /// What is stored.
+        storing: Storing,
+        /// Where.
+        target: Operand<'a>,
+        /// Its line.
+        line: u32,
+    },
+    /// An operator with its operand.
+    Apply {
+        /// The operator.
+        operator: Operator,
+        /// The second operand; the first is the current result.
+        operand: Operand<'a>,
+        /// Its line.
+        line: u32,
+    },
+    /// An operator that is deferred to the `)` that closes it.
+    Defer {
+        /// The operator.
+        operator: Operator,
+        /// What the short form loads first.
+        operand: Option<Operand<'a>>,
+        /// The lines inside.
+        inside: Vec<Line<'a>, Global>,
+        /// The line of the operator.
+        line: u32,
+        /// The line of the `)`.
+        close: u32,
+    },
+    /// NOT.
+    Not {
+        /// Its line.
+        line: u32,
+    },
+    /// JMP, JMPC, JMPCN.
+    Jump {
+        /// When it acts.
+        condition: Condition,
+        /// Where it goes on.
+        label: Word<'a>,
+        /// Its line.
+        line: u32,
+    },
+    /// CAL, CALC, CALCN.
+    Call {
+        /// When it acts.
+        condition: Condition,
+        /// The instance whose block is called.
+        instance: Word<'a>,
+        /// The inputs that are assigned, in written order.
+        arguments: Vec<Argument<'a>, Global>,
+        /// Its line.
+        line: u32,
+    },
+    /// RET, RETC, RETCN.
+    Return {
+        /// When it acts.
+        condition: Condition,
+        /// Its line.
+        line: u32,
+    },
+}
+
+/// `name := value` in a call.
+#[derive(Debug, Drop)]
+pub struct Argument<'a> {
+    /// The input.
+    pub name: Word<'a>,
+    /// What it is assigned.
+    pub value: Operand<'a>,
+}
