@@ -1,4 +1,16 @@
 pub mod Names
 pub mod Tree
 pub mod Values
+pub mod Reasons
+pub mod Operators
+pub mod Blocks
+pub mod Histories
+pub mod DirectVariables
+pub mod Declarations
+pub mod Store
+pub mod Traces
+pub mod Scopes
+pub mod BlockCalls
+pub mod Meaning
+pub mod Scans
 pub mod Devices

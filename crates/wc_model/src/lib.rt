@@ -30,4 +30,4 @@ pub use operator::{Condition, Operator, Storing};
 pub use place::{Path, Place};
 pub use source::{Decl, Initial, Section, Source, Unit, UnitKind};
 pub use tree::{Argument, Instr, Line};
-pub use value::Value;
+pub use value::{Value, wrap32};

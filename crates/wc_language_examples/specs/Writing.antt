@@ -1,0 +1,76 @@
+-- Short forms for the trees of the examples. Names are written in small letters, as trees have them.
+use Rattle.std.specs.Prelude.{ℕ, Bool, true, false, List, [], ◌∷◌, Option, Some, None, ℤ, pos, codes}
+use Prim.Native.String.{String}
+use Rattle.wc_model.specs.Names.{Name}
+use Rattle.wc_model.specs.Tree.{Word, Term, Constant, Address, Variable, Field, Assignment, Step, Load, Store, Apply, Negate, Jump, Call, Return, Lines, End, Alone, Plain, Nested, Declaration, ProgramUnit, Text}
+use Rattle.wc_model.specs.declared.operator.Condition.{Condition}
+use Rattle.wc_model.specs.declared.operator.Condition.TheVariants.{Always, IfTrue, IfFalse}
+use Rattle.wc_model.specs.declared.operator.Operator.{Operator}
+use Rattle.wc_model.specs.declared.operator.Storing.{Storing}
+use Rattle.wc_model.specs.declared.operator.Storing.TheVariants.{Result, Negation, Set, Reset}
+use Rattle.wc_model.specs.declared.source.Initial.{Initial}
+use Rattle.wc_model.specs.declared.source.Section.{Section}
+use Rattle.wc_model.specs.declared.source.UnitKind.{UnitKind}
+use Rattle.wc_model.specs.declared.source.UnitKind.TheVariants.{FunctionBlock, Program}
+use Rattle.wc_model.specs.declared.value.Value.{Value}
+use Rattle.wc_model.specs.declared.value.Value.TheVariants.{Bool as Truth, Dint, Time}
+
+-- a name on a line
+abbrev pub word : ℕ → String → Word
+word line name = record { line = line; name = codes name }
+
+-- operands
+abbrev pub at : ℕ → String → Term
+at line text = Address (word line text)
+
+abbrev pub var : String → Term
+var name = Variable (codes name)
+
+abbrev pub dot : String → String → Term
+dot instance field = Field (codes instance) (codes field)
+
+abbrev pub num : ℤ → Term
+num n = Constant (Dint n)
+
+abbrev pub ms : ℕ → Term
+ms n = Constant (Time (pos n))
+
+abbrev pub yes' : Term
+yes' = Constant (Truth true)
+
+-- lines: each with its number, and then the rest
+abbrev pub ld : ℕ → Term → Lines → Lines
+ld line term rest = Plain None line (Load false term) rest
+
+abbrev pub ldn : ℕ → Term → Lines → Lines
+ldn line term rest = Plain None line (Load true term) rest
+
+abbrev pub st : ℕ → Term → Lines → Lines
+st line term rest = Plain None line (Store Result term) rest
+
+abbrev pub stn : ℕ → Term → Lines → Lines
+stn line term rest = Plain None line (Store Negation term) rest
+
+abbrev pub op : ℕ → Operator → Term → Lines → Lines
+op line operator term rest = Plain None line (Apply operator term) rest
+
+abbrev pub jump : ℕ → Condition → String → Lines → Lines
+jump line condition label rest = Plain None line (Jump condition (codes label)) rest
+
+abbrev pub call : ℕ → String → List Assignment → Lines → Lines
+call line instance arguments rest = Plain None line (Call Always (codes instance) arguments) rest
+
+abbrev pub arg : String → Term → Assignment
+arg input value = record { input = codes input; value = value }
+
+-- a line of the label and a step
+abbrev pub labelled : ℕ → String → Step → Lines → Lines
+labelled line label step rest = Plain (Some (word line label)) line step rest
+
+-- a declaration of one name, with no initial value
+abbrev pub declares : Section → ℕ → String → String → Declaration
+declares section line name type = record { section = section; names = word line name ∷ []; type_name = word line type; initial = None }
+
+-- the program P, on line 1
+abbrev pub program : List Declaration → Lines → ProgramUnit
+program declarations body = record { kind = Program; line = 1; name = word 1 "p"; spelled = codes "P"; declarations = declarations; body = body }
