@@ -1,3 +1,10 @@
 pub mod Writing
 pub mod Showing
 pub mod BoolPrograms
+pub mod NumberPrograms
+pub mod Parentheses
+pub mod Jumps
+pub mod Timers
+pub mod Counters
+pub mod CountingBlock
+pub mod Refused

@@ -1,4 +1,9 @@
-//! The definitions of the language, computed on worked programs.
+//! The definitions of the language, computed on worked programs. Each function has an empty body: its clause is the
+//! example, and the gate proves it.
 #![tactic(auto)]
 
-mod bool_programs;
+mod body_faults;
+mod declaration_faults;
+mod meaning;
+mod numbers;
+mod timers;

@@ -13,4 +13,11 @@ pub mod Scopes
 pub mod BlockCalls
 pub mod Meaning
 pub mod Scans
+pub mod Paths
+pub mod WorstPaths
+pub mod Kinds
+pub mod Checks
+pub mod DeclarationRules
+pub mod BodyRules
+pub mod Faults
 pub mod Devices

@@ -1,0 +1,36 @@
+ghost use Rattle.std.specs.Prelude.{◌≡◌, [], ◌∷◌, None};
+ghost use Rattle.wc_language_examples.specs.CountingBlock.{counting_block, two_counters};
+ghost use Rattle.wc_language_examples.specs.Refused.{refused, declaring, doing, starts_at_two};
+ghost use Rattle.wc_language_examples.specs.Writing.{at, ld, declares, labelled, yes'};
+ghost use Rattle.wc_model.specs.Faults.{declaration_fault};
+ghost use Rattle.wc_model.specs.Tree.{End, Load};
+ghost use Rattle.wc_model.specs.declared.source.Section.TheVariants.{Own, Input};
+ghost use Rattle.std.specs.Prelude.{false};
+
+/// Names: a variable declared twice in either letter case, a reserved word, a reserved label.
+pub fn names_are_refused()
+    ensures twice { declaration_fault (declaring (declares Own 2 "d" "dint" ∷ declares Own 3 "d" "bool" ∷ [])) ≡ refused 301 3 }
+    ensures reserved { declaration_fault (declaring (declares Own 2 "add" "dint" ∷ [])) ≡ refused 307 2 }
+    ensures reserved_label { declaration_fault (doing (labelled 2 "ld" (Load false yes') End)) ≡ refused 307 2 }
+{}
+
+/// Types: one that there is not, an instance that is no own variable, a first value of another kind.
+pub fn types_are_refused()
+    ensures unknown { declaration_fault (declaring (declares Own 2 "d" "foo" ∷ [])) ≡ refused 302 2 }
+    ensures not_own { declaration_fault (declaring (declares Input 2 "t" "ton" ∷ [])) ≡ refused 302 2 }
+    ensures no_bit { declaration_fault (declaring (starts_at_two ∷ [])) ≡ refused 303 2 }
+    ensures names_come_first { declaration_fault (declaring (declares Own 2 "d" "dint" ∷ declares Own 3 "d" "foo" ∷ [])) ≡ refused 301 3 }
+{}
+
+/// Addresses: one that there is not.
+pub fn addresses_are_refused()
+    ensures sixteenth { declaration_fault (doing (ld 2 (at 2 "%ix0.16") End)) ≡ refused 304 2 }
+    ensures leading_zero { declaration_fault (doing (ld 2 (at 2 "%ix0.01") End)) ≡ refused 304 2 }
+    ensures without_x { declaration_fault (doing (ld 2 (at 2 "%i0.1") End)) ≡ None }
+{}
+
+/// A text with a block and two instances breaks no rule on declarations; a block named before it is closed does.
+pub fn blocks_come_first()
+    ensures in_order { declaration_fault two_counters ≡ None }
+    ensures in_itself { declaration_fault (counting_block ∷ []) ≡ None }
+{}
