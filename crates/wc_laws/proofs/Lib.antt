@@ -1,0 +1,5 @@
+pub mod Wrapping
+pub mod Jumping
+pub mod Counting
+pub mod Delaying
+pub mod Refusing

@@ -1,0 +1,60 @@
+-- Statements about the definitions of the language.
+use Rattle.std.specs.Prelude.{◌≡◌, ℕ, List, [], ◌∷◌, ◌↔◌, Option, Some, None, ℤ}
+use Rattle.wc_model.specs.Blocks.{RTrigFields, SrFields, CtuFields, TonFields, TofFields, r_trig_step, sr_step, ctu_step, ton_step, tof_step}
+use Rattle.wc_model.specs.Checks.{Check, Refusal, IsFirstBroken, first_broken}
+use Rattle.wc_model.specs.Histories.{SrCall, CtuCall, TimerCall, FitsRTrig, FitsSr, FitsCtu, FitsTon, FitsTof}
+use Rattle.wc_model.specs.Meaning.{Place, Outcome, Done, Stuck, Running, Seeking, ahead, means}
+use Rattle.wc_model.specs.Names.{Name}
+use Rattle.wc_model.specs.Reasons.{NoLabelAhead}
+use Rattle.wc_model.specs.Store.{Store}
+use Rattle.wc_model.specs.Tree.{Lines}
+use Rattle.wc_model.specs.Values.{IsWrapped, wrap}
+use Rattle.wc_model.specs.declared.value.Value.{Value}
+use Rattle.std.specs.Prelude.{Bool}
+
+-- `wrap n` is of 32 bits and of n's class, and no other number is
+abbrev pub WrapIsTheOnlyOne : Type 0
+WrapIsTheOnlyOne = (n w : ℤ) → IsWrapped n w ↔ (w ≡ wrap n)
+
+-- what the lines from a label on mean
+abbrev pub from_label : Place → Option Lines → Option Value → Store → Outcome
+from_label here None result store = Stuck NoLabelAhead
+from_label here (Some rest) result store = means here rest (Running result) store
+
+-- a run that looks for a label goes on with the rest of the lines from the first that carries it, and is stuck if none does
+abbrev pub JumpGoesOnAhead : Type 0
+JumpGoesOnAhead = (here : Place) (lines : Lines) (label : Name) (result : Option Value) (store : Store) →
+    means here lines (Seeking label result) store ≡ from_label here (ahead lines label) result store
+
+-- the call that the fields of a block are set up for
+abbrev pub sr_call : SrFields → SrCall
+sr_call f = record { s1 = f.s1; r = f.r }
+
+abbrev pub ctu_call : CtuFields → CtuCall
+ctu_call f = record { cu = f.cu; r = f.r; pv = f.pv }
+
+abbrev pub ton_call : ℕ → TonFields → TimerCall
+ton_call now f = record { moment = now; input = f.input; pt = f.pt }
+
+abbrev pub tof_call : ℕ → TofFields → TimerCall
+tof_call now f = record { moment = now; input = f.input; pt = f.pt }
+
+-- fields that fit a history fit, after a call, that history followed by this call
+abbrev pub RTrigKeepsItsHistory : Type 0
+RTrigKeepsItsHistory = (clks : List Bool) (f : RTrigFields) → FitsRTrig clks f → FitsRTrig (f.clk ∷ clks) (r_trig_step f)
+
+abbrev pub SrKeepsItsHistory : Type 0
+SrKeepsItsHistory = (calls : List SrCall) (f : SrFields) → FitsSr calls f → FitsSr (sr_call f ∷ calls) (sr_step f)
+
+abbrev pub CtuKeepsItsHistory : Type 0
+CtuKeepsItsHistory = (calls : List CtuCall) (f : CtuFields) → FitsCtu calls f → FitsCtu (ctu_call f ∷ calls) (ctu_step f)
+
+abbrev pub TonKeepsItsHistory : Type 0
+TonKeepsItsHistory = (now : ℕ) (calls : List TimerCall) (f : TonFields) → FitsTon calls f → FitsTon (ton_call now f ∷ calls) (ton_step now f)
+
+abbrev pub TofKeepsItsHistory : Type 0
+TofKeepsItsHistory = (now : ℕ) (calls : List TimerCall) (f : TofFields) → FitsTof calls f → FitsTof (tof_call now f ∷ calls) (tof_step now f)
+
+-- the first fault is a broken rule, and no rule that is asked before it is broken; and there is one where any is broken
+abbrev pub FirstFaultIsFirst : Type 0
+FirstFaultIsFirst = (checks : List Check) (refusal : Refusal) → (first_broken checks ≡ Some refusal) ↔ IsFirstBroken checks refusal
