@@ -20,4 +20,5 @@ pub mod Checks
 pub mod DeclarationRules
 pub mod BodyRules
 pub mod Faults
+pub mod Views
 pub mod Devices
