@@ -1,12 +1,11 @@
 -- A call of an instance of a standard block: its fields are taken from the store, and written back after one step.
-use Rattle.std.specs.Prelude.{ℕ, Bool, List, [], ◌∷◌, ◌++◌, Option, Some, None, Result, Ok, Err, ℤ, codes}
+use Rattle.std.specs.Prelude.{ℕ, Bool, List, [], ◌∷◌, ◌++◌, Option, Some, Result, Ok, Err, ℤ, codes}
 use Rattle.wc_model.specs.Blocks.{RTrigFields, SrFields, CtuFields, TonFields, TofFields, r_trig_step, sr_step, ctu_step, ton_step, tof_step}
 use Rattle.wc_model.specs.Names.{Name}
 use Rattle.wc_model.specs.Reasons.{Reason, NoSuchPlace}
-use Rattle.wc_model.specs.Store.{Location, Path, Content, Plain, Moment, Phase, Store, with_content}
+use Rattle.wc_model.specs.Store.{Path, Content, Plain, Moment, Phase, Store, with_content}
 use Rattle.wc_model.specs.declared.block.StandardBlock.{StandardBlock}
 use Rattle.wc_model.specs.declared.block.StandardBlock.TheVariants.{RTrig, Sr, Ctu, Ton, Tof}
-use Rattle.wc_model.specs.declared.value.Value.{Value}
 use Rattle.wc_model.specs.declared.value.Value.TheVariants.{Bool as Truth, Dint, Time}
 
 -- the content of a field of an instance

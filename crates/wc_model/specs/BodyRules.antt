@@ -1,6 +1,6 @@
 -- The rules on bodies, 401 to 410, in text order, and in the order of this table inside a line (IEC 61131-3:2003, 3.2 and
 -- 2.5.2; kinds, the order and the rule on labels ahead are the profile's own).
-use Rattle.std.specs.Prelude.{ℕ, ◌==◌, zero, suc, nat_le, Bool, true, false, not, ◌&&◌, ◌||◌, List, [], ◌∷◌, ◌++◌, map, Option, Some, None, is_some, if◌then◌else◌, ℤ, pos, negsuc}
+use Rattle.std.specs.Prelude.{ℕ, zero, Bool, true, false, not, ◌&&◌, ◌||◌, List, [], ◌∷◌, ◌++◌, Option, Some, None, is_some, if◌then◌else◌, pos}
 use Rattle.std.specs.List.{flat_map, list_any}
 use Rattle.wc_model.specs.Checks.{Check, asks, Spot, spots_of}
 use Rattle.wc_model.specs.DeclarationRules.{is_bit}
@@ -9,17 +9,16 @@ use Rattle.wc_model.specs.Kinds.{is_kind, same_result, elementary_kind, term_kin
 use Rattle.wc_model.specs.Meaning.{carries, takes_truth}
 use Rattle.wc_model.specs.Names.{Name}
 use Rattle.wc_model.specs.Scopes.{Scope, Entity, entity_of, type_of, is_input}
-use Rattle.wc_model.specs.Tree.{Word, Term, Constant, Address, Variable, Field, Assignment, Step, Load, Store, Apply, Negate, Jump, Call, Return, Lines, End, Alone, Plain, Nested, ProgramUnit, Text}
+use Rattle.wc_model.specs.Tree.{Word, Term, Constant, Assignment, Step, Load, Store, Apply, Negate, Jump, Call, Return, Lines, End, Alone, Plain, Nested, Text}
 use Rattle.wc_model.specs.declared.kind.Kind.{Kind}
-use Rattle.wc_model.specs.declared.kind.Kind.TheVariants.{Bool as KindBool, Dint as KindDint, Time as KindTime}
+use Rattle.wc_model.specs.declared.kind.Kind.TheVariants.{Bool as KindBool, Dint as KindDint}
 use Rattle.wc_model.specs.declared.operator.Condition.{Condition}
 use Rattle.wc_model.specs.declared.operator.Condition.TheVariants.{Always, IfTrue, IfFalse}
 use Rattle.wc_model.specs.declared.operator.Operator.{Operator}
 use Rattle.wc_model.specs.declared.operator.Operator.TheVariants.{And, Andn, Or, Orn, Xor, Xorn, Add, Sub, Mul, Div, Mod, Gt, Ge, Eq, Ne, Le, Lt}
 use Rattle.wc_model.specs.declared.operator.Storing.{Storing}
 use Rattle.wc_model.specs.declared.operator.Storing.TheVariants.{Result as StoreResult, Negation, Set, Reset}
-use Rattle.wc_model.specs.declared.value.Value.{Value}
-use Rattle.wc_model.specs.declared.value.Value.TheVariants.{Bool as Truth, Dint, Time}
+use Rattle.wc_model.specs.declared.value.Value.TheVariants.{Dint}
 
 -- 401: there is such a thing; 405 and 404: it may be read or written from here
 abbrev pub is_readable : Option Entity → Bool

@@ -1,16 +1,15 @@
 -- The rules on names, types, initial values, frames and addresses, 301 to 308, in text order (IEC 61131-3:2003, 2.1.2,
 -- 2.4 and 2.5; limits and reserved words are the profile's own).
-use Rattle.std.specs.Prelude.{ℕ, ◌+◌, ◌*◌, ◌==◌, nat_le, Bool, true, false, not, ◌&&◌, ◌||◌, List, [], ◌∷◌, ◌++◌, map, length, Option, Some, None, is_some, if◌then◌else◌, codes, ℤ, pos, negsuc}
+use Rattle.std.specs.Prelude.{ℕ, ◌+◌, ◌*◌, nat_le, Bool, true, false, not, ◌&&◌, ◌||◌, List, [], ◌∷◌, ◌++◌, map, length, Option, Some, None, is_some, if◌then◌else◌, codes, ℤ, pos, negsuc}
 use Rattle.std.specs.List.{flat_map, list_any}
-use Rattle.wc_model.specs.Checks.{Check, asks, Spot, spots_of}
-use Rattle.wc_model.specs.Declarations.{Variable, VariableType, Elementary, Standard, Block, same_name, declared_by, elementary_types, standard_blocks, named_in, is_block, block_named, type_named}
+use Rattle.wc_model.specs.Checks.{Check, asks, spots_of}
+use Rattle.wc_model.specs.Declarations.{VariableType, Elementary, Standard, Block, same_name, is_block, block_named, type_named}
 use Rattle.wc_model.specs.DirectVariables.{variable_at, direct_variables}
 use Rattle.wc_model.specs.Names.{Name}
 use Rattle.wc_model.specs.Store.{block_places, variable_places}
-use Rattle.wc_model.specs.Tree.{Word, Term, Constant, Address, Variable as NameOf, Field, Assignment, Step, Load, Store, Apply, Negate, Jump, Call, Return, Lines, End, Alone, Plain, Nested, Declaration, ProgramUnit, Text}
+use Rattle.wc_model.specs.Tree.{Word, Term, Constant, Address, Variable as NameOf, Field, Step, Load, Store, Apply, Negate, Jump, Call, Return, Lines, End, Alone, Plain, Nested, Declaration, ProgramUnit, Text}
 use Rattle.wc_model.specs.declared.kind.Kind.{Kind}
 use Rattle.wc_model.specs.declared.kind.Kind.TheVariants.{Bool as KindBool, Dint as KindDint, Time as KindTime}
-use Rattle.wc_model.specs.declared.source.Initial.{Initial}
 use Rattle.wc_model.specs.declared.source.Section.{Section}
 use Rattle.wc_model.specs.declared.source.Section.TheVariants.{Input, Output, Own}
 use Rattle.wc_model.specs.declared.value.Value.{Value}

@@ -1,19 +1,16 @@
 -- What the names of a unit stand for (IEC 61131-3:2003, 2.4.3 and 2.5.2). Units that stand before come newest first.
-use Rattle.std.specs.Prelude.{ℕ, Bool, true, false, List, [], ◌∷◌, ◌++◌, map, Option, Some, None, find, codes, if◌then◌else◌}
+use Rattle.std.specs.Prelude.{ℕ, Bool, true, false, List, [], ◌∷◌, map, Option, Some, None, find, codes, if◌then◌else◌}
 use Rattle.std.specs.List.{flat_map}
 use Rattle.std.specs.Str.{bytes_eq}
 use Rattle.wc_model.specs.Names.{Name}
-use Rattle.wc_model.specs.Tree.{Word, Declaration, ProgramUnit}
+use Rattle.wc_model.specs.Tree.{Declaration, ProgramUnit}
 use Rattle.wc_model.specs.declared.block.StandardBlock.{StandardBlock}
 use Rattle.wc_model.specs.declared.block.StandardBlock.TheVariants.{RTrig, Sr, Ctu, Ton, Tof}
 use Rattle.wc_model.specs.declared.kind.Kind.{Kind}
 use Rattle.wc_model.specs.declared.kind.Kind.TheVariants.{Bool as KindBool, Dint as KindDint, Time as KindTime}
-use Rattle.wc_model.specs.declared.kind.SlotKind.{SlotKind}
-use Rattle.wc_model.specs.declared.kind.SlotKind.TheVariants.{Bool as SlotBool, Dint as SlotDint, Time as SlotTime, Moment as SlotMoment, Phase as SlotPhase}
 use Rattle.wc_model.specs.declared.source.Initial.{Initial}
 use Rattle.wc_model.specs.declared.source.Section.{Section}
-use Rattle.wc_model.specs.declared.source.Section.TheVariants.{Input, Output, Own}
-use Rattle.wc_model.specs.declared.source.UnitKind.{UnitKind}
+use Rattle.wc_model.specs.declared.source.Section.TheVariants.{Input, Output}
 use Rattle.wc_model.specs.declared.source.UnitKind.TheVariants.{FunctionBlock, Program}
 
 -- one name and the other are the same

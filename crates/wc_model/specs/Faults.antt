@@ -4,7 +4,6 @@ use Rattle.wc_model.specs.BodyRules.{text_body_checks}
 use Rattle.wc_model.specs.Checks.{Refusal, Spot, spots_of, first_broken}
 use Rattle.wc_model.specs.DeclarationRules.{text_declaration_checks}
 use Rattle.wc_model.specs.Paths.{IsPath}
-use Rattle.wc_model.specs.Scopes.{Scope}
 use Rattle.wc_model.specs.Traces.{Item}
 use Rattle.wc_model.specs.Tree.{ProgramUnit, Text}
 

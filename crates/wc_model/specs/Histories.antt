@@ -1,6 +1,6 @@
 -- What the outputs of the standard blocks are after a history of calls, told without any field (IEC 61131-3:2003,
 -- 2.5.2.3: the timing diagrams of table 38 and the bodies of tables 34 to 36). A history has the newest call first.
-use Rattle.std.specs.Prelude.{◌≡◌, ℕ, ◌-◌, min, Bool, true, false, not, ◌&&◌, ◌||◌, ℤ, pos, int_le, nat_le, nat_lt, List, [], ◌∷◌, Option, Some, None, IsTrue, find, count_by, take_while, if◌then◌else◌}
+use Rattle.std.specs.Prelude.{◌≡◌, ℕ, ◌-◌, min, Bool, true, false, not, ◌&&◌, ◌||◌, ℤ, pos, int_le, nat_le, nat_lt, List, [], ◌∷◌, Some, None, find, count_by, take_while}
 use Rattle.wc_model.specs.Blocks.{RTrigFields, SrFields, CtuFields, TonFields, TofFields, preset}
 
 -- a call of SR, of CTU, and of a timer with its moment; a call of R_TRIG is its CLK

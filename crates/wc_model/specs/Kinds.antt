@@ -1,20 +1,17 @@
 -- The kind of the current result at each line, from all ways in (IEC 61131-3:2003, 3.2.2; the rule that all ways in
 -- agree is the profile's own).
-use Rattle.std.specs.Prelude.{ℕ, ◌==◌, Bool, true, false, not, ◌&&◌, ◌||◌, List, [], ◌∷◌, ◌++◌, Option, Some, None, if◌then◌else◌, pos, negsuc, zero, suc}
+use Rattle.std.specs.Prelude.{ℕ, Bool, true, false, List, [], ◌∷◌, ◌++◌, Option, Some, None, if◌then◌else◌}
 use Rattle.std.specs.List.{list_all}
 use Rattle.wc_model.specs.Declarations.{VariableType, Elementary, Standard, Block, same_name}
-use Rattle.wc_model.specs.Meaning.{carries, takes_truth}
+use Rattle.wc_model.specs.Meaning.{carries}
 use Rattle.wc_model.specs.Names.{Name}
-use Rattle.wc_model.specs.Scopes.{Scope, Entity, entity_of}
-use Rattle.wc_model.specs.Tree.{Word, Term, Constant, Address, Variable, Field, Assignment, Step, Load, Store, Apply, Negate, Jump, Call, Return, Lines, End, Alone, Plain, Nested}
+use Rattle.wc_model.specs.Scopes.{Scope, entity_of}
+use Rattle.wc_model.specs.Tree.{Word, Term, Step, Load, Store, Apply, Negate, Jump, Call, Return, Lines, End, Alone, Plain, Nested}
 use Rattle.wc_model.specs.declared.kind.Kind.{Kind}
 use Rattle.wc_model.specs.declared.kind.Kind.TheVariants.{Bool as KindBool, Dint as KindDint, Time as KindTime}
-use Rattle.wc_model.specs.declared.operator.Condition.{Condition}
-use Rattle.wc_model.specs.declared.operator.Condition.TheVariants.{Always, IfTrue, IfFalse}
+use Rattle.wc_model.specs.declared.operator.Condition.TheVariants.{Always}
 use Rattle.wc_model.specs.declared.operator.Operator.{Operator}
-use Rattle.wc_model.specs.declared.operator.Operator.TheVariants.{And, Andn, Or, Orn, Xor, Xorn, Add, Sub, Mul, Div, Mod, Gt, Ge, Eq, Ne, Le, Lt}
-use Rattle.wc_model.specs.declared.value.Value.{Value}
-use Rattle.wc_model.specs.declared.value.Value.TheVariants.{Bool as Truth, Dint, Time}
+use Rattle.wc_model.specs.declared.operator.Operator.TheVariants.{Gt, Ge, Eq, Ne, Le, Lt}
 
 -- one kind and the other are the same
 abbrev pub is_kind : Kind → Kind → Bool

@@ -1,12 +1,12 @@
 -- The paths of a body: traces in which every conditional may go either way, whatever the data, through all depths of
 -- calls. The bound of a unit is the length of a longest one. (The profile's own.)
-use Rattle.std.specs.Prelude.{◌≡◌, ℕ, ◌≤◌, ◌<◌, List, [], ◌∷◌, ◌++◌, map, length, ◌⊎◌, Option, Some, None, Bool, true, false}
+use Rattle.std.specs.Prelude.{◌≡◌, ℕ, ◌≤◌, List, [], ◌∷◌, ◌++◌, map, length, ◌⊎◌, Option, Some, None, true, false}
 use Rattle.wc_model.specs.Declarations.{VariableType, Elementary, Standard, Block, same_name}
 use Rattle.wc_model.specs.Meaning.{carries}
 use Rattle.wc_model.specs.Names.{Name}
 use Rattle.wc_model.specs.Scopes.{Scope, type_of}
-use Rattle.wc_model.specs.Traces.{Item, At, Argument, StandardBody, Called, own_lines}
-use Rattle.wc_model.specs.Tree.{Word, Term, Assignment, Step, Load, Store, Apply, Negate, Jump, Call, Return, Lines, End, Alone, Plain, Nested, ProgramUnit}
+use Rattle.wc_model.specs.Traces.{Item, At, Argument, StandardBody, Called}
+use Rattle.wc_model.specs.Tree.{Word, Assignment, Step, Load, Store, Apply, Negate, Jump, Call, Return, Lines, End, Alone, Plain, Nested, ProgramUnit}
 use Rattle.wc_model.specs.declared.operator.Condition.{Condition}
 use Rattle.wc_model.specs.declared.operator.Condition.TheVariants.{Always, IfTrue, IfFalse}
 
@@ -27,7 +27,6 @@ abbrev pub EndsThere : Way → List Item → Type 0
 EndsThere Onward path = path ≡ []
 EndsThere Back path = path ≡ []
 EndsThere (Toward label) path = ⊥
-
 
 -- the items of a call that is made, behind its own line: its arguments, and its block's body
 abbrev pub IsBodyPath : (Name → List Item → Type 0) → Option VariableType → List Item → Type 0

@@ -1,15 +1,14 @@
 -- One scan: the process image is written to the inputs, the program's body is executed, and the outputs are read.
-use Rattle.std.specs.Prelude.{ℕ, ◌+◌, ◌*◌, ◌/◌, ◌%◌, ◌^◌, ◌==◌, Bool, true, false, List, [], ◌∷◌, ◌++◌, map, reverse, length, sum, Option, Some, None, Result, Ok, Err, ℤ, pos, slice_index_or, if◌then◌else◌}
-use Rattle.wc_model.specs.DirectVariables.{DirectVariable, InputBit, StatusBit, Weight, OutputBit, OutputWord, numbers_below}
+use Rattle.std.specs.Prelude.{ℕ, ◌*◌, ◌/◌, ◌%◌, ◌^◌, ◌==◌, Bool, true, List, [], ◌∷◌, ◌++◌, map, reverse, length, sum, Some, None, Result, Ok, ℤ, pos, slice_index_or}
+use Rattle.wc_model.specs.DirectVariables.{InputBit, StatusBit, Weight, OutputBit, OutputWord, numbers_below}
 use Rattle.wc_model.specs.Meaning.{Outcome, Done, Stuck, program_means}
 use Rattle.wc_model.specs.Reasons.{Reason, NoSuchPlace}
 use Rattle.wc_model.specs.Store.{Location, Direct, Content, Plain, Store, store_of, initial_store, value_at}
-use Rattle.wc_model.specs.Traces.{Item}
 use Rattle.wc_model.specs.Tree.{ProgramUnit, Text}
 use Rattle.wc_model.specs.declared.image.Image.{Image}
 use Rattle.wc_model.specs.declared.image.Outputs.{Outputs}
 use Rattle.wc_model.specs.declared.value.Value.{Value}
-use Rattle.wc_model.specs.declared.value.Value.TheVariants.{Bool as Truth, Dint, Time}
+use Rattle.wc_model.specs.declared.value.Value.TheVariants.{Bool as Truth, Dint}
 
 -- whether bit i of a number is 1
 abbrev pub is_bit_set : ℕ → ℕ → Bool

@@ -1,11 +1,11 @@
 -- What a term names from the body in which it stands (IEC 61131-3:2003, 2.4.3.2 and 2.5.2.1): inputs of an instance are
 -- written from outside, its outputs read.
-use Rattle.std.specs.Prelude.{ℕ, Bool, true, false, not, List, [], ◌∷◌, ◌++◌, Option, Some, None, if◌then◌else◌}
-use Rattle.wc_model.specs.Declarations.{Variable, VariableType, Elementary, Standard, Block, Member, type_named, variable_named, members_of, member_named}
-use Rattle.wc_model.specs.DirectVariables.{DirectVariable, variable_at, kind_of_direct, is_output}
+use Rattle.std.specs.Prelude.{Bool, true, false, not, List, [], ◌∷◌, ◌++◌, Option, Some, None, if◌then◌else◌}
+use Rattle.wc_model.specs.Declarations.{Variable, VariableType, Elementary, Member, type_named, variable_named, members_of, member_named}
+use Rattle.wc_model.specs.DirectVariables.{variable_at, kind_of_direct, is_output}
 use Rattle.wc_model.specs.Names.{Name}
 use Rattle.wc_model.specs.Store.{Location, Direct, Path}
-use Rattle.wc_model.specs.Tree.{Word, Term, Constant, Address, Variable as NameOf, Field, ProgramUnit}
+use Rattle.wc_model.specs.Tree.{Term, Constant, Address, Variable as NameOf, Field, ProgramUnit}
 use Rattle.wc_model.specs.declared.kind.Kind.{Kind}
 use Rattle.wc_model.specs.declared.kind.Kind.TheVariants.{Bool as KindBool, Dint as KindDint, Time as KindTime}
 use Rattle.wc_model.specs.declared.source.Section.{Section}

@@ -1,8 +1,8 @@
 -- What a `Source` stands for: the text as a tree, its names in one letter case.
-use Rattle.std.specs.Prelude.{ℕ, Bool, List, [], ◌∷◌, map, Option, Some, None}
+use Rattle.std.specs.Prelude.{List, [], ◌∷◌, map, Option, Some, None}
 use Rattle.std.specs.Option.{option_map}
 use Rattle.wc_model.specs.Names.{Name, name_of}
-use Rattle.wc_model.specs.Tree.{Word, Term, Constant, Address, Variable, Field, Assignment, Step, Load, Store, Apply, Negate, Jump, Call, Return, Lines, End, Alone, Plain, Nested, Declaration, ProgramUnit, Text}
+use Rattle.wc_model.specs.Tree.{Word, Term, Constant, Address, Variable, Field, Assignment, Load, Store, Apply, Negate, Jump, Call, Return, Lines, End, Alone, Plain, Nested, Declaration, ProgramUnit, Text}
 use Rattle.wc_model.specs.declared.operand.Operand.{Operand}
 use Rattle.wc_model.specs.declared.operand.Operand.TheVariants as operands
 use Rattle.wc_model.specs.declared.operand.Word.{Word as Spelled}
@@ -10,7 +10,6 @@ use Rattle.wc_model.specs.declared.source.Decl.{Decl}
 use Rattle.wc_model.specs.declared.source.Source.{Source}
 use Rattle.wc_model.specs.declared.source.Unit.{Unit as CodeUnit}
 use Rattle.wc_model.specs.declared.tree.Argument.{Argument}
-use Rattle.wc_model.specs.declared.tree.Instr.{Instr, fold-Instr}
 use Rattle.wc_model.specs.declared.tree.Instr.TheOpen.{Instr-F, Line-F}
 use Rattle.wc_model.specs.declared.tree.Line.{Line, fold-Line}
 

@@ -1,11 +1,11 @@
 -- The worst path of a unit: among the longest the one that, where two ways are equally long, takes the next line. (The
 -- profile's own.)
-use Rattle.std.specs.Prelude.{◌≡◌, ◌≢◌, ℕ, ◌≤◌, ◌<◌, List, ◌++◌, length, Option, Some}
+use Rattle.std.specs.Prelude.{◌≡◌, ◌≢◌, ℕ, ◌≤◌, ◌<◌, List, ◌++◌, length, Some}
 use Rattle.wc_model.specs.Names.{Name}
 use Rattle.wc_model.specs.Paths.{Way, Onward, arriving_way, EndsThere, MayStep, MayPass, Joined, IsNestedPath, IsPathFrom, IsBlockPath}
 use Rattle.wc_model.specs.Scopes.{Scope}
 use Rattle.wc_model.specs.Traces.{Item, own_lines}
-use Rattle.wc_model.specs.Tree.{Word, Lines, End, Alone, Plain, Nested}
+use Rattle.wc_model.specs.Tree.{Lines, End, Alone, Plain, Nested}
 
 -- steps that stay with the next line
 abbrev pub StaysOnward : (List Item → Way → Type 0) → List Item → Way → Type 0

@@ -7,6 +7,8 @@ mod byte_in;
 mod byte_out;
 mod code;
 mod device;
+mod device_in;
+mod device_out;
 mod fault;
 mod image;
 mod kind;
@@ -14,6 +16,8 @@ mod operand;
 mod operator;
 mod place;
 mod source;
+#[cfg(test)]
+mod tests;
 mod tree;
 mod value;
 

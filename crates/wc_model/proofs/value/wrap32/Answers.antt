@@ -1,5 +1,5 @@
 -- The remainder of a number of 64 bits, as the bits of one of 32, is what `int_wrap` leaves.
-use Rattle.std.proofs.Common.{ap, ◌∙◌, to_z, of_z, FitsSigned, w32, w64, ◌≡◌, rules, ℤ, pos, ◌^◌, unsigned_abs}
+use Rattle.std.proofs.Common.{ap, ◌∙◌, to_z, FitsSigned, w32, w64, rules, pos, ◌^◌, unsigned_abs}
 use Rattle.std.proofs.lemmas.Int.{to_z-of_z}
 use Rattle.std.specs.Int.{int_wrap, int_rem_euclid}
 use Rattle.wc_model.proofs.value.wrap32.Goals as goal
