@@ -1,5 +1,5 @@
 -- Programs of BOOL logic.
-use Rattle.std.specs.Prelude.{List, [], ◌∷◌, None}
+use Rattle.std.specs.Prelude.{[], ◌∷◌, None}
 use Rattle.wc_language_examples.specs.Writing.{word, at, ld, ldn, st, stn, op, program, var}
 use Rattle.wc_model.specs.Tree.{Text, End}
 use Rattle.wc_model.specs.declared.operator.Operator.TheVariants.{And, Or}

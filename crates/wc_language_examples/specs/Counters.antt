@@ -1,5 +1,5 @@
 -- A program with a CTU.
-use Rattle.std.specs.Prelude.{List, [], ◌∷◌, pos}
+use Rattle.std.specs.Prelude.{[], ◌∷◌, pos}
 use Rattle.wc_language_examples.specs.Writing.{at, dot, ld, st, call, arg, declares, program, num}
 use Rattle.wc_model.specs.Tree.{Text, End}
 use Rattle.wc_model.specs.declared.source.Section.TheVariants.{Own}

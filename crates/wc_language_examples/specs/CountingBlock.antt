@@ -1,5 +1,5 @@
 -- A block of the text that counts edges, and a program with two instances of it.
-use Rattle.std.specs.Prelude.{List, [], ◌∷◌, codes, None, pos}
+use Rattle.std.specs.Prelude.{[], ◌∷◌, codes, None, pos}
 use Rattle.wc_language_examples.specs.Writing.{word, at, var, dot, ld, st, op, call, arg, declares, num}
 use Rattle.wc_model.specs.Tree.{Text, End, Plain, Return, ProgramUnit}
 use Rattle.wc_model.specs.declared.operator.Condition.TheVariants.{IfFalse}

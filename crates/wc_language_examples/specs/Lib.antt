@@ -8,3 +8,4 @@ pub mod Timers
 pub mod Counters
 pub mod CountingBlock
 pub mod Refused
+pub mod PathScopes

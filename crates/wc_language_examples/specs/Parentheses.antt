@@ -1,5 +1,5 @@
 -- A deferred operator, in both forms.
-use Rattle.std.specs.Prelude.{List, [], ◌∷◌, Some, None}
+use Rattle.std.specs.Prelude.{[], ◌∷◌, Some, None}
 use Rattle.wc_language_examples.specs.Writing.{at, ld, st, op, program}
 use Rattle.wc_model.specs.Tree.{Text, End, Nested}
 use Rattle.wc_model.specs.declared.operator.Operator.TheVariants.{And, Or}

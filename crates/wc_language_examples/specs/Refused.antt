@@ -1,17 +1,14 @@
 -- Short programs that break one rule each. In each, PROGRAM P stands on line 1.
-use Rattle.std.specs.Prelude.{ℕ, List, [], ◌∷◌, ◌++◌, Option, Some, None, pos, negsuc, true, false, codes}
-use Rattle.wc_language_examples.specs.Writing.{word, at, var, dot, num, yes', ld, st, op, jump, call, arg, labelled, declares, program}
+use Rattle.std.specs.Prelude.{ℕ, List, [], ◌∷◌, Option, Some, pos, codes}
+use Rattle.wc_language_examples.specs.Writing.{word, at, var, num, ld, jump, labelled, declares, program}
 use Rattle.wc_language_examples.specs.CountingBlock.{counting_block}
 use Rattle.wc_model.specs.Checks.{Refusal}
-use Rattle.wc_model.specs.Tree.{Text, Lines, End, Nested, Plain, Return, Store as StoreStep, Load, Declaration, ProgramUnit}
-use Rattle.wc_model.specs.declared.operator.Condition.TheVariants.{Always, IfTrue}
-use Rattle.wc_model.specs.declared.operator.Operator.TheVariants.{And, Add, Div, Eq}
+use Rattle.wc_model.specs.Tree.{Text, Lines, End, Store as StoreStep, Declaration}
+use Rattle.wc_model.specs.declared.operator.Condition.TheVariants.{IfTrue}
 use Rattle.wc_model.specs.declared.operator.Storing.TheVariants.{Result}
-use Rattle.wc_model.specs.declared.source.Initial.{Initial}
-use Rattle.wc_model.specs.declared.source.Section.{Section}
-use Rattle.wc_model.specs.declared.source.Section.TheVariants.{Input, Own}
+use Rattle.wc_model.specs.declared.source.Section.TheVariants.{Own}
 use Rattle.wc_model.specs.declared.source.UnitKind.TheVariants.{Program}
-use Rattle.wc_model.specs.declared.value.Value.TheVariants.{Bool as Truth, Dint}
+use Rattle.wc_model.specs.declared.value.Value.TheVariants.{Dint}
 
 -- refused with this number at this line
 abbrev pub refused : ℕ → ℕ → Option Refusal

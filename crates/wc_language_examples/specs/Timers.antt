@@ -1,11 +1,10 @@
 -- The timers: a program with a TON, and the calls of a TOF.
-use Rattle.std.specs.Prelude.{ℕ, Bool, true, false, List, [], ◌∷◌, map, pos, Some, None}
-use Rattle.wc_language_examples.specs.Writing.{word, at, var, dot, ld, st, jump, call, arg, labelled, declares, program, ms}
+use Rattle.std.specs.Prelude.{ℕ, Bool, true, false, List, [], ◌∷◌, pos, Some}
+use Rattle.wc_language_examples.specs.Writing.{word, at, var, dot, ld, st, jump, arg, labelled, declares, program, ms}
 use Rattle.wc_model.specs.Blocks.{TofFields, tof_step}
 use Rattle.wc_model.specs.Histories.{TimerCall}
-use Rattle.wc_model.specs.Tree.{Text, End, Plain, Call, Declaration}
+use Rattle.wc_model.specs.Tree.{Text, ProgramUnit, End, Call, Declaration}
 use Rattle.wc_model.specs.declared.operator.Condition.TheVariants.{Always, IfFalse}
-use Rattle.wc_model.specs.declared.source.Initial.{Initial}
 use Rattle.wc_model.specs.declared.source.Section.TheVariants.{Own}
 use Rattle.wc_model.specs.declared.value.Value.TheVariants.{Time}
 
@@ -17,12 +16,14 @@ timer_declarations =
     ∷ []
 
 -- LD %IX0.1 / JMPCN L / LD T#1s / ST p / L: CAL t(IN := %IX0.0, PT := p) / LD t.Q / ST %QX0.0
-abbrev pub on_delay : Text
-on_delay =
+abbrev pub on_delay_program : ProgramUnit
+on_delay_program =
     program timer_declarations
     (ld 3 (at 3 "%ix0.1") (jump 4 IfFalse "l" (ld 5 (ms 1000) (st 6 (var "p")
     (labelled 7 "l" (Call Always (word 7 "t").name (arg "in" (at 7 "%ix0.0") ∷ arg "pt" (var "p") ∷ [])) (ld 8 (dot "t" "q") (st 9 (at 9 "%qx0.0") End)))))))
-    ∷ []
+
+abbrev pub on_delay : Text
+on_delay = on_delay_program ∷ []
 
 -- a TOF before any call, with a preset time of 100 ms
 abbrev pub new_tof : TofFields

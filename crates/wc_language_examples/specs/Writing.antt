@@ -1,18 +1,13 @@
 -- Short forms for the trees of the examples. Names are written in small letters, as trees have them.
-use Rattle.std.specs.Prelude.{ℕ, Bool, true, false, List, [], ◌∷◌, Option, Some, None, ℤ, pos, codes}
+use Rattle.std.specs.Prelude.{ℕ, true, false, List, [], ◌∷◌, Some, None, ℤ, pos, codes}
 use Prim.Native.String.{String}
-use Rattle.wc_model.specs.Names.{Name}
-use Rattle.wc_model.specs.Tree.{Word, Term, Constant, Address, Variable, Field, Assignment, Step, Load, Store, Apply, Negate, Jump, Call, Return, Lines, End, Alone, Plain, Nested, Declaration, ProgramUnit, Text}
+use Rattle.wc_model.specs.Tree.{Word, Term, Constant, Address, Variable, Field, Assignment, Step, Load, Store, Apply, Jump, Call, Lines, Plain, Declaration, ProgramUnit}
 use Rattle.wc_model.specs.declared.operator.Condition.{Condition}
-use Rattle.wc_model.specs.declared.operator.Condition.TheVariants.{Always, IfTrue, IfFalse}
+use Rattle.wc_model.specs.declared.operator.Condition.TheVariants.{Always}
 use Rattle.wc_model.specs.declared.operator.Operator.{Operator}
-use Rattle.wc_model.specs.declared.operator.Storing.{Storing}
-use Rattle.wc_model.specs.declared.operator.Storing.TheVariants.{Result, Negation, Set, Reset}
-use Rattle.wc_model.specs.declared.source.Initial.{Initial}
+use Rattle.wc_model.specs.declared.operator.Storing.TheVariants.{Result, Negation}
 use Rattle.wc_model.specs.declared.source.Section.{Section}
-use Rattle.wc_model.specs.declared.source.UnitKind.{UnitKind}
-use Rattle.wc_model.specs.declared.source.UnitKind.TheVariants.{FunctionBlock, Program}
-use Rattle.wc_model.specs.declared.value.Value.{Value}
+use Rattle.wc_model.specs.declared.source.UnitKind.TheVariants.{Program}
 use Rattle.wc_model.specs.declared.value.Value.TheVariants.{Bool as Truth, Dint, Time}
 
 -- a name on a line

@@ -6,4 +6,5 @@ mod body_faults;
 mod declaration_faults;
 mod meaning;
 mod numbers;
+mod paths;
 mod timers;

@@ -1,5 +1,5 @@
 -- The steps of TON and TOF agree with their histories.
-use Rattle.std.proofs.Common.{◌≡◌, ℕ, zero, suc, ◌+◌, ◌-◌, Bool, true, false, not, ◌&&◌, ◌||◌, cond, List, [], ◌∷◌, ℤ, pos, take, refl, sym, ap, subst, ◌∙◌}
+use Rattle.std.proofs.Common.{◌≡◌, ℕ, Bool, true, false, not, ◌||◌, cond, List, [], ◌∷◌, refl, sym, ap, subst, ◌∙◌}
 use Rattle.std.proofs.lemmas.List.Sums.{take_while-cons}
 use Rattle.std.specs.Prelude.{take_while, if◌then◌else◌}
 use Rattle.wc_laws.specs.Laws.{ton_call, tof_call}
@@ -27,8 +27,8 @@ ton_runs now f start told e = record { run = refl; start_is = e; q = ap (λ s. (
 pub ton_fits : (now : ℕ) (calls : List TimerCall) (f : TonFields) → FitsTon calls f → FitsTon (ton_call now f ∷ calls) (ton_step now f)
 ton_fits now calls f h =
     elim f.input as (λ b. elim b as (λ x. Type 0) [ true ↦ FitsTonRun (ton_call now f) (run_start (ton_call now f) calls) (if b then ton_running f now (if f.run then f.start else now) else ton_idle f) | false ↦ FitsTonIdle (if b then ton_running f now (if f.run then f.start else now) else ton_idle f) ]) [
-      true ↦ ton_runs now f (if f.run then f.start else now) (oldest_moment now (running calls)) (ton_start now calls f h)
-    | false ↦ record { run = refl; q = refl; et = refl }
+      | true ↦ ton_runs now f (if f.run then f.start else now) (oldest_moment now (running calls)) (ton_start now calls f h)
+      | false ↦ record { run = refl; q = refl; et = refl }
     ]
 
 -- the calls since the last with IN TRUE
@@ -57,12 +57,12 @@ pub tof_releases : (now : ℕ) (calls : List TimerCall) (f : TofFields) → Fits
 tof_releases now [] f h = never_again now f h
 tof_releases now (c ∷ earlier) f h =
     subst (λ (held : List TimerCall). elim (c.input || was_held earlier) as (λ x. Type 0) [ true ↦ FitsTofFalling (tof_call now f) (oldest_moment now held) (tof_released f.phase f now) | false ↦ FitsTofNever (tof_released f.phase f now) ])
-      (sym (take_while-cons (λ (d : TimerCall). not d.input) c earlier))
-      (tof_lets_go now f c earlier c.input h)
+    (sym (take_while-cons (λ (d : TimerCall). not d.input) c earlier))
+    (tof_lets_go now f c earlier c.input h)
 
 pub tof_fits : (now : ℕ) (calls : List TimerCall) (f : TofFields) → FitsTof calls f → FitsTof (tof_call now f ∷ calls) (tof_step now f)
 tof_fits now calls f h =
     elim f.input as (λ b. elim b as (λ x. Type 0) [ true ↦ FitsTofHeld (if b then tof_held f else tof_released f.phase f now) | false ↦ FitsTofReleased (tof_call now f) calls (if b then tof_held f else tof_released f.phase f now) ]) [
-      true ↦ record { phase = refl; q = refl; et = refl }
-    | false ↦ tof_releases now calls f h
+      | true ↦ record { phase = refl; q = refl; et = refl }
+      | false ↦ tof_releases now calls f h
     ]

@@ -1,8 +1,8 @@
 -- A run that looks for a label goes on with `ahead` of the lines.
-use Rattle.std.proofs.Common.{◌≡◌, List, [], ◌∷◌, Option, Some, None, refl, ◌∙◌, Bool, true, false}
+use Rattle.std.proofs.Common.{◌≡◌, [], Option, Some, refl, ◌∙◌, true, false}
 use Rattle.std.specs.Prelude.{if◌then◌else◌}
 use Rattle.wc_laws.specs.Laws.{from_label}
-use Rattle.wc_model.specs.Meaning.{Place, Outcome, Done, Stuck, Mode, Running, Seeking, ahead, means, after, carries, line_effect, nested_effect, continued}
+use Rattle.wc_model.specs.Meaning.{Place, Outcome, Done, Stuck, Running, Seeking, ahead, means, after, carries, line_effect, nested_effect, continued}
 use Rattle.wc_model.specs.Names.{Name}
 use Rattle.wc_model.specs.Store.{Store}
 use Rattle.wc_model.specs.Tree.{Lines, End, Alone, Plain, Nested}
@@ -18,16 +18,16 @@ pub seeking : (here : Place) (lines : Lines) (label : Name) (result : Option Val
 seeking here End label result store = refl
 seeking here (Alone word rest) label result store =
     elim (carries (Some word) label) as (λ b. means here rest (if b then Running result else Seeking label result) store ≡ from_label here (if b then Some (Alone word rest) else ahead rest label) result store) [
-      true ↦ refl
-    | false ↦ seeking here rest label result store
+      | true ↦ refl
+      | false ↦ seeking here rest label result store
     ]
 seeking here (Plain word line step rest) label result store =
     elim (carries word label) as (λ b. continued (line_effect here line step (if b then Running result else Seeking label result) store) (means here rest) ≡ from_label here (if b then Some (Plain word line step rest) else ahead rest label) result store) [
-      true ↦ refl
-    | false ↦ after-nil (means here rest (Seeking label result) store) ∙ seeking here rest label result store
+      | true ↦ refl
+      | false ↦ after-nil (means here rest (Seeking label result) store) ∙ seeking here rest label result store
     ]
 seeking here (Nested word line operator operand inside close rest) label result store =
     elim (carries word label) as (λ b. continued (nested_effect here line operator operand close (means here inside) (if b then Running result else Seeking label result) store) (means here rest) ≡ from_label here (if b then Some (Nested word line operator operand inside close rest) else ahead rest label) result store) [
-      true ↦ refl
-    | false ↦ after-nil (means here rest (Seeking label result) store) ∙ seeking here rest label result store
+      | true ↦ refl
+      | false ↦ after-nil (means here rest (Seeking label result) store) ∙ seeking here rest label result store
     ]

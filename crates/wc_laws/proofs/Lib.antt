@@ -3,3 +3,4 @@ pub mod Jumping
 pub mod Counting
 pub mod Delaying
 pub mod Refusing
+pub mod Longest

@@ -1,5 +1,5 @@
 -- `wrap` gives the one number of 32 bits in a class modulo 2^32.
-use Rattle.std.proofs.Common.{◌≡◌, ℕ, suc, ◌+◌, ◌-◌, ◌*◌, ◌/◌, ◌%◌, ◌<◌, ◌≤◌, ◌^◌, ℤ, pos, negsuc, ◌+ℤ◌, ◌*ℤ◌, FitsSigned, to_z, arith, refl, sym, ap, ◌∙◌, ◌⊎◌, inl, inr, ⊎_elim}
+use Rattle.std.proofs.Common.{◌≡◌, ℕ, suc, ◌-◌, ◌/◌, ◌%◌, ◌<◌, ◌≤◌, ◌^◌, ℤ, pos, negsuc, ◌+ℤ◌, ◌*ℤ◌, FitsSigned, to_z, arith, ap, ◌∙◌, ⊎_elim}
 use Rattle.std.proofs.lemmas.Bool.{cases_lt}
 use Rattle.std.proofs.lemmas.Int.{ints, SFits-int_wrap}
 use Rattle.std.proofs.Math.Facts.{to_z-neg}
@@ -23,9 +23,9 @@ to_z-high r high below =
 pub from_remainder : (n : ℤ) (r : ℕ) (q : ℤ) → FitsSigned w32 (to_z w32 r) → r < 2 ^ 32 → n ≡ pos r +ℤ q *ℤ pos (2 ^ 32) → IsWrapped n (to_z w32 r)
 from_remainder n r q fits below e =
     ⊎_elim
-      (λ low. record { fits = fits; turns = q; same_class = omega (arith, ints) })
-      (λ high. record { fits = fits; turns = suc_ℤ q; same_class = omega (arith, ints, suc_ℤ-*ℤ q (pos (2 ^ 32)), to_z-high r high below) })
-      (cases_lt r (2 ^ 31))
+    (λ low. record { fits = fits; turns = q; same_class = omega (arith, ints) })
+    (λ high. record { fits = fits; turns = suc_ℤ q; same_class = omega (arith, ints, suc_ℤ-*ℤ q (pos (2 ^ 32)), to_z-high r high below) })
+    (cases_lt r (2 ^ 31))
 
 -- `wrap n` is one
 pub wrap_is_wrapped : (n : ℤ) → IsWrapped n (wrap n)

@@ -1,14 +1,18 @@
 -- Statements about the definitions of the language.
-use Rattle.std.specs.Prelude.{◌≡◌, ℕ, List, [], ◌∷◌, ◌↔◌, Option, Some, None, ℤ}
+use Rattle.std.specs.Prelude.{◌≡◌, ℕ, List, ◌∷◌, ◌↔◌, ◌⊎◌, length, Option, Some, None, ℤ}
 use Rattle.wc_model.specs.Blocks.{RTrigFields, SrFields, CtuFields, TonFields, TofFields, r_trig_step, sr_step, ctu_step, ton_step, tof_step}
 use Rattle.wc_model.specs.Checks.{Check, Refusal, IsFirstBroken, first_broken}
 use Rattle.wc_model.specs.Histories.{SrCall, CtuCall, TimerCall, FitsRTrig, FitsSr, FitsCtu, FitsTon, FitsTof}
-use Rattle.wc_model.specs.Meaning.{Place, Outcome, Done, Stuck, Running, Seeking, ahead, means}
+use Rattle.wc_model.specs.Meaning.{Place, Outcome, Stuck, Running, Seeking, ahead, means}
 use Rattle.wc_model.specs.Names.{Name}
+use Rattle.wc_model.specs.Paths.{IsPath, IsLongest}
 use Rattle.wc_model.specs.Reasons.{NoLabelAhead}
 use Rattle.wc_model.specs.Store.{Store}
+use Rattle.wc_model.specs.Traces.{Item}
 use Rattle.wc_model.specs.Tree.{Lines}
 use Rattle.wc_model.specs.Values.{IsWrapped, wrap}
+use Rattle.wc_model.specs.WorstPaths.{IsWorstPath}
+use Rattle.wc_model.specs.Scopes.{Scope}
 use Rattle.wc_model.specs.declared.value.Value.{Value}
 use Rattle.std.specs.Prelude.{Bool}
 
@@ -58,3 +62,11 @@ TofKeepsItsHistory = (now : ℕ) (calls : List TimerCall) (f : TofFields) → Fi
 -- the first fault is a broken rule, and no rule that is asked before it is broken; and there is one where any is broken
 abbrev pub FirstFaultIsFirst : Type 0
 FirstFaultIsFirst = (checks : List Check) (refusal : Refusal) → (first_broken checks ≡ Some refusal) ↔ IsFirstBroken checks refusal
+
+-- a worst path of a unit is a path of it, and none is longer
+abbrev pub WorstPathIsLongest : Type 0
+WorstPathIsLongest = (scope : Scope) (path : List Item) → IsWorstPath scope path → IsLongest scope (length path)
+
+-- each unit has a worst path, or no path at all
+abbrev pub EachUnitHasAWorstPath : Type 0
+EachUnitHasAWorstPath = (scope : Scope) → ((path : List Item) × IsWorstPath scope path) ⊎ ((path : List Item) → IsPath scope path → ⊥)
