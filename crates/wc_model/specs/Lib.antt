@@ -2,3 +2,11 @@ pub mod Names
 pub mod Tree
 pub mod Values
 pub mod Devices
+pub mod Characters
+pub mod Digits
+pub mod WholeNumbers
+pub mod Durations
+pub mod Shapes
+pub mod Lexemes
+pub mod Blanks
+pub mod Tokens
