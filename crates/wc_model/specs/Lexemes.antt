@@ -1,7 +1,8 @@
 -- The lexemes of a text: which of its pieces may be tokens, and which one stands at a place (IEC 61131-3:2003, 2.1).
-use Rattle.std.specs.Prelude.{◌≡◌, ℕ, ◌≤◌, Bool, true, false, not, ◌&&◌, ◌||◌, List, [], ◌∷◌, ◌++◌, length, drop, IsTrue, Some, if◌then◌else◌, codes}
+use Rattle.std.specs.Prelude.{◌≡◌, ℕ, ◌≤◌, Bool, true, false, not, ◌&&◌, ◌||◌, List, [], ◌∷◌, ◌++◌, length, drop, IsTrue, Some, if◌then◌else◌}
 use Rattle.std.specs.Char.{is_ascii_digit}
 use Rattle.std.specs.List.{list_all}
+use Rattle.std.specs.Str.{byte}
 use Rattle.wc_model.specs.Characters.{begins, is_address_character, is_identifier_character, is_minus, is_number_character, is_percent, is_sign, is_star, starts_identifier}
 use Rattle.wc_model.specs.Shapes.{Shape, Opening, AndNot, mark_of}
 
@@ -26,11 +27,11 @@ may_stand_before _ after = true
 -- The piece may be a token where `after` follows it. What it may say is another question: each of these can have a fault.
 pub data Lexeme (piece after : List ℕ) : Type 0 where
   Run : IsTrue (is_run piece) → Lexeme piece after
-  Typed : (type value : List ℕ) → piece ≡ type ++ codes "#" ++ value → IsTrue (is_run type) → IsTrue (is_literal_value value) → Lexeme piece after
+  Typed : (type value : List ℕ) → piece ≡ type ++ byte "#" ∷ value → IsTrue (is_run type) → IsTrue (is_literal_value value) → Lexeme piece after
   Unsigned : IsTrue (is_unsigned_run piece) → Lexeme piece after
   Signed : (sign : ℕ) (number : List ℕ) → piece ≡ sign ∷ number → IsTrue (is_sign sign) → IsTrue (is_unsigned_run number) → Lexeme piece after
   Sign : (sign : ℕ) → piece ≡ sign ∷ [] → IsTrue (is_sign sign) → Lexeme piece after
-  Place : (place : List ℕ) → piece ≡ codes "%" ++ place → IsTrue (list_all is_address_character place) → Lexeme piece after
+  Place : (place : List ℕ) → piece ≡ byte "%" ∷ place → IsTrue (list_all is_address_character place) → Lexeme piece after
   Marked : (shape : Shape) → mark_of piece ≡ Some shape → IsTrue (may_stand_before shape after) → Lexeme piece after
 
 -- the piece is the longest lexeme where it stands

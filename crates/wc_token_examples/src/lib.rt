@@ -1,13 +1,7 @@
-// A library with one function.
+//! Worked examples and laws of the tokens of a text. Each function is a statement: its body is empty, and its
+//! `ensures` is proved.
 #![tactic(auto)]
 
-ghost use Rattle.std.specs.Prelude.{◌≡◌};
-ghost use Rattle.wc_token_examples.specs.Echo.{echo_of};
-
-// The `ensures` clause is the contract: what `echo` returns is `echo_of` of its argument, a definition
-// in `specs/Echo.antt`, which a caller's clause can cite too.
-pub fn echo(x: usize) -> usize
-    ensures { result ≡ echo_of x }
-{
-    x
-}
+mod durations;
+mod identifiers;
+mod numbers;
