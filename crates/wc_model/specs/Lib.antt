@@ -10,3 +10,4 @@ pub mod Shapes
 pub mod Lexemes
 pub mod Blanks
 pub mod Tokens
+pub mod TokenLaws
