@@ -1,3 +1,5 @@
 pub mod Reach
 pub mod TokenSteps
 pub mod TokenLaws
+pub mod Attained
+pub mod FoundTokens
