@@ -2,6 +2,9 @@
 //! `ensures` is proved.
 #![tactic(auto)]
 
+mod cuts;
 mod durations;
+mod faults;
 mod identifiers;
+mod laws;
 mod numbers;
