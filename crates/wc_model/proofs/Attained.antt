@@ -54,6 +54,7 @@ digit_goes_on b h = or_left _ _ (or_left _ _ (or_left _ _ (or_left _ _ (or_left 
 
 -- ---- what stands behind a `#`
 
+-- what a typed literal takes behind its `#`, as long as the look ahead
 pub record ValueFront (rest : List ℕ) : Type 0 where
   pub value : List ℕ
   pub after : List ℕ
@@ -61,6 +62,7 @@ pub record ValueFront (rest : List ℕ) : Type 0 where
   pub form : is_literal_value value ≡ true
   pub full : value_reach rest ≡ length value
 
+-- it stands behind every `#`
 pub value_front : (rest : List ℕ) → ValueFront rest
 value_front [] = record { value = []; after = []; whole = refl; form = refl; full = refl }
 value_front (b ∷ rest) =
@@ -83,7 +85,7 @@ value_front (b ∷ rest) =
 -- ---- the lexemes
 
 -- an identifier, where no `#` follows
-run_attained : (b : ℕ) (rest : List ℕ) → starts_identifier b ≡ true → hash_reach (drop (prefix_len is_identifier_character (b ∷ rest)) (b ∷ rest)) ≡ 0 → Attained (b ∷ rest)
+pub run_attained : (b : ℕ) (rest : List ℕ) → starts_identifier b ≡ true → hash_reach (drop (prefix_len is_identifier_character (b ∷ rest)) (b ∷ rest)) ≡ 0 → Attained (b ∷ rest)
 run_attained b rest h none = record {
   piece = take (prefix_len is_identifier_character (b ∷ rest)) (b ∷ rest);
   after = drop (prefix_len is_identifier_character (b ∷ rest)) (b ∷ rest);
@@ -93,7 +95,7 @@ run_attained b rest h none = record {
 }
 
 -- a typed literal, where a `#` follows
-typed_attained : (b c : ℕ) (rest more : List ℕ) → starts_identifier b ≡ true → drop (prefix_len is_identifier_character (b ∷ rest)) (b ∷ rest) ≡ c ∷ more → is_hash c ≡ true → Attained (b ∷ rest)
+pub typed_attained : (b c : ℕ) (rest more : List ℕ) → starts_identifier b ≡ true → drop (prefix_len is_identifier_character (b ∷ rest)) (b ∷ rest) ≡ c ∷ more → is_hash c ≡ true → Attained (b ∷ rest)
 typed_attained b c rest more h e hash =
     let n = prefix_len is_identifier_character (b ∷ rest) in
     let type : List ℕ = take n (b ∷ rest) in
@@ -109,7 +111,8 @@ typed_attained b c rest more h e hash =
       full = reach_word b rest h ∙ omega (arith, taken, front.full, length-append type (35 ∷ front.value), length-prefix_len is_identifier_character (b ∷ rest));
     }
 
-word_attained : (b : ℕ) (rest : List ℕ) → starts_identifier b ≡ true → Attained (b ∷ rest)
+-- an identifier or a typed literal
+pub word_attained : (b : ℕ) (rest : List ℕ) → starts_identifier b ≡ true → Attained (b ∷ rest)
 word_attained b rest h = go (drop (prefix_len is_identifier_character (b ∷ rest)) (b ∷ rest)) refl
   where
     go : (tail : List ℕ) → drop (prefix_len is_identifier_character (b ∷ rest)) (b ∷ rest) ≡ tail → Attained (b ∷ rest)
@@ -118,7 +121,8 @@ word_attained b rest h = go (drop (prefix_len is_identifier_character (b ∷ res
         elim (is_hash c) as (λ v. is_hash c ≡ v → Attained (b ∷ rest))
         [ true ↦ λ hash. typed_attained b c rest more h e hash | false ↦ λ other. run_attained b rest h (ap hash_reach e ∙ cond-false (is_hash c) _ _ other) ] refl
 
-number_attained : (b : ℕ) (rest : List ℕ) → is_ascii_digit b ≡ true → Attained (b ∷ rest)
+-- a number without a sign
+pub number_attained : (b : ℕ) (rest : List ℕ) → is_ascii_digit b ≡ true → Attained (b ∷ rest)
 number_attained b rest h = record {
   piece = take (prefix_len is_number_character (b ∷ rest)) (b ∷ rest);
   after = drop (prefix_len is_number_character (b ∷ rest)) (b ∷ rest);
@@ -127,7 +131,8 @@ number_attained b rest h = record {
   full = reach_digit b rest h ∙ sym (length-prefix_len is_number_character (b ∷ rest));
 }
 
-sign_attained : (b : ℕ) (rest : List ℕ) → is_sign b ≡ true → Attained (b ∷ rest)
+-- a number with a sign, or a sign alone
+pub sign_attained : (b : ℕ) (rest : List ℕ) → is_sign b ≡ true → Attained (b ∷ rest)
 sign_attained b [] h = record { piece = b ∷ []; after = []; whole = refl; lexeme = Sign b refl h; full = reach_sign b [] h }
 sign_attained b (c ∷ rest) h =
     elim (is_ascii_digit c) as (λ v. is_ascii_digit c ≡ v → Attained (b ∷ c ∷ rest))
@@ -140,7 +145,8 @@ sign_attained b (c ∷ rest) h =
       }
     | false ↦ λ other. record { piece = b ∷ []; after = c ∷ rest; whole = refl; lexeme = Sign b refl h; full = reach_sign b (c ∷ rest) h ∙ cond-false (is_ascii_digit c) _ _ other } ] refl
 
-place_attained : (rest : List ℕ) → Attained (37 ∷ rest)
+-- an address
+pub place_attained : (rest : List ℕ) → Attained (37 ∷ rest)
 place_attained rest = record {
   piece = 37 ∷ take (prefix_len is_address_character rest) rest;
   after = drop (prefix_len is_address_character rest) rest;
@@ -158,13 +164,14 @@ mark_lexeme piece rest h = go (mark_of piece) refl h
     go (Some shape) e may = Marked shape e may
 
 -- a mark of one byte, where none of two bytes stands
-single_attained : (b : ℕ) (rest : List ℕ) → starts_mark b ≡ true → is_pair_mark b rest ≡ false → 1 ≤ mark_reach b rest → Attained (b ∷ rest)
+pub single_attained : (b : ℕ) (rest : List ℕ) → starts_mark b ≡ true → is_pair_mark b rest ≡ false → 1 ≤ mark_reach b rest → Attained (b ∷ rest)
 single_attained b rest h no_pair some =
     elim (is_mark_before (b ∷ []) rest) as (λ v. is_mark_before (b ∷ []) rest ≡ v → Attained (b ∷ rest))
     [ true ↦ λ single. record { piece = b ∷ []; after = rest; whole = refl; lexeme = mark_lexeme (b ∷ []) rest single; full = reach_mark b rest h ∙ cond-false (is_pair_mark b rest) _ _ no_pair ∙ cond-true (is_mark_before (b ∷ []) rest) _ _ single }
     | false ↦ λ none. let zero_reach : mark_reach b rest ≡ 0 = cond-false (is_pair_mark b rest) _ _ no_pair ∙ cond-false (is_mark_before (b ∷ []) rest) _ _ none in absurd (omega arith) ] refl
 
-mark_attained : (b : ℕ) (rest : List ℕ) → starts_mark b ≡ true → 1 ≤ mark_reach b rest → Attained (b ∷ rest)
+-- a mark of two bytes or of one
+pub mark_attained : (b : ℕ) (rest : List ℕ) → starts_mark b ≡ true → 1 ≤ mark_reach b rest → Attained (b ∷ rest)
 mark_attained b [] h some = single_attained b [] h refl some
 mark_attained b (c ∷ rest) h some =
     elim (is_mark_before (b ∷ c ∷ []) rest) as (λ v. is_mark_before (b ∷ c ∷ []) rest ≡ v → Attained (b ∷ c ∷ rest))
@@ -179,3 +186,7 @@ attained b rest some = ⊎_elim (λ word. word_attained b rest word) (λ no_word
     last word digit sign percent =
         let mark : starts_mark b ≡ true = not_from_false _ (or_from _ _ (or_from _ _ (or_from _ _ word digit) sign) percent) in
         mark_attained b rest mark (subst (λ n. 1 ≤ n) (reach_mark b rest mark) some)
+
+-- what is as long as the look ahead is the longest lexeme
+pub attained_longest : (rest : List ℕ) → (here : Attained rest) → IsLongest here.piece here.after
+attained_longest rest here = longest_at here.piece here.after here.lexeme (ap reach here.whole ∙ here.full)

@@ -3,8 +3,8 @@ use Rattle.std.proofs.Common.{◌≡◌, ◌≢◌, ℕ, zero, suc, ◌+◌, ◌
 use Rattle.std.proofs.lemmas.Bool.{and_parts, or_cases, cond-true, cond-false, eqb-true, cases_lt}
 use Rattle.std.specs.Cmp.Lexicographic.{bytes_decides}
 use Rattle.std.specs.List.{starts_with}
-use Rattle.wc_model.proofs.Attained.{Attained, attained}
-use Rattle.wc_model.proofs.Reach.{longest_at, reach}
+use Rattle.wc_model.proofs.Attained.{Attained, attained, attained_longest}
+use Rattle.wc_model.proofs.Reach.{reach}
 use Rattle.wc_model.proofs.TokenSteps.{none_in_reach, blank_is_filled, lexeme_is_filled}
 use Rattle.wc_model.specs.Blanks.{Blank, Space, Tab, Return, Comment, IsComment, comment_opening, comment_closing, from_bracket, starts_with_bracket}
 use Rattle.wc_model.specs.Characters.{begins, is_line_feed, is_star}
@@ -93,6 +93,7 @@ record FromBracket (text : List ℕ) : Type 0 where
   whole : front ++ from_bracket text ≡ text
   bracket : (from_bracket text ≡ []) ⊎ (starts_with_bracket (from_bracket text) ≡ true)
 
+-- it is so for every text
 from_bracket_is : (text : List ℕ) → FromBracket text
 from_bracket_is [] = record { front = []; whole = refl; bracket = inl refl }
 from_bracket_is (b ∷ rest) =
@@ -116,6 +117,7 @@ closed_holds inside after e =
     let left : drop count (40 ∷ 42 ∷ inside) ≡ after = ap (drop count) (sym split) ∙ drop_at piece after count long in
     Comment (record { inside = inside; opens = take-append-drop count (40 ∷ 42 ∷ inside); closes = e ∙ ap (λ l. comment_closing ++ l) (sym left) })
 
+-- what stands where a comment opens
 comment_holds : (inside : List ℕ) → Holds (40 ∷ 42 ∷ inside) (sight_in_comment inside (from_bracket inside))
 comment_holds inside = ⊎_elim (λ none. subst (λ l. Holds (40 ∷ 42 ∷ inside) (sight_in_comment inside l)) (sym none) (Unclosed inside refl none)) (λ starts. ⊎_elim opened closed (or_cases _ _ starts)) (from_bracket_is inside).bracket
   where
@@ -164,7 +166,7 @@ outside_holds b rest no_comment =
     go no_space (suc n) some =
         let here = attained b rest (omega (arith, some)) in
         let long : length here.piece ≡ suc n = sym here.full ∙ some in
-        let longest = longest_at here.piece here.after here.lexeme (ap reach here.whole ∙ here.full) in
+        let longest = attained_longest (b ∷ rest) here in
         let same : here.piece ≡ take (suc n) (b ∷ rest) = sym (take_at here.piece here.after (suc n) long) ∙ ap (take (suc n)) here.whole in
         let left : here.after ≡ drop (suc n) (b ∷ rest) = sym (drop_at here.piece here.after (suc n) long) ∙ ap (drop (suc n)) here.whole in
         shape_holds (b ∷ rest) (suc n) (subst₂ IsLongest same left longest)
@@ -183,6 +185,7 @@ sight_holds b rest =
 
 -- ---- what is found is what the definitions say
 
+-- what is not empty has a byte
 filled_length : (xs : List ℕ) → xs ≢ [] → 1 ≤ length xs
 filled_length [] filled = absurd (filled refl)
 filled_length (x ∷ xs) filled = omega arith
@@ -192,10 +195,12 @@ abbrev pub Claim : (before rest : List ℕ) → Result (List Token) (ℕ × ℕ)
 Claim before rest (Ok tokens) = Cuts AtEnd before rest tokens
 Claim before rest (Err fault) = (tokens : List Token) × Cuts (Faulty fault.0 fault.1) before rest tokens
 
+-- a token before what is found behind it
 token_claims : (before rest : List ℕ) (shape : Shape) (piece after : List ℕ) → piece ++ after ≡ rest → IsLongest piece after → shape_of piece ≡ Ok shape → (behind : Result (List Token) (ℕ × ℕ)) → Claim (before ++ piece) after behind → Claim before rest (with_token (token_behind before shape piece) behind)
 token_claims before rest shape piece after e longest h (Ok tokens) more = Taken shape piece after e longest h more
 token_claims before rest shape piece after e longest h (Err fault) more = (token_behind before shape piece ∷ more.0, Taken shape piece after e longest h more.1)
 
+-- a blank before what is found behind it
 blank_claims : (before rest piece after : List ℕ) → piece ++ after ≡ rest → Blank piece after → (behind : Result (List Token) (ℕ × ℕ)) → Claim (before ++ piece) after behind → Claim before rest behind
 blank_claims before rest piece after e blank (Ok tokens) more = Skipped piece after e blank more
 blank_claims before rest piece after e blank (Err fault) more = (more.0, Skipped piece after e blank more.1)

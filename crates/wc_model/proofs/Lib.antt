@@ -3,3 +3,4 @@ pub mod TokenSteps
 pub mod TokenLaws
 pub mod Attained
 pub mod FoundTokens
+pub mod TokenSlices

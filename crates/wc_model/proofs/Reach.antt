@@ -130,6 +130,7 @@ is_short_mark (b ∷ []) = starts_mark b
 is_short_mark (b ∷ c ∷ []) = starts_mark b
 is_short_mark (b ∷ c ∷ d ∷ rest) = false
 
+-- every mark is so short
 pub mark_is_short : (piece : List ℕ) (shape : Shape) → mark_of piece ≡ Some shape → is_short_mark piece ≡ true
 mark_is_short piece shape found = mark_passes (λ p s. is_short_mark p) piece shape refl found
 
@@ -139,12 +140,14 @@ marked piece rest shape found may = subst (λ o. option_map_or (λ s. may_stand_
 
 -- ---- no lexeme is longer
 
+-- behind a `#`
 value_within : (value after : List ℕ) → IsTrue (is_literal_value value) → length value ≤ value_reach (value ++ after)
 value_within [] after h = omega arith
 value_within (b ∷ value) after h =
     elim (is_minus b) as (λ v. list_all is_number_character (drop (cond v 1 0) (b ∷ value)) ≡ true → suc (length value) ≤ cond v (1 + prefix_len is_number_character (value ++ after)) (prefix_len is_number_character (b ∷ value ++ after)))
     [ true ↦ λ all. omega (arith, prefix_all is_number_character value after all) | false ↦ λ all. prefix_all is_number_character (b ∷ value) after all ] h
 
+-- an identifier
 run_within : (piece after : List ℕ) → IsTrue (is_run piece) → length piece ≤ reach (piece ++ after)
 run_within [] after h = omega arith
 run_within (b ∷ run) after h =
@@ -159,6 +162,7 @@ word_reach_typed type rest all =
     let run : prefix_len is_identifier_character text ≡ length type = prefix_stops is_identifier_character type (35 ∷ rest) all refl in
     ap (λ n. n + hash_reach (drop n text)) run ∙ ap (λ left. length type + hash_reach left) (drop_at type (35 ∷ rest) (length type) refl)
 
+-- a typed literal
 typed_within : (type value after : List ℕ) → IsTrue (is_run type) → IsTrue (is_literal_value value) → length (type ++ 35 ∷ value) ≤ reach ((type ++ 35 ∷ value) ++ after)
 typed_within [] value after h k = absurd (cc)
 typed_within (b ∷ run) value after h k =
@@ -167,12 +171,14 @@ typed_within (b ∷ run) value after h k =
     subst (λ text. length (b ∷ run ++ 35 ∷ value) ≤ reach text) (sym (append_assoc (b ∷ run) (35 ∷ value) after))
     (subst (λ n. length (b ∷ run ++ 35 ∷ value) ≤ n) (sym full) (omega (arith, length-append run (35 ∷ value), value_within value after k)))
 
+-- a number without a sign
 unsigned_within : (piece after : List ℕ) → IsTrue (is_unsigned_run piece) → length piece ≤ reach (piece ++ after)
 unsigned_within [] after h = omega arith
 unsigned_within (b ∷ run) after h =
     let both = and_parts (is_ascii_digit b) _ h in
     subst (λ n. suc (length run) ≤ n) (sym (reach_digit b (run ++ after) both.0)) (prefix_all is_number_character (b ∷ run) after both.1)
 
+-- a number with a sign
 signed_within : (sign : ℕ) (number after : List ℕ) → IsTrue (is_sign sign) → IsTrue (is_unsigned_run number) → suc (length number) ≤ reach (sign ∷ number ++ after)
 signed_within sign [] after h k = absurd (cc)
 signed_within sign (b ∷ run) after h k =
@@ -180,10 +186,12 @@ signed_within sign (b ∷ run) after h k =
     let bound = prefix_all is_number_character (b ∷ run) after both.1 in
     subst (λ n. suc (suc (length run)) ≤ n) (sym (reach_sign sign (b ∷ run ++ after) h ∙ cond-true (is_ascii_digit b) _ _ both.0)) (omega (arith, bound))
 
+-- a sign alone
 sign_within : (sign : ℕ) (after : List ℕ) → IsTrue (is_sign sign) → 1 ≤ reach (sign ∷ after)
 sign_within sign after h =
     subst (λ n. 1 ≤ n) (sym (reach_sign sign after h)) (elim (begins is_ascii_digit after) as (λ v. 1 ≤ cond v (1 + prefix_len is_number_character after) 1) [ true ↦ omega arith | false ↦ omega arith ])
 
+-- a mark
 mark_within : (piece after : List ℕ) (shape : Shape) → mark_of piece ≡ Some shape → IsTrue (may_stand_before shape after) → IsTrue (is_short_mark piece) → length piece ≤ reach (piece ++ after)
 mark_within [] after shape found may short = omega arith
 mark_within (b ∷ []) after shape found may short =

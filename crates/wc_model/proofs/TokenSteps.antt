@@ -72,15 +72,17 @@ none_in_reach piece after rest e none lexeme = omega (arith, lexeme_is_filled pi
 pub no_lexeme_at_comment : (piece after inside : List ℕ) → piece ++ after ≡ comment_opening ++ inside → ¬ (Lexeme piece after)
 no_lexeme_at_comment piece after inside e = none_in_reach piece after (comment_opening ++ inside) e refl
 
--- none of the single bytes between tokens starts a lexeme
+-- a space starts no lexeme
 pub none_at_space : (rest : List ℕ) → reach (32 ∷ rest) ≡ 0
 none_at_space [] = refl
 none_at_space (b ∷ rest) = refl
 
+-- a tab starts no lexeme
 pub none_at_tab : (rest : List ℕ) → reach (9 ∷ rest) ≡ 0
 none_at_tab [] = refl
 none_at_tab (b ∷ rest) = refl
 
+-- a CR starts no lexeme
 pub none_at_return : (rest : List ℕ) → reach (13 ∷ rest) ≡ 0
 none_at_return [] = refl
 none_at_return (b ∷ rest) = refl

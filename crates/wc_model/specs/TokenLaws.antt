@@ -1,6 +1,7 @@
--- Laws of the tokens of a text: each text within the limit has either tokens or a first fault, and these are fixed.
-use Rattle.std.specs.Prelude.{◌≡◌, ℕ, ◌≤◌, ◌<◌, ◌⊎◌, List, length}
-use Rattle.wc_model.specs.Tokens.{IsCut, IsFirstFault, Token, most_bytes}
+-- Laws of the tokens of a text: its tokens are its slices in rising order, and each text within the limit has either tokens
+-- or a first fault, of which there is one.
+use Rattle.std.specs.Prelude.{◌≡◌, ℕ, ◌≤◌, ◌<◌, ◌+◌, ◌⊎◌, List, length, take, drop, All, AllPairs}
+use Rattle.wc_model.specs.Tokens.{IsCut, IsFirstFault, Token, line_after, most_bytes}
 
 -- a text has one list of tokens
 abbrev pub CutIsUnique : Type 0
@@ -21,3 +22,16 @@ LongTextIsRefused = (text : List ℕ) → most_bytes < length text → IsFirstFa
 -- a text has tokens or a first fault
 abbrev pub CutOrFault : Type 0
 CutOrFault = (text : List ℕ) → ((tokens : List Token) × IsCut text tokens) ⊎ ((number : ℕ) × (line : ℕ) × IsFirstFault text number line)
+
+-- the token is a slice of the text, on the line of its first byte
+pub record IsSliceOf (source : List ℕ) (token : Token) : Type 0 where
+  pub slice : take (length token.text) (drop token.start source) ≡ token.text
+  pub counted : token.line ≡ line_after (take token.start source)
+
+-- the tokens of a text are its slices
+abbrev pub TokensAreSlices : Type 0
+TokensAreSlices = (text : List ℕ) (tokens : List Token) → IsCut text tokens → All (IsSliceOf text) tokens
+
+-- each token ends before the later ones start
+abbrev pub TokensAreInOrder : Type 0
+TokensAreInOrder = (text : List ℕ) (tokens : List Token) → IsCut text tokens → AllPairs (λ token later. token.start + length token.text ≤ later.start) tokens
