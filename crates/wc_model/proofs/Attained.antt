@@ -1,14 +1,14 @@
 -- A lexeme that is as long as the look ahead stands wherever the look ahead finds one.
-use Rattle.std.proofs.Common.{◌≡◌, ◌≢◌, ℕ, zero, suc, ◌+◌, ◌≤◌, Bool, true, false, cond, ◌&&◌, ◌||◌, List, [], ◌∷◌, ◌++◌, length, drop, take, Option, Some, None, refl, sym, ap, ◌∙◌, subst, ⊎_elim, arith, append_assoc, take-append-drop, length-append, one-add, add-zero, IsTrue}
+use Rattle.std.proofs.Common.{◌≡◌, ℕ, zero, suc, ◌+◌, ◌≤◌, Bool, true, false, cond, ◌||◌, List, [], ◌∷◌, ◌++◌, length, drop, take, Option, Some, None, refl, sym, ap, ◌∙◌, subst, ⊎_elim, arith, append_assoc, take-append-drop, length-append, one-add, add-zero}
 use Rattle.std.specs.Char.{is_ascii_digit}
 use Rattle.std.specs.Int.{is_in_range}
 use Rattle.std.specs.List.{list_all, prefix_len}
 use Rattle.std.specs.Option.{option_map_or}
 use Rattle.std.proofs.lemmas.Bool.{and_from, cases_Bool, or_left, or_from, not_from_false, eqb-true, cond-true, cond-false}
 use Rattle.std.proofs.lemmas.List.Folds.{length-prefix_len}
-use Rattle.wc_model.proofs.Reach.{hash_reach, is_mark_before, is_pair_mark, longest_at, mark_reach, reach, reach_digit, reach_mark, reach_sign, reach_word, signed_reach, starts_mark, value_reach, word_reach}
+use Rattle.wc_model.proofs.Reach.{hash_reach, is_mark_before, is_pair_mark, longest_at, mark_reach, reach, reach_digit, reach_mark, reach_sign, reach_word, starts_mark, value_reach, word_reach}
 use Rattle.wc_model.specs.Characters.{begins, is_address_character, is_hash, is_identifier_character, is_minus, is_number_character, is_percent, is_sign, is_underscore, starts_identifier}
-use Rattle.wc_model.specs.Lexemes.{Lexeme, Run, Typed, Unsigned, Signed, Sign, Place, Marked, IsLongest, is_literal_value, is_run, is_unsigned_run, may_stand_before}
+use Rattle.wc_model.specs.Lexemes.{Lexeme, Run, Typed, Unsigned, Signed, Sign, Place, Marked, IsLongest, is_literal_value, may_stand_before}
 use Rattle.wc_model.specs.Shapes.{Shape, mark_of}
 
 -- a lexeme as long as the look ahead
@@ -66,21 +66,22 @@ pub record ValueFront (rest : List ℕ) : Type 0 where
 pub value_front : (rest : List ℕ) → ValueFront rest
 value_front [] = record { value = []; after = []; whole = refl; form = refl; full = refl }
 value_front (b ∷ rest) =
-    elim (is_minus b) as (λ v. is_minus b ≡ v → ValueFront (b ∷ rest))
-    [ true ↦ λ e. record {
+    elim (is_minus b) as (λ v. is_minus b ≡ v → ValueFront (b ∷ rest)) [
+      | true ↦ λ e. record {
         value = b ∷ take (prefix_len is_number_character rest) rest;
         after = drop (prefix_len is_number_character rest) rest;
         whole = ap (λ l. b ∷ l) (take-append-drop (prefix_len is_number_character rest) rest);
         form = subst (λ t. list_all is_number_character (drop (cond t 1 0) (b ∷ take (prefix_len is_number_character rest) rest)) ≡ true) (sym e) (front_passes is_number_character rest);
         full = cond-true (is_minus b) _ _ e ∙ one-add _ ∙ ap (λ n. suc n) (sym (length-prefix_len is_number_character rest));
       }
-    | false ↦ λ e. record {
+      | false ↦ λ e. record {
         value = take (prefix_len is_number_character (b ∷ rest)) (b ∷ rest);
         after = drop (prefix_len is_number_character (b ∷ rest)) (b ∷ rest);
         whole = take-append-drop (prefix_len is_number_character (b ∷ rest)) (b ∷ rest);
         form = subst (λ t. list_all is_number_character (drop (cond t 1 0) (take (prefix_len is_number_character (b ∷ rest)) (b ∷ rest))) ≡ true) (sym (front_starts_not is_minus (prefix_len is_number_character (b ∷ rest)) (b ∷ rest) e)) (front_passes is_number_character (b ∷ rest));
         full = cond-false (is_minus b) _ _ e ∙ sym (length-prefix_len is_number_character (b ∷ rest));
-      } ] refl
+      }
+    ] refl
 
 -- ---- the lexemes
 
@@ -135,15 +136,16 @@ number_attained b rest h = record {
 pub sign_attained : (b : ℕ) (rest : List ℕ) → is_sign b ≡ true → Attained (b ∷ rest)
 sign_attained b [] h = record { piece = b ∷ []; after = []; whole = refl; lexeme = Sign b refl h; full = reach_sign b [] h }
 sign_attained b (c ∷ rest) h =
-    elim (is_ascii_digit c) as (λ v. is_ascii_digit c ≡ v → Attained (b ∷ c ∷ rest))
-    [ true ↦ λ digit. record {
+    elim (is_ascii_digit c) as (λ v. is_ascii_digit c ≡ v → Attained (b ∷ c ∷ rest)) [
+      | true ↦ λ digit. record {
         piece = b ∷ take (prefix_len is_number_character (c ∷ rest)) (c ∷ rest);
         after = drop (prefix_len is_number_character (c ∷ rest)) (c ∷ rest);
         whole = ap (λ l. b ∷ l) (take-append-drop (prefix_len is_number_character (c ∷ rest)) (c ∷ rest));
         lexeme = Signed b (take (prefix_len is_number_character (c ∷ rest)) (c ∷ rest)) refl h (and_from _ _ (front_starts is_number_character is_ascii_digit c rest (digit_goes_on c digit) digit) (front_passes is_number_character (c ∷ rest)));
         full = reach_sign b (c ∷ rest) h ∙ cond-true (is_ascii_digit c) _ _ digit ∙ one-add _ ∙ ap (λ n. suc n) (sym (length-prefix_len is_number_character (c ∷ rest)));
       }
-    | false ↦ λ other. record { piece = b ∷ []; after = c ∷ rest; whole = refl; lexeme = Sign b refl h; full = reach_sign b (c ∷ rest) h ∙ cond-false (is_ascii_digit c) _ _ other } ] refl
+      | false ↦ λ other. record { piece = b ∷ []; after = c ∷ rest; whole = refl; lexeme = Sign b refl h; full = reach_sign b (c ∷ rest) h ∙ cond-false (is_ascii_digit c) _ _ other }
+    ] refl
 
 -- an address
 pub place_attained : (rest : List ℕ) → Attained (37 ∷ rest)
@@ -166,17 +168,19 @@ mark_lexeme piece rest h = go (mark_of piece) refl h
 -- a mark of one byte, where none of two bytes stands
 pub single_attained : (b : ℕ) (rest : List ℕ) → starts_mark b ≡ true → is_pair_mark b rest ≡ false → 1 ≤ mark_reach b rest → Attained (b ∷ rest)
 single_attained b rest h no_pair some =
-    elim (is_mark_before (b ∷ []) rest) as (λ v. is_mark_before (b ∷ []) rest ≡ v → Attained (b ∷ rest))
-    [ true ↦ λ single. record { piece = b ∷ []; after = rest; whole = refl; lexeme = mark_lexeme (b ∷ []) rest single; full = reach_mark b rest h ∙ cond-false (is_pair_mark b rest) _ _ no_pair ∙ cond-true (is_mark_before (b ∷ []) rest) _ _ single }
-    | false ↦ λ none. let zero_reach : mark_reach b rest ≡ 0 = cond-false (is_pair_mark b rest) _ _ no_pair ∙ cond-false (is_mark_before (b ∷ []) rest) _ _ none in absurd (omega arith) ] refl
+    elim (is_mark_before (b ∷ []) rest) as (λ v. is_mark_before (b ∷ []) rest ≡ v → Attained (b ∷ rest)) [
+      | true ↦ λ single. record { piece = b ∷ []; after = rest; whole = refl; lexeme = mark_lexeme (b ∷ []) rest single; full = reach_mark b rest h ∙ cond-false (is_pair_mark b rest) _ _ no_pair ∙ cond-true (is_mark_before (b ∷ []) rest) _ _ single }
+      | false ↦ λ none. let zero_reach : mark_reach b rest ≡ 0 = cond-false (is_pair_mark b rest) _ _ no_pair ∙ cond-false (is_mark_before (b ∷ []) rest) _ _ none in absurd (omega arith)
+    ] refl
 
 -- a mark of two bytes or of one
 pub mark_attained : (b : ℕ) (rest : List ℕ) → starts_mark b ≡ true → 1 ≤ mark_reach b rest → Attained (b ∷ rest)
 mark_attained b [] h some = single_attained b [] h refl some
 mark_attained b (c ∷ rest) h some =
-    elim (is_mark_before (b ∷ c ∷ []) rest) as (λ v. is_mark_before (b ∷ c ∷ []) rest ≡ v → Attained (b ∷ c ∷ rest))
-    [ true ↦ λ pair. record { piece = b ∷ c ∷ []; after = rest; whole = refl; lexeme = mark_lexeme (b ∷ c ∷ []) rest pair; full = reach_mark b (c ∷ rest) h ∙ cond-true (is_mark_before (b ∷ c ∷ []) rest) _ _ pair }
-    | false ↦ λ other. single_attained b (c ∷ rest) h other some ] refl
+    elim (is_mark_before (b ∷ c ∷ []) rest) as (λ v. is_mark_before (b ∷ c ∷ []) rest ≡ v → Attained (b ∷ c ∷ rest)) [
+      | true ↦ λ pair. record { piece = b ∷ c ∷ []; after = rest; whole = refl; lexeme = mark_lexeme (b ∷ c ∷ []) rest pair; full = reach_mark b (c ∷ rest) h ∙ cond-true (is_mark_before (b ∷ c ∷ []) rest) _ _ pair }
+      | false ↦ λ other. single_attained b (c ∷ rest) h other some
+    ] refl
 
 -- where the look ahead finds a lexeme there is one
 pub attained : (b : ℕ) (rest : List ℕ) → 1 ≤ reach (b ∷ rest) → Attained (b ∷ rest)

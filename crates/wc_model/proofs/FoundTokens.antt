@@ -1,17 +1,17 @@
 -- The tokens of a text or its first fault, by looking ahead at each place; and that they are what the definitions say.
-use Rattle.std.proofs.Common.{◌≡◌, ◌≢◌, ℕ, zero, suc, ◌+◌, ◌-◌, ◌≤◌, ◌<◌, ◌==◌, Bool, true, false, cond, ◌||◌, ◌&&◌, List, [], ◌∷◌, ◌++◌, length, drop, take, Result, Ok, Err, refl, sym, ap, ◌∙◌, subst, subst₂, true≢false, nat_eq, append_assoc, ⊎_elim, inl, inr, arith, take-append-drop, length-append, length-take, length-drop, take_at, drop_at, IsTrue, ◌⊎◌}
+use Rattle.std.proofs.Common.{◌≡◌, ◌≢◌, ℕ, zero, suc, ◌+◌, ◌-◌, ◌≤◌, ◌==◌, Bool, true, false, cond, ◌||◌, ◌&&◌, List, [], ◌∷◌, ◌++◌, length, drop, take, Result, Ok, Err, refl, sym, ap, ◌∙◌, subst, subst₂, true≢false, nat_eq, append_assoc, ⊎_elim, inl, inr, arith, take-append-drop, length-append, length-take, length-drop, take_at, drop_at, ◌⊎◌}
 use Rattle.std.proofs.lemmas.Bool.{and_parts, or_cases, cond-true, cond-false, eqb-true, cases_lt}
 use Rattle.std.specs.Cmp.Lexicographic.{bytes_decides}
 use Rattle.std.specs.List.{starts_with}
-use Rattle.wc_model.proofs.Attained.{Attained, attained, attained_longest}
+use Rattle.wc_model.proofs.Attained.{attained, attained_longest}
 use Rattle.wc_model.proofs.Reach.{reach}
 use Rattle.wc_model.proofs.TokenSteps.{none_in_reach, blank_is_filled, lexeme_is_filled}
-use Rattle.wc_model.specs.Blanks.{Blank, Space, Tab, Return, Comment, IsComment, comment_opening, comment_closing, from_bracket, starts_with_bracket}
+use Rattle.wc_model.specs.Blanks.{Blank, Space, Tab, Return, Comment, comment_opening, comment_closing, from_bracket, starts_with_bracket}
 use Rattle.wc_model.specs.Characters.{begins, is_line_feed, is_star}
-use Rattle.wc_model.specs.Lexemes.{IsLongest, Lexeme}
+use Rattle.wc_model.specs.Lexemes.{IsLongest}
 use Rattle.wc_model.specs.Shapes.{Shape, shape_of}
 use Rattle.wc_model.specs.TokenLaws.{CutOrFault}
-use Rattle.wc_model.specs.Tokens.{AtEnd, Cuts, Nothing, Skipped, Taken, Faulty, FaultAt, Foreign, Unclosed, Nested, Malformed, IsForeign, IsCut, IsFirstFault, TooLong, Stands, Token, line_after, most_bytes, token_behind}
+use Rattle.wc_model.specs.Tokens.{AtEnd, Cuts, Nothing, Skipped, Taken, Faulty, FaultAt, Foreign, Unclosed, Nested, Malformed, IsCut, IsFirstFault, TooLong, Stands, Token, line_after, most_bytes, token_behind}
 
 -- what stands at a place: a blank of that length, a token of that length, or a fault
 pub data Sight : Type 0 where
@@ -98,13 +98,14 @@ from_bracket_is : (text : List ℕ) → FromBracket text
 from_bracket_is [] = record { front = []; whole = refl; bracket = inl refl }
 from_bracket_is (b ∷ rest) =
     let later = from_bracket_is rest in
-    elim (starts_with_bracket (b ∷ rest)) as (λ v. starts_with_bracket (b ∷ rest) ≡ v → FromBracket (b ∷ rest))
-    [ true ↦ λ e.
-        let here : from_bracket (b ∷ rest) ≡ b ∷ rest = cond-true (starts_with_bracket (b ∷ rest)) _ _ e in
-        record { front = []; whole = here; bracket = inr (subst (λ t. starts_with_bracket t ≡ true) (sym here) e) }
-    | false ↦ λ e.
-        let on : from_bracket (b ∷ rest) ≡ from_bracket rest = cond-false (starts_with_bracket (b ∷ rest)) _ _ e in
-        record { front = b ∷ later.front; whole = ap (λ l. b ∷ later.front ++ l) on ∙ ap (λ l. b ∷ l) later.whole; bracket = subst (λ l. (l ≡ []) ⊎ (starts_with_bracket l ≡ true)) (sym on) later.bracket } ] refl
+    elim (starts_with_bracket (b ∷ rest)) as (λ v. starts_with_bracket (b ∷ rest) ≡ v → FromBracket (b ∷ rest)) [
+      | true ↦ λ e.
+          let here : from_bracket (b ∷ rest) ≡ b ∷ rest = cond-true (starts_with_bracket (b ∷ rest)) _ _ e in
+          record { front = []; whole = here; bracket = inr (subst (λ t. starts_with_bracket t ≡ true) (sym here) e) }
+      | false ↦ λ e.
+          let on : from_bracket (b ∷ rest) ≡ from_bracket rest = cond-false (starts_with_bracket (b ∷ rest)) _ _ e in
+          record { front = b ∷ later.front; whole = ap (λ l. b ∷ later.front ++ l) on ∙ ap (λ l. b ∷ l) later.whole; bracket = subst (λ l. (l ≡ []) ⊎ (starts_with_bracket l ≡ true)) (sym on) later.bracket }
+    ] refl
 
 -- a comment that closes
 closed_holds : (inside after : List ℕ) → from_bracket inside ≡ comment_closing ++ after → Holds (40 ∷ 42 ∷ inside) (sight_in_comment inside (42 ∷ 41 ∷ after))
@@ -125,6 +126,7 @@ comment_holds inside = ⊎_elim (λ none. subst (λ l. Holds (40 ∷ 42 ∷ insi
     opened h =
         let e = starts_so comment_opening (from_bracket inside) h in
         subst (λ l. Holds (40 ∷ 42 ∷ inside) (sight_in_comment inside l)) (sym e) (Nested inside (drop 2 (from_bracket inside)) refl e)
+
     closed : starts_with nat_eq (from_bracket inside) comment_closing ≡ true → Holds (40 ∷ 42 ∷ inside) (sight_in_comment inside (from_bracket inside))
     closed h =
         let e = starts_so comment_closing (from_bracket inside) h in

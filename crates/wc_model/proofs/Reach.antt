@@ -1,9 +1,9 @@
 -- How long the lexeme at a place is, by looking ahead from its first byte; and that no lexeme there is longer.
-use Rattle.std.proofs.Common.{◌≡◌, ◌≢◌, ℕ, zero, suc, ◌+◌, ◌≤◌, ◌<◌, Bool, true, false, cond, not, ◌&&◌, ◌||◌, List, [], ◌∷◌, ◌++◌, length, drop, take, map, find, Option, Some, None, option_map, refl, sym, ap, ◌∙◌, subst, inl, inr, ⊎_elim, arith, append_assoc, drop_at, length-append, bytes_eq, nat_le, IsTrue, codes, le_trans}
+use Rattle.std.proofs.Common.{◌≡◌, ℕ, suc, ◌+◌, ◌≤◌, Bool, true, false, cond, not, ◌||◌, List, [], ◌∷◌, ◌++◌, length, drop, find, Some, option_map, refl, sym, ap, ◌∙◌, subst, ⊎_elim, arith, append_assoc, drop_at, length-append, bytes_eq, nat_le, IsTrue, le_trans}
 use Rattle.std.specs.Char.{is_ascii_digit}
 use Rattle.std.specs.List.{list_all, prefix_len}
 use Rattle.std.specs.Option.{option_map_or}
-use Rattle.std.proofs.lemmas.Bool.{and_parts, or_cases, or_parts, or_from, and_left, and_right, eqb-true, leb-true, lt-leb, ne_eqb, not-true, cond-true, cond-false, cases_Bool}
+use Rattle.std.proofs.lemmas.Bool.{and_parts, or_cases, or_parts, or_from, and_left, eqb-true, leb-true, lt-leb, ne_eqb, not-true, cond-true, cond-false}
 use Rattle.std.specs.Cmp.Lexicographic.{bytes_decides}
 use Rattle.wc_model.specs.Characters.{begins, is_address_character, is_hash, is_identifier_character, is_minus, is_number_character, is_percent, is_sign, starts_identifier}
 use Rattle.wc_model.specs.Lexemes.{Lexeme, Run, Typed, Unsigned, Signed, Sign, Place, Marked, is_run, is_literal_value, is_unsigned_run, may_stand_before, IsLongest}
@@ -112,12 +112,13 @@ pub found_passes : (test : List ℕ → Shape → Bool) (table : List Mark) (pie
 found_passes test [] piece shape all found = cc
 found_passes test (mark ∷ table) piece shape all found =
     let both = and_parts (test mark.spelling mark.shape) _ all in
-    elim (bytes_eq piece mark.spelling) as (λ v. bytes_eq piece mark.spelling ≡ v → option_map (λ m. m.shape) (cond v (Some mark) (find (λ m. bytes_eq piece m.spelling) table)) ≡ Some shape → test piece shape ≡ true)
-    [ true ↦ λ same here.
-        let spelled : piece ≡ mark.spelling = (bytes_decides piece mark.spelling).0 same in
-        let shaped : mark.shape ≡ shape = cc in
-        subst (λ s. test piece s ≡ true) shaped (subst (λ p. test p mark.shape ≡ true) (sym spelled) both.0)
-    | false ↦ λ other later. found_passes test table piece shape both.1 later ] refl found
+    elim (bytes_eq piece mark.spelling) as (λ v. bytes_eq piece mark.spelling ≡ v → option_map (λ m. m.shape) (cond v (Some mark) (find (λ m. bytes_eq piece m.spelling) table)) ≡ Some shape → test piece shape ≡ true) [
+      | true ↦ λ same here.
+          let spelled : piece ≡ mark.spelling = (bytes_decides piece mark.spelling).0 same in
+          let shaped : mark.shape ≡ shape = cc in
+          subst (λ s. test piece s ≡ true) shaped (subst (λ p. test p mark.shape ≡ true) (sym spelled) both.0)
+      | false ↦ λ other later. found_passes test table piece shape both.1 later
+    ] refl found
 
 -- every mark passes what the table's marks pass
 pub mark_passes : (test : List ℕ → Shape → Bool) (piece : List ℕ) (shape : Shape) → list_all (λ mark. test mark.spelling mark.shape) marks ≡ true → mark_of piece ≡ Some shape → test piece shape ≡ true

@@ -1,9 +1,7 @@
 -- The laws of the tokens of a text.
-use Rattle.std.proofs.Common.{◌≡◌, ℕ, ◌+◌, ◌≤◌, ◌<◌, List, [], ◌∷◌, ◌++◌, length, Ok, refl, sym, ap, ◌∙◌, subst, arith}
-use Rattle.wc_model.specs.Blanks.{Blank}
-use Rattle.wc_model.specs.Lexemes.{IsLongest}
-use Rattle.wc_model.specs.Shapes.{Shape, shape_of}
-use Rattle.wc_model.specs.Tokens.{AtEnd, Cuts, Nothing, Skipped, Taken, Faulty, FaultAt, IsCut, IsFirstFault, TooLong, Stands, Token, line_after, most_bytes, token_behind}
+use Rattle.std.proofs.Common.{◌≡◌, ℕ, List, ◌∷◌, ◌++◌, Ok, refl, sym, ap, ◌∙◌, subst, arith}
+use Rattle.wc_model.specs.Shapes.{shape_of}
+use Rattle.wc_model.specs.Tokens.{AtEnd, Cuts, Nothing, Skipped, Taken, Faulty, TooLong, Stands, Token, token_behind}
 use Rattle.wc_model.specs.TokenLaws.{CutIsUnique, CutHasNoFault, FirstFaultIsUnique, LongTextIsRefused}
 use Rattle.wc_model.proofs.TokenSteps.{IsStuck, end_is_stuck, fault_is_before_end, fault_is_stuck, no_lexeme_at_blank, one_blank, one_fault, one_longest}
 

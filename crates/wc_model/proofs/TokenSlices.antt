@@ -1,5 +1,5 @@
 -- The tokens of a text are its slices, in rising order.
-use Rattle.std.proofs.Common.{◌≡◌, ℕ, ◌+◌, ◌≤◌, List, [], ◌∷◌, ◌++◌, length, take, drop, All, AllPairs, refl, sym, ap, ◌∙◌, arith, append_assoc, take_at, drop_at, length-append}
+use Rattle.std.proofs.Common.{◌≡◌, ℕ, ◌+◌, ◌≤◌, List, ◌++◌, length, take, drop, All, AllPairs, refl, sym, ap, ◌∙◌, arith, append_assoc, take_at, drop_at, length-append}
 use Rattle.std.proofs.lemmas.List.Elements.{All-cons, All-nil}
 use Rattle.std.proofs.lemmas.List.Kept.{AllPairs-cons}
 use Rattle.wc_model.specs.TokenLaws.{IsSliceOf, TokensAreInOrder, TokensAreSlices}

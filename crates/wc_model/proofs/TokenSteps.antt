@@ -1,11 +1,11 @@
 -- What stands at a place is fixed by the rest of the text: one blank, one longest lexeme or one fault, and no two of these.
-use Rattle.std.proofs.Common.{◌≡◌, ◌≢◌, ℕ, zero, suc, ◌+◌, ◌≤◌, ◌<◌, Bool, true, false, cond, List, [], ◌∷◌, ◌++◌, length, get_or, drop, take, Ok, Err, refl, sym, ap, ◌∙◌, subst, arith, append_assoc, take_at, drop_at, le_antisymm, IsTrue, ◌==◌}
+use Rattle.std.proofs.Common.{◌≡◌, ◌≢◌, ℕ, suc, ◌≤◌, true, false, cond, List, [], ◌∷◌, ◌++◌, length, get_or, drop, take, Ok, Err, refl, sym, ap, ◌∙◌, subst, arith, take_at, drop_at, le_antisymm, ◌==◌}
 use Rattle.std.proofs.lemmas.List.{append_cancel_left, append_cancel_right}
 use Rattle.wc_model.proofs.Reach.{reach, within_reach, mark_is_short}
-use Rattle.wc_model.specs.Blanks.{Blank, Space, Tab, Return, Comment, IsComment, comment_opening, comment_closing, from_bracket, starts_with_bracket}
-use Rattle.wc_model.specs.Lexemes.{Lexeme, Run, Typed, Unsigned, Signed, Sign, Place, Marked, IsLongest, is_run, is_unsigned_run}
+use Rattle.wc_model.specs.Blanks.{Blank, Space, Tab, Return, Comment, comment_opening, comment_closing, from_bracket, starts_with_bracket}
+use Rattle.wc_model.specs.Lexemes.{Lexeme, Run, Typed, Unsigned, Signed, Sign, Place, Marked, IsLongest}
 use Rattle.wc_model.specs.Shapes.{Shape, shape_of}
-use Rattle.wc_model.specs.Tokens.{FaultAt, Foreign, Unclosed, Nested, Malformed, IsForeign}
+use Rattle.wc_model.specs.Tokens.{FaultAt, Foreign, Unclosed, Nested, Malformed}
 
 -- ---- blanks
 
@@ -158,9 +158,9 @@ fault_is_stuck rest number (Nested inside more e opened) = record {
 fault_is_stuck rest number (Malformed piece after e longest h) = record {
   no_blank = λ other left s blank. no_lexeme_at_blank other left piece after (s ∙ sym e) blank longest.lexeme;
   no_token = λ shape other left s other_longest k.
-    let same = one_longest piece after other left (e ∙ sym s) longest other_longest in
-    let judged : Err number ≡ Ok shape = sym h ∙ ap shape_of same.0 ∙ k in
-    cc;
+      let same = one_longest piece after other left (e ∙ sym s) longest other_longest in
+      let judged : Err number ≡ Ok shape = sym h ∙ ap shape_of same.0 ∙ k in
+      cc;
 }
 
 -- nothing goes on behind the end
@@ -168,8 +168,8 @@ pub end_is_stuck : (rest : List ℕ) → rest ≡ [] → IsStuck rest
 end_is_stuck rest e = record {
   no_blank = λ piece after s blank. blank_is_filled piece after blank (append_empty piece after (s ∙ e));
   no_token = λ shape piece after s longest h.
-    let none = append_empty piece after (s ∙ e) in
-    omega (arith, lexeme_is_filled piece after longest.lexeme, ap length none);
+      let none = append_empty piece after (s ∙ e) in
+      omega (arith, lexeme_is_filled piece after longest.lexeme, ap length none);
 }
 
 -- no fault stands at the end

@@ -1,9 +1,9 @@
 -- The lexemes of a text: which of its pieces may be tokens, and which one stands at a place (IEC 61131-3:2003, 2.1).
-use Rattle.std.specs.Prelude.{◌≡◌, ℕ, ◌≤◌, Bool, true, false, not, ◌&&◌, ◌||◌, List, [], ◌∷◌, ◌++◌, length, drop, IsTrue, Some, if◌then◌else◌}
+use Rattle.std.specs.Prelude.{◌≡◌, ℕ, ◌≤◌, Bool, true, not, ◌&&◌, List, [], ◌∷◌, ◌++◌, length, drop, IsTrue, Some, if◌then◌else◌}
 use Rattle.std.specs.Char.{is_ascii_digit}
 use Rattle.std.specs.List.{list_all}
 use Rattle.std.specs.Str.{byte}
-use Rattle.wc_model.specs.Characters.{begins, is_address_character, is_identifier_character, is_minus, is_number_character, is_percent, is_sign, is_star, starts_identifier}
+use Rattle.wc_model.specs.Characters.{begins, is_address_character, is_identifier_character, is_minus, is_number_character, is_sign, is_star, starts_identifier}
 use Rattle.wc_model.specs.Shapes.{Shape, Opening, AndNot, mark_of}
 
 -- letters, digits and underscores that start with no digit

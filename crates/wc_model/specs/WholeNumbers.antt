@@ -1,5 +1,5 @@
 -- Whole-number literals (IEC 61131-3:2003, 2.2.1). That a based number has no sign is the profile's own.
-use Rattle.std.specs.Prelude.{ℕ, ◌^◌, Bool, List, [], ◌∷◌, ℤ, pos, negsuc, neg_ℤ, Option, Some, None, option_map, option_and_then, if◌then◌else◌, codes, bytes_eq, find}
+use Rattle.std.specs.Prelude.{ℕ, ◌^◌, Bool, List, [], ◌∷◌, ℤ, pos, negsuc, neg_ℤ, Option, Some, None, option_map, option_and_then, if◌then◌else◌, codes, bytes_eq}
 use Rattle.std.specs.Bool.{nat_lt, then_some}
 use Rattle.std.specs.List.{list_any, before_first, after_first}
 use Rattle.wc_model.specs.Characters.{is_hash, is_minus, is_plus}

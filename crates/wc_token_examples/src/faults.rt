@@ -14,8 +14,7 @@ pub fn bytes_that_belong_to_nothing()
     ensures last_return { IsFirstFault (codes "a" ++ 13 ∷ []) 101 1 }
     ensures two_returns { IsFirstFault (codes "a" ++ 13 ∷ 13 ∷ 10 ∷ []) 101 1 }
     ensures second_line { IsFirstFault (lines (codes "LD a") (codes "ST {")) 101 2 }
-{
-}
+{}
 
 /// The line is that of the opening, and a comment in a comment is a fault of its own.
 pub fn comments_that_do_not_close()
@@ -24,8 +23,7 @@ pub fn comments_that_do_not_close()
     ensures nested_without_end { IsFirstFault (codes "(* (*") 103 1 }
     ensures later_line { IsFirstFault (lines (codes "a") (lines (codes "(* b") (codes "c"))) 102 2 }
     ensures nested_later { IsFirstFault (lines (codes "(* a") (codes "(* b *)")) 103 1 }
-{
-}
+{}
 
 /// Identifiers, numbers and durations of no allowed form, at the line of their first byte.
 pub fn malformed_lexemes()
@@ -36,5 +34,4 @@ pub fn malformed_lexemes()
     ensures duration { IsFirstFault (lines (codes "PROGRAM P") (lines (codes "LD T#1.0005s") (codes "END_PROGRAM"))) 106 2 }
     ensures behind_a_comment { IsFirstFault (lines (codes "(*") (codes "*) a_")) 104 2 }
     ensures first_of_two { IsFirstFault (codes "a_ #") 104 1 }
-{
-}
+{}

@@ -7,8 +7,7 @@ pub fn identifiers()
     ensures word { shape_of (codes "END_PROGRAM") ≡ Ok Identifier }
     ensures underscore { shape_of (codes "_a1") ≡ Ok Identifier }
     ensures longest { shape_of (codes "abcdefghijklmnopqrstuvwxyzabcdef") ≡ Ok Identifier }
-{
-}
+{}
 
 /// Two underscores in a row, one at the end, and 33 letters.
 pub fn no_identifiers()
@@ -16,5 +15,4 @@ pub fn no_identifiers()
     ensures last_underscore { shape_of (codes "a_") ≡ Err 104 }
     ensures underscore { shape_of (codes "_") ≡ Err 104 }
     ensures too_long { shape_of (codes "abcdefghijklmnopqrstuvwxyzabcdefg") ≡ Err 104 }
-{
-}
+{}

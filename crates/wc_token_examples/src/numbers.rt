@@ -9,8 +9,7 @@ pub fn decimal_numbers_have_their_value()
     ensures plus { shape_of (codes "+1") ≡ Ok (Whole (pos 1)) }
     ensures minus_zero { shape_of (codes "-0") ≡ Ok (Whole (pos 0)) }
     ensures underscore { shape_of (codes "0_1") ≡ Ok (Whole (pos 1)) }
-{
-}
+{}
 
 /// The least and the greatest number of 32 bits are literals, and their neighbours are none.
 pub fn numbers_have_32_bits()
@@ -18,8 +17,7 @@ pub fn numbers_have_32_bits()
     ensures above { shape_of (codes "2147483648") ≡ Err 105 }
     ensures least { shape_of (codes "-2147483648") ≡ Ok (Whole (neg_ℤ (pos 2147483648))) }
     ensures below { shape_of (codes "-2147483649") ≡ Err 105 }
-{
-}
+{}
 
 /// Numbers in base 2, 8 and 16, with letters in either case.
 pub fn based_numbers_have_their_value()
@@ -28,8 +26,7 @@ pub fn based_numbers_have_their_value()
     ensures zero { shape_of (codes "16#0") ≡ Ok (Whole (pos 0)) }
     ensures binary { shape_of (codes "2#1010_0001") ≡ Ok (Whole (pos 161)) }
     ensures octal { shape_of (codes "8#17") ≡ Ok (Whole (pos 15)) }
-{
-}
+{}
 
 /// Too great a number, two underscores, a point, letters, a sign alone, other bases, and a base with a sign.
 pub fn other_forms_are_no_numbers()
@@ -42,8 +39,7 @@ pub fn other_forms_are_no_numbers()
     ensures base { shape_of (codes "5#6") ≡ Err 105 }
     ensures digit { shape_of (codes "2#2") ≡ Err 105 }
     ensures signed_base { shape_of (codes "-16#1") ≡ Err 105 }
-{
-}
+{}
 
 /// BOOL#0 and BOOL#1 are truth values in either letter case; other values and other types are refused.
 pub fn typed_literals()
@@ -53,5 +49,4 @@ pub fn typed_literals()
     ensures two { shape_of (codes "BOOL#2") ≡ Err 105 }
     ensures other_type { shape_of (codes "INT#5") ≡ Err 105 }
     ensures long_type { shape_of (codes "abcdefghijklmnopqrstuvwxyzabcdefg#1") ≡ Err 105 }
-{
-}
+{}
