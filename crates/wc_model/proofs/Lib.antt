@@ -4,3 +4,4 @@ pub mod TokenLaws
 pub mod Attained
 pub mod FoundTokens
 pub mod TokenSlices
+pub mod DurationParts

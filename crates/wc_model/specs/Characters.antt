@@ -1,5 +1,5 @@
 -- The characters of a program text, as bytes (IEC 61131-3:2003, 2.1.1). Which of them a text may hold is the profile's own.
-use Rattle.std.specs.Prelude.{ℕ, Bool, false, ◌||◌, ◌==◌, List, [], ◌∷◌}
+use Rattle.std.specs.Prelude.{ℕ, Bool, true, false, ◌||◌, ◌==◌, List, [], ◌∷◌}
 use Rattle.std.specs.Char.{is_ascii_alphabetic, is_ascii_alphanumeric}
 use Rattle.std.specs.Str.{byte}
 
@@ -8,27 +8,40 @@ abbrev pub begins : (ℕ → Bool) → List ℕ → Bool
 begins test [] = false
 begins test (first ∷ rest) = test first
 
+-- the text has no bytes
+abbrev pub is_empty : List ℕ → Bool
+is_empty [] = true
+is_empty (first ∷ rest) = false
+
+-- `_`
 abbrev pub is_underscore : ℕ → Bool
 is_underscore b = b == byte "_"
 
+-- `#`
 abbrev pub is_hash : ℕ → Bool
 is_hash b = b == byte "#"
 
+-- `.`
 abbrev pub is_point : ℕ → Bool
 is_point b = b == byte "."
 
+-- `-`
 abbrev pub is_minus : ℕ → Bool
 is_minus b = b == byte "-"
 
+-- `+`
 abbrev pub is_plus : ℕ → Bool
 is_plus b = b == byte "+"
 
+-- `%`
 abbrev pub is_percent : ℕ → Bool
 is_percent b = b == byte "%"
 
+-- `*`
 abbrev pub is_star : ℕ → Bool
 is_star b = b == byte "*"
 
+-- a line feed
 abbrev pub is_line_feed : ℕ → Bool
 is_line_feed b = b == 10
 

@@ -5,7 +5,7 @@ use Rattle.std.specs.Char.{is_ascii_alphabetic, is_ascii_digit}
 use Rattle.std.specs.List.{list_any, list_all, before_first, after_first}
 use Rattle.std.specs.Option.{option_map_or}
 use Rattle.std.specs.Str.Parse.{digits_value}
-use Rattle.wc_model.specs.Characters.{begins, is_minus, is_point, is_underscore}
+use Rattle.wc_model.specs.Characters.{begins, is_empty, is_minus, is_point, is_underscore}
 use Rattle.wc_model.specs.Digits.{are_digits, value_of_digits}
 use Rattle.wc_model.specs.Names.{name_of}
 use Rattle.wc_model.specs.WholeNumbers.{within_32_bits}
@@ -16,7 +16,7 @@ pub record TimeUnit : Type 0 where
   pub milliseconds : ℕ
   pub below : ℕ
 
--- days, hours, minutes, seconds and milliseconds; behind no unit stand days
+-- Days, hours, minutes, seconds and milliseconds. Days stand behind no greater unit, so their `below` is never asked.
 abbrev pub time_units : List TimeUnit
 time_units =
     record { letters = codes "d"; milliseconds = 86400000; below = 0 }
@@ -40,7 +40,7 @@ abbrev pub onto_parts : ℕ → List Part → List Part
 onto_parts b [] = if is_ascii_alphabetic b then record { number = []; letters = b ∷ [] } ∷ [] else (record { number = b ∷ []; letters = [] } ∷ [])
 onto_parts b (part ∷ parts) =
     if is_ascii_alphabetic b
-    then (if length part.number == 0 then record part { letters = b ∷ part.letters } ∷ parts else (record { number = []; letters = b ∷ [] } ∷ part ∷ parts))
+    then (if is_empty part.number then record part { letters = b ∷ part.letters } ∷ parts else (record { number = []; letters = b ∷ [] } ∷ part ∷ parts))
     else (record part { number = b ∷ part.number } ∷ parts)
 
 -- the text, cut wherever a letter stands before another byte
