@@ -22,3 +22,12 @@ pub mod BodyRules
 pub mod Faults
 pub mod Views
 pub mod Devices
+pub mod Characters
+pub mod Digits
+pub mod WholeNumbers
+pub mod Durations
+pub mod Shapes
+pub mod Lexemes
+pub mod Blanks
+pub mod Tokens
+pub mod TokenLaws

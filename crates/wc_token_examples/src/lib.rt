@@ -1,0 +1,10 @@
+//! Worked examples and laws of the tokens of a text. Each function is a statement: its body is empty, and its
+//! `ensures` is proved.
+#![tactic(auto)]
+
+mod cuts;
+mod durations;
+mod faults;
+mod identifiers;
+mod laws;
+mod numbers;
