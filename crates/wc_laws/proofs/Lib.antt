@@ -4,3 +4,4 @@ pub mod Counting
 pub mod Delaying
 pub mod Refusing
 pub mod Longest
+pub mod TracesArePaths

@@ -1,17 +1,18 @@
 -- Statements about the definitions of the language.
-use Rattle.std.specs.Prelude.{◌≡◌, ℕ, List, ◌∷◌, ◌↔◌, ◌⊎◌, length, Option, Some, None, ℤ}
+use Rattle.std.specs.Prelude.{◌≡◌, ℕ, ◌≤◌, List, ◌∷◌, ◌↔◌, ◌⊎◌, length, Option, Some, None, ℤ}
 use Rattle.wc_model.specs.Blocks.{RTrigFields, SrFields, CtuFields, TonFields, TofFields, r_trig_step, sr_step, ctu_step, ton_step, tof_step}
 use Rattle.wc_model.specs.Checks.{Check, Refusal, IsFirstBroken, first_broken}
 use Rattle.wc_model.specs.Histories.{SrCall, CtuCall, TimerCall, FitsRTrig, FitsSr, FitsCtu, FitsTon, FitsTof}
-use Rattle.wc_model.specs.Meaning.{Place, Outcome, Stuck, Running, Seeking, ahead, means}
+use Rattle.wc_model.specs.Meaning.{Place, Outcome, Stuck, Running, Seeking, ahead, means, program_means}
 use Rattle.wc_model.specs.Names.{Name}
 use Rattle.wc_model.specs.Paths.{IsPath, IsLongest}
 use Rattle.wc_model.specs.Reasons.{NoLabelAhead}
 use Rattle.wc_model.specs.Store.{Store}
 use Rattle.wc_model.specs.Traces.{Item}
-use Rattle.wc_model.specs.Tree.{Lines}
+use Rattle.wc_model.specs.Tree.{Lines, ProgramUnit}
 use Rattle.wc_model.specs.Values.{IsWrapped, wrap}
 use Rattle.wc_model.specs.WorstPaths.{IsWorstPath}
+use Rattle.wc_model.specs.Scans.{steps_of}
 use Rattle.wc_model.specs.Scopes.{Scope}
 use Rattle.wc_model.specs.declared.value.Value.{Value}
 use Rattle.std.specs.Prelude.{Bool}
@@ -70,3 +71,8 @@ WorstPathIsLongest = (scope : Scope) (path : List Item) → IsWorstPath scope pa
 -- each unit has a worst path, or no path at all
 abbrev pub EachUnitHasAWorstPath : Type 0
 EachUnitHasAWorstPath = (scope : Scope) → ((path : List Item) × IsWorstPath scope path) ⊎ ((path : List Item) → IsPath scope path → ⊥)
+
+-- no run of a program executes more items than its longest path has, whatever the store and the moment
+abbrev pub NoRunIsLongerThanThePaths : Type 0
+NoRunIsLongerThanThePaths = (before : List ProgramUnit) (program : ProgramUnit) (n : ℕ) → IsLongest (record { before = before; unit = program }) n →
+    (now : ℕ) (store : Store) → steps_of (program_means before program now store) ≤ n

@@ -1,7 +1,7 @@
 //! Laws about the definitions of the language. Each function has an empty body: its clause is the law.
 #![tactic(auto)]
 
-ghost use Rattle.wc_laws.specs.Laws.{WrapIsTheOnlyOne, JumpGoesOnAhead, RTrigKeepsItsHistory, SrKeepsItsHistory, CtuKeepsItsHistory, TonKeepsItsHistory, TofKeepsItsHistory, FirstFaultIsFirst, WorstPathIsLongest, EachUnitHasAWorstPath};
+ghost use Rattle.wc_laws.specs.Laws.{WrapIsTheOnlyOne, JumpGoesOnAhead, RTrigKeepsItsHistory, SrKeepsItsHistory, CtuKeepsItsHistory, TonKeepsItsHistory, TofKeepsItsHistory, FirstFaultIsFirst, WorstPathIsLongest, EachUnitHasAWorstPath, NoRunIsLongerThanThePaths};
 
 /// Arithmetic wraps to the one number of 32 bits that is equal modulo 2^32.
 pub fn wrap_is_the_only_one()
@@ -51,4 +51,9 @@ pub fn worst_path_is_longest()
 /// Each unit has a worst path, unless it has no path at all.
 pub fn each_unit_has_a_worst_path()
     ensures { EachUnitHasAWorstPath }
+{}
+
+/// No run of a program executes more items than its longest path has.
+pub fn no_run_is_longer_than_the_paths()
+    ensures { NoRunIsLongerThanThePaths }
 {}
