@@ -78,13 +78,17 @@ zero_of KindBool = Plain (Truth false)
 zero_of KindDint = Plain (Dint (pos 0))
 zero_of KindTime = Plain (Time (pos 0))
 
--- a literal as a value of a kind: a whole number 0 or 1 is a BOOL where one is wanted
+-- a literal as a value of a kind: a whole number 0 or 1 is a BOOL where one is wanted; another kind's literal counts for nothing
 abbrev pub literal_as : Kind → Value → Content
 literal_as KindBool (Dint n) = Plain (Truth (elim n [ pos k ↦ k == 1 | negsuc k ↦ false ]))
 literal_as KindBool (Truth b) = Plain (Truth b)
-literal_as KindBool (Time t) = Plain (Time t)
-literal_as KindDint value = Plain value
-literal_as KindTime value = Plain value
+literal_as KindBool (Time t) = zero_of KindBool
+literal_as KindDint (Dint n) = Plain (Dint n)
+literal_as KindDint (Truth b) = zero_of KindDint
+literal_as KindDint (Time t) = zero_of KindDint
+literal_as KindTime (Time t) = Plain (Time t)
+literal_as KindTime (Truth b) = zero_of KindTime
+literal_as KindTime (Dint n) = zero_of KindTime
 
 -- what a variable of an elementary type has at first
 abbrev pub first_content : Kind → Option Initial → Content

@@ -1,0 +1,3 @@
+pub mod Tests
+pub mod Places
+pub mod Entities
