@@ -2,3 +2,16 @@ pub mod Names
 pub mod Tree
 pub mod Values
 pub mod Devices
+pub mod Rounding
+pub mod Plates
+pub mod PlateTable
+pub mod Histories
+pub mod Indication
+pub mod Requests
+pub mod Answers
+pub mod Rows
+pub mod ProcessImage
+pub mod Hex
+pub mod Log
+pub mod Report
+pub mod JobSections
