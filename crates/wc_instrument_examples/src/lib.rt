@@ -1,5 +1,10 @@
 //! Worked examples of the indicator, its line, its log and its report, computed on the definitions of `wc_model`.
 //! Each function promises one example and does nothing.
-#![tactic(auto)]
+#![tactic(auto, unfolding(crate::specs::Numerals::digits))]
 
 pub mod edges;
+pub mod requests;
+pub mod stability;
+pub mod tare;
+pub mod weights;
+pub mod zero;
