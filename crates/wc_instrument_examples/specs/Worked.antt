@@ -1,10 +1,13 @@
 -- What the worked examples share: two plates, and short words for rows.
-use Rattle.std.specs.Prelude.{ℕ, suc, List, [], ◌∷◌, ◌++◌, replicate, codes, ℤ, pos}
+use Rattle.std.specs.Prelude.{ℕ, suc, ◌+◌, ◌%◌, List, [], ◌∷◌, ◌++◌, replicate, codes, ℤ, pos, Some, Result, Ok, Err}
 use Rattle.std.specs.List.{concat}
 use Rattle.wc_model.specs.Answers.{answers_to}
 use Rattle.wc_model.specs.Histories.{Event, Sample, History}
+use Rattle.wc_model.specs.Log.{LogOf, first_row, log_of}
 use Rattle.wc_model.specs.Plates.{PlateData, grams, kilograms}
-use Rattle.wc_model.specs.Rows.{RowData, Counts, Bytes, LogRow, answers}
+use Rattle.wc_model.specs.PlateTable.{Table, Text, Whole, plate_of}
+use Rattle.wc_model.specs.Report.{Scans}
+use Rattle.wc_model.specs.Rows.{RowData, Counts, Bytes, Scan, LogRow, answers}
 
 -- 15 kg in steps of 5 g: 3000 intervals of 200 counts, from 10000 on
 abbrev pub plate_of_15_kg : PlateData
@@ -44,3 +47,51 @@ replies p rows = concat (answers p (rows_from 2 rows))
 -- an answer between its LF and CR
 abbrev pub framed : List ℕ → List ℕ
 framed text = 10 ∷ text ++ (13 ∷ [])
+
+-- a record of three fields
+abbrev pub three_fields : List ℕ → List ℕ → List ℕ → List (List ℕ)
+three_fields moment kind text = moment ∷ kind ∷ text ∷ []
+
+-- a log of these records, after its first row
+abbrev pub log_with_rows : List (List (List ℕ)) → LogOf
+log_with_rows records = log_of (first_row ∷ records)
+
+-- a scan row with this number and moment
+abbrev pub scan_row : ℕ → ℕ → LogRow
+scan_row number ms = record { number = number; ms = ms; brings = Scan }
+
+-- the scans of a program of two steps that copies the first input to the first output and keeps nothing
+abbrev pub copies_first_input : Scans (Unit {0})
+copies_first_input state image ms = record {
+    steps = 2;
+    outputs = record { bits = image.inputs % 2; words = pos 0 ∷ pos 0 ∷ pos 0 ∷ pos 0 ∷ [] };
+    after = tt
+  }
+
+-- the scans of a program of one step that counts them in the first output word
+abbrev pub counts_scans : Scans ℕ
+counts_scans count image ms = record {
+    steps = 1;
+    outputs = record { bits = 0; words = pos (count + 1) ∷ pos 0 ∷ pos 0 ∷ pos 0 ∷ [] };
+    after = count + 1
+  }
+
+-- texts, each followed by LF
+abbrev pub lines_text : List (List ℕ) → List ℕ
+lines_text [] = []
+lines_text (line ∷ lines) = line ++ (10 ∷ []) ++ lines_text lines
+
+-- a table of a plate with these keys: unit, decimals, max, e, span
+abbrev pub plate_table : List ℕ → ℤ → ℤ → ℤ → ℤ → Table
+plate_table unit decimals max e span_counts =
+    (codes "unit", Text unit) ∷ (codes "decimals", Whole decimals) ∷ (codes "max", Whole max) ∷ (codes "e", Whole e)
+    ∷ (codes "zero_counts", Whole (pos 10000)) ∷ (codes "span_counts", Whole span_counts) ∷ (codes "window", Whole (pos 4)) ∷ []
+
+-- the number of a refusal, 0 where there is none
+abbrev pub refusal_in : Result PlateData ℕ → ℕ
+refusal_in (Ok plate) = 0
+refusal_in (Err number) = number
+
+-- the number of the refusal of a table, 0 where it is accepted
+abbrev pub refusal_of_table : Table → ℕ
+refusal_of_table table = refusal_in (plate_of (Some table))

@@ -3,6 +3,11 @@
 #![tactic(auto, unfolding(crate::specs::Numerals::digits))]
 
 pub mod edges;
+pub mod images;
+pub mod jobs;
+pub mod logs;
+pub mod plates;
+pub mod reports;
 pub mod requests;
 pub mod stability;
 pub mod tare;
