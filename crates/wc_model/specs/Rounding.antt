@@ -24,3 +24,8 @@ nearest_above_zero n span = (2 * n + span) / (2 * span)
 abbrev pub nearest : ℤ → ℕ → ℤ
 nearest (pos n) span = pos (nearest_above_zero n span)
 nearest (negsuc n) span = neg_ℤ (pos (nearest_above_zero (suc n) span))
+
+-- `nearest` is nearest, and no other number is
+pub record HasOneNearest (num : ℤ) (span : ℕ) : Type 0 where
+  pub is_nearest : IsNearest num span (nearest num span)
+  pub no_other : (k : ℤ) → IsNearest num span k → k ≡ nearest num span
