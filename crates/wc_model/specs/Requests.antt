@@ -1,6 +1,7 @@
 -- The requests in a stream of line bytes. Their form is the profile's own.
-use Rattle.std.specs.Prelude.{ℕ, Bool, false, ◌&&◌, ◌||◌, not, ◌==◌, List, [], ◌∷◌, ◌++◌, length, drop, take_while, Option, Some, None, if◌then◌else◌}
-use Rattle.std.specs.List.{cons_option}
+use Rattle.std.specs.Prelude.{◌≡◌, ℕ, Bool, false, ◌&&◌, ◌||◌, not, ◌==◌, List, [], ◌∷◌, ◌++◌, length, drop, take_while, Option, Some, None, if◌then◌else◌}
+use Rattle.std.specs.List.{concat, cons_option, list_all}
+use Rattle.std.specs.Option.{option_or, option_to_list}
 
 -- line feed, which opens a request
 abbrev pub line_feed : ℕ
@@ -37,3 +38,31 @@ requests (byte ∷ rest) = cons_option (request_at byte rest) (requests rest)
 -- the texts of the requests that a piece completes, after the bytes before it
 abbrev pub requests_in : List ℕ → List ℕ → List (List ℕ)
 requests_in before piece = drop (length (requests before)) (requests (before ++ piece))
+
+-- the text so far of a request that begins with this byte and that nothing has closed or aborted
+abbrev pub open_at : ℕ → List ℕ → Option (List ℕ)
+open_at byte rest = if byte == line_feed && list_all is_text rest then Some rest else None
+
+-- the text so far of the request that is open at the end of a stream, if one is
+abbrev pub open_request : List ℕ → Option (List ℕ)
+open_request [] = None
+open_request (byte ∷ rest) = option_or (open_request rest) (open_at byte rest)
+
+-- the requests that one more byte completes: CR completes the open one
+abbrev pub completed_by : ℕ → Option (List ℕ) → List (List ℕ)
+completed_by byte begun = if byte == carriage_return then option_to_list begun else []
+
+-- the requests that each of some pieces completes, in order
+abbrev pub requests_in_pieces : List ℕ → List (List ℕ) → List (List ℕ)
+requests_in_pieces before [] = []
+requests_in_pieces before (piece ∷ pieces) = requests_in before piece ++ requests_in_pieces (before ++ piece) pieces
+
+-- Where a stream is cut makes no difference.
+--     whole      the pieces of a stream complete the requests of the whole stream
+--     again      a piece completes what its two parts complete
+--     byte       one byte completes the open request, or nothing
+pub record IsCutAnywhere : Type 0 where
+  pub whole : (pieces : List (List ℕ)) → requests_in_pieces [] pieces ≡ requests (concat pieces)
+  pub again : (before first second : List ℕ) →
+      requests_in before (first ++ second) ≡ requests_in before first ++ requests_in (before ++ first) second
+  pub byte : (before : List ℕ) (byte : ℕ) → requests_in before (byte ∷ []) ≡ completed_by byte (open_request before)
