@@ -1,8 +1,7 @@
 -- What the worked examples share: two plates, and short words for rows.
 use Rattle.std.specs.Prelude.{ℕ, suc, ◌+◌, ◌%◌, List, [], ◌∷◌, ◌++◌, replicate, codes, ℤ, pos, Some, Result, Ok, Err}
 use Rattle.std.specs.List.{concat}
-use Rattle.wc_model.specs.Answers.{answers_to}
-use Rattle.wc_model.specs.Histories.{Event, Sample, History}
+use Rattle.wc_model.specs.Histories.{Sample, History}
 use Rattle.wc_model.specs.Log.{LogOf, first_row, log_of}
 use Rattle.wc_model.specs.Plates.{PlateData, grams, kilograms}
 use Rattle.wc_model.specs.PlateTable.{Table, Text, Whole, plate_of}
@@ -12,16 +11,28 @@ use Rattle.wc_model.specs.Rows.{RowData, Counts, Bytes, Scan, LogRow, answers}
 -- 15 kg in steps of 5 g: 3000 intervals of 200 counts, from 10000 on
 abbrev pub plate_of_15_kg : PlateData
 plate_of_15_kg = record {
-    unit = kilograms; decimals = 3; max = 15000; e = 5; n = 3000;
-    zero_counts = pos 10000; span_counts = 600000; window = 4
-  }
+  unit = kilograms;
+  decimals = 3;
+  max = 15000;
+  e = 5;
+  n = 3000;
+  zero_counts = pos 10000;
+  span_counts = 600000;
+  window = 4;
+}
 
 -- 2500 g in steps of 5 g, with no decimals: 500 intervals of 4 counts
 abbrev pub plate_of_2500_g : PlateData
 plate_of_2500_g = record {
-    unit = grams; decimals = 0; max = 2500; e = 5; n = 500;
-    zero_counts = pos 0; span_counts = 2000; window = 2
-  }
+  unit = grams;
+  decimals = 0;
+  max = 2500;
+  e = 5;
+  n = 500;
+  zero_counts = pos 0;
+  span_counts = 2000;
+  window = 2;
+}
 
 -- a history of four samples alone, all of these counts
 abbrev pub four_of : ℤ → History
@@ -63,18 +74,18 @@ scan_row number ms = record { number = number; ms = ms; brings = Scan }
 -- the scans of a program of two steps that copies the first input to the first output and keeps nothing
 abbrev pub copies_first_input : Scans (Unit {0})
 copies_first_input state image ms = record {
-    steps = 2;
-    outputs = record { bits = image.inputs % 2; words = pos 0 ∷ pos 0 ∷ pos 0 ∷ pos 0 ∷ [] };
-    after = tt
-  }
+  steps = 2;
+  outputs = record { bits = image.inputs % 2; words = pos 0 ∷ pos 0 ∷ pos 0 ∷ pos 0 ∷ [] };
+  after = tt;
+}
 
 -- the scans of a program of one step that counts them in the first output word
 abbrev pub counts_scans : Scans ℕ
 counts_scans count image ms = record {
-    steps = 1;
-    outputs = record { bits = 0; words = pos (count + 1) ∷ pos 0 ∷ pos 0 ∷ pos 0 ∷ [] };
-    after = count + 1
-  }
+  steps = 1;
+  outputs = record { bits = 0; words = pos (count + 1) ∷ pos 0 ∷ pos 0 ∷ pos 0 ∷ [] };
+  after = count + 1;
+}
 
 -- texts, each followed by LF
 abbrev pub lines_text : List (List ℕ) → List ℕ

@@ -8,27 +8,23 @@ ghost use Rattle.wc_instrument_examples.specs.Worked.{plate_of_15_kg, four_of};
 pub fn below_the_upper_edge()
     ensures weight { gross plate_of_15_kg (four_of (pos 611899)) ≡ Some (pos 15045) }
     ensures over { IsFalse (is_over plate_of_15_kg (four_of (pos 611899))) }
-{
-}
+{}
 
 /// One count more rounds to 3010 intervals: over, and no weight.
 pub fn at_the_upper_edge()
     ensures weight { gross plate_of_15_kg (four_of (pos 611900)) ≡ None }
     ensures over { IsTrue (is_over plate_of_15_kg (four_of (pos 611900))) }
-{
-}
+{}
 
 /// The last load above the lower edge: 20 intervals below zero.
 pub fn above_the_lower_edge()
     ensures weight { gross plate_of_15_kg (four_of (pos 5901)) ≡ Some (negsuc 99) }
     ensures under { IsFalse (is_under plate_of_15_kg (four_of (pos 5901))) }
-{
-}
+{}
 
 /// One count less rounds to 21 intervals below zero: under, and no weight.
 pub fn at_the_lower_edge()
     ensures intervals { gross_intervals plate_of_15_kg (four_of (pos 5900)) ≡ negsuc 20 }
     ensures weight { gross plate_of_15_kg (four_of (pos 5900)) ≡ None }
     ensures under { IsTrue (is_under plate_of_15_kg (four_of (pos 5900))) }
-{
-}
+{}

@@ -5,6 +5,7 @@
 pub mod edges;
 pub mod images;
 pub mod jobs;
+pub mod laws;
 pub mod logs;
 pub mod plates;
 pub mod reports;

@@ -10,25 +10,22 @@ pub fn first_row_missing()
     ensures empty { log_of [] ≡ refused_at 601 1 }
     ensures other { log_of (three_fields (codes "ms") (codes "Kind") (codes "data") ∷ []) ≡ refused_at 601 1 }
     ensures short { log_of ((codes "ms" ∷ codes "kind" ∷ []) ∷ []) ≡ refused_at 601 1 }
-{
-}
+{}
 
 /// A first row alone is a log of no rows.
 pub fn no_rows()
     ensures { log_with_rows [] ≡ record { rows = []; refusal = None } }
-{
-}
+{}
 
 /// A row of each kind.
 pub fn each_kind()
     ensures { log_with_rows (three_fields (codes "0") (codes "C") (codes "-0042") ∷ three_fields (codes "007") (codes "L") (codes "0a5A") ∷ three_fields (codes "7") (codes "I") (codes "00fF") ∷ three_fields (codes "8") (codes "S") [] ∷ [])
         ≡ record {
-            rows = record { number = 2; ms = 0; brings = Counts (negsuc 41) } ∷ record { number = 3; ms = 7; brings = Bytes (10 ∷ 90 ∷ []) }
-                ∷ record { number = 4; ms = 7; brings = Inputs 255 } ∷ scan_row 5 8 ∷ [];
-            refusal = None
+          rows = record { number = 2; ms = 0; brings = Counts (negsuc 41) } ∷ record { number = 3; ms = 7; brings = Bytes (10 ∷ 90 ∷ []) }
+              ∷ record { number = 4; ms = 7; brings = Inputs 255 } ∷ scan_row 5 8 ∷ [];
+          refusal = None;
         } }
-{
-}
+{}
 
 /// Each check refuses a log of one row, which is row 2.
 pub fn one_refused_row()
@@ -38,8 +35,7 @@ pub fn one_refused_row()
     ensures kind { log_with_rows (three_fields (codes "0") (codes "X") [] ∷ []) ≡ refused_at 604 2 }
     ensures two_fields { log_with_rows ((codes "0" ∷ codes "S" ∷ []) ∷ []) ≡ refused_at 601 2 }
     ensures moment { log_with_rows (three_fields (codes "1099511627776") (codes "S") [] ∷ []) ≡ refused_at 602 2 }
-{
-}
+{}
 
 /// More data at fault: a plus sign, no digit, an empty moment, three digits of inputs, and a kind in small letters.
 pub fn more_refused_rows()
@@ -48,8 +44,7 @@ pub fn more_refused_rows()
     ensures no_moment { log_with_rows (three_fields [] (codes "S") [] ∷ []) ≡ refused_at 602 2 }
     ensures inputs { log_with_rows (three_fields (codes "0") (codes "I") (codes "00F") ∷ []) ≡ refused_at 606 2 }
     ensures small { log_with_rows (three_fields (codes "0") (codes "s") [] ∷ []) ≡ refused_at 604 2 }
-{
-}
+{}
 
 /// A moment before the last row's is refused at its row, and the row before it stands; equal moments are accepted.
 pub fn moments_in_order()
@@ -57,5 +52,4 @@ pub fn moments_in_order()
         ≡ with_row (scan_row 2 5) (refused_at 603 3) }
     ensures equal { log_with_rows (three_fields (codes "5") (codes "S") [] ∷ three_fields (codes "5") (codes "S") [] ∷ [])
         ≡ record { rows = scan_row 2 5 ∷ scan_row 3 5 ∷ []; refusal = None } }
-{
-}
+{}

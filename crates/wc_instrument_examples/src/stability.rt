@@ -9,25 +9,21 @@ ghost use Rattle.wc_instrument_examples.specs.Worked.{plate_of_15_kg};
 pub fn spread_of_101_counts()
     ensures { IsFalse (is_stable plate_of_15_kg
         (Sample (pos 10000) ∷ Sample (pos 10000) ∷ Sample (pos 10000) ∷ Sample (pos 10101) ∷ [])) }
-{
-}
+{}
 
 /// A fifth sample of 10000 puts 10101 out of the window.
 pub fn fifth_sample()
     ensures { IsTrue (is_stable plate_of_15_kg
         (Sample (pos 10000) ∷ Sample (pos 10000) ∷ Sample (pos 10000) ∷ Sample (pos 10000) ∷ Sample (pos 10101) ∷ [])) }
-{
-}
+{}
 
 /// 10100, 10000, 10050, 10020: a spread of 100 counts is stable.
 pub fn spread_of_100_counts()
     ensures { IsTrue (is_stable plate_of_15_kg
         (Sample (pos 10020) ∷ Sample (pos 10050) ∷ Sample (pos 10000) ∷ Sample (pos 10100) ∷ [])) }
-{
-}
+{}
 
 /// Three samples are never stable.
 pub fn three_samples()
     ensures { IsFalse (is_stable plate_of_15_kg (replicate 3 (Sample (pos 10000)))) }
-{
-}
+{}

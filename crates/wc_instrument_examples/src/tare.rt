@@ -12,8 +12,7 @@ pub fn tare_of_max()
         ++ four_rows (pos 610000) ++ asks (codes "T") ∷ asks (codes "W") ∷ asks (codes "M") ∷ [])
         ≡ framed (codes "T1G       0.000kg ") ++ framed (codes " 1N       0.000kg ") ++ framed (codes " 1N       0.000kg ")
         ++ framed (codes " 1T      15.000kg ") }
-{
-}
+{}
 
 /// A tare at 5 kg shows 2.500 kg net under 7.5 kg; a zero command there is refused; a second tare takes the place of the
 /// first; the empty scale then shows -7.500 kg, and a zero command ends the tare.
@@ -25,8 +24,7 @@ pub fn tare_and_zero()
         ++ framed (codes " 1N       2.500kg ") ++ framed (codes "E1N       2.500kg ") ++ framed (codes " 1N       0.000kg ")
         ++ framed (codes " 1T       7.500kg ")
         ++ framed (codes "Z1N      -7.500kg ") ++ framed (codes "Z1G       0.000kg ") }
-{
-}
+{}
 
 /// Gross, net and tare value are rounded each by itself: a tare of half an interval under a load of one interval gives
 /// 0.005 kg three times.
@@ -37,12 +35,10 @@ pub fn rounded_apart()
     ensures answers { replies plate_of_15_kg (four_rows (pos 10100) ++ asks (codes "T") ∷ []
         ++ four_rows (pos 10200) ++ asks (codes "W") ∷ asks (codes "M") ∷ [])
         ≡ framed (codes " 1N       0.000kg ") ++ framed (codes " 1N       0.005kg ") ++ framed (codes " 1T       0.005kg ") }
-{
-}
+{}
 
 /// A clear ends the tare, and the net weight is gross again.
 pub fn cleared()
     ensures { replies plate_of_15_kg (four_rows (pos 210000) ++ asks (codes "T") ∷ asks (codes "C") ∷ [])
         ≡ framed (codes " 1N       0.000kg ") ++ framed (codes " 1G       5.000kg ") }
-{
-}
+{}

@@ -1,9 +1,9 @@
 -- A stream that is cut anywhere has the same requests.
-use Rattle.std.proofs.Common.{◌≡◌, ℕ, ◌+◌, Bool, true, false, cond, ◌&&◌, List, [], ◌∷◌, ◌++◌, length, drop, refl, ap, sym, ◌∙◌, append_assoc, append-nil}
+use Rattle.std.proofs.Common.{◌≡◌, ℕ, Bool, true, false, cond, ◌&&◌, List, [], ◌∷◌, ◌++◌, length, drop, refl, ap, sym, ◌∙◌, append_assoc, append-nil}
 use Rattle.std.proofs.Math.Numerals.{one-add}
 use Rattle.std.proofs.Math.Seq.{drop-append_seam}
-use Rattle.std.proofs.lemmas.Bool.{and_parts, and_cases, and_left, and_from, cases_Bool, both_ways, true≢false, or_parts, or_left, or_right, not-true, not_from_true, false_from_ne_true, cond-false, cond-true}
-use Rattle.std.specs.Prelude.{take_while, Option, Some, None, ◌==◌, ◌||◌, ◌⊎◌}
+use Rattle.std.proofs.lemmas.Bool.{and_parts, and_cases, cases_Bool, both_ways, true≢false, or_parts, or_left, or_right, not-true, not_from_true, false_from_ne_true, cond-false, cond-true}
+use Rattle.std.specs.Prelude.{take_while, Option, Some, None, ◌==◌, ◌||◌}
 use Rattle.std.proofs.Common.{inl, inr}
 use Rattle.std.specs.List.{cons_option, list_all, concat}
 use Rattle.std.specs.Option.{option_or, option_to_list}
@@ -40,26 +40,26 @@ module _ (p : ℕ → Bool) where
   -- where the first passes and not all do, the rest fails
   rest_fails : (x : ℕ) (xs : List ℕ) → p x ≡ true → (p x && list_all p xs) ≡ false → list_all p xs ≡ false
   rest_fails x xs passes h = elim (and_cases (p x) (list_all p xs) h) [
-      inl stops ↦ absurd (both_ways (p x) stops passes)
+    | inl stops ↦ absurd (both_ways (p x) stops passes)
     | inr fails ↦ fails
-    ]
+  ]
 
   -- where an element fails, what comes behind makes no difference
   taken_within : (xs ys : List ℕ) → list_all p xs ≡ false → take_while p (xs ++ ys) ≡ take_while p xs
   taken_within [] ys h = absurd (true≢false h)
   taken_within (x ∷ xs) ys h = elim (cases_Bool (p x)) [
-      inl passes ↦ taken_more x (xs ++ ys) passes ∙ ap (λ t. x ∷ t) (taken_within xs ys (rest_fails x xs passes h)) ∙ sym (taken_more x xs passes)
+    | inl passes ↦ taken_more x (xs ++ ys) passes ∙ ap (λ t. x ∷ t) (taken_within xs ys (rest_fails x xs passes h)) ∙ sym (taken_more x xs passes)
     | inr stops ↦ taken_none x (xs ++ ys) stops ∙ sym (taken_none x xs stops)
-    ]
+  ]
 
   begins_within : (byte : ℕ) (xs ys : List ℕ) → list_all p xs ≡ false →
       begins_with byte (beyond (xs ++ ys)) ≡ begins_with byte (beyond xs)
   begins_within byte [] ys h = absurd (true≢false h)
   begins_within byte (x ∷ xs) ys h = elim (cases_Bool (p x)) [
-      inl passes ↦ ap (begins_with byte) (beyond_more x (xs ++ ys) passes) ∙ begins_within byte xs ys (rest_fails x xs passes h)
+    | inl passes ↦ ap (begins_with byte) (beyond_more x (xs ++ ys) passes) ∙ begins_within byte xs ys (rest_fails x xs passes h)
         ∙ sym (ap (begins_with byte) (beyond_more x xs passes))
     | inr stops ↦ ap (begins_with byte) (beyond_none x (xs ++ ys) stops) ∙ sym (ap (begins_with byte) (beyond_none x xs stops))
-    ]
+  ]
 
 -- a request that doesn't begin here
 no_request_at : (byte : ℕ) (rest : List ℕ) → (byte == line_feed) ≡ false → request_at byte rest ≡ None
@@ -80,23 +80,23 @@ open_at_feed byte rest h = rw h
 text_is_no_feed : (byte : ℕ) → is_text byte ≡ true → (byte == line_feed) ≡ false
 text_is_no_feed byte h =
     (or_parts (byte == line_feed) (byte == carriage_return)
-      (or_parts (byte == line_feed || byte == carriage_return) (byte == escape)
-        (not-true (byte == line_feed || byte == carriage_return || byte == escape) h)).0).0
+    (or_parts (byte == line_feed || byte == carriage_return) (byte == escape)
+    (not-true (byte == line_feed || byte == carriage_return || byte == escape) h)).0).0
 
 -- CR is no byte of text
 return_is_no_text : (byte : ℕ) → (byte == carriage_return) ≡ true → is_text byte ≡ false
 return_is_no_text byte h =
     not_from_true (byte == line_feed || byte == carriage_return || byte == escape)
-      (or_left (byte == line_feed || byte == carriage_return) (byte == escape)
-        (or_right (byte == line_feed) (byte == carriage_return) h))
+    (or_left (byte == line_feed || byte == carriage_return) (byte == escape)
+    (or_right (byte == line_feed) (byte == carriage_return) h))
 
 -- one byte begins with CR beyond its text just where it is CR
 one_byte_begins : (byte : ℕ) → begins_with carriage_return (beyond is_text (byte ∷ [])) ≡ (byte == carriage_return)
 one_byte_begins byte = elim (cases_Bool (is_text byte)) [
-    inl text ↦ ap (begins_with carriage_return) (beyond_more is_text byte [] text)
+  | inl text ↦ ap (begins_with carriage_return) (beyond_more is_text byte [] text)
       ∙ sym (false_from_ne_true (byte == carriage_return) (λ e. both_ways (is_text byte) (return_is_no_text byte e) text))
   | inr none ↦ ap (begins_with carriage_return) (beyond_none is_text byte [] none)
-  ]
+]
 
 -- in bytes of text alone no request ends
 no_request_in_text : (bytes : List ℕ) → list_all is_text bytes ≡ true → requests bytes ≡ []
@@ -123,9 +123,9 @@ cons_option-append (Some x) xs ys = refl
 -- where nothing is open, no byte completes a request
 completes_nothing : (x : ℕ) → completed_by x None ≡ []
 completes_nothing x = elim (cases_Bool (x == carriage_return)) [
-    inl e ↦ cond-true (x == carriage_return) (option_to_list {X = List ℕ} None) [] e
+  | inl e ↦ cond-true (x == carriage_return) (option_to_list {X = List ℕ} None) [] e
   | inr e ↦ cond-false (x == carriage_return) (option_to_list {X = List ℕ} None) [] e
-  ]
+]
 
 -- an LF with text alone behind it, and one byte more
 closes_text : (rest : List ℕ) (x : ℕ) (b : Bool) → (x == carriage_return) ≡ b →
@@ -142,53 +142,53 @@ one_more_at : (byte : ℕ) (rest : List ℕ) (x : ℕ) →
     cons_option (request_at byte (rest ++ (x ∷ []))) (requests rest ++ completed_by x (open_request rest))
     ≡ cons_option (request_at byte rest) (requests rest) ++ completed_by x (option_or (open_request rest) (open_at byte rest))
 one_more_at byte rest x = elim (cases_Bool (byte == line_feed)) [
-    inr other ↦
+  | inr other ↦
       let l = ap (λ o. cons_option o (requests rest ++ completed_by x (open_request rest))) (no_request_at byte (rest ++ (x ∷ [])) other) in
       let r = ap (λ o. cons_option o (requests rest) ++ completed_by x (option_or (open_request rest) (open_at byte rest))) (no_request_at byte rest other) in
       let o = ap (λ o. requests rest ++ completed_by x (option_or (open_request rest) o)) (not_open_at byte rest other)
-        ∙ ap (λ o. requests rest ++ completed_by x o) (or_nothing (open_request rest)) in
+      ∙ ap (λ o. requests rest ++ completed_by x o) (or_nothing (open_request rest)) in
       l ∙ sym o ∙ sym r
   | inl feed ↦ elim (cases_Bool (list_all is_text rest)) [
-        inl text ↦
-          let ends : request_at byte rest ≡ None =
-            request_at_feed byte rest feed
-            ∙ ap (λ r. cond (begins_with carriage_return r) (Some (take_while is_text rest)) None)
-                (ap (beyond is_text) (sym (append-nil rest)) ∙ beyond_on is_text rest [] text) in
-          let begun : request_at byte (rest ++ (x ∷ [])) ≡ cond (x == carriage_return) (Some (rest ++ take_while is_text (x ∷ []))) None =
-            request_at_feed byte (rest ++ (x ∷ [])) feed
-            ∙ ap (λ r. cond (begins_with carriage_return r) (Some (take_while is_text (rest ++ (x ∷ [])))) None) (beyond_on is_text rest (x ∷ []) text)
-            ∙ ap (λ t. cond (begins_with carriage_return (beyond is_text (x ∷ []))) (Some t) None) (taken_on is_text rest (x ∷ []) text)
-            ∙ ap (λ b. cond b (Some (rest ++ take_while is_text (x ∷ []))) None) (one_byte_begins x) in
-          let nothing : requests rest ≡ [] = no_request_in_text rest text in
-          let shut : open_request rest ≡ None = nothing_open_in_text rest text in
-          let opened : open_at byte rest ≡ Some rest = open_at_feed byte rest feed ∙ cond-true (list_all is_text rest) (Some rest) None text in
-          let l : cons_option (request_at byte (rest ++ (x ∷ []))) (requests rest ++ completed_by x (open_request rest))
-              ≡ cons_option (cond (x == carriage_return) (Some (rest ++ take_while is_text (x ∷ []))) None) (completed_by x None) =
-            λ i. cons_option (begun i) (nothing i ++ completed_by x (shut i)) in
-          let r : cons_option (request_at byte rest) (requests rest) ++ completed_by x (option_or (open_request rest) (open_at byte rest))
-              ≡ completed_by x (Some rest) =
-            λ i. cons_option (ends i) (nothing i) ++ completed_by x (option_or (shut i) (opened i)) in
-          l ∙ closes_text rest x (x == carriage_return) refl ∙ sym r
-      | inr broken ↦
-          let same : request_at byte (rest ++ (x ∷ [])) ≡ request_at byte rest =
-            request_at_feed byte (rest ++ (x ∷ [])) feed
-            ∙ ap (λ b. cond b (Some (take_while is_text (rest ++ (x ∷ [])))) None) (begins_within is_text carriage_return rest (x ∷ []) broken)
-            ∙ ap (λ t. cond (begins_with carriage_return (beyond is_text rest)) (Some t) None) (taken_within is_text rest (x ∷ []) broken)
-            ∙ sym (request_at_feed byte rest feed) in
-          let shut : open_at byte rest ≡ None = open_at_feed byte rest feed ∙ cond-false (list_all is_text rest) (Some rest) None broken in
-          let o = ap (λ o. cons_option (request_at byte rest) (requests rest) ++ completed_by x (option_or (open_request rest) o)) shut
-            ∙ ap (λ o. cons_option (request_at byte rest) (requests rest) ++ completed_by x o) (or_nothing (open_request rest)) in
-          ap (λ r. cons_option r (requests rest ++ completed_by x (open_request rest))) same
-          ∙ cons_option-append (request_at byte rest) (requests rest) (completed_by x (open_request rest)) ∙ sym o
-      ]
+    | inl text ↦
+        let ends : request_at byte rest ≡ None =
+        request_at_feed byte rest feed
+        ∙ ap (λ r. cond (begins_with carriage_return r) (Some (take_while is_text rest)) None)
+        (ap (beyond is_text) (sym (append-nil rest)) ∙ beyond_on is_text rest [] text) in
+        let begun : request_at byte (rest ++ (x ∷ [])) ≡ cond (x == carriage_return) (Some (rest ++ take_while is_text (x ∷ []))) None =
+        request_at_feed byte (rest ++ (x ∷ [])) feed
+        ∙ ap (λ r. cond (begins_with carriage_return r) (Some (take_while is_text (rest ++ (x ∷ [])))) None) (beyond_on is_text rest (x ∷ []) text)
+        ∙ ap (λ t. cond (begins_with carriage_return (beyond is_text (x ∷ []))) (Some t) None) (taken_on is_text rest (x ∷ []) text)
+        ∙ ap (λ b. cond b (Some (rest ++ take_while is_text (x ∷ []))) None) (one_byte_begins x) in
+        let nothing : requests rest ≡ [] = no_request_in_text rest text in
+        let shut : open_request rest ≡ None = nothing_open_in_text rest text in
+        let opened : open_at byte rest ≡ Some rest = open_at_feed byte rest feed ∙ cond-true (list_all is_text rest) (Some rest) None text in
+        let l : cons_option (request_at byte (rest ++ (x ∷ []))) (requests rest ++ completed_by x (open_request rest))
+        ≡ cons_option (cond (x == carriage_return) (Some (rest ++ take_while is_text (x ∷ []))) None) (completed_by x None) =
+        λ i. cons_option (begun i) (nothing i ++ completed_by x (shut i)) in
+        let r : cons_option (request_at byte rest) (requests rest) ++ completed_by x (option_or (open_request rest) (open_at byte rest))
+        ≡ completed_by x (Some rest) =
+        λ i. cons_option (ends i) (nothing i) ++ completed_by x (option_or (shut i) (opened i)) in
+        l ∙ closes_text rest x (x == carriage_return) refl ∙ sym r
+    | inr broken ↦
+        let same : request_at byte (rest ++ (x ∷ [])) ≡ request_at byte rest =
+        request_at_feed byte (rest ++ (x ∷ [])) feed
+        ∙ ap (λ b. cond b (Some (take_while is_text (rest ++ (x ∷ [])))) None) (begins_within is_text carriage_return rest (x ∷ []) broken)
+        ∙ ap (λ t. cond (begins_with carriage_return (beyond is_text rest)) (Some t) None) (taken_within is_text rest (x ∷ []) broken)
+        ∙ sym (request_at_feed byte rest feed) in
+        let shut : open_at byte rest ≡ None = open_at_feed byte rest feed ∙ cond-false (list_all is_text rest) (Some rest) None broken in
+        let o = ap (λ o. cons_option (request_at byte rest) (requests rest) ++ completed_by x (option_or (open_request rest) o)) shut
+        ∙ ap (λ o. cons_option (request_at byte rest) (requests rest) ++ completed_by x o) (or_nothing (open_request rest)) in
+        ap (λ r. cons_option r (requests rest ++ completed_by x (open_request rest))) same
+        ∙ cons_option-append (request_at byte rest) (requests rest) (completed_by x (open_request rest)) ∙ sym o
   ]
+]
 
 -- the requests of a stream with one byte more
 one_more : (before : List ℕ) (x : ℕ) → requests (before ++ (x ∷ [])) ≡ requests before ++ completed_by x (open_request before)
 one_more [] x = elim (cases_Bool (x == line_feed)) [
-    inl feed ↦ ap (λ o. cons_option o []) (request_at_feed x [] feed) ∙ sym (completes_nothing x)
+  | inl feed ↦ ap (λ o. cons_option o []) (request_at_feed x [] feed) ∙ sym (completes_nothing x)
   | inr other ↦ ap (λ o. cons_option o []) (no_request_at x [] other) ∙ sym (completes_nothing x)
-  ]
+]
 one_more (byte ∷ rest) x =
     ap (λ r. cons_option (request_at byte (rest ++ (x ∷ []))) r) (one_more rest x) ∙ one_more_at byte rest x
 
@@ -223,7 +223,7 @@ completed_again before (x ∷ first) second =
     ap (λ r. completed_by x (open_request before) ++ r) (completed_again (before ++ (x ∷ [])) first second)
     ∙ sym (append_assoc (completed_by x (open_request before)) (completed (before ++ (x ∷ [])) first) (completed ((before ++ (x ∷ [])) ++ first) second))
     ∙ ap (λ b. (completed_by x (open_request before) ++ completed (before ++ (x ∷ [])) first) ++ completed b second)
-        (append_assoc before (x ∷ []) first)
+    (append_assoc before (x ∷ []) first)
 
 pub requests_in_again : (before first second : List ℕ) →
     requests_in before (first ++ second) ≡ requests_in before first ++ requests_in (before ++ first) second

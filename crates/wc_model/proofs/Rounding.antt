@@ -1,9 +1,9 @@
 -- Exactly one number is the nearest.
-use Rattle.std.proofs.Common.{◌≡◌, ℕ, zero, suc, ◌+◌, ◌-◌, ◌*◌, ◌/◌, ◌<◌, ◌≤◌, ◌⊎◌, inl, inr, refl, arith, sym}
+use Rattle.std.proofs.Common.{◌≡◌, ℕ, zero, suc, ◌+◌, ◌-◌, ◌*◌, ◌<◌, ◌≤◌, inl, inr, arith}
 use Rattle.std.proofs.Math.Nat.{mul-le-mul_right}
-use Rattle.std.proofs.lemmas.Bool.{cases_lt, cases_order}
+use Rattle.std.proofs.lemmas.Bool.{cases_lt}
 use Rattle.std.proofs.lemmas.Int.{ints, by_lt_z}
-use Rattle.std.specs.Prelude.{ℤ, pos, negsuc, neg_ℤ, ◌<ℤ◌, ◌≤ℤ◌, ◌-ℤ◌, ◌*ℤ◌, unsigned_abs}
+use Rattle.std.specs.Prelude.{ℤ, pos, negsuc, neg_ℤ, ◌<ℤ◌, unsigned_abs}
 use borrow.Author.Differences.{up, down, neg_is}
 use Rattle.wc_model.specs.Rounding.{twice_distance, IsTie, IsNearest, nearest_above_zero, nearest, HasOneNearest}
 
@@ -46,7 +46,7 @@ none_below num span k q h l (inr a) (inr b) =
 pub one_nearest : (num : ℤ) (span : ℕ) (k q : ℤ) → 0 < span → IsNearest num span k → IsNearest num span q → k ≡ q
 one_nearest num span k q h a b =
     by_lt_z k q (λ l. absurd (none_below num span k q h l a b))
-        (λ l. by_lt_z q k (λ m. absurd (none_below num span q k h m b a)) (λ m. omega (arith, ints)))
+    (λ l. by_lt_z q k (λ m. absurd (none_below num span q k h m b a)) (λ m. omega (arith, ints)))
 
 -- the quotient lies from half a span below the number to half a span above
 quotient_bounds : (n span : ℕ) → 0 < span →
@@ -57,19 +57,19 @@ quotient_bounds n span h = (omega arith, omega arith)
 nearest_by_bounds : (num : ℤ) (span : ℕ) (k : ℤ) → 0 < span → twice_distance num span k ≤ span →
     ((other : ℤ) → IsTie num span k → IsTie num span other → unsigned_abs other ≤ unsigned_abs k) → IsNearest num span k
 nearest_by_bounds num span k h near far = elim (cases_lt (twice_distance num span k) span) [
-    inl less ↦ inl less
+  | inl less ↦ inl less
   | inr more ↦ let tie : twice_distance num span k ≡ span = omega arith in inr (tie, λ other t. far other tie t)
-  ]
+]
 
 -- a tie above zero: no other tie is farther from 0
 farthest_above : (n span q : ℕ) → 0 < span → 2 * n + span < 2 * (q * span) + 2 * span → (other : ℤ) →
     IsTie (pos n) span (pos q) → IsTie (pos n) span other → unsigned_abs other ≤ q
 farthest_above n span q h b (pos j) t u = elim (cases_lt q j) [
-    inl l ↦
+  | inl l ↦
       let scaled : suc q * span ≤ j * span = mul-le-mul_right span l in
       absurd (omega (arith, twice_is (pos n) span (pos q), twice_is (pos n) span (pos j)))
   | inr l ↦ l
-  ]
+]
 farthest_above n span q h b (negsuc j) t u = absurd (omega (arith, twice_is (pos n) span (negsuc j)))
 
 -- a tie below zero: no other tie is farther from 0
@@ -78,7 +78,7 @@ farthest_below : (m span q : ℕ) → 0 < span → 2 * suc m + span < 2 * (q * s
 farthest_below m span q h b (pos zero) t u = omega arith
 farthest_below m span q h b (pos (suc j)) t u = absurd (omega (arith, twice_is (negsuc m) span (pos (suc j))))
 farthest_below m span q h b (negsuc j) t u = elim (cases_lt q (suc j)) [
-    inl l ↦
+  | inl l ↦
       let scaled : suc q * span ≤ suc j * span = mul-le-mul_right span l in
       let k : ℤ = neg_ℤ (pos q) in
       let low : (up k ≡ 0) × (down k ≡ q) = neg_is (pos q) in
@@ -86,7 +86,7 @@ farthest_below m span q h b (negsuc j) t u = elim (cases_lt q (suc j)) [
       let none : up k * span ≡ 0 * span = (λ i. low.0 i * span) in
       absurd (omega (arith, twice_is (negsuc m) span k, twice_is (negsuc m) span (negsuc j)))
   | inr l ↦ omega (arith, ints)
-  ]
+]
 
 -- what `nearest` gives is nearest
 pub nearest_is : (num : ℤ) (span : ℕ) → 0 < span → IsNearest num span (nearest num span)
@@ -106,6 +106,6 @@ nearest_is (negsuc m) span h =
 -- exactly one number is nearest
 pub has_one_nearest : (num : ℤ) (span : ℕ) → 0 < span → HasOneNearest num span
 has_one_nearest num span h = record {
-    is_nearest = nearest_is num span h;
-    no_other = λ k a. one_nearest num span k (nearest num span) h a (nearest_is num span h)
-  }
+  is_nearest = nearest_is num span h;
+  no_other = λ k a. one_nearest num span k (nearest num span) h a (nearest_is num span h);
+}

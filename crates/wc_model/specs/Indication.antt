@@ -1,11 +1,11 @@
 -- The indication as a function of the plate and of all that has come: OIML R 76-1:2006, class III, single range,
 -- non-automatic use. Each rule names its section; the measures and limits beside them are the profile's own.
-use Rattle.std.specs.Prelude.{ℕ, ◌+◌, ◌*◌, Bool, true, false, not, ◌&&◌, ◌||◌, nat_le, nat_lt, List, [], ◌∷◌, length, fold, ℤ, pos, negsuc, ◌-ℤ◌, ◌*ℤ◌, int_lt, int_le, unsigned_abs, Option, Some, None, is_some, unwrap_or, option_map, if◌then◌else◌}
+use Rattle.std.specs.Prelude.{ℕ, ◌+◌, ◌*◌, Bool, true, false, not, ◌&&◌, ◌||◌, nat_le, List, [], ◌∷◌, length, fold, ℤ, pos, negsuc, ◌-ℤ◌, ◌*ℤ◌, int_lt, int_le, unsigned_abs, Option, Some, None, is_some, unwrap_or, if◌then◌else◌}
 use Rattle.std.specs.Int.{int_max, int_min}
 use Rattle.std.specs.Option.{option_map_or}
 use Rattle.wc_model.specs.Plates.{PlateData}
 use Rattle.wc_model.specs.Rounding.{nearest}
-use Rattle.wc_model.specs.Histories.{Event, Sample, SetZero, SetTare, ClearTare, History, samples, last_sample, last_items, Moment, last_that}
+use Rattle.wc_model.specs.Histories.{Sample, SetZero, SetTare, ClearTare, History, samples, last_sample, last_items, Moment, last_that}
 
 -- the greatest less the least
 abbrev pub spread_of : List ℤ → ℕ
@@ -52,11 +52,11 @@ zero_refusal p history = refused_unless (is_stable p history) (is_near_zero p hi
 -- whether this is a zero command that was accepted
 abbrev pub is_accepted_zero : PlateData → Moment → Bool
 is_accepted_zero p moment = elim moment.event [
-    Sample counts ↦ false
+  | Sample counts ↦ false
   | SetZero ↦ not (is_some (zero_refusal p moment.before))
   | SetTare ↦ false
   | ClearTare ↦ false
-  ]
+]
 
 -- the zero point: the sample at the last accepted zero command, else the calibrated zero
 abbrev pub zero_point : PlateData → History → ℤ
@@ -89,20 +89,20 @@ tare_refusal p history = refused_unless (is_stable p history) (can_be_tared p hi
 -- zero key), or a clear.
 abbrev pub acts_on_tare : PlateData → Moment → Bool
 acts_on_tare p moment = elim moment.event [
-    Sample counts ↦ false
+  | Sample counts ↦ false
   | SetZero ↦ not (is_some (zero_refusal p moment.before))
   | SetTare ↦ not (is_some (tare_refusal p moment.before))
   | ClearTare ↦ true
-  ]
+]
 
 -- the tare in counts that an event leaves: a tare command takes the load above the zero point, not rounded
 abbrev pub tare_left_by : PlateData → Moment → Option ℤ
 tare_left_by p moment = elim moment.event [
-    Sample counts ↦ None
+  | Sample counts ↦ None
   | SetZero ↦ None
   | SetTare ↦ Some (from_zero p moment.before)
   | ClearTare ↦ None
-  ]
+]
 
 -- the tare in counts while one is active: what the last event that acted on it left
 abbrev pub active_tare : PlateData → History → Option ℤ

@@ -15,3 +15,4 @@ pub mod Hex
 pub mod Log
 pub mod Report
 pub mod JobSections
+pub mod Independence

@@ -1,6 +1,6 @@
 -- The plate that a table of keys gives, or the number of the first rule that the table breaks. The keys and the numbers
 -- are the profile's own.
-use Rattle.std.specs.Prelude.{ℕ, ◌+◌, ◌*◌, ◌^◌, Bool, ◌&&◌, not, List, [], ◌∷◌, codes, find, ℤ, pos, ◌*ℤ◌, int_le, int_div, int_rem, unsigned_abs, Option, Some, None, Result, Ok, Err, if◌then◌else◌, option_and_then, option_map, nat_le}
+use Rattle.std.specs.Prelude.{ℕ, ◌*◌, ◌^◌, Bool, ◌&&◌, not, List, [], ◌∷◌, codes, find, ℤ, pos, ◌*ℤ◌, int_le, int_div, int_rem, unsigned_abs, Option, Some, None, Result, Ok, Err, if◌then◌else◌, option_and_then, option_map}
 use Rattle.std.specs.List.{list_all, list_any}
 use Rattle.std.specs.Str.{bytes_eq}
 use Rattle.wc_model.specs.Plates.{PlateData, grams, kilograms, tonnes, grams_of, allowed_intervals, least_sample, greatest_sample}
@@ -113,15 +113,15 @@ rules_after_unit w unit =
 -- the plate of what is written, with the line's bytes of its unit
 abbrev pub plate_from : Written → List ℕ → PlateData
 plate_from w unit = record {
-    unit = unit;
-    decimals = unsigned_abs w.decimals;
-    max = unsigned_abs w.max;
-    e = unsigned_abs w.e;
-    n = unsigned_abs (int_div w.max w.e);
-    zero_counts = w.zero_counts;
-    span_counts = unsigned_abs w.span_counts;
-    window = unsigned_abs w.window
-  }
+  unit = unit;
+  decimals = unsigned_abs w.decimals;
+  max = unsigned_abs w.max;
+  e = unsigned_abs w.e;
+  n = unsigned_abs (int_div w.max w.e);
+  zero_counts = w.zero_counts;
+  span_counts = unsigned_abs w.span_counts;
+  window = unsigned_abs w.window;
+}
 
 -- the plate, unless a rule is broken
 abbrev pub unless_broken : Option (ℕ × Bool) → PlateData → Result PlateData ℕ
