@@ -1,3 +1,4 @@
 pub mod Rounding
 pub mod Requests
 pub mod Independence
+pub mod Indication

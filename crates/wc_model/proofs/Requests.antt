@@ -3,11 +3,11 @@ use Rattle.std.proofs.Common.{◌≡◌, ℕ, Bool, true, false, cond, ◌&&◌,
 use Rattle.std.proofs.Math.Numerals.{one-add}
 use Rattle.std.proofs.Math.Seq.{drop-append_seam}
 use Rattle.std.proofs.lemmas.Bool.{and_parts, and_cases, cases_Bool, both_ways, true≢false, or_parts, or_left, or_right, not-true, not_from_true, false_from_ne_true, cond-false, cond-true}
-use Rattle.std.specs.Prelude.{take_while, Option, Some, None, ◌==◌, ◌||◌}
+use Rattle.std.specs.Prelude.{take_while, Option, Some, None, option_map, ◌==◌, ◌||◌}
 use Rattle.std.proofs.Common.{inl, inr}
 use Rattle.std.specs.List.{cons_option, list_all, concat}
 use Rattle.std.specs.Option.{option_or, option_to_list}
-use Rattle.wc_model.specs.Requests.{line_feed, carriage_return, escape, is_text, begins_with, request_at, requests, requests_in, open_at, open_request, completed_by, requests_in_pieces, IsCutAnywhere}
+use Rattle.wc_model.specs.Requests.{line_feed, carriage_return, escape, is_text, begins_with, request_at, requests, requests_in, open_at, open_request, completed_by, opened_by, requests_in_pieces, IsCutAnywhere}
 
 module _ (p : ℕ → Bool) where
   -- what stands from the first element on that fails the test
@@ -242,6 +242,91 @@ pieces_after before (piece ∷ pieces) =
     ap (λ r. requests_in before piece ++ r) (pieces_after (before ++ piece) pieces)
     ∙ sym (requests_in_again before piece (concat pieces))
 
+-- all of a list and one more
+all_and_one : (p : ℕ → Bool) (xs : List ℕ) (x : ℕ) → list_all p (xs ++ (x ∷ [])) ≡ (list_all p xs && p x)
+all_and_one p [] x = and_true (p x)
+  where
+    and_true : (b : Bool) → (b && true) ≡ b
+    and_true true = refl
+    and_true false = refl
+all_and_one p (y ∷ xs) x = ap (λ b. p y && b) (all_and_one p xs x) ∙ sym (and_assoc (p y) (list_all p xs) (p x))
+  where
+    and_assoc : (a b c : Bool) → ((a && b) && c) ≡ (a && (b && c))
+    and_assoc true b c = refl
+    and_assoc false b c = refl
+
+-- a change of each of two
+changed_or : {A : Type 0} (f : A → A) (o u : Option A) → option_or (option_map f o) (option_map f u) ≡ option_map f (option_or o u)
+changed_or f None u = refl
+changed_or f (Some x) u = refl
+
+-- a request that this byte opens, with one byte of text more, or with another
+goes_on_at : (byte : ℕ) (rest : List ℕ) (x : ℕ) → is_text x ≡ true →
+    open_at byte (rest ++ (x ∷ [])) ≡ option_map (λ text. text ++ (x ∷ [])) (open_at byte rest)
+goes_on_at byte rest x text =
+    ap (λ b. cond (byte == line_feed && b) (Some (rest ++ (x ∷ []))) None) (all_and_one is_text rest x ∙ ap (λ b. list_all is_text rest && b) text ∙ and_true (list_all is_text rest))
+    ∙ mapped (byte == line_feed && list_all is_text rest)
+  where
+    and_true : (b : Bool) → (b && true) ≡ b
+    and_true true = refl
+    and_true false = refl
+    mapped : (b : Bool) → cond b (Some (rest ++ (x ∷ []))) None ≡ option_map (λ text. text ++ (x ∷ [])) (cond b (Some rest) None)
+    mapped true = refl
+    mapped false = refl
+
+stops_at : (byte : ℕ) (rest : List ℕ) (x : ℕ) → is_text x ≡ false → open_at byte (rest ++ (x ∷ [])) ≡ None
+stops_at byte rest x other =
+    ap (λ b. cond (byte == line_feed && b) (Some (rest ++ (x ∷ []))) None) (all_and_one is_text rest x ∙ ap (λ b. list_all is_text rest && b) other)
+    ∙ never (byte == line_feed) (list_all is_text rest)
+  where
+    never : (a b : Bool) → cond (a && (b && false)) (Some (rest ++ (x ∷ []))) None ≡ None
+    never true true = refl
+    never true false = refl
+    never false b = refl
+
+-- what one more byte makes of the open request, in each of the three cases
+opened_by_feed : (x : ℕ) (o : Option (List ℕ)) → (x == line_feed) ≡ true → opened_by x o ≡ Some []
+opened_by_feed x o h = cond-true (x == line_feed) (Some []) _ h
+
+opened_by_text : (x : ℕ) (o : Option (List ℕ)) → (x == line_feed) ≡ false → is_text x ≡ true → opened_by x o ≡ option_map (λ text. text ++ (x ∷ [])) o
+opened_by_text x o h k = cond-false (x == line_feed) (Some []) (cond (is_text x) (option_map (λ text. text ++ (x ∷ [])) o) None) h
+    ∙ cond-true (is_text x) (option_map (λ text. text ++ (x ∷ [])) o) None k
+
+opened_by_other : (x : ℕ) (o : Option (List ℕ)) → (x == line_feed) ≡ false → is_text x ≡ false → opened_by x o ≡ None
+opened_by_other x o h k = cond-false (x == line_feed) (Some []) (cond (is_text x) (option_map (λ text. text ++ (x ∷ [])) o) None) h
+    ∙ cond-false (is_text x) (option_map (λ text. text ++ (x ∷ [])) o) None k
+
+-- an LF is no byte of text
+feed_is_no_text : (x : ℕ) → (x == line_feed) ≡ true → is_text x ≡ false
+feed_is_no_text x h = false_from_ne_true (is_text x) (λ t. both_ways (x == line_feed) (text_is_no_feed x t) h)
+
+-- the open request of a stream with one byte more
+pub open_request_after : (before : List ℕ) (x : ℕ) → open_request (before ++ (x ∷ [])) ≡ opened_by x (open_request before)
+open_request_after [] x = elim (cases_Bool (x == line_feed)) [
+    inl feed ↦ open_at_feed x [] feed ∙ sym (opened_by_feed x None feed)
+  | inr other ↦ elim (cases_Bool (is_text x)) [
+        inl text ↦ not_open_at x [] other ∙ sym (opened_by_text x None other text)
+      | inr none ↦ not_open_at x [] other ∙ sym (opened_by_other x None other none)
+      ]
+  ]
+open_request_after (byte ∷ rest) x =
+    ap (λ o. option_or o (open_at byte (rest ++ (x ∷ [])))) (open_request_after rest x)
+    ∙ elim (cases_Bool (x == line_feed)) [
+        inl feed ↦ ap (λ o. option_or o (open_at byte (rest ++ (x ∷ [])))) (opened_by_feed x (open_request rest) feed)
+          ∙ sym (opened_by_feed x (option_or (open_request rest) (open_at byte rest)) feed)
+      | inr other ↦ elim (cases_Bool (is_text x)) [
+            inl text ↦
+              ap (λ o. option_or o (open_at byte (rest ++ (x ∷ [])))) (opened_by_text x (open_request rest) other text)
+              ∙ ap (λ o. option_or (option_map (λ text. text ++ (x ∷ [])) (open_request rest)) o) (goes_on_at byte rest x text)
+              ∙ changed_or (λ text. text ++ (x ∷ [])) (open_request rest) (open_at byte rest)
+              ∙ sym (opened_by_text x (option_or (open_request rest) (open_at byte rest)) other text)
+          | inr none ↦
+              ap (λ o. option_or o (open_at byte (rest ++ (x ∷ [])))) (opened_by_other x (open_request rest) other none)
+              ∙ stops_at byte rest x none
+              ∙ sym (opened_by_other x (option_or (open_request rest) (open_at byte rest)) other none)
+          ]
+      ]
+
 -- where a stream is cut makes no difference
 pub is_cut_anywhere : IsCutAnywhere
-is_cut_anywhere = record { whole = pieces_after []; again = requests_in_again; byte = requests_in_byte }
+is_cut_anywhere = record { whole = pieces_after []; again = requests_in_again; byte = requests_in_byte; opens = open_request_after }

@@ -1,5 +1,5 @@
 -- What has come to an indicator so far.
-use Rattle.std.specs.Prelude.{ℕ, ◌-◌, Bool, true, false, List, [], ◌∷◌, ◌++◌, length, drop, ℤ, Option, Some, None}
+use Rattle.std.specs.Prelude.{ℕ, ◌-◌, Bool, true, false, List, [], ◌∷◌, ◌++◌, length, drop, ℤ, Option, Some, None, if◌then◌else◌}
 use Rattle.std.specs.List.{last_or}
 
 -- a sample from the sensor, or a command
@@ -38,5 +38,5 @@ pub record Moment : Type 0 where
 abbrev pub last_that : (Moment → Bool) → History → Option Moment
 last_that test [] = None
 last_that test (event ∷ before) =
-    let moment : Moment = record { event = event; before = before } in
-    elim (test moment) [ true ↦ Some moment | false ↦ last_that test before ]
+    if test (record { event = event; before = before }) then Some (record { event = event; before = before })
+    else last_that test before

@@ -1,5 +1,5 @@
 -- The requests in a stream of line bytes. Their form is the profile's own.
-use Rattle.std.specs.Prelude.{◌≡◌, ℕ, Bool, false, ◌&&◌, ◌||◌, not, ◌==◌, List, [], ◌∷◌, ◌++◌, length, drop, take_while, Option, Some, None, if◌then◌else◌}
+use Rattle.std.specs.Prelude.{◌≡◌, ℕ, Bool, false, ◌&&◌, ◌||◌, not, ◌==◌, List, [], ◌∷◌, ◌++◌, length, drop, take_while, Option, Some, None, option_map, if◌then◌else◌}
 use Rattle.std.specs.List.{concat, cons_option, list_all}
 use Rattle.std.specs.Option.{option_or, option_to_list}
 
@@ -52,6 +52,12 @@ open_request (byte ∷ rest) = option_or (open_request rest) (open_at byte rest)
 abbrev pub completed_by : ℕ → Option (List ℕ) → List (List ℕ)
 completed_by byte begun = if byte == carriage_return then option_to_list begun else []
 
+-- what one more byte makes of the open request: LF opens a new one, a byte of text goes on, CR and ESC leave none
+abbrev pub opened_by : ℕ → Option (List ℕ) → Option (List ℕ)
+opened_by byte begun =
+    if byte == line_feed then Some []
+    else if is_text byte then option_map (λ text. text ++ (byte ∷ [])) begun else None
+
 -- the requests that each of some pieces completes, in order
 abbrev pub requests_in_pieces : List ℕ → List (List ℕ) → List (List ℕ)
 requests_in_pieces before [] = []
@@ -61,8 +67,10 @@ requests_in_pieces before (piece ∷ pieces) = requests_in before piece ++ reque
 --     whole      the pieces of a stream complete the requests of the whole stream
 --     again      a piece completes what its two parts complete
 --     byte       one byte completes the open request, or nothing
+--     opens      and it opens a new one, goes on with it, or leaves none
 pub record IsCutAnywhere : Type 0 where
   pub whole : (pieces : List (List ℕ)) → requests_in_pieces [] pieces ≡ requests (concat pieces)
   pub again : (before first second : List ℕ) →
       requests_in before (first ++ second) ≡ requests_in before first ++ requests_in (before ++ first) second
   pub byte : (before : List ℕ) (byte : ℕ) → requests_in before (byte ∷ []) ≡ completed_by byte (open_request before)
+  pub opens : (before : List ℕ) (byte : ℕ) → open_request (before ++ (byte ∷ [])) ≡ opened_by byte (open_request before)
