@@ -2,3 +2,4 @@ pub mod Rounding
 pub mod Requests
 pub mod Independence
 pub mod Indication
+pub mod PlateTable
