@@ -106,3 +106,9 @@ refusal_in (Err number) = number
 -- the number of the refusal of a table, 0 where it is accepted
 abbrev pub refusal_of_table : Table → ℕ
 refusal_of_table table = refusal_in (plate_of (Some table))
+
+-- the text of the plate of 15 kg; 34 is the quotation mark
+abbrev pub plate_text : List ℕ
+plate_text = lines_text
+    ((codes "unit = " ++ 34 ∷ codes "kg" ++ 34 ∷ []) ∷ codes "decimals = 3" ∷ codes "max = 15000" ∷ codes "e = 5"
+    ∷ codes "zero_counts = 10000" ∷ codes "span_counts = 600000" ∷ codes "window = 4" ∷ [])

@@ -1,12 +1,16 @@
 //! Laws of the definitions, over all inputs.
 
-ghost use Rattle.std.specs.Prelude.{ℕ, ◌<◌, ℤ, List};
+ghost use Rattle.std.specs.Prelude.{◌≡◌, ℕ, ◌<◌, ℤ, List, length, Option};
+ghost use Rattle.wc_model.specs.Histories.{History};
 ghost use Rattle.wc_model.specs.Independence.{IsFreeOfScans, IsFreeOfPrograms};
-ghost use Rattle.wc_model.specs.Plates.{PlateData};
+ghost use Rattle.wc_model.specs.Log.{Record, row_of};
+ghost use Rattle.wc_model.specs.Plates.{PlateData, IsPlate};
+ghost use Rattle.wc_model.specs.PlateTable.{Table, plate_of};
 ghost use Rattle.wc_model.specs.Report.{Scans};
 ghost use Rattle.wc_model.specs.Requests.{IsCutAnywhere};
 ghost use Rattle.wc_model.specs.Rounding.{HasOneNearest};
 ghost use Rattle.wc_model.specs.Rows.{LogRow};
+ghost use Rattle.wc_model.specs.Steps.{StepsOf};
 
 /// Exactly one whole number is nearest to a quotient by a positive span, and it is the one that is computed.
 pub fn one_number_is_nearest()
@@ -27,3 +31,22 @@ pub fn streams_are_cut_anywhere()
 pub fn answers_are_free_of_programs<State>()
     ensures { (p : PlateData) (scan : Scans State) (start : State) (rows : List LogRow) → IsFreeOfPrograms p scan start rows }
 {}
+
+/// A table that is accepted gives a plate in its ranges.
+pub fn accepted_tables_are_plates()
+    ensures { (table : Option Table) (p : PlateData) → plate_of table ≡ Ok p → IsPlate p }
+{
+}
+
+/// A sample and a refused command leave the zero point and the tare; an accepted zero makes the gross weight 0 and ends
+/// the tare; an accepted tare makes the net weight exactly 0; a clear ends the tare.
+pub fn what_an_event_does()
+    ensures { (p : PlateData) (history : History) → 0 < p.span_counts → StepsOf p history }
+{
+}
+
+/// Behind a million rows every row is refused, before anything of it is read.
+pub fn rows_above_a_million()
+    ensures { (before : List Record) (fields : Record) → 999999 < length before → row_of before fields ≡ Err 607 }
+{
+}

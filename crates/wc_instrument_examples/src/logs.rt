@@ -1,6 +1,6 @@
 //! Logs that are read, and logs that are refused, with the number and the row. The first row is counted.
 
-ghost use Rattle.std.specs.Prelude.{◌≡◌, pos, negsuc, [], ◌∷◌, codes};
+ghost use Rattle.std.specs.Prelude.{◌≡◌, pos, negsuc, [], ◌∷◌, codes, replicate};
 ghost use Rattle.wc_model.specs.Log.{log_of, with_row, refused_at};
 ghost use Rattle.wc_model.specs.Rows.{Counts, Bytes, Inputs};
 ghost use Rattle.wc_instrument_examples.specs.Worked.{log_with_rows, three_fields, scan_row};
@@ -53,3 +53,10 @@ pub fn moments_in_order()
     ensures equal { log_with_rows (three_fields (codes "5") (codes "S") [] ∷ three_fields (codes "5") (codes "S") [] ∷ [])
         ≡ record { rows = scan_row 2 5 ∷ scan_row 3 5 ∷ []; refusal = None } }
 {}
+
+/// A piece of the line has at most 4096 bytes.
+pub fn longest_piece()
+    ensures whole { log_with_rows (three_fields (codes "0") (codes "L") (replicate 8192 48) ∷ []) ≡ with_row (record { number = 2; ms = 0; brings = Bytes (replicate 4096 0) }) (record { rows = []; refusal = None }) }
+    ensures longer { log_with_rows (three_fields (codes "0") (codes "L") (replicate 8194 48) ∷ []) ≡ refused_at 606 2 }
+{
+}

@@ -21,32 +21,32 @@ newest_fails : (test : Moment → Bool) (event : Event) (before : History) → t
 newest_fails test event before h = rw h
 
 module _ (p : PlateData) (history : History) where
-  zero_new : zero_refusal p history ≡ None → zero_point p (SetZero ∷ history) ≡ present_counts p history
+  pub zero_new : zero_refusal p history ≡ None → zero_point p (SetZero ∷ history) ≡ present_counts p history
   zero_new h = ap (λ m. option_map_or (λ moment. present_counts p moment.before) m p.zero_counts)
       (newest_passes (is_accepted_zero p) SetZero history (ap (λ o. not (is_some o)) h))
 
-  zero_same : IsSome (zero_refusal p history) → zero_point p (SetZero ∷ history) ≡ zero_point p history
+  pub zero_same : IsSome (zero_refusal p history) → zero_point p (SetZero ∷ history) ≡ zero_point p history
   zero_same h = ap (λ m. option_map_or (λ moment. present_counts p moment.before) m p.zero_counts)
       (newest_fails (is_accepted_zero p) SetZero history (ap not h))
 
-  tare_ended : zero_refusal p history ≡ None → active_tare p (SetZero ∷ history) ≡ None
+  pub tare_ended : zero_refusal p history ≡ None → active_tare p (SetZero ∷ history) ≡ None
   tare_ended h = ap (λ m. option_map_or (tare_left_by p) m None)
       (newest_passes (acts_on_tare p) SetZero history (ap (λ o. not (is_some o)) h))
 
-  tare_same_at_zero : IsSome (zero_refusal p history) → active_tare p (SetZero ∷ history) ≡ active_tare p history
+  pub tare_same_at_zero : IsSome (zero_refusal p history) → active_tare p (SetZero ∷ history) ≡ active_tare p history
   tare_same_at_zero h = ap (λ m. option_map_or (tare_left_by p) m None)
       (newest_fails (acts_on_tare p) SetZero history (ap not h))
 
-  tare_new : tare_refusal p history ≡ None → active_tare p (SetTare ∷ history) ≡ Some (from_zero p history)
+  pub tare_new : tare_refusal p history ≡ None → active_tare p (SetTare ∷ history) ≡ Some (from_zero p history)
   tare_new h = ap (λ m. option_map_or (tare_left_by p) m None)
       (newest_passes (acts_on_tare p) SetTare history (ap (λ o. not (is_some o)) h))
 
-  tare_same : IsSome (tare_refusal p history) → active_tare p (SetTare ∷ history) ≡ active_tare p history
+  pub tare_same : IsSome (tare_refusal p history) → active_tare p (SetTare ∷ history) ≡ active_tare p history
   tare_same h = ap (λ m. option_map_or (tare_left_by p) m None)
       (newest_fails (acts_on_tare p) SetTare history (ap not h))
 
 -- no counts are no intervals
-no_intervals : (p : PlateData) → 0 < p.span_counts → intervals_of p (pos 0) ≡ pos 0
+pub no_intervals : (p : PlateData) → 0 < p.span_counts → intervals_of p (pos 0) ≡ pos 0
 no_intervals p h =
     let none : 2 * (0 * p.n) + p.span_counts ≡ p.span_counts = omega arith in
     ap (λ n. pos (n / (2 * p.span_counts))) none ∙ ap pos (div-eq_of_lt (omega arith))

@@ -3,3 +3,4 @@ pub mod Requests
 pub mod Independence
 pub mod Indication
 pub mod PlateTable
+pub mod Answers

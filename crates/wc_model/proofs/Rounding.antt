@@ -49,7 +49,7 @@ one_nearest num span k q h a b =
     (λ l. by_lt_z q k (λ m. absurd (none_below num span q k h m b a)) (λ m. omega (arith, ints)))
 
 -- the quotient lies from half a span below the number to half a span above
-quotient_bounds : (n span : ℕ) → 0 < span →
+pub quotient_bounds : (n span : ℕ) → 0 < span →
     (2 * (nearest_above_zero n span * span) ≤ 2 * n + span) × (2 * n + span < 2 * (nearest_above_zero n span * span) + 2 * span)
 quotient_bounds n span h = (omega arith, omega arith)
 
