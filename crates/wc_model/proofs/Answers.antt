@@ -1,21 +1,20 @@
 -- An answer has twenty bytes.
-use Rattle.std.proofs.Common.{◌≡◌, ℕ, zero, suc, ◌+◌, ◌-◌, ◌*◌, ◌/◌, ◌%◌, ◌^◌, ◌<◌, ◌≤◌, ◌⊎◌, inl, inr, Bool, true, false, cond, not, ◌&&◌, List, [], ◌∷◌, ◌++◌, length, refl, ap, sym, subst, ◌∙◌, arith, length-append}
+use Rattle.std.proofs.Common.{◌≡◌, ℕ, zero, suc, ◌+◌, ◌-◌, ◌*◌, ◌/◌, ◌%◌, ◌<◌, ◌≤◌, inl, inr, Bool, true, false, cond, not, ◌&&◌, List, [], ◌∷◌, ◌++◌, length, refl, ap, sym, subst, ◌∙◌, arith, length-append}
 use Rattle.std.proofs.Math.ListN.{length-replicate}
 use Rattle.std.proofs.Math.Nat.{mul-le-mul, mul-le-mul_right}
 use Rattle.std.proofs.lemmas.Bool.{cases_lt, cases_Bool, and_parts, or_parts, not-true, true≢false, leb-true}
 use Rattle.std.proofs.lemmas.Fmt.{length-decimal-le}
 use Rattle.std.proofs.lemmas.Int.{ints, unsigned_abs-mul}
-use Rattle.std.specs.Prelude.{ℤ, pos, negsuc, neg_ℤ, ◌-ℤ◌, ◌*ℤ◌, int_le, int_lt, unsigned_abs, Option, Some, None, is_some, unwrap_or, decimal, Contains, nat_le, ◌==◌, ◌||◌, ⊤, replicate}
-use borrow.Author.Differences.{up, down, neg_is, abs_is}
+use Rattle.std.specs.Prelude.{ℤ, pos, negsuc, ◌-ℤ◌, ◌*ℤ◌, int_le, int_lt, unsigned_abs, Option, Some, None, is_some, unwrap_or, decimal, Contains, nat_le, ◌==◌, ◌||◌, ⊤, replicate}
 use Rattle.std.specs.Int.{is_negative}
 use Rattle.std.specs.List.{list_all, slice_index_or}
 use Rattle.wc_model.proofs.Indication.{tare_same_at_zero, tare_ended, tare_new, tare_same, no_intervals}
 use Rattle.wc_model.proofs.Rounding.{quotient_bounds}
-use Rattle.wc_model.specs.Histories.{Event, Sample, SetZero, SetTare, ClearTare, History}
-use Rattle.wc_model.specs.Indication.{Refusal, refused_unless, has_sample, is_stable, is_over, is_under, is_valid, is_centre_of_zero, can_be_tared, zero_refusal, tare_refusal, from_zero, active_tare, is_tare_active, tare_counts, intervals_of, gross_intervals, net_intervals, in_units, tare_value, gross, net, shown}
+use Rattle.wc_model.specs.Histories.{Sample, SetZero, SetTare, ClearTare, History}
+use Rattle.wc_model.specs.Indication.{refused_unless, has_sample, is_stable, is_over, is_under, is_valid, is_centre_of_zero, can_be_tared, zero_refusal, tare_refusal, from_zero, active_tare, is_tare_active, tare_counts, intervals_of, gross_intervals, net_intervals, in_units, tare_value, gross, net}
 use Rattle.wc_model.specs.Plates.{PlateData, IsPlate, allowed_intervals, grams, kilograms, tonnes}
 use Rattle.wc_model.specs.Rounding.{nearest, nearest_above_zero}
-use Rattle.wc_model.specs.Answers.{last_digits, fraction_text, minus_of, value_text, right_justified, weight_text, Mode, Shown, Tare, Asked, Plain, ZeroRefused, TareRefused, status_byte, mode_byte, motion_byte, weight_asked, answer}
+use Rattle.wc_model.specs.Answers.{last_digits, minus_of, value_text, weight_text, Mode, Shown, Tare, Asked, Plain, ZeroRefused, TareRefused, status_byte, mode_byte, weight_asked, answer}
 
 -- how far from 0 the nearest number is
 abs_nearest : (num : ℤ) (span : ℕ) → unsigned_abs (nearest num span) ≡ nearest_above_zero (unsigned_abs num) span
@@ -33,11 +32,11 @@ difference_bound x y z span h le =
     let by : (2 * (b * span) ≤ 2 * y + span) × (2 * y + span < 2 * (b * span) + 2 * span) = quotient_bounds y span h in
     let bz : (2 * (c * span) ≤ 2 * z + span) × (2 * z + span < 2 * (c * span) + 2 * span) = quotient_bounds z span h in
     elim (cases_lt (a + b + 1) c) [
-      inl l ↦
-        let scaled : suc (a + b + 1) * span ≤ c * span = mul-le-mul_right span l in
-        let parts : suc (a + b + 1) * span ≡ a * span + b * span + 2 * span = omega arith in
-        absurd (omega arith)
-    | inr l ↦ l
+      | inl l ↦
+          let scaled : suc (a + b + 1) * span ≤ c * span = mul-le-mul_right span l in
+          let parts : suc (a + b + 1) * span ≡ a * span + b * span + 2 * span = omega arith in
+          absurd (omega arith)
+      | inr l ↦ l
     ]
 
 -- the last digits are so many
@@ -61,17 +60,36 @@ length_three a b c = omega (arith, length-append (a ++ b) c, length-append a b)
 -- a weight below ten million is at most ten bytes
 length_value : (decimals : ℕ) (value : ℤ) → decimals ≤ 3 → unsigned_abs value < 10000000 → length (value_text decimals value) ≤ 10
 length_value zero value few small =
-    omega (arith, length_three (minus_of value) (decimal (unsigned_abs value / 1)) [], length_minus value,
-      length-decimal-le 7 (unsigned_abs value / 1) (omega arith) (omega arith) (omega arith))
+    omega (
+      arith,
+      length_three (minus_of value) (decimal (unsigned_abs value / 1)) [],
+      length_minus value,
+      length-decimal-le 7 (unsigned_abs value / 1) (omega arith) (omega arith) (omega arith),
+    )
 length_value (suc zero) value few small =
-    omega (arith, length_three (minus_of value) (decimal (unsigned_abs value / 10)) (46 ∷ last_digits 1 (unsigned_abs value)), length_minus value,
-      length-decimal-le 6 (unsigned_abs value / 10) (omega arith) (omega arith) (omega arith), length_last_digits 1 (unsigned_abs value))
+    omega (
+      arith,
+      length_three (minus_of value) (decimal (unsigned_abs value / 10)) (46 ∷ last_digits 1 (unsigned_abs value)),
+      length_minus value,
+      length-decimal-le 6 (unsigned_abs value / 10) (omega arith) (omega arith) (omega arith),
+      length_last_digits 1 (unsigned_abs value),
+    )
 length_value (suc (suc zero)) value few small =
-    omega (arith, length_three (minus_of value) (decimal (unsigned_abs value / 100)) (46 ∷ last_digits 2 (unsigned_abs value)), length_minus value,
-      length-decimal-le 5 (unsigned_abs value / 100) (omega arith) (omega arith) (omega arith), length_last_digits 2 (unsigned_abs value))
+    omega (
+      arith,
+      length_three (minus_of value) (decimal (unsigned_abs value / 100)) (46 ∷ last_digits 2 (unsigned_abs value)),
+      length_minus value,
+      length-decimal-le 5 (unsigned_abs value / 100) (omega arith) (omega arith) (omega arith),
+      length_last_digits 2 (unsigned_abs value),
+    )
 length_value (suc (suc (suc zero))) value few small =
-    omega (arith, length_three (minus_of value) (decimal (unsigned_abs value / 1000)) (46 ∷ last_digits 3 (unsigned_abs value)), length_minus value,
-      length-decimal-le 4 (unsigned_abs value / 1000) (omega arith) (omega arith) (omega arith), length_last_digits 3 (unsigned_abs value))
+    omega (
+      arith,
+      length_three (minus_of value) (decimal (unsigned_abs value / 1000)) (46 ∷ last_digits 3 (unsigned_abs value)),
+      length_minus value,
+      length-decimal-le 4 (unsigned_abs value / 1000) (omega arith) (omega arith) (omega arith),
+      length_last_digits 3 (unsigned_abs value),
+    )
 length_value (suc (suc (suc (suc d)))) value few small = absurd (omega arith)
 
 -- where nothing is refused
@@ -92,21 +110,21 @@ tare_in_range p [] t e = absurd (cc)
 tare_in_range p (Sample counts ∷ before) t e = tare_in_range p before t e
 tare_in_range p (ClearTare ∷ before) t e = absurd (cc)
 tare_in_range p (SetZero ∷ before) t e = elim (cases_Bool (is_some (zero_refusal p before))) [
-    inl refused ↦ tare_in_range p before t (sym (tare_same_at_zero p before refused) ∙ e)
+  | inl refused ↦ tare_in_range p before t (sym (tare_same_at_zero p before refused) ∙ e)
   | inr accepted ↦
       let none : active_tare p (SetZero ∷ before) ≡ None = tare_ended p before (not_some (zero_refusal p before) accepted) in
       absurd (cc)
-  ]
+]
 tare_in_range p (SetTare ∷ before) t e = elim (cases_Bool (is_some (tare_refusal p before))) [
-    inl refused ↦ tare_in_range p before t (sym (tare_same p before refused) ∙ e)
+  | inl refused ↦ tare_in_range p before t (sym (tare_same p before refused) ∙ e)
   | inr accepted ↦
       let none : tare_refusal p before ≡ None = not_some (tare_refusal p before) accepted in
       let left : active_tare p (SetTare ∷ before) ≡ Some (from_zero p before) = tare_new p before none in
       let same : from_zero p before ≡ t = cc in
       let tared : can_be_tared p before ≡ true = passes_second (is_stable p before) (can_be_tared p before) none in
       subst (λ z. (int_le (pos 1) (intervals_of p z) ≡ true) × (int_le (intervals_of p z) (pos p.n) ≡ true)) same
-        (and_parts (int_le (pos 1) (gross_intervals p before)) (int_le (gross_intervals p before) (pos p.n)) tared)
-  ]
+      (and_parts (int_le (pos 1) (gross_intervals p before)) (int_le (gross_intervals p before) (pos p.n)) tared)
+]
 
 -- the tare in intervals is no more than Max
 tare_bound : (p : PlateData) (history : History) → 0 < p.span_counts → unsigned_abs (intervals_of p (tare_counts p history)) ≤ p.n
@@ -114,11 +132,11 @@ tare_bound p history h = go (active_tare p history) refl
   where
     go : (o : Option ℤ) → active_tare p history ≡ o → unsigned_abs (intervals_of p (unwrap_or o (pos 0))) ≤ p.n
     go None e = let zero_is : intervals_of p (pos 0) ≡ pos 0 = no_intervals p h in
-      let abs_zero : unsigned_abs (intervals_of p (pos 0)) ≡ 0 = ap unsigned_abs zero_is in omega arith
+        let abs_zero : unsigned_abs (intervals_of p (pos 0)) ≡ 0 = ap unsigned_abs zero_is in omega arith
     go (Some t) e = let range = tare_in_range p history t e in
-      let low : int_le (pos 1) (intervals_of p t) ≡ true = range.0 in
-      let high : int_le (intervals_of p t) (pos p.n) ≡ true = range.1 in
-      omega (arith, ints)
+        let low : int_le (pos 1) (intervals_of p t) ≡ true = range.0 in
+        let high : int_le (intervals_of p t) (pos p.n) ≡ true = range.1 in
+        omega (arith, ints)
 
 -- of a test that holds with another, the other
 with_first : (a b : Bool) → a ≡ true → (a && b) ≡ false → b ≡ false
@@ -129,7 +147,7 @@ with_first false b e h = absurd (true≢false (sym e))
 gross_bound : (p : PlateData) (history : History) → is_valid p history ≡ true → unsigned_abs (gross_intervals p history) ≤ p.n + 20
 gross_bound p history valid =
     let parts : (has_sample history ≡ true) × (not (is_over p history || is_under p history) ≡ true) =
-      and_parts (has_sample history) (not (is_over p history || is_under p history)) valid in
+    and_parts (has_sample history) (not (is_over p history || is_under p history)) valid in
     let within : (is_over p history ≡ false) × (is_under p history ≡ false) = or_parts (is_over p history) (is_under p history) (not-true (is_over p history || is_under p history) parts.1) in
     let k : ℤ = gross_intervals p history in
     let high : int_lt (pos (p.n + 9)) k ≡ false = with_first (has_sample history) (int_lt (pos (p.n + 9)) k) parts.0 within.0 in
@@ -146,7 +164,7 @@ net_bound p history h =
     let apart : unsigned_abs (r -ℤ t) ≤ unsigned_abs r + unsigned_abs t = omega (arith, ints) in
     let scaled : unsigned_abs (r -ℤ t) * p.n ≤ (unsigned_abs r + unsigned_abs t) * p.n = mul-le-mul_right p.n apart in
     let sum : unsigned_abs ((r -ℤ t) *ℤ n) ≤ unsigned_abs (r *ℤ n) + unsigned_abs (t *ℤ n) =
-      omega (arith, unsigned_abs-mul (r -ℤ t) n, unsigned_abs-mul r n, unsigned_abs-mul t n) in
+    omega (arith, unsigned_abs-mul (r -ℤ t) n, unsigned_abs-mul r n, unsigned_abs-mul t n) in
     let bound = difference_bound (unsigned_abs (r *ℤ n)) (unsigned_abs (t *ℤ n)) (unsigned_abs ((r -ℤ t) *ℤ n)) p.span_counts h sum in
     omega (arith, bound, abs_nearest (r *ℤ n) p.span_counts, abs_nearest (t *ℤ n) p.span_counts, abs_nearest ((r -ℤ t) *ℤ n) p.span_counts)
 
@@ -191,19 +209,24 @@ short_weight p history mode plate = by_mode mode
   where
     some_span : 0 < p.span_counts
     some_span = omega (arith, plate.span_in_range.0, plate.count.0)
+
     small : p.e ≤ 50
     small = interval_bound p.decimals p.e plate.allowed
+
     short_gross : is_valid p history ≡ true → unsigned_abs (in_units p (gross_intervals p history)) < 10000000
     short_gross valid = units_bound p (gross_intervals p history) small (omega (arith, gross_bound p history valid, plate.count.1))
+
     short_net : is_valid p history ≡ true → unsigned_abs (in_units p (net_intervals p history)) < 10000000
     short_net valid = units_bound p (net_intervals p history) small
-      (omega (arith, net_bound p history some_span, gross_bound p history valid, tare_bound p history some_span, plate.count.1))
+        (omega (arith, net_bound p history some_span, gross_bound p history valid, tare_bound p history some_span, plate.count.1))
+
     short_tare : is_valid p history ≡ true → unsigned_abs (tare_value p history) < 10000000
     short_tare valid = units_bound p (intervals_of p (tare_counts p history)) small (omega (arith, tare_bound p history some_span, plate.count.1))
+
     by_mode : (m : Mode) → IsShort (weight_asked p history m)
     by_mode Shown = short_of_two (is_tare_active p history) (net p history) (gross p history)
-      (short_if_valid (is_valid p history) (in_units p (net_intervals p history)) short_net)
-      (short_if_valid (is_valid p history) (in_units p (gross_intervals p history)) short_gross)
+        (short_if_valid (is_valid p history) (in_units p (net_intervals p history)) short_net)
+        (short_if_valid (is_valid p history) (in_units p (gross_intervals p history)) short_gross)
     by_mode Tare = short_if_valid (is_valid p history) (tare_value p history) short_tare
 
 -- a short weight has ten bytes, and so has none
@@ -227,11 +250,13 @@ one_of_five false false true d v w x y z = refl
 one_of_five false false false true v w x y z = refl
 one_of_five false false false false v w x y z = refl
 
+-- the status is one byte
 length_status : (p : PlateData) (history : History) (asked : Asked) → length (status_byte p history asked) ≡ 1
 length_status p history Plain = one_of_five (not (has_sample history)) (is_over p history) (is_under p history) (is_centre_of_zero p history) 73 79 85 90 32
 length_status p history ZeroRefused = refl
 length_status p history TareRefused = refl
 
+-- the mode is one byte
 length_mode : (p : PlateData) (history : History) (mode : Mode) → length (mode_byte p history mode) ≡ 1
 length_mode p history Shown = one_byte (is_tare_active p history) 78 71
 length_mode p history Tare = refl
@@ -246,5 +271,11 @@ length_unit unit (suc (suc (suc k)), l, e) = absurd (omega arith)
 -- an answer has twenty bytes
 pub length_answer : (p : PlateData) (history : History) (mode : Mode) (asked : Asked) → IsPlate p → length (answer p history mode asked) ≡ 20
 length_answer p history mode asked plate =
-    simp length-append (omega (arith, length_status p history asked, length_mode p history mode, one_byte (is_stable p history) 32 77,
-      length_weight p.decimals (weight_asked p history mode) plate.few_decimals (short_weight p history mode plate), length_unit p.unit plate.known_unit))
+    simp length-append (omega (
+      arith,
+      length_status p history asked,
+      length_mode p history mode,
+      one_byte (is_stable p history) 32 77,
+      length_weight p.decimals (weight_asked p history mode) plate.few_decimals (short_weight p history mode plate),
+      length_unit p.unit plate.known_unit,
+    ))

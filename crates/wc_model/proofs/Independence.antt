@@ -2,9 +2,10 @@
 use Rattle.std.proofs.Common.{◌≡◌, ℕ, List, [], ◌∷◌, ◌++◌, refl, ap, sym, ◌∙◌, append-nil}
 use Rattle.std.proofs.lemmas.List.Elements.{filter-append}
 use Rattle.std.specs.Prelude.{filter}
+use Rattle.wc_model.specs.Histories.{last_items}
 use Rattle.wc_model.specs.Independence.{indicator_rows, IsFreeOfScans, IsFreeOfPrograms}
 use Rattle.wc_model.specs.Plates.{PlateData}
-use Rattle.wc_model.specs.Report.{Scans, is_answer_line, answer_line, lines_with, report_lines, answer_lines, report_text}
+use Rattle.wc_model.specs.Report.{Scans, is_answer_line, is_scan_line, answer_line, lines_with, report_lines, answer_lines, report_text}
 use Rattle.wc_model.specs.Rows.{RowData, Counts, Bytes, Inputs, Scan, LogRow, Past, line_bytes, history_with, history_of, answer_with, answer_of_row}
 
 -- a row adds the same bytes, whether scans and inputs are there or not
@@ -58,6 +59,7 @@ same_lines p before [] = refl
 same_lines p before (row ∷ rows) =
     lines_with_row p before row.number row.ms row.brings rows (same_lines p (row ∷ before) rows)
 
+-- scans and inputs may be taken out and put in
 pub is_free_of_scans : (p : PlateData) → IsFreeOfScans p
 is_free_of_scans p = record {
   row = same_answer p;
@@ -87,8 +89,10 @@ module _ {State : Type 0} (p : PlateData) (scan : Scans State) (start : State) w
       filter-append is_answer_line (lines_with p scan start row.brings before row) (report_lines p scan start (row ∷ before) rows)
       ∙ λ i. answers_of_row row.brings before row.number row.ms i ++ answers_of_rows (row ∷ before) rows i
 
+  -- the answers in a report are those of a run with no program
   pub is_free_of_programs : (rows : List LogRow) → IsFreeOfPrograms p scan start rows
   is_free_of_programs rows = record {
     lines = answers_of_rows [] rows;
     bytes = ap report_text (answers_of_rows [] rows);
+    last = λ n. ap (λ lines. report_text lines ++ report_text (last_items n (filter is_scan_line (report_lines p scan start [] rows)))) (answers_of_rows [] rows);
   }

@@ -1,11 +1,11 @@
 -- A table that is accepted gives a plate in its ranges.
-use Rattle.std.proofs.Common.{◌≡◌, ℕ, zero, suc, ◌+◌, ◌*◌, ◌/◌, ◌%◌, ◌^◌, ◌<◌, ◌≤◌, ◌⊎◌, inl, inr, Bool, true, false, cond, not, ◌&&◌, List, [], ◌∷◌, length, refl, ap, sym, subst, ◌∙◌, arith}
+use Rattle.std.proofs.Common.{◌≡◌, ℕ, suc, ◌+◌, ◌*◌, ◌/◌, ◌%◌, ◌^◌, ◌≤◌, inl, inr, Bool, true, false, cond, not, ◌&&◌, List, [], ◌∷◌, refl, ap, sym, subst, ◌∙◌, arith}
 use Rattle.std.proofs.Math.Nat.{div-add-mod, mul_comm}
-use Rattle.std.proofs.lemmas.Bool.{and_parts, cases_Bool, or_cases, cond-true, cond-false, true≢false, leb-true}
+use Rattle.std.proofs.lemmas.Bool.{and_parts, or_cases, true≢false, leb-true}
 use Rattle.std.proofs.lemmas.Int.{ints}
-use Rattle.std.specs.Prelude.{ℤ, pos, negsuc, neg_ℤ, ◌≤ℤ◌, ◌*ℤ◌, int_le, int_div, int_rem, unsigned_abs, Option, Some, None, Result, Ok, Err, find, codes, Contains}
+use Rattle.std.specs.Prelude.{ℤ, pos, negsuc, neg_ℤ, ◌≤ℤ◌, ◌*ℤ◌, int_le, int_div, int_rem, unsigned_abs, Option, Some, None, Ok, find, codes, Contains}
 use Rattle.std.specs.List.{list_any}
-use borrow.Author.Differences.{up, down, neg_is}
+use borrow.Author.Differences.{neg_is}
 use Rattle.std.specs.Str.{bytes_eq}
 use Rattle.wc_model.specs.Plates.{PlateData, IsPlate, grams, kilograms, tonnes, grams_of, allowed_intervals, least_sample, greatest_sample}
 use Rattle.wc_model.specs.PlateTable.{Table, Written, written_of, line_unit, is_between, is_interval, is_count, rules_after_unit, plate_from, unless_broken, judged, plate_of_written, plate_of}
@@ -30,14 +30,14 @@ none_broken (Some rule) plate p e = absurd (cc)
 contained : (xs : List ℕ) (e : ℤ) → list_any (λ x. int_le e (pos x) && int_le (pos x) e) xs ≡ true → Contains xs (unsigned_abs e) × (e ≡ pos (unsigned_abs e))
 contained [] e h = absurd (true≢false (sym h))
 contained (x ∷ xs) e h = elim (or_cases (int_le e (pos x) && int_le (pos x) e) (list_any (λ x. int_le e (pos x) && int_le (pos x) e) xs) h) [
-    inl here ↦
+  | inl here ↦
       let parts : (int_le e (pos x) ≡ true) × (int_le (pos x) e ≡ true) = and_parts (int_le e (pos x)) (int_le (pos x) e) here in
       let same : e ≡ pos x = omega (arith, ints) in
       ((0, omega arith, omega (arith, ints)), omega (arith, ints))
   | inr there ↦
       let rest : Contains xs (unsigned_abs e) × (e ≡ pos (unsigned_abs e)) = contained xs e there in
       ((suc rest.0.0, omega arith, rest.0.2), rest.1)
-  ]
+]
 
 -- a unit of the line is one of the three
 unit_known : (a b c : Bool) (unit : List ℕ) →
@@ -59,7 +59,7 @@ whole_count : (max e : ℤ) (a : ℕ) → e ≡ pos a → is_count max e ≡ tru
     × (int_div max e ≡ pos (unsigned_abs (int_div max e)))
 whole_count (pos m) (pos b) a same h =
     let parts : (int_le (pos (m % b)) (pos 0) ≡ true) × (is_between (pos 500) (pos 10000) (pos (m / b)) ≡ true) =
-      and_parts (int_le (pos (m % b)) (pos 0)) (is_between (pos 500) (pos 10000) (pos (m / b))) h in
+    and_parts (int_le (pos (m % b)) (pos 0)) (is_between (pos 500) (pos 10000) (pos (m / b))) h in
     let between : (pos 500 ≤ℤ pos (m / b)) × (pos (m / b) ≤ℤ pos 10000) = between_parts (pos 500) (pos 10000) (pos (m / b)) parts.1 in
     let none : m % b ≡ 0 = omega (arith, ints, parts.0) in
     let whole : b * (m / b) + m % b ≡ m = div-add-mod m b in
@@ -71,7 +71,7 @@ whole_count (pos m) (negsuc b) a same h = absurd (cc)
 whole_count (negsuc m) (pos b) a same h =
     let q : ℤ = neg_ℤ (pos (suc m / b)) in
     let parts : (int_le (int_rem (negsuc m) (pos b)) (pos 0) ≡ true) × (is_between (pos 500) (pos 10000) q ≡ true) =
-      and_parts (int_le (int_rem (negsuc m) (pos b)) (pos 0)) (is_between (pos 500) (pos 10000) q) h in
+    and_parts (int_le (int_rem (negsuc m) (pos b)) (pos 0)) (is_between (pos 500) (pos 10000) q) h in
     let between : (pos 500 ≤ℤ q) × (q ≤ℤ pos 10000) = between_parts (pos 500) (pos 10000) q parts.1 in
     absurd (omega (arith, ints, between, neg_is (pos (suc m / b))))
 whole_count (negsuc m) (negsuc b) a same h = absurd (cc)
@@ -87,7 +87,7 @@ in_ranges w unit known none =
     let listed : Bool = list_any (λ allowed. int_le w.e (pos allowed) && int_le (pos allowed) w.e) (allowed_intervals decimals) in
     let heavy : Bool = int_le (pos (5 * 10 ^ decimals)) (w.e *ℤ pos (grams_of unit)) in
     let all = each_holds (is_between (pos 0) (pos 3) w.decimals) (is_interval unit decimals w.e) (is_count w.max w.e) (zero_test && span_test)
-      (is_between (pos 2) (pos 16) w.window) none in
+    (is_between (pos 2) (pos 16) w.window) none in
     let few : (pos 0 ≤ℤ w.decimals) × (w.decimals ≤ℤ pos 3) = between_parts (pos 0) (pos 3) w.decimals all.0 in
     let interval : (listed ≡ true) × (heavy ≡ true) = and_parts listed heavy all.1 in
     let allowed : Contains (allowed_intervals decimals) (unsigned_abs w.e) × (w.e ≡ pos (unsigned_abs w.e)) = contained (allowed_intervals decimals) w.e interval.0 in
@@ -101,12 +101,12 @@ in_ranges w unit known none =
       few_decimals = omega (arith, ints, few);
       allowed = allowed.0;
       five_grams = leb-true (5 * 10 ^ decimals) (unsigned_abs w.e * grams_of unit)
-        (ap (λ z. int_le (pos (5 * 10 ^ decimals)) (z *ℤ pos (grams_of unit))) (sym allowed.1) ∙ interval.1);
+          (ap (λ z. int_le (pos (5 * 10 ^ decimals)) (z *ℤ pos (grams_of unit))) (sym allowed.1) ∙ interval.1);
       exact = whole.0;
       count = (whole.1, whole.2);
       zero_in_range = zero;
       span_in_range = (omega (arith, ints, span, whole.3), omega (arith, ints, span));
-      window_in_range = (omega (arith, ints, window), omega (arith, ints, window))
+      window_in_range = (omega (arith, ints, window), omega (arith, ints, window));
     }
 
 -- a plate that is judged and accepted

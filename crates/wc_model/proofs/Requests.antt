@@ -14,15 +14,19 @@ module _ (p : ℕ → Bool) where
   abbrev beyond : List ℕ → List ℕ
   beyond xs = drop (length (take_while p xs)) xs
 
+  -- what passes at the front is taken
   taken_more : (x : ℕ) (xs : List ℕ) → p x ≡ true → take_while p (x ∷ xs) ≡ x ∷ take_while p xs
   taken_more x xs h = rw (h, one-add)
 
+  -- what fails there ends it
   taken_none : (x : ℕ) (xs : List ℕ) → p x ≡ false → take_while p (x ∷ xs) ≡ []
   taken_none x xs h = rw h
 
+  -- the same of what stands beyond
   beyond_more : (x : ℕ) (xs : List ℕ) → p x ≡ true → beyond (x ∷ xs) ≡ beyond xs
   beyond_more x xs h = ap (λ t. drop (length t) (x ∷ xs)) (taken_more x xs h)
 
+  -- and where the first fails
   beyond_none : (x : ℕ) (xs : List ℕ) → p x ≡ false → beyond (x ∷ xs) ≡ x ∷ xs
   beyond_none x xs h = ap (λ t. drop (length t) (x ∷ xs)) (taken_none x xs h)
 
@@ -32,6 +36,7 @@ module _ (p : ℕ → Bool) where
   taken_on (x ∷ xs) ys h = taken_more x (xs ++ ys) (and_parts (p x) (list_all p xs) h).0
       ∙ ap (λ t. x ∷ t) (taken_on xs ys (and_parts (p x) (list_all p xs) h).1)
 
+  -- the same of what stands beyond
   beyond_on : (xs ys : List ℕ) → list_all p xs ≡ true → beyond (xs ++ ys) ≡ beyond ys
   beyond_on [] ys h = refl
   beyond_on (x ∷ xs) ys h = beyond_more x (xs ++ ys) (and_parts (p x) (list_all p xs) h).0
@@ -52,6 +57,7 @@ module _ (p : ℕ → Bool) where
     | inr stops ↦ taken_none x (xs ++ ys) stops ∙ sym (taken_none x xs stops)
   ]
 
+  -- the same of how it goes on beyond
   begins_within : (byte : ℕ) (xs ys : List ℕ) → list_all p xs ≡ false →
       begins_with byte (beyond (xs ++ ys)) ≡ begins_with byte (beyond xs)
   begins_within byte [] ys h = absurd (true≢false h)
@@ -70,9 +76,11 @@ request_at_feed : (byte : ℕ) (rest : List ℕ) → (byte == line_feed) ≡ tru
     request_at byte rest ≡ cond (begins_with carriage_return (drop (length (take_while is_text rest)) rest)) (Some (take_while is_text rest)) None
 request_at_feed byte rest h = rw h
 
+-- no request is open from another byte than LF
 not_open_at : (byte : ℕ) (rest : List ℕ) → (byte == line_feed) ≡ false → open_at byte rest ≡ None
 not_open_at byte rest h = rw h
 
+-- from LF one is, where text alone follows
 open_at_feed : (byte : ℕ) (rest : List ℕ) → (byte == line_feed) ≡ true → open_at byte rest ≡ cond (list_all is_text rest) (Some rest) None
 open_at_feed byte rest h = rw h
 
@@ -112,10 +120,12 @@ nothing_open_in_text (byte ∷ rest) h =
     ap (λ o. option_or o (open_at byte rest)) (nothing_open_in_text rest (and_parts (is_text byte) (list_all is_text rest) h).1)
     ∙ not_open_at byte rest (text_is_no_feed byte (and_parts (is_text byte) (list_all is_text rest) h).0)
 
+-- a choice with nothing behind it
 or_nothing : {A : Type 0} (o : Option A) → option_or o None ≡ o
 or_nothing None = refl
 or_nothing (Some x) = refl
 
+-- lists joined behind an optional element
 cons_option-append : {A : Type 0} (o : Option A) (xs ys : List A) → cons_option o (xs ++ ys) ≡ cons_option o xs ++ ys
 cons_option-append None xs ys = refl
 cons_option-append (Some x) xs ys = refl
@@ -225,6 +235,7 @@ completed_again before (x ∷ first) second =
     ∙ ap (λ b. (completed_by x (open_request before) ++ completed (before ++ (x ∷ [])) first) ++ completed b second)
     (append_assoc before (x ∷ []) first)
 
+-- the same of requests
 pub requests_in_again : (before first second : List ℕ) →
     requests_in before (first ++ second) ≡ requests_in before first ++ requests_in (before ++ first) second
 requests_in_again before first second =
@@ -270,10 +281,12 @@ goes_on_at byte rest x text =
     and_true : (b : Bool) → (b && true) ≡ b
     and_true true = refl
     and_true false = refl
+
     mapped : (b : Bool) → cond b (Some (rest ++ (x ∷ []))) None ≡ option_map (λ text. text ++ (x ∷ [])) (cond b (Some rest) None)
     mapped true = refl
     mapped false = refl
 
+-- CR, LF or ESC behind it
 stops_at : (byte : ℕ) (rest : List ℕ) (x : ℕ) → is_text x ≡ false → open_at byte (rest ++ (x ∷ [])) ≡ None
 stops_at byte rest x other =
     ap (λ b. cond (byte == line_feed && b) (Some (rest ++ (x ∷ []))) None) (all_and_one is_text rest x ∙ ap (λ b. list_all is_text rest && b) other)
@@ -284,14 +297,16 @@ stops_at byte rest x other =
     never true false = refl
     never false b = refl
 
--- what one more byte makes of the open request, in each of the three cases
+-- what LF makes of the open request
 opened_by_feed : (x : ℕ) (o : Option (List ℕ)) → (x == line_feed) ≡ true → opened_by x o ≡ Some []
 opened_by_feed x o h = cond-true (x == line_feed) (Some []) _ h
 
+-- a byte of text
 opened_by_text : (x : ℕ) (o : Option (List ℕ)) → (x == line_feed) ≡ false → is_text x ≡ true → opened_by x o ≡ option_map (λ text. text ++ (x ∷ [])) o
 opened_by_text x o h k = cond-false (x == line_feed) (Some []) (cond (is_text x) (option_map (λ text. text ++ (x ∷ [])) o) None) h
     ∙ cond-true (is_text x) (option_map (λ text. text ++ (x ∷ [])) o) None k
 
+-- CR or ESC
 opened_by_other : (x : ℕ) (o : Option (List ℕ)) → (x == line_feed) ≡ false → is_text x ≡ false → opened_by x o ≡ None
 opened_by_other x o h k = cond-false (x == line_feed) (Some []) (cond (is_text x) (option_map (λ text. text ++ (x ∷ [])) o) None) h
     ∙ cond-false (is_text x) (option_map (λ text. text ++ (x ∷ [])) o) None k
@@ -303,29 +318,29 @@ feed_is_no_text x h = false_from_ne_true (is_text x) (λ t. both_ways (x == line
 -- the open request of a stream with one byte more
 pub open_request_after : (before : List ℕ) (x : ℕ) → open_request (before ++ (x ∷ [])) ≡ opened_by x (open_request before)
 open_request_after [] x = elim (cases_Bool (x == line_feed)) [
-    inl feed ↦ open_at_feed x [] feed ∙ sym (opened_by_feed x None feed)
+  | inl feed ↦ open_at_feed x [] feed ∙ sym (opened_by_feed x None feed)
   | inr other ↦ elim (cases_Bool (is_text x)) [
-        inl text ↦ not_open_at x [] other ∙ sym (opened_by_text x None other text)
-      | inr none ↦ not_open_at x [] other ∙ sym (opened_by_other x None other none)
-      ]
+    | inl text ↦ not_open_at x [] other ∙ sym (opened_by_text x None other text)
+    | inr none ↦ not_open_at x [] other ∙ sym (opened_by_other x None other none)
   ]
+]
 open_request_after (byte ∷ rest) x =
     ap (λ o. option_or o (open_at byte (rest ++ (x ∷ [])))) (open_request_after rest x)
     ∙ elim (cases_Bool (x == line_feed)) [
-        inl feed ↦ ap (λ o. option_or o (open_at byte (rest ++ (x ∷ [])))) (opened_by_feed x (open_request rest) feed)
+      | inl feed ↦ ap (λ o. option_or o (open_at byte (rest ++ (x ∷ [])))) (opened_by_feed x (open_request rest) feed)
           ∙ sym (opened_by_feed x (option_or (open_request rest) (open_at byte rest)) feed)
       | inr other ↦ elim (cases_Bool (is_text x)) [
-            inl text ↦
-              ap (λ o. option_or o (open_at byte (rest ++ (x ∷ [])))) (opened_by_text x (open_request rest) other text)
-              ∙ ap (λ o. option_or (option_map (λ text. text ++ (x ∷ [])) (open_request rest)) o) (goes_on_at byte rest x text)
-              ∙ changed_or (λ text. text ++ (x ∷ [])) (open_request rest) (open_at byte rest)
-              ∙ sym (opened_by_text x (option_or (open_request rest) (open_at byte rest)) other text)
-          | inr none ↦
-              ap (λ o. option_or o (open_at byte (rest ++ (x ∷ [])))) (opened_by_other x (open_request rest) other none)
-              ∙ stops_at byte rest x none
-              ∙ sym (opened_by_other x (option_or (open_request rest) (open_at byte rest)) other none)
-          ]
+        | inl text ↦
+            ap (λ o. option_or o (open_at byte (rest ++ (x ∷ [])))) (opened_by_text x (open_request rest) other text)
+            ∙ ap (λ o. option_or (option_map (λ text. text ++ (x ∷ [])) (open_request rest)) o) (goes_on_at byte rest x text)
+            ∙ changed_or (λ text. text ++ (x ∷ [])) (open_request rest) (open_at byte rest)
+            ∙ sym (opened_by_text x (option_or (open_request rest) (open_at byte rest)) other text)
+        | inr none ↦
+            ap (λ o. option_or o (open_at byte (rest ++ (x ∷ [])))) (opened_by_other x (open_request rest) other none)
+            ∙ stops_at byte rest x none
+            ∙ sym (opened_by_other x (option_or (open_request rest) (open_at byte rest)) other none)
       ]
+    ]
 
 -- where a stream is cut makes no difference
 pub is_cut_anywhere : IsCutAnywhere

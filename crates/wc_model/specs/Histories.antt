@@ -1,5 +1,5 @@
--- What has come to an indicator so far.
-use Rattle.std.specs.Prelude.{ℕ, ◌-◌, Bool, true, false, List, [], ◌∷◌, ◌++◌, length, drop, ℤ, Option, Some, None, if◌then◌else◌}
+-- What has come to an indicator so far. That an indication is a function of it is the profile's own form.
+use Rattle.std.specs.Prelude.{ℕ, ◌-◌, Bool, List, [], ◌∷◌, ◌++◌, length, drop, ℤ, Option, Some, None, if◌then◌else◌}
 use Rattle.std.specs.List.{last_or}
 
 -- a sample from the sensor, or a command

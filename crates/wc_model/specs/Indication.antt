@@ -41,7 +41,8 @@ refused_unless true true = None
 refused_unless true false = Some Range
 refused_unless false _ = Some Motion
 
--- whether the load is within 2 % of Max of the calibrated zero, on either side (OIML R 76-1:2006, 4.5.1)
+-- whether the load is within 2 % of Max of the calibrated zero, on either side (OIML R 76-1:2006, 4.5.1: 4 %
+-- in all)
 abbrev pub is_near_zero : PlateData → History → Bool
 is_near_zero p history = nat_le (50 * unsigned_abs (present_counts p history -ℤ p.zero_counts)) p.span_counts
 
@@ -95,7 +96,8 @@ acts_on_tare p moment = elim moment.event [
   | ClearTare ↦ true
 ]
 
--- the tare in counts that an event leaves: a tare command takes the load above the zero point, not rounded
+-- the tare in counts that an event leaves: a tare command takes the load above the zero point, not rounded (the
+-- profile's own)
 abbrev pub tare_left_by : PlateData → Moment → Option ℤ
 tare_left_by p moment = elim moment.event [
   | Sample counts ↦ None
@@ -116,7 +118,7 @@ is_tare_active p history = is_some (active_tare p history)
 abbrev pub tare_counts : PlateData → History → ℤ
 tare_counts p history = unwrap_or (active_tare p history) (pos 0)
 
--- the net weight in intervals, rounded by itself (OIML R 76-1:2006, 4.6.11)
+-- the net weight in intervals, rounded by itself (the profile's own)
 abbrev pub net_intervals : PlateData → History → ℤ
 net_intervals p history = intervals_of p (from_zero p history -ℤ tare_counts p history)
 
@@ -124,7 +126,7 @@ net_intervals p history = intervals_of p (from_zero p history -ℤ tare_counts p
 abbrev pub in_units : PlateData → ℤ → ℤ
 in_units p intervals = intervals *ℤ pos p.e
 
--- the tare value, rounded by itself (OIML R 76-1:2006, 4.6.2)
+-- the tare value in the instrument's intervals (OIML R 76-1:2006, 4.6.2), rounded by itself
 abbrev pub tare_value : PlateData → History → ℤ
 tare_value p history = in_units p (intervals_of p (tare_counts p history))
 

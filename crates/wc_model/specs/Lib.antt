@@ -16,4 +16,4 @@ pub mod Log
 pub mod Report
 pub mod JobSections
 pub mod Independence
-pub mod Steps
+pub mod Effects

@@ -1,5 +1,5 @@
 -- What one more event does to the zero point and the tare: laws of the definitions, which no definition uses.
-use Rattle.std.specs.Prelude.{◌≡◌, ℕ, ◌<◌, ℤ, pos, List, [], ◌∷◌, Option, Some, None, IsSome}
+use Rattle.std.specs.Prelude.{◌≡◌, ℤ, pos, ◌∷◌, Some, None, IsSome}
 use Rattle.wc_model.specs.Histories.{Event, Sample, SetZero, SetTare, ClearTare, History}
 use Rattle.wc_model.specs.Indication.{zero_refusal, tare_refusal, zero_point, active_tare, from_zero, present_counts, gross_intervals, net_intervals}
 use Rattle.wc_model.specs.Plates.{PlateData}
@@ -27,7 +27,7 @@ pub record Clears (p : PlateData) (history : History) : Type 0 where
   pub no_tare : active_tare p (ClearTare ∷ history) ≡ None
 
 -- What each event does: a sample and a refused command leave all as it was.
-pub record StepsOf (p : PlateData) (history : History) : Type 0 where
+pub record EffectsOf (p : PlateData) (history : History) : Type 0 where
   pub sample : (counts : ℤ) → LeavesAll p history (Sample counts)
   pub zero_refused : IsSome (zero_refusal p history) → LeavesAll p history SetZero
   pub zero_accepted : zero_refusal p history ≡ None → TakesZero p history
