@@ -7,14 +7,13 @@ ghost use Rattle.wc_instrument_examples.specs.Worked.{lines_text, plate_text};
 /// The first job: a plate, a program, a log, each with the line ends of its lines.
 pub fn first_job()
     ensures { sections_of (lines_text (codes "@plate" ∷ []) ++ plate_text ++ lines_text (codes "@program" ∷ codes "PROGRAM P"
-            ∷ codes "LD %IX0.0" ∷ codes "ST %QX0.0" ∷ codes "END_PROGRAM" ∷ codes "@log" ∷ codes "ms,kind,data" ∷ codes "0,I,0001" ∷ codes "0,S," ∷ []))
+        ∷ codes "LD %IX0.0" ∷ codes "ST %QX0.0" ∷ codes "END_PROGRAM" ∷ codes "@log" ∷ codes "ms,kind,data" ∷ codes "0,I,0001" ∷ codes "0,S," ∷ []))
         ≡ Ok (record {
-            plate = plate_text;
-            program = lines_text (codes "PROGRAM P" ∷ codes "LD %IX0.0" ∷ codes "ST %QX0.0" ∷ codes "END_PROGRAM" ∷ []);
-            log = lines_text (codes "ms,kind,data" ∷ codes "0,I,0001" ∷ codes "0,S," ∷ [])
+          plate = plate_text;
+          program = lines_text (codes "PROGRAM P" ∷ codes "LD %IX0.0" ∷ codes "ST %QX0.0" ∷ codes "END_PROGRAM" ∷ []);
+          log = lines_text (codes "ms,kind,data" ∷ codes "0,I,0001" ∷ codes "0,S," ∷ []);
         }) }
-{
-}
+{}
 
 /// A heading may end in CRLF; a later heading of the same word is a line of its section; empty sections are sections.
 pub fn headings()

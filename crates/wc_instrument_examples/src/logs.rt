@@ -58,5 +58,4 @@ pub fn moments_in_order()
 pub fn longest_piece()
     ensures whole { log_with_rows (three_fields (codes "0") (codes "L") (replicate 8192 48) ∷ []) ≡ with_row (record { number = 2; ms = 0; brings = Bytes (replicate 4096 0) }) (record { rows = []; refusal = None }) }
     ensures longer { log_with_rows (three_fields (codes "0") (codes "L") (replicate 8194 48) ∷ []) ≡ refused_at 606 2 }
-{
-}
+{}

@@ -1,5 +1,5 @@
 -- An answer has twenty bytes.
-use Rattle.std.proofs.Common.{◌≡◌, ℕ, zero, suc, ◌+◌, ◌-◌, ◌*◌, ◌/◌, ◌%◌, ◌<◌, ◌≤◌, inl, inr, Bool, true, false, cond, not, ◌&&◌, List, [], ◌∷◌, ◌++◌, length, refl, ap, sym, subst, ◌∙◌, arith, length-append}
+use Rattle.std.proofs.Common.{◌≡◌, ℕ, zero, suc, ◌+◌, ◌-◌, ◌*◌, ◌/◌, ◌%◌, ◌<◌, ◌≤◌, inl, inr, Bool, true, false, cond, not, ◌&&◌, List, [], ◌∷◌, ◌++◌, length, refl, ap, sym, subst, ◌∙◌, arith, length-append, append_assoc}
 use Rattle.std.proofs.Math.ListN.{length-replicate}
 use Rattle.std.proofs.Math.Nat.{mul-le-mul, mul-le-mul_right}
 use Rattle.std.proofs.lemmas.Bool.{cases_lt, cases_Bool, and_parts, or_parts, not-true, true≢false, leb-true}
@@ -14,7 +14,7 @@ use Rattle.wc_model.specs.Histories.{Sample, SetZero, SetTare, ClearTare, Histor
 use Rattle.wc_model.specs.Indication.{refused_unless, has_sample, is_stable, is_over, is_under, is_valid, is_centre_of_zero, can_be_tared, zero_refusal, tare_refusal, from_zero, active_tare, is_tare_active, tare_counts, intervals_of, gross_intervals, net_intervals, in_units, tare_value, gross, net}
 use Rattle.wc_model.specs.Plates.{PlateData, IsPlate, allowed_intervals, grams, kilograms, tonnes}
 use Rattle.wc_model.specs.Rounding.{nearest, nearest_above_zero}
-use Rattle.wc_model.specs.Answers.{last_digits, minus_of, value_text, weight_text, Mode, Shown, Tare, Asked, Plain, ZeroRefused, TareRefused, status_byte, mode_byte, weight_asked, answer}
+use Rattle.wc_model.specs.Answers.{last_digits, minus_of, value_text, weight_text, Mode, Shown, Tare, Asked, Plain, ZeroRefused, TareRefused, status_byte, mode_byte, weight_asked, answer, answer_to, answers_to, command_of, after_command, after_requests}
 
 -- how far from 0 the nearest number is
 abs_nearest : (num : ℤ) (span : ℕ) → unsigned_abs (nearest num span) ≡ nearest_above_zero (unsigned_abs num) span
@@ -279,3 +279,18 @@ length_answer p history mode asked plate =
       length_weight p.decimals (weight_asked p history mode) plate.few_decimals (short_weight p history mode plate),
       length_unit p.unit plate.known_unit,
     ))
+
+-- the history after requests and more requests
+pub after_more_requests : (texts more : List (List ℕ)) (history : History) →
+    after_requests (texts ++ more) history ≡ after_requests more (after_requests texts history)
+after_more_requests [] more history = refl
+after_more_requests (text ∷ texts) more history = after_more_requests texts more (after_command (command_of text) history)
+
+-- the answers to them
+pub answers_to_more : (p : PlateData) (texts more : List (List ℕ)) (history : History) →
+    answers_to p (texts ++ more) history ≡ answers_to p texts history ++ answers_to p more (after_requests texts history)
+answers_to_more p [] more history = refl
+answers_to_more p (text ∷ texts) more history =
+    ap (λ r. answer_to p (command_of text) history ++ r) (answers_to_more p texts more (after_command (command_of text) history))
+    ∙ sym (append_assoc (answer_to p (command_of text) history) (answers_to p texts (after_command (command_of text) history))
+    (answers_to p more (after_requests texts (after_command (command_of text) history))))

@@ -342,6 +342,47 @@ open_request_after (byte ∷ rest) x =
       ]
     ]
 
+-- what a piece completes hangs on the open request alone
+same_completed : (before other piece : List ℕ) → open_request before ≡ open_request other → completed before piece ≡ completed other piece
+same_completed before other [] e = refl
+same_completed before other (x ∷ piece) e =
+    let after : open_request (before ++ (x ∷ [])) ≡ open_request (other ++ (x ∷ [])) =
+    open_request_after before x ∙ ap (opened_by x) e ∙ sym (open_request_after other x) in
+    λ i. completed_by x (e i) ++ same_completed (before ++ (x ∷ [])) (other ++ (x ∷ [])) piece after i
+
+-- text alone completes nothing
+text_completes_nothing : (before text : List ℕ) → list_all is_text text ≡ true → completed before text ≡ []
+text_completes_nothing before [] h = refl
+text_completes_nothing before (x ∷ text) h =
+    let parts : (is_text x ≡ true) × (list_all is_text text ≡ true) = and_parts (is_text x) (list_all is_text text) h in
+    let other : (x == carriage_return) ≡ false =
+    false_from_ne_true (x == carriage_return) (λ e. both_ways (is_text x) (return_is_no_text x e) parts.0) in
+    let none : completed_by x (open_request before) ≡ [] =
+    cond-false (x == carriage_return) (option_to_list (open_request before)) [] other in
+    λ i. none i ++ text_completes_nothing (before ++ (x ∷ [])) text parts.1 i
+
+-- an LF and text behind it are open
+open_behind_feed : (before text : List ℕ) → list_all is_text text ≡ true → open_request (before ++ (line_feed ∷ text)) ≡ Some text
+open_behind_feed [] text h =
+    ap (λ o. option_or o (open_at line_feed text)) (nothing_open_in_text text h) ∙ cond-true (list_all is_text text) (Some text) None h
+open_behind_feed (byte ∷ before) text h =
+    ap (λ o. option_or o (open_at byte (before ++ (line_feed ∷ text)))) (open_behind_feed before text h)
+
+-- every stretch is a request, behind those before it and before those behind it
+pub stretch_is_request : (before text after : List ℕ) → list_all is_text text ≡ true →
+    requests (before ++ (line_feed ∷ text ++ (carriage_return ∷ after))) ≡ requests before ++ (text ∷ requests after)
+stretch_is_request before text after h =
+    let fed : List ℕ = before ++ (line_feed ∷ []) in
+    let opened : open_request (fed ++ text) ≡ Some text =
+    ap open_request (append_assoc before (line_feed ∷ []) text) ∙ open_behind_feed before text h in
+    let shut : open_request ((fed ++ text) ++ (carriage_return ∷ [])) ≡ None = open_request_after (fed ++ text) carriage_return in
+    let behind : completed ((fed ++ text) ++ (carriage_return ∷ [])) after ≡ requests after =
+    same_completed ((fed ++ text) ++ (carriage_return ∷ [])) [] after shut ∙ sym (in_piece [] after) in
+    joined before (line_feed ∷ text ++ (carriage_return ∷ after))
+    ∙ ap (λ r. requests before ++ r)
+    (completed_again fed text (carriage_return ∷ after)
+    ∙ λ i. text_completes_nothing fed text h i ++ (completed_by carriage_return (opened i) ++ behind i))
+
 -- where a stream is cut makes no difference
 pub is_cut_anywhere : IsCutAnywhere
 is_cut_anywhere = record { whole = pieces_after []; again = requests_in_again; byte = requests_in_byte; opens = open_request_after }
