@@ -2,7 +2,7 @@
 
 ghost use Rattle.std.specs.Prelude.{◌≡◌, pos, [], ◌∷◌, ◌++◌, codes};
 ghost use Rattle.wc_model.specs.Histories.{SetZero};
-ghost use Rattle.wc_model.specs.Indication.{zero_point, zero_refusal, gross, Motion, Range};
+ghost use Rattle.wc_model.specs.Indication.{zero_point, zero_refusal, Motion, Range};
 ghost use Rattle.wc_instrument_examples.specs.Worked.{plate_of_15_kg, four_of, four_rows, asks, replies, framed};
 
 /// At 22000 counts a zero command is accepted.
