@@ -1,11 +1,12 @@
 //! Laws of the definitions, over all inputs.
 
-ghost use Rattle.std.specs.Prelude.{◌≡◌, ◌∷◌, ◌++◌, ℕ, ◌<◌, ℤ, List, length, Option, true};
+ghost use Rattle.std.specs.Prelude.{◌≡◌, ◌∷◌, ◌++◌, ℕ, ◌<◌, ℤ, List, length, Option, true, IsFalse};
 ghost use Rattle.std.specs.List.{list_all};
 ghost use Rattle.wc_model.specs.Answers.{Asked, Mode, answer};
 ghost use Rattle.wc_model.specs.Effects.{EffectsOf};
-ghost use Rattle.wc_model.specs.Histories.{History};
+ghost use Rattle.wc_model.specs.Histories.{History, samples};
 ghost use Rattle.wc_model.specs.Independence.{IsFreeOfScans, IsFreeOfPrograms};
+ghost use Rattle.wc_model.specs.Indication.{is_stable};
 ghost use Rattle.wc_model.specs.Log.{Record, row_of};
 ghost use Rattle.wc_model.specs.Plates.{PlateData, IsPlate};
 ghost use Rattle.wc_model.specs.PlateTable.{Table, plate_of};
@@ -65,4 +66,9 @@ pub fn pieces_joined()
 pub fn stretches_are_requests()
     ensures { (before text after : List ℕ) → list_all is_text text ≡ true →
         requests (before ++ (line_feed ∷ text ++ carriage_return ∷ after)) ≡ requests before ++ text ∷ requests after }
+{}
+
+/// With fewer samples than the window holds the scale is never stable.
+pub fn too_few_samples_are_motion()
+    ensures { (p : PlateData) (history : History) → length (samples history) < p.window → IsFalse (is_stable p history) }
 {}

@@ -1,11 +1,12 @@
 -- What one more event does to the zero point and the tare.
-use Rattle.std.proofs.Common.{◌≡◌, ◌+◌, ◌*◌, ◌/◌, ◌<◌, Bool, true, false, not, ◌∷◌, refl, ap, ◌∙◌, arith}
+use Rattle.std.proofs.Common.{◌≡◌, ◌+◌, ◌*◌, ◌/◌, ◌<◌, Bool, true, false, not, ◌∷◌, refl, ap, ◌∙◌, arith, length}
 use Rattle.std.proofs.Math.Nat.{div-eq_of_lt}
+use Rattle.std.proofs.lemmas.Bool.{and_left, lt-leb}
 use Rattle.std.proofs.lemmas.Int.{ints}
-use Rattle.std.specs.Prelude.{ℤ, pos, ◌-ℤ◌, Some, None, IsSome, is_some, unwrap_or}
+use Rattle.std.specs.Prelude.{ℤ, pos, ◌-ℤ◌, Some, None, IsSome, is_some, unwrap_or, nat_le}
 use Rattle.std.specs.Option.{option_map_or}
-use Rattle.wc_model.specs.Histories.{Event, SetZero, SetTare, History, Moment, last_that}
-use Rattle.wc_model.specs.Indication.{zero_refusal, tare_refusal, zero_point, active_tare, from_zero, present_counts, intervals_of, is_accepted_zero, acts_on_tare, tare_left_by}
+use Rattle.wc_model.specs.Histories.{Event, SetZero, SetTare, History, Moment, last_that, samples}
+use Rattle.wc_model.specs.Indication.{zero_refusal, tare_refusal, zero_point, active_tare, from_zero, present_counts, intervals_of, is_accepted_zero, acts_on_tare, tare_left_by, is_stable, spread_of, window_of}
 use Rattle.wc_model.specs.Plates.{PlateData}
 use Rattle.wc_model.specs.Effects.{EffectsOf}
 
@@ -80,3 +81,9 @@ effects_of p history h = record {
   };
   clear = record { same_zero = refl; no_tare = refl };
 }
+
+-- with fewer samples than the window holds the scale is not stable
+pub too_few_samples : (p : PlateData) (history : History) → length (samples history) < p.window → is_stable p history ≡ false
+too_few_samples p history h =
+    and_left (nat_le p.window (length (samples history))) (nat_le (2 * spread_of (window_of p history) * p.n) p.span_counts)
+    (lt-leb p.window (length (samples history)) h)

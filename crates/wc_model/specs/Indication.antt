@@ -1,5 +1,5 @@
 -- The indication as a function of the plate and of all that has come: OIML R 76-1:2006, class III, single range,
--- non-automatic use. Each rule names its section; the measures and limits beside them are the profile's own.
+-- non-automatic use. A rule names its section where it has one; where none is named, it is the profile's own.
 use Rattle.std.specs.Prelude.{ℕ, ◌+◌, ◌*◌, Bool, true, false, not, ◌&&◌, ◌||◌, nat_le, List, [], ◌∷◌, length, fold, ℤ, pos, negsuc, ◌-ℤ◌, ◌*ℤ◌, int_lt, int_le, unsigned_abs, Option, Some, None, is_some, unwrap_or, if◌then◌else◌}
 use Rattle.std.specs.Int.{int_max, int_min}
 use Rattle.std.specs.Option.{option_map_or}
