@@ -1,7 +1,7 @@
 -- What the worked examples share: two plates, and short words for rows.
 use Rattle.std.specs.Prelude.{ℕ, suc, ◌+◌, ◌%◌, List, [], ◌∷◌, ◌++◌, replicate, codes, ℤ, pos, Some, Result, Ok, Err}
 use Rattle.std.specs.List.{concat}
-use Rattle.wc_model.specs.Histories.{Sample, History}
+use Rattle.wc_model.specs.WeighingHistories.{Sample, History}
 use Rattle.wc_model.specs.Log.{LogOf, first_row, log_of}
 use Rattle.wc_model.specs.Plates.{PlateData, grams, kilograms}
 use Rattle.wc_model.specs.PlateTable.{Table, Text, Whole, plate_of}

@@ -4,7 +4,7 @@ ghost use Rattle.std.specs.Prelude.{◌≡◌, ◌∷◌, ◌++◌, ℕ, ◌<◌
 ghost use Rattle.std.specs.List.{list_all};
 ghost use Rattle.wc_model.specs.Answers.{Asked, Mode, answer};
 ghost use Rattle.wc_model.specs.Effects.{EffectsOf};
-ghost use Rattle.wc_model.specs.Histories.{History, samples};
+ghost use Rattle.wc_model.specs.WeighingHistories.{History, samples};
 ghost use Rattle.wc_model.specs.Independence.{IsFreeOfScans, IsFreeOfPrograms};
 ghost use Rattle.wc_model.specs.Indication.{is_stable};
 ghost use Rattle.wc_model.specs.Log.{Record, row_of};

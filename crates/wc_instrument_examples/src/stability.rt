@@ -1,7 +1,7 @@
 //! When the scale is stable: the spread of the last four samples is at most half an interval, 100 counts.
 
 ghost use Rattle.std.specs.Prelude.{pos, IsTrue, IsFalse, [], ◌∷◌, replicate};
-ghost use Rattle.wc_model.specs.Histories.{Sample};
+ghost use Rattle.wc_model.specs.WeighingHistories.{Sample};
 ghost use Rattle.wc_model.specs.Indication.{is_stable};
 ghost use Rattle.wc_instrument_examples.specs.Worked.{plate_of_15_kg};
 

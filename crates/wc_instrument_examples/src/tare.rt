@@ -1,7 +1,7 @@
 //! Tare commands, and what they leave.
 
 ghost use Rattle.std.specs.Prelude.{◌≡◌, ◌++◌, pos, [], ◌∷◌, codes};
-ghost use Rattle.wc_model.specs.Histories.{SetTare};
+ghost use Rattle.wc_model.specs.WeighingHistories.{SetTare};
 ghost use Rattle.wc_model.specs.Indication.{gross, net, tare_value};
 ghost use Rattle.wc_instrument_examples.specs.Worked.{plate_of_15_kg, four_of, four_rows, asks, replies, framed};
 

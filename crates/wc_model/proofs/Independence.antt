@@ -2,7 +2,7 @@
 use Rattle.std.proofs.Common.{◌≡◌, ℕ, List, [], ◌∷◌, ◌++◌, refl, ap, sym, ◌∙◌, append-nil}
 use Rattle.std.proofs.lemmas.List.Elements.{filter-append}
 use Rattle.std.specs.Prelude.{filter}
-use Rattle.wc_model.specs.Histories.{last_items}
+use Rattle.wc_model.specs.WeighingHistories.{last_items}
 use Rattle.wc_model.specs.Independence.{indicator_rows, IsFreeOfScans, IsFreeOfPrograms}
 use Rattle.wc_model.specs.Plates.{PlateData}
 use Rattle.wc_model.specs.Report.{Scans, is_answer_line, is_scan_line, answer_line, lines_with, report_lines, answer_lines, report_text}

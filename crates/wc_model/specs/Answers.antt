@@ -4,7 +4,7 @@ use Rattle.std.specs.Prelude.{ℕ, zero, suc, ◌+◌, ◌-◌, ◌/◌, ◌%◌
 use Rattle.std.specs.Int.{is_negative}
 use Rattle.std.specs.Str.{bytes_eq}
 use Rattle.wc_model.specs.Plates.{PlateData}
-use Rattle.wc_model.specs.Histories.{SetZero, SetTare, ClearTare, History}
+use Rattle.wc_model.specs.WeighingHistories.{SetZero, SetTare, ClearTare, History}
 use Rattle.wc_model.specs.Indication.{has_sample, is_over, is_under, is_valid, is_stable, is_centre_of_zero, is_tare_active, tare_value, shown, zero_refusal, tare_refusal}
 
 -- the last digits of a number, zeros included

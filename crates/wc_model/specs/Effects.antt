@@ -1,6 +1,6 @@
 -- What one more event does to the zero point and the tare: laws of the definitions, which no definition uses.
 use Rattle.std.specs.Prelude.{◌≡◌, ℤ, pos, ◌∷◌, Some, None, IsSome}
-use Rattle.wc_model.specs.Histories.{Event, Sample, SetZero, SetTare, ClearTare, History}
+use Rattle.wc_model.specs.WeighingHistories.{Event, Sample, SetZero, SetTare, ClearTare, History}
 use Rattle.wc_model.specs.Indication.{zero_refusal, tare_refusal, zero_point, active_tare, from_zero, present_counts, gross_intervals, net_intervals}
 use Rattle.wc_model.specs.Plates.{PlateData}
 

@@ -1,6 +1,6 @@
 -- The line does not depend on programs: what its answers are has nothing to do with scans and inputs.
 use Rattle.std.specs.Prelude.{◌≡◌, ℕ, Bool, true, false, List, [], ◌++◌, filter}
-use Rattle.wc_model.specs.Histories.{last_items}
+use Rattle.wc_model.specs.WeighingHistories.{last_items}
 use Rattle.wc_model.specs.Plates.{PlateData}
 use Rattle.wc_model.specs.Report.{Scans, report_lines, answer_lines, report_text, line_report, report_last, is_answer_line, is_scan_line}
 use Rattle.wc_model.specs.Rows.{RowData, Counts, Bytes, Inputs, Scan, LogRow, Past, answer_of_row}

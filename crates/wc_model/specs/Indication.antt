@@ -5,7 +5,7 @@ use Rattle.std.specs.Int.{int_max, int_min}
 use Rattle.std.specs.Option.{option_map_or}
 use Rattle.wc_model.specs.Plates.{PlateData}
 use Rattle.wc_model.specs.Rounding.{nearest}
-use Rattle.wc_model.specs.Histories.{Sample, SetZero, SetTare, ClearTare, History, samples, last_sample, last_items, Moment, last_that}
+use Rattle.wc_model.specs.WeighingHistories.{Sample, SetZero, SetTare, ClearTare, History, samples, last_sample, last_items, Moment, last_that}
 
 -- the greatest less the least
 abbrev pub spread_of : List ℤ → ℕ

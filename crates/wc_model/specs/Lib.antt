@@ -5,7 +5,7 @@ pub mod Devices
 pub mod Rounding
 pub mod Plates
 pub mod PlateTable
-pub mod Histories
+pub mod WeighingHistories
 pub mod Indication
 pub mod Requests
 pub mod Answers

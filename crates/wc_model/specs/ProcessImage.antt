@@ -2,7 +2,7 @@
 use Rattle.std.specs.Prelude.{ℕ, ◌+◌, ◌*◌, Bool, List, [], ◌∷◌, ℤ, pos, if◌then◌else◌}
 use Rattle.wc_model.specs.declared.image.Image.{Image}
 use Rattle.wc_model.specs.Plates.{PlateData}
-use Rattle.wc_model.specs.Histories.{History}
+use Rattle.wc_model.specs.WeighingHistories.{History}
 use Rattle.wc_model.specs.Indication.{is_stable, is_over, is_under, is_centre_of_zero, is_tare_active, is_valid, gross_intervals, net_intervals, in_units, tare_value}
 use Rattle.wc_model.specs.Rows.{RowData, Counts, Bytes, Inputs, Scan, Past, history_of}
 

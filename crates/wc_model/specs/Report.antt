@@ -4,7 +4,7 @@ use Rattle.std.specs.Fmt.{signed_decimal}
 use Rattle.wc_model.specs.declared.image.Image.{Image}
 use Rattle.wc_model.specs.declared.image.Outputs.{Outputs}
 use Rattle.wc_model.specs.Plates.{PlateData}
-use Rattle.wc_model.specs.Histories.{last_items}
+use Rattle.wc_model.specs.WeighingHistories.{last_items}
 use Rattle.wc_model.specs.Hex.{hex_of_bytes, hex_of_word}
 use Rattle.wc_model.specs.Rows.{RowData, Counts, Bytes, Inputs, Scan, LogRow, Past, answer_of_row}
 use Rattle.wc_model.specs.ProcessImage.{image_after}

@@ -1,7 +1,7 @@
 -- The rows of a log, and what they have brought so far. The kinds of rows are the profile's own.
 use Rattle.std.specs.Prelude.{ℕ, List, [], ◌∷◌, ◌++◌, ℤ}
 use Rattle.wc_model.specs.Plates.{PlateData}
-use Rattle.wc_model.specs.Histories.{Sample, History}
+use Rattle.wc_model.specs.WeighingHistories.{Sample, History}
 use Rattle.wc_model.specs.Requests.{requests_in}
 use Rattle.wc_model.specs.Answers.{after_requests, answers_to}
 
