@@ -5,3 +5,9 @@ pub mod Attained
 pub mod FoundTokens
 pub mod TokenSlices
 pub mod DurationParts
+pub mod Rounding
+pub mod Requests
+pub mod Independence
+pub mod Indication
+pub mod PlateTable
+pub mod Answers

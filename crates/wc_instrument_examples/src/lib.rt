@@ -1,0 +1,16 @@
+//! Worked examples of the indicator, its line, its log and its report, computed on the definitions of `wc_model`.
+//! Each function promises one example and does nothing.
+#![tactic(auto, unfolding(crate::specs::Numerals::digits))]
+
+pub mod edges;
+pub mod images;
+pub mod jobs;
+pub mod laws;
+pub mod logs;
+pub mod plates;
+pub mod reports;
+pub mod requests;
+pub mod stability;
+pub mod tare;
+pub mod weights;
+pub mod zero;
