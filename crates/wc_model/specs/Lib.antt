@@ -2,3 +2,10 @@ pub mod Names
 pub mod Tree
 pub mod Values
 pub mod Devices
+pub mod Marks
+pub mod Languages
+pub mod Keywords
+pub mod Grammar
+pub mod Positions
+pub mod Limits
+pub mod ReadingFaults
