@@ -4,7 +4,7 @@ use Rattle.std.specs.Prelude.{◌≡◌, ◌≢◌, ℕ, Bool, List, [], ◌∷�
 use Rattle.std.specs.Bool.{⊤}
 use Rattle.wc_model.specs.Names.{Name, name_of}
 use Rattle.wc_model.specs.Tree.{Word, Term, Constant, Address, Variable, Field, Assignment, Step, Load, Store, Apply, Negate, Jump, Call, Return, Lines, End, Alone, Plain, Nested, Declaration, ProgramUnit, Text}
-use Rattle.wc_model.specs.Marks.{Symbol, Identifier, Whole, Duration, Truth, Direct, Ampersand, AmpersandN, OpeningBracket, ClosingBracket, Comma, Colon, Semicolon, Point, Assign, LineEnd, Mark, is_line_end, IsSymbol, IsNamed, IsWord}
+use Rattle.wc_model.specs.Marks.{Symbol, Identifier, Whole, Duration, Truth, Direct, Ampersand, AmpersandN, OpeningBracket, ClosingBracket, Comma, Colon, Semicolon, Point, Assign, LineEnd, Mark, is_line_end, IsSymbol, IsNamed, IsWord, IsAddress}
 use Rattle.wc_model.specs.Languages.{Language, nothing, empty, one, many, ◌then◌, ◌or◌, ◌given◌, optional, each, separated, skipping, front_of}
 use Rattle.wc_model.specs.Keywords.{unit_word, end_word, section_word, end_var, truth_word, load_word, store_word, operator_word, not_word, jump_word, call_word, return_word}
 use Rattle.wc_model.specs.declared.operator.Operator.{Operator}
@@ -33,10 +33,6 @@ abbrev pub IsLiteral : Value → Mark → Type 0
 IsLiteral (BoolValue value) mark = IsSymbol (Truth value) mark ⊎ IsNamed (truth_word value) mark
 IsLiteral (Dint number) mark = IsSymbol (Whole number) mark
 IsLiteral (Time milliseconds) mark = IsSymbol (Duration milliseconds) mark
-
--- the token is this address
-abbrev pub IsAddress : Word → Mark → Type 0
-IsAddress word mark = (bytes : List ℕ) × IsSymbol (Direct bytes) mark × (word.name ≡ name_of bytes) × (mark.line ≡ word.line)
 
 -- Where a value is read or written, TRUE and FALSE are literals and no names.
 abbrev pub variable : Name → Language Mark

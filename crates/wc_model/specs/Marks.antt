@@ -22,6 +22,11 @@ abbrev pub name_in : Symbol → Option Name
 name_in (Identifier bytes) = Some (name_of bytes)
 name_in _ = None
 
+-- the name that an address spells
+abbrev pub address_in : Symbol → Option Name
+address_in (Direct bytes) = Some (name_of bytes)
+address_in _ = None
+
 -- whether a symbol is the end of a line
 abbrev pub is_line_end_symbol : Symbol → Bool
 is_line_end_symbol LineEnd = true
@@ -42,3 +47,7 @@ IsNamed name mark = name_in mark.symbol ≡ Some name
 -- the token is an identifier of this name, on this line
 abbrev pub IsWord : Word → Mark → Type 0
 IsWord word mark = IsNamed word.name mark × (mark.line ≡ word.line)
+
+-- the token is this address, on this line
+abbrev pub IsAddress : Word → Mark → Type 0
+IsAddress word mark = (address_in mark.symbol ≡ Some word.name) × (mark.line ≡ word.line)

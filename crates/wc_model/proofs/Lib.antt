@@ -1,0 +1,2 @@
+pub mod Languages
+pub mod Spelling
