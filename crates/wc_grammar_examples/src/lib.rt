@@ -2,8 +2,15 @@
 //! texts `/` ends a line.
 #![tactic(auto)]
 
+mod faults;
 mod spelled;
 
+pub use faults::{
+    a_bracket_with_none_open, a_label_in_parentheses, a_return_in_parentheses, a_second_program,
+    an_empty_text, an_open_parenthesis_at_the_texts_end, an_open_parenthesis_at_the_units_end,
+    an_open_unit, empty_parentheses, nine_parentheses, the_texts_end_behind_a_bracket,
+    the_texts_end_behind_a_units_first_word, the_texts_end_behind_an_operator,
+};
 pub use spelled::{
     a_call_on_two_lines, a_copy_of_one_bit, a_declaration_of_two_names, ampersands,
     end_behind_the_name, labels_jumps_and_parentheses,
