@@ -64,3 +64,11 @@ abbrev pub behind_eight_openings : Position
 behind_eight_openings = record behind_opening {
   openings = map inner_opening (10 ∷ 9 ∷ 8 ∷ 7 ∷ 6 ∷ 5 ∷ 4 ∷ []) ++ empty_opening ∷ [];
 }
+
+-- `PROGRAM P / JMPNC`
+abbrev pub jmpnc_before : List Mark
+jmpnc_before = program_p ++ ident (codes "JMPNC") 2 ∷ []
+
+-- `L / END_PROGRAM`
+abbrev pub jmpnc_left : List Mark
+jmpnc_left = ident (codes "L") 2 ∷ end_of 2 ∷ ident (codes "END_PROGRAM") 3 ∷ []

@@ -1,2 +1,3 @@
 pub mod Languages
 pub mod Spelling
+pub mod LineStarts
