@@ -1,7 +1,7 @@
 -- `PROGRAM P / JMPNC L` is no front: JMPNC is no operator, and L is no colon behind a label.
 use Rattle.std.proofs.Common.{◌≡◌, ℕ, Bool, true, false, List, [], ◌∷◌, ◌++◌, refl, inl, inr}
 use Rattle.std.specs.Prelude.{Option, Some, None, ◌⊎◌, codes, flat_map}
-use Rattle.wc_model.specs.Names.{Name}
+use Rattle.wc_model.specs.Names.{Name, name_of}
 use Rattle.wc_model.specs.Marks.{Mark, LineEnd, Colon, IsNamed, IsSymbol, IsWord}
 use Rattle.wc_model.specs.Tree.{Word, Term, Step, Load, Store, Apply, Negate, Jump, Call, Return, Lines, End, Alone, Plain, Nested, Declaration, ProgramUnit, Text}
 use Rattle.wc_model.specs.Languages.{Language, ◌then◌, one, each}
@@ -17,6 +17,7 @@ use Rattle.wc_model.specs.declared.source.UnitKind.{UnitKind}
 use Rattle.wc_model.specs.declared.source.UnitKind.TheVariants.{FunctionBlock, Program}
 use Rattle.wc_model.proofs.Languages.{next_is, passed, many_are, given_are, ungroup}
 use Rattle.wc_model.proofs.LineStarts.{starting, lines_start}
+use Rattle.wc_model.proofs.OperatorWords.{is_operator_word, operator_is_word, operator_of_is_word}
 use Rattle.wc_model.proofs.Spelling.{same, differ}
 use Rattle.wc_grammar_examples.specs.Texts.{ident, end_of}
 use Rattle.wc_grammar_examples.specs.Faulty.{jmpnc_before}
@@ -30,46 +31,25 @@ abbrev l : Mark
 l = ident (codes "L") 2
 
 -- two names that a test tells apart
-apart : (xs ys : List ℕ) → same xs ys ≡ false → Some xs ≡ Some ys → ⊥
+pub apart : (xs ys : List ℕ) → same xs ys ≡ false → Some xs ≡ Some ys → ⊥
 apart xs ys h e = differ {xs = xs} {ys = ys} h cc
 
--- an operator that a parenthesis may defer is another word
-no_operator : (operator : Operator) → IsOperator operator jmpnc → ⊥
-no_operator And (inl h) = apart _ _ refl h
-no_operator And (inr h) = cc
-no_operator Andn (inl h) = apart _ _ refl h
-no_operator Andn (inr h) = cc
-no_operator _ h = apart _ _ refl h
+-- an identifier that is none of the operators' words begins no instruction
+pub no_operator_of : (step : Step) (bytes : List ℕ) (line : ℕ) → is_operator_word (name_of bytes) ≡ false → IsOperatorOf step (ident bytes line) → ⊥
+no_operator_of step bytes line absent h = let yes : is_operator_word (name_of bytes) ≡ true = operator_of_is_word step bytes line h in cc
 
--- and so is each other operator
-no_operator_of : (step : Step) → IsOperatorOf step jmpnc → ⊥
-no_operator_of (Load true x) h = apart _ _ refl h
-no_operator_of (Load false x) h = apart _ _ refl h
-no_operator_of (Store Result x) h = apart _ _ refl h
-no_operator_of (Store Negation x) h = apart _ _ refl h
-no_operator_of (Store Set x) h = apart _ _ refl h
-no_operator_of (Store Reset x) h = apart _ _ refl h
-no_operator_of (Apply operator x) h = no_operator operator h
-no_operator_of Negate h = apart _ _ refl h
-no_operator_of (Jump Always label) h = apart _ _ refl h
-no_operator_of (Jump IfTrue label) h = apart _ _ refl h
-no_operator_of (Jump IfFalse label) h = apart _ _ refl h
-no_operator_of (Call Always instance arguments) h = apart _ _ refl h
-no_operator_of (Call IfTrue instance arguments) h = apart _ _ refl h
-no_operator_of (Call IfFalse instance arguments) h = apart _ _ refl h
-no_operator_of (Return Always) h = apart _ _ refl h
-no_operator_of (Return IfTrue) h = apart _ _ refl h
-no_operator_of (Return IfFalse) h = apart _ _ refl h
+no_operator : (operator : Operator) (bytes : List ℕ) (line : ℕ) → is_operator_word (name_of bytes) ≡ false → IsOperator operator (ident bytes line) → ⊥
+no_operator operator bytes line absent h = let yes : is_operator_word (name_of bytes) ≡ true = operator_is_word operator bytes line h in cc
 
 -- a line end is no operator
-no_operator_at_end : (operator : Operator) → IsOperator operator (end_of 1) → ⊥
+pub no_operator_at_end : (operator : Operator) → IsOperator operator (end_of 1) → ⊥
 no_operator_at_end And (inl h) = cc
 no_operator_at_end And (inr h) = cc
 no_operator_at_end Andn (inl h) = cc
 no_operator_at_end Andn (inr h) = cc
 no_operator_at_end _ h = cc
 
-no_operator_of_at_end : (step : Step) → IsOperatorOf step (end_of 1) → ⊥
+pub no_operator_of_at_end : (step : Step) → IsOperatorOf step (end_of 1) → ⊥
 no_operator_of_at_end (Load negated x) h = cc
 no_operator_of_at_end (Store storing x) h = cc
 no_operator_of_at_end (Apply operator x) h = no_operator_at_end operator h
@@ -106,9 +86,9 @@ no_line_at_end (Nested (Some label) line operator x inside close rest) kind seco
 no_line : (ls : Lines) (kind : UnitKind) (second : List Mark → Type 0) (tokens : List Mark) → starting InBody ls (ending kind second) (jmpnc ∷ l ∷ tokens) → ⊥
 no_line End kind second tokens h = no_end kind (next_is h).0
 no_line (Alone label rest) kind second tokens h = let k = (next_is (next_is (ungroup h)).1).0 in cc
-no_line (Plain None line step rest) kind second tokens h = no_operator_of step (next_is (ungroup (ungroup (passed h)))).0.0
+no_line (Plain None line step rest) kind second tokens h = no_operator_of step _ _ refl (next_is (ungroup (ungroup (passed h)))).0.0
 no_line (Plain (Some label) line step rest) kind second tokens h = let k = (next_is (next_is (ungroup h)).1).0 in cc
-no_line (Nested None line operator x inside close rest) kind second tokens h = no_operator operator (next_is (ungroup (ungroup (ungroup (passed h))))).0.0
+no_line (Nested None line operator x inside close rest) kind second tokens h = no_operator operator _ _ refl (next_is (ungroup (ungroup (ungroup (passed h))))).0.0
 no_line (Nested (Some label) line operator x inside close rest) kind second tokens h = let k = (next_is (next_is (ungroup h)).1).0 in cc
 
 -- no body goes on with JMPNC L

@@ -1,9 +1,9 @@
 ghost use Rattle.std.specs.Prelude.{◌∷◌, [], ◌++◌, codes};
 ghost use Rattle.wc_grammar_examples.specs.Texts.{mark, ident, end_of, address, program_p};
-ghost use Rattle.wc_grammar_examples.specs.Faulty.{loaded, opened, opened_short, one_program, eight_opened};
+ghost use Rattle.wc_grammar_examples.specs.Faulty.{loaded, opened, opened_short, one_program, eight_opened, jmpnc_before, jmpnc_left};
 ghost use Rattle.wc_model.specs.Grammar.{IsFront};
 ghost use Rattle.wc_model.specs.Marks.{OpeningBracket, ClosingBracket, Colon};
-ghost use Rattle.wc_model.specs.ReadingFaults.{IsMet, UnitNotClosed, NotOneProgramLast, EmptyParentheses, NotAllowedInParentheses, ParenthesisNotPaired, TooDeep};
+ghost use Rattle.wc_model.specs.ReadingFaults.{IsMet, IsFirstFault, UnexpectedToken, UnitNotClosed, NotOneProgramLast, EmptyParentheses, NotAllowedInParentheses, ParenthesisNotPaired, TooDeep};
 
 /// `LD TRUE / )`: no parenthesis is open at the `)`, which stands on line 3.
 pub fn a_bracket_with_none_open()
@@ -84,5 +84,12 @@ pub fn an_empty_text()
 /// `LD TRUE`, and `AND(` on the lines 3 to 11: the ninth parenthesis is one too many.
 pub fn nine_parentheses()
     ensures { IsMet TooDeep eight_opened (mark OpeningBracket 11 ∷ end_of 11 ∷ []) 12 11 }
+{
+}
+
+/// `PROGRAM P / JMPNC L / END_PROGRAM`: JMPNC is no operator, though it could be a label. So the first
+/// fault is the unexpected token behind it, on line 2.
+pub fn an_unknown_operator()
+    ensures { IsFirstFault (jmpnc_before ++ jmpnc_left) 3 UnexpectedToken 2 }
 {
 }

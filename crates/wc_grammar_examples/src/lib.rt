@@ -8,7 +8,7 @@ mod spelled;
 pub use faults::{
     a_bracket_with_none_open, a_label_in_parentheses, a_return_in_parentheses, a_second_program,
     an_empty_text, an_open_parenthesis_at_the_texts_end, an_open_parenthesis_at_the_units_end,
-    an_open_unit, empty_parentheses, nine_parentheses, the_texts_end_behind_a_bracket,
+    an_open_unit, an_unknown_operator, empty_parentheses, nine_parentheses, the_texts_end_behind_a_bracket,
     the_texts_end_behind_a_units_first_word, the_texts_end_behind_an_operator,
 };
 pub use spelled::{

@@ -95,6 +95,15 @@ many_are {IsSort = IsSort} {second = second} h = many_parts IsSort second h.fron
 pub given_are : {T : Type 0} {first second : List T → Type 0} {Fact : Type 0} {tokens : List T} → ((first given Fact) then second) tokens → Fact × (first then second) tokens
 given_are h = (h.begins.0, record { front = h.front; rest = h.rest; whole = h.whole; begins = h.begins.1; goes_on = h.goes_on })
 
+empty_parts : {T : Type 0} (first second : List T → Type 0) (front rest : List T) → [] ≡ front ++ rest → first front → second rest → first [] × second []
+empty_parts first second [] [] e begins goes_on = (begins, goes_on)
+empty_parts first second [] (x ∷ rest) e begins goes_on = cc
+empty_parts first second (x ∷ front) rest e begins goes_on = cc
+
+-- where no token is there, both parts are spelled by none
+pub both_empty : {T : Type 0} {first second : List T → Type 0} → (first then second) [] → first [] × second []
+both_empty {first = first} {second = second} h = empty_parts first second h.front h.rest h.whole h.begins h.goes_on
+
 -- a pair by its parts, without building records
 pub both : {A B : Type 0} → A → B → A × B
 both a b = (a, b)

@@ -1,3 +1,4 @@
 pub mod Languages
 pub mod Spelling
 pub mod LineStarts
+pub mod OperatorWords
