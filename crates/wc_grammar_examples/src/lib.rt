@@ -3,6 +3,7 @@
 #![tactic(auto)]
 
 mod faults;
+mod laws;
 mod spelled;
 
 pub use faults::{
@@ -10,6 +11,9 @@ pub use faults::{
     an_empty_text, an_open_parenthesis_at_the_texts_end, an_open_parenthesis_at_the_units_end,
     an_open_unit, an_unknown_operator, empty_parentheses, nine_parentheses, the_texts_end_behind_a_bracket,
     the_texts_end_behind_a_units_first_word, the_texts_end_behind_an_operator,
+};
+pub use laws::{
+    a_front_of_a_front_is_one, a_text_is_a_front, an_unexpected_token_spells_nothing, lines_and_depth,
 };
 pub use spelled::{
     a_call_on_two_lines, a_copy_of_one_bit, a_declaration_of_two_names, ampersands,

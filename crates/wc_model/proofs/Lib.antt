@@ -2,3 +2,4 @@ pub mod Languages
 pub mod Spelling
 pub mod LineStarts
 pub mod OperatorWords
+pub mod Fronts
