@@ -1,11 +1,11 @@
 -- Texts that are refused: the tokens before the fault and those that are left, and where the former stop.
-use Rattle.std.specs.Prelude.{ℕ, true, false, List, [], ◌∷◌, ◌++◌, map, flat_map, codes, Option, Some, None}
-use Rattle.wc_model.specs.Tree.{Word, Term, Constant, Variable, Step, Load, Negate, Lines, End, Plain, Nested, ProgramUnit}
-use Rattle.wc_model.specs.Marks.{Mark, OpeningBracket, ClosingBracket, Colon}
+use Rattle.std.specs.Prelude.{ℕ, true, false, List, [], ◌∷◌, ◌++◌, map, flat_map, codes, Some, None}
+use Rattle.wc_model.specs.Tree.{Constant, Step, Load, End, Plain}
+use Rattle.wc_model.specs.Marks.{Mark, OpeningBracket}
 use Rattle.wc_model.specs.Positions.{Opening, Position}
 use Rattle.wc_model.specs.declared.operator.Operator.TheVariants.{And}
 use Rattle.wc_model.specs.declared.value.Value.TheVariants.{Bool as BoolValue}
-use Rattle.wc_grammar_examples.specs.Texts.{mark, ident, end_of, word, program_p, program_of}
+use Rattle.wc_grammar_examples.specs.Texts.{mark, ident, end_of, program_p, program_of}
 
 -- `LD TRUE`
 abbrev pub load_true : Step
@@ -72,3 +72,7 @@ jmpnc_before = program_p ++ ident (codes "JMPNC") 2 ∷ []
 -- `L / END_PROGRAM`
 abbrev pub jmpnc_left : List Mark
 jmpnc_left = ident (codes "L") 2 ∷ end_of 2 ∷ ident (codes "END_PROGRAM") 3 ∷ []
+
+-- `PROGRAM P / LD`
+abbrev pub bare_load_before : List Mark
+bare_load_before = program_p ++ ident (codes "LD") 2 ∷ []

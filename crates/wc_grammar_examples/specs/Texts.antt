@@ -1,16 +1,15 @@
 -- Token lists of short texts, and the trees that they spell.
-use Rattle.std.specs.Prelude.{ℕ, Bool, true, false, List, [], ◌∷◌, ◌++◌, codes, Option, Some, None, pos}
-use Rattle.wc_model.specs.Names.{Name, name_of}
-use Rattle.wc_model.specs.Tree.{Word, Term, Constant, Address, Variable, Field, Assignment, Step, Load, Store, Apply, Negate, Jump, Call, Return, Lines, End, Alone, Plain, Nested, Declaration, ProgramUnit, Text}
-use Rattle.wc_model.specs.Marks.{Mark, Symbol, Identifier, Whole, Duration, Truth, Direct, Ampersand, AmpersandN, OpeningBracket, ClosingBracket, Comma, Colon, Semicolon, Point, Assign, LineEnd}
+use Rattle.std.specs.Prelude.{ℕ, true, false, List, [], ◌∷◌, ◌++◌, codes, Some, None, pos}
+use Rattle.wc_model.specs.Tree.{Word, Constant, Address, Variable, Field, Assignment, Load, Store, Apply, Jump, Call, Lines, End, Alone, Plain, Nested, ProgramUnit}
+use Rattle.wc_model.specs.Marks.{Mark, Symbol, Identifier, Whole, Duration, Direct, Ampersand, AmpersandN, OpeningBracket, ClosingBracket, Comma, Colon, Semicolon, Point, Assign, LineEnd}
 use Rattle.wc_model.specs.Languages.{Language, ◌then◌, empty}
 use Rattle.wc_model.specs.Keywords.{end_word}
 use Rattle.wc_model.specs.Grammar.{Group, InBody, lines, identifier, line_ends}
-use Rattle.wc_model.specs.declared.operator.Condition.TheVariants.{Always, IfTrue, IfFalse}
+use Rattle.wc_model.specs.declared.operator.Condition.TheVariants.{Always, IfTrue}
 use Rattle.wc_model.specs.declared.operator.Operator.TheVariants.{And, Andn, Or}
 use Rattle.wc_model.specs.declared.operator.Storing.TheVariants.{Result}
 use Rattle.wc_model.specs.declared.source.Section.TheVariants.{Own}
-use Rattle.wc_model.specs.declared.source.UnitKind.TheVariants.{FunctionBlock, Program}
+use Rattle.wc_model.specs.declared.source.UnitKind.TheVariants.{Program}
 use Rattle.wc_model.specs.declared.value.Value.TheVariants.{Bool as BoolValue, Dint, Time}
 
 -- a symbol on a line
@@ -44,10 +43,10 @@ program_of body = record { kind = Program; line = 1; name = word (codes "p") 1; 
 -- `PROGRAM P / LD %IX0.0 / ST %QX0.0 / END_PROGRAM`
 abbrev pub copy_tokens : List Mark
 copy_tokens =
-  ident (codes "PROGRAM") 1 ∷ ident (codes "P") 1 ∷ end_of 1
-  ∷ ident (codes "LD") 2 ∷ address (codes "%IX0.0") 2 ∷ end_of 2
-  ∷ ident (codes "ST") 3 ∷ address (codes "%QX0.0") 3 ∷ end_of 3
-  ∷ ident (codes "END_PROGRAM") 4 ∷ []
+    ident (codes "PROGRAM") 1 ∷ ident (codes "P") 1 ∷ end_of 1
+    ∷ ident (codes "LD") 2 ∷ address (codes "%IX0.0") 2 ∷ end_of 2
+    ∷ ident (codes "ST") 3 ∷ address (codes "%QX0.0") 3 ∷ end_of 3
+    ∷ ident (codes "END_PROGRAM") 4 ∷ []
 
 -- its lines
 abbrev pub copy_lines : Lines
@@ -60,16 +59,16 @@ program_text body last_line = program_p ++ body ++ ident (codes "END_PROGRAM") l
 -- `LD %IX0.0 / JMPC done / AND( / LD %IX0.1 / OR %IX0.2 / ) / and( %IX0.3 / ) / done: ST %QX0.0 / last:`, from line 2
 abbrev pub jump_tokens : List Mark
 jump_tokens =
-  ident (codes "LD") 2 ∷ address (codes "%IX0.0") 2 ∷ end_of 2
-  ∷ ident (codes "JMPC") 3 ∷ ident (codes "done") 3 ∷ end_of 3
-  ∷ ident (codes "AND") 4 ∷ mark OpeningBracket 4 ∷ end_of 4
-  ∷ ident (codes "LD") 5 ∷ address (codes "%IX0.1") 5 ∷ end_of 5
-  ∷ ident (codes "OR") 6 ∷ address (codes "%IX0.2") 6 ∷ end_of 6
-  ∷ mark ClosingBracket 7 ∷ end_of 7
-  ∷ ident (codes "and") 8 ∷ mark OpeningBracket 8 ∷ address (codes "%IX0.3") 8 ∷ end_of 8
-  ∷ mark ClosingBracket 9 ∷ end_of 9
-  ∷ ident (codes "done") 10 ∷ mark Colon 10 ∷ ident (codes "ST") 10 ∷ address (codes "%QX0.0") 10 ∷ end_of 10
-  ∷ ident (codes "last") 11 ∷ mark Colon 11 ∷ end_of 11 ∷ []
+    ident (codes "LD") 2 ∷ address (codes "%IX0.0") 2 ∷ end_of 2
+    ∷ ident (codes "JMPC") 3 ∷ ident (codes "done") 3 ∷ end_of 3
+    ∷ ident (codes "AND") 4 ∷ mark OpeningBracket 4 ∷ end_of 4
+    ∷ ident (codes "LD") 5 ∷ address (codes "%IX0.1") 5 ∷ end_of 5
+    ∷ ident (codes "OR") 6 ∷ address (codes "%IX0.2") 6 ∷ end_of 6
+    ∷ mark ClosingBracket 7 ∷ end_of 7
+    ∷ ident (codes "and") 8 ∷ mark OpeningBracket 8 ∷ address (codes "%IX0.3") 8 ∷ end_of 8
+    ∷ mark ClosingBracket 9 ∷ end_of 9
+    ∷ ident (codes "done") 10 ∷ mark Colon 10 ∷ ident (codes "ST") 10 ∷ address (codes "%QX0.0") 10 ∷ end_of 10
+    ∷ ident (codes "last") 11 ∷ mark Colon 11 ∷ end_of 11 ∷ []
 
 -- their tree from line 10 on
 abbrev pub jump_lines_from_10 : Lines
@@ -82,10 +81,10 @@ jump_lines_from_8 = Nested None 8 And (Some (Address (word (codes "%ix0.3") 8)))
 -- from line 4 on
 abbrev pub jump_lines_from_4 : Lines
 jump_lines_from_4 =
-  Nested None 4 And None
+    Nested None 4 And None
     (Plain None 5 (Load false (Address (word (codes "%ix0.1") 5)))
     (Plain None 6 (Apply Or (Address (word (codes "%ix0.2") 6))) End)) 7
-  jump_lines_from_8
+    jump_lines_from_8
 
 -- their tree
 abbrev pub jump_lines : Lines
@@ -94,9 +93,9 @@ jump_lines = Plain None 2 (Load false (Address (word (codes "%ix0.0") 2))) (Plai
 -- `VAR a, b : DINT := 5; END_VAR`, with a line end behind the comma
 abbrev pub declaration_tokens : List Mark
 declaration_tokens =
-  ident (codes "VAR") 2 ∷ ident (codes "a") 2 ∷ mark Comma 2 ∷ end_of 2
-  ∷ ident (codes "b") 3 ∷ mark Colon 3 ∷ ident (codes "DINT") 3 ∷ mark Assign 3 ∷ mark (Whole (pos 5)) 3 ∷ mark Semicolon 3
-  ∷ ident (codes "END_VAR") 3 ∷ end_of 3 ∷ []
+    ident (codes "VAR") 2 ∷ ident (codes "a") 2 ∷ mark Comma 2 ∷ end_of 2
+    ∷ ident (codes "b") 3 ∷ mark Colon 3 ∷ ident (codes "DINT") 3 ∷ mark Assign 3 ∷ mark (Whole (pos 5)) 3 ∷ mark Semicolon 3
+    ∷ ident (codes "END_VAR") 3 ∷ end_of 3 ∷ []
 
 -- the section that it is
 abbrev pub declared_group : Group
@@ -117,15 +116,15 @@ declaring_program = record (program_of End) { declarations = declared_group.decl
 -- `CAL t(IN := t.Q, / PT := T#1s)`
 abbrev pub call_tokens : List Mark
 call_tokens =
-  ident (codes "CAL") 2 ∷ ident (codes "t") 2 ∷ mark OpeningBracket 2
-  ∷ ident (codes "IN") 2 ∷ mark Assign 2 ∷ ident (codes "t") 2 ∷ mark Point 2 ∷ ident (codes "Q") 2 ∷ mark Comma 2 ∷ end_of 2
-  ∷ ident (codes "PT") 3 ∷ mark Assign 3 ∷ mark (Duration (pos 1000)) 3 ∷ mark ClosingBracket 3 ∷ end_of 3 ∷ []
+    ident (codes "CAL") 2 ∷ ident (codes "t") 2 ∷ mark OpeningBracket 2
+    ∷ ident (codes "IN") 2 ∷ mark Assign 2 ∷ ident (codes "t") 2 ∷ mark Point 2 ∷ ident (codes "Q") 2 ∷ mark Comma 2 ∷ end_of 2
+    ∷ ident (codes "PT") 3 ∷ mark Assign 3 ∷ mark (Duration (pos 1000)) 3 ∷ mark ClosingBracket 3 ∷ end_of 3 ∷ []
 
 -- its arguments
 abbrev pub call_arguments : List Assignment
 call_arguments =
-  record { input = codes "in"; value = Field (codes "t") (codes "q") }
-  ∷ record { input = codes "pt"; value = Constant (Time (pos 1000)) } ∷ []
+    record { input = codes "in"; value = Field (codes "t") (codes "q") }
+    ∷ record { input = codes "pt"; value = Constant (Time (pos 1000)) } ∷ []
 
 -- its lines
 abbrev pub call_lines : Lines
@@ -134,10 +133,10 @@ call_lines = Plain None 2 (Call Always (codes "t") call_arguments) End
 -- `LD TRUE / &N x / & Nx / & N`
 abbrev pub ampersand_tokens : List Mark
 ampersand_tokens =
-  ident (codes "LD") 2 ∷ ident (codes "TRUE") 2 ∷ end_of 2
-  ∷ mark AmpersandN 3 ∷ ident (codes "x") 3 ∷ end_of 3
-  ∷ mark Ampersand 4 ∷ ident (codes "Nx") 4 ∷ end_of 4
-  ∷ mark Ampersand 5 ∷ ident (codes "N") 5 ∷ end_of 5 ∷ []
+    ident (codes "LD") 2 ∷ ident (codes "TRUE") 2 ∷ end_of 2
+    ∷ mark AmpersandN 3 ∷ ident (codes "x") 3 ∷ end_of 3
+    ∷ mark Ampersand 4 ∷ ident (codes "Nx") 4 ∷ end_of 4
+    ∷ mark Ampersand 5 ∷ ident (codes "N") 5 ∷ end_of 5 ∷ []
 
 -- AND with Nx and with N
 abbrev pub ampersand_lines_from_4 : Lines

@@ -9,25 +9,21 @@ ghost use Rattle.wc_model.specs.Tree.{Text};
 /// The tokens of a whole text are a front.
 pub fn a_text_is_a_front()
     ensures { (tokens : List Mark) (text : Text) → Spells tokens text → IsFront tokens }
-{
-}
+{}
 
 /// What stands before some of a front's tokens is a front.
 pub fn a_front_of_a_front_is_one()
     ensures { (front more : List Mark) → IsFront (front ++ more) → IsFront front }
-{
-}
+{}
 
 /// Where an unexpected token is the first fault, the tokens spell no text.
 pub fn an_unexpected_token_spells_nothing()
     ensures { (tokens : List Mark) (last_line line : ℕ) (text : Text) → IsFirstFault tokens last_line UnexpectedToken line → ¬ (Spells tokens text) }
-{
-}
+{}
 
 /// Two loads and jumps, two parentheses with two lines in one of them, a store, and a label alone: nine
 /// lines, no parenthesis in another.
 pub fn lines_and_depth()
     ensures lines { line_count jump_lines ≡ 9 }
     ensures depth { depth jump_lines ≡ 1 }
-{
-}
+{}

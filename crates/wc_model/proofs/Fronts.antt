@@ -1,8 +1,6 @@
 -- Laws of fronts: what some further tokens complete, and what none do.
-use Rattle.std.proofs.Common.{◌≡◌, List, [], ◌∷◌, ◌++◌, refl, ap, append_assoc, append-nil, ◌∙◌, sym, inl, inr}
-use Rattle.std.specs.Prelude.{◌⊎◌}
-use Rattle.std.specs.Bool.{⊤}
-use Rattle.wc_model.specs.Languages.{Language, Sequence, ◌then◌, ◌or◌, front_of}
+use Rattle.std.proofs.Common.{◌≡◌, List, [], ◌++◌, ap, append_assoc, append-nil, ◌∙◌, sym, inl, inr}
+use Rattle.wc_model.specs.Languages.{Language, ◌then◌, ◌or◌, front_of}
 use Rattle.wc_model.proofs.Languages.{joined}
 
 -- a whole list is a front
@@ -42,7 +40,7 @@ dead_first first second tokens dead more front rest e h =
 pub dead_second : {T : Type 0} (first second : Language T) (tokens behind : List T) → IsPrefixFree first → first tokens → IsDead second behind → IsDead (first then second) (tokens ++ behind)
 dead_second first second tokens behind free begins dead more front rest e h =
     let same = free tokens h.front (behind ++ more) (h.rest ++ rest) begins h.begins
-          (sym (append_assoc tokens behind more) ∙ e ∙ ap (λ ts. ts ++ rest) h.whole ∙ append_assoc h.front h.rest rest) in
+    (sym (append_assoc tokens behind more) ∙ e ∙ ap (λ ts. ts ++ rest) h.whole ∙ append_assoc h.front h.rest rest) in
     dead more h.rest rest same.1 h.goes_on
 
 -- either, where both are dead
@@ -53,6 +51,6 @@ dead_either first second tokens a b more front rest e h = elim h [ inl l ↦ a m
 pub sequence_is_prefix_free : {T : Type 0} (first second : Language T) → IsPrefixFree first → IsPrefixFree second → IsPrefixFree (first then second)
 sequence_is_prefix_free first second free free' a b more rest ha hb e =
     let same = free ha.front hb.front (ha.rest ++ more) (hb.rest ++ rest) ha.begins hb.begins
-          (sym (append_assoc ha.front ha.rest more) ∙ ap (λ ts. ts ++ more) (sym ha.whole) ∙ e ∙ ap (λ ts. ts ++ rest) hb.whole ∙ append_assoc hb.front hb.rest rest) in
+    (sym (append_assoc ha.front ha.rest more) ∙ ap (λ ts. ts ++ more) (sym ha.whole) ∙ e ∙ ap (λ ts. ts ++ rest) hb.whole ∙ append_assoc hb.front hb.rest rest) in
     let same' = free' ha.rest hb.rest more rest ha.goes_on hb.goes_on same.1 in
     (ha.whole ∙ ap (λ ts. ts ++ ha.rest) same.0 ∙ ap (λ ts. hb.front ++ ts) same'.0 ∙ sym hb.whole, same'.1)

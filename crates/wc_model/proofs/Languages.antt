@@ -1,7 +1,7 @@
 -- Laws of languages: how a list of tokens is shown to be in a sequence, part by part.
 use Rattle.std.proofs.Common.{◌≡◌, ℕ, zero, suc, List, [], ◌∷◌, ◌++◌, take, drop, refl, ap, append_assoc, ◌∙◌, sym, inl, inr}
 use Rattle.std.specs.Prelude.{◌⊎◌}
-use Rattle.wc_model.specs.Languages.{Language, Sequence, empty, one, many, ◌then◌, ◌or◌, ◌given◌, front_of}
+use Rattle.wc_model.specs.Languages.{empty, one, many, ◌then◌, ◌given◌}
 
 -- two parts joined
 pub joined : {T : Type 0} {first second : List T → Type 0} (front rest : List T) → first front → second rest → (first then second) (front ++ rest)
@@ -62,7 +62,7 @@ pub after : {T : Type 0} {first second other : List T → Type 0} {tokens : List
 after f h = record { front = h.front; rest = h.rest; whole = h.whole; begins = h.begins; goes_on = f h.rest h.goes_on }
 
 next_parts : {T : Type 0} (IsSort : T → Type 0) (second : List T → Type 0) {token : T} {tokens : List T} (front rest : List T)
-  → token ∷ tokens ≡ front ++ rest → one IsSort front → second rest → IsSort token × second tokens
+    → token ∷ tokens ≡ front ++ rest → one IsSort front → second rest → IsSort token × second tokens
 next_parts IsSort second [] rest e sort goes_on = absurd sort
 next_parts IsSort second {token = token} {tokens = tokens} (x ∷ []) rest e sort goes_on =
     let a : token ≡ x = cc in
@@ -79,7 +79,7 @@ passed {second = second} {tokens = tokens} h =
     let e : tokens ≡ h.rest = h.whole ∙ ap (λ front. front ++ h.rest) h.begins in rw e h.goes_on
 
 many_parts : {T : Type 0} (IsSort : T → Type 0) (second : List T → Type 0) {token : T} {tokens : List T} (front rest : List T)
-  → token ∷ tokens ≡ front ++ rest → many IsSort front → second rest → second (token ∷ tokens) ⊎ (IsSort token × (many IsSort then second) tokens)
+    → token ∷ tokens ≡ front ++ rest → many IsSort front → second rest → second (token ∷ tokens) ⊎ (IsSort token × (many IsSort then second) tokens)
 many_parts IsSort second [] rest e all goes_on = inl (rw e goes_on)
 many_parts IsSort second {token = token} {tokens = tokens} (x ∷ front) rest e all goes_on =
     let a : token ≡ x = cc in
@@ -88,7 +88,7 @@ many_parts IsSort second {token = token} {tokens = tokens} (x ∷ front) rest e 
 
 -- Where many tokens and then the rest are spelled, the rest begins at once, or the first token is one of the many.
 pub many_are : {T : Type 0} {IsSort : T → Type 0} {second : List T → Type 0} {token : T} {tokens : List T} → (many IsSort then second) (token ∷ tokens)
-  → second (token ∷ tokens) ⊎ (IsSort token × (many IsSort then second) tokens)
+    → second (token ∷ tokens) ⊎ (IsSort token × (many IsSort then second) tokens)
 many_are {IsSort = IsSort} {second = second} h = many_parts IsSort second h.front h.rest h.whole h.begins h.goes_on
 
 -- the fact on which a first part rests, and the sequence

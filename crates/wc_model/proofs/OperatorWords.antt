@@ -1,9 +1,9 @@
 -- Which identifiers are operators.
-use Rattle.std.proofs.Common.{◌≡◌, ℕ, Bool, true, false, List, [], ◌∷◌, refl, inl, inr, ap}
-use Rattle.std.specs.Prelude.{Some, ◌⊎◌, codes}
+use Rattle.std.proofs.Common.{◌≡◌, ℕ, Bool, true, false, List, [], ◌∷◌, refl, inl, inr}
+use Rattle.std.specs.Prelude.{Some}
 use Rattle.std.specs.List.{list_any}
 use Rattle.wc_model.specs.Names.{Name, name_of}
-use Rattle.wc_model.specs.Marks.{Mark, Identifier, IsNamed}
+use Rattle.wc_model.specs.Marks.{Identifier}
 use Rattle.wc_model.specs.Tree.{Step, Load, Store, Apply, Negate, Jump, Call, Return}
 use Rattle.wc_model.specs.Keywords.{load_word, store_word, operator_word, not_word, jump_word, call_word, return_word}
 use Rattle.wc_model.specs.Grammar.{IsOperator, IsOperatorOf}
@@ -16,12 +16,12 @@ use Rattle.wc_model.proofs.Spelling.{same}
 -- the words of all operators
 abbrev pub operator_words : List Name
 operator_words =
-  load_word true ∷ load_word false ∷ store_word Result ∷ store_word Negation ∷ store_word Set ∷ store_word Reset
-  ∷ operator_word And ∷ operator_word Andn ∷ operator_word Or ∷ operator_word Orn ∷ operator_word Xor ∷ operator_word Xorn
-  ∷ operator_word Add ∷ operator_word Sub ∷ operator_word Mul ∷ operator_word Div ∷ operator_word Mod
-  ∷ operator_word Gt ∷ operator_word Ge ∷ operator_word Eq ∷ operator_word Ne ∷ operator_word Le ∷ operator_word Lt
-  ∷ not_word ∷ jump_word Always ∷ jump_word IfTrue ∷ jump_word IfFalse ∷ call_word Always ∷ call_word IfTrue ∷ call_word IfFalse
-  ∷ return_word Always ∷ return_word IfTrue ∷ return_word IfFalse ∷ []
+    load_word true ∷ load_word false ∷ store_word Result ∷ store_word Negation ∷ store_word Set ∷ store_word Reset
+    ∷ operator_word And ∷ operator_word Andn ∷ operator_word Or ∷ operator_word Orn ∷ operator_word Xor ∷ operator_word Xorn
+    ∷ operator_word Add ∷ operator_word Sub ∷ operator_word Mul ∷ operator_word Div ∷ operator_word Mod
+    ∷ operator_word Gt ∷ operator_word Ge ∷ operator_word Eq ∷ operator_word Ne ∷ operator_word Le ∷ operator_word Lt
+    ∷ not_word ∷ jump_word Always ∷ jump_word IfTrue ∷ jump_word IfFalse ∷ call_word Always ∷ call_word IfTrue ∷ call_word IfFalse
+    ∷ return_word Always ∷ return_word IfTrue ∷ return_word IfFalse ∷ []
 
 -- whether a name is one of them
 abbrev pub is_operator_word : Name → Bool

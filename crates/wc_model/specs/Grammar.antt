@@ -4,14 +4,13 @@ use Rattle.std.specs.Prelude.{◌≡◌, ◌≢◌, ℕ, Bool, List, [], ◌∷�
 use Rattle.std.specs.Bool.{⊤}
 use Rattle.wc_model.specs.Names.{Name, name_of}
 use Rattle.wc_model.specs.Tree.{Word, Term, Constant, Address, Variable, Field, Assignment, Step, Load, Store, Apply, Negate, Jump, Call, Return, Lines, End, Alone, Plain, Nested, Declaration, ProgramUnit, Text}
-use Rattle.wc_model.specs.Marks.{Symbol, Identifier, Whole, Duration, Truth, Direct, Ampersand, AmpersandN, OpeningBracket, ClosingBracket, Comma, Colon, Semicolon, Point, Assign, LineEnd, Mark, is_line_end, IsSymbol, IsNamed, IsWord, IsAddress}
+use Rattle.wc_model.specs.Marks.{Symbol, Identifier, Whole, Duration, Truth, Ampersand, AmpersandN, OpeningBracket, ClosingBracket, Comma, Colon, Semicolon, Point, Assign, LineEnd, Mark, is_line_end, IsSymbol, IsNamed, IsWord, IsAddress}
 use Rattle.wc_model.specs.Languages.{Language, nothing, empty, one, many, ◌then◌, ◌or◌, ◌given◌, optional, each, separated, skipping, front_of}
 use Rattle.wc_model.specs.Keywords.{unit_word, end_word, section_word, end_var, truth_word, load_word, store_word, operator_word, not_word, jump_word, call_word, return_word}
 use Rattle.wc_model.specs.declared.operator.Operator.{Operator}
 use Rattle.wc_model.specs.declared.operator.Operator.TheVariants.{And, Andn}
 use Rattle.wc_model.specs.declared.source.Initial.{Initial}
 use Rattle.wc_model.specs.declared.source.Section.{Section}
-use Rattle.wc_model.specs.declared.source.UnitKind.{UnitKind}
 use Rattle.wc_model.specs.declared.source.UnitKind.TheVariants.{FunctionBlock, Program}
 use Rattle.wc_model.specs.declared.value.Value.{Value}
 use Rattle.wc_model.specs.declared.value.Value.TheVariants.{Bool as BoolValue, Dint, Time}

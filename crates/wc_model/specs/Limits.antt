@@ -1,5 +1,5 @@
 -- The limits on units, lines and depth (the profile's own).
-use Rattle.std.specs.Prelude.{ℕ, suc, ◌+◌, ◌≤◌, max, List, [], ◌∷◌, length}
+use Rattle.std.specs.Prelude.{ℕ, ◌+◌, ◌≤◌, max, List, [], ◌∷◌, length}
 use Rattle.std.specs.List.{AllByRecursion}
 use Rattle.wc_model.specs.Tree.{Lines, End, Alone, Plain, Nested, ProgramUnit, Text}
 use Rattle.wc_model.specs.Positions.{Opening, Position}

@@ -1,7 +1,7 @@
 -- Where tokens stop inside a text: at the start of a line, in a line that is cut short, or on an opening line.
-use Rattle.std.specs.Prelude.{◌≡◌, ℕ, List, [], ◌∷◌, Option}
+use Rattle.std.specs.Prelude.{ℕ, List, [], ◌∷◌, Option}
 use Rattle.wc_model.specs.Tree.{Word, Term, Step, Lines, ProgramUnit}
-use Rattle.wc_model.specs.Marks.{Mark, OpeningBracket, ClosingBracket, LineEnd, IsSymbol}
+use Rattle.wc_model.specs.Marks.{Mark, ClosingBracket, LineEnd}
 use Rattle.wc_model.specs.Languages.{Language, empty, ◌then◌, ◌or◌, ◌given◌, optional, unfinished, begun}
 use Rattle.wc_model.specs.Grammar.{symbol, operand, bracket, opening, instruction, Setting, InBody, InParentheses, MayStand, label_in, HasContent, lines, head, units}
 use Rattle.wc_model.specs.declared.operator.Operator.{Operator}

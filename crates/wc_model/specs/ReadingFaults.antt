@@ -1,9 +1,8 @@
 -- What a reader refuses, at which token, and with which line (the profile's own).
-use Rattle.std.specs.Prelude.{◌≡◌, ◌≢◌, ℕ, ◌≤◌, List, [], ◌∷◌, ◌++◌, length, Option, Some, None, ◌⊎◌, Any}
-use Rattle.std.specs.Bool.{⊤}
+use Rattle.std.specs.Prelude.{◌≡◌, ◌≢◌, ℕ, ◌≤◌, List, [], ◌∷◌, ◌++◌, length, Option, None, ◌⊎◌, Any}
 use Rattle.std.specs.List.{AllByRecursion}
 use Rattle.wc_model.specs.Names.{Name}
-use Rattle.wc_model.specs.Tree.{Word, Step, Lines, End, ProgramUnit}
+use Rattle.wc_model.specs.Tree.{Word, Step, ProgramUnit}
 use Rattle.wc_model.specs.Marks.{Mark, OpeningBracket, ClosingBracket, Colon, IsSymbol, IsNamed}
 use Rattle.wc_model.specs.Languages.{◌then◌, one}
 use Rattle.wc_model.specs.Keywords.{unit_word, end_word}

@@ -1,15 +1,9 @@
-use Rattle.std.proofs.Common.{refl, inl, inr, true, false, arith}
-use Rattle.std.specs.Prelude.{[], ◌∷◌, ◌++◌, ◌⊎◌, codes, Some, None}
-use Rattle.wc_model.specs.Tree.{Load, Apply, Negate, Return, Constant, End, Plain, Nested}
-use Rattle.wc_model.specs.Marks.{Mark, OpeningBracket, ClosingBracket, LineEnd}
-use Rattle.wc_model.proofs.Languages.{next, pass, more, cut_at, joined, given_first, regroup}
-use Rattle.wc_model.proofs.Spelling.{spelling, one_unit, no_sections}
-use Rattle.wc_model.specs.declared.operator.Condition.TheVariants.{Always}
-use Rattle.wc_model.specs.declared.operator.Operator.TheVariants.{And}
-use Rattle.wc_model.specs.declared.source.UnitKind.TheVariants.{Program}
-use Rattle.wc_model.specs.declared.value.Value.TheVariants.{Bool as BoolValue}
-use Rattle.wc_grammar_examples.specs.Texts.{mark, ident, end_of, word, program_of}
-use Rattle.wc_grammar_examples.specs.Faulty.{load_true, behind_load, behind_opening, behind_short_opening, behind_eight_openings, empty_opening, short_opening}
+use Rattle.std.proofs.Common.{refl, inl, inr}
+use Rattle.std.specs.Prelude.{[], ◌∷◌, codes, None}
+use Rattle.wc_model.specs.Tree.{End, Plain}
+use Rattle.wc_model.proofs.Spelling.{spelling}
+use Rattle.wc_grammar_examples.specs.Texts.{ident, program_of}
+use Rattle.wc_grammar_examples.specs.Faulty.{load_true, behind_load}
 use Rattle.wc_grammar_examples.proofs.faults.a_bracket_with_none_open.Goals as goal
 
 pub returns-clause-front : goal.returns-clause-front
@@ -17,4 +11,3 @@ returns-clause-front c = (ident (codes "END_PROGRAM") 9 ∷ [], (program_of (Pla
 
 pub returns-clause-met : goal.returns-clause-met
 returns-clause-met c = (behind_load, search (spelling, inl, inr) depth 60 fits 20000, inl (refl, refl, refl))
-

@@ -1,15 +1,11 @@
-use Rattle.std.proofs.Common.{refl, inl, inr, true, false, arith}
-use Rattle.std.specs.Prelude.{[], ◌∷◌, ◌++◌, ◌⊎◌, codes, Some, None, drop}
-use Rattle.wc_model.specs.Tree.{Lines, Load, Apply, Negate, Return, Constant, End, Plain, Nested}
-use Rattle.wc_model.specs.Marks.{Mark, OpeningBracket, ClosingBracket, LineEnd}
-use Rattle.wc_model.proofs.Languages.{next, pass, more, cut_at, joined, given_first, regroup}
-use Rattle.wc_model.proofs.Spelling.{spelling, one_unit, no_sections}
-use Rattle.wc_model.specs.declared.operator.Condition.TheVariants.{Always}
+use Rattle.std.proofs.Common.{refl, inl, inr}
+use Rattle.std.specs.Prelude.{[], ◌∷◌, ◌++◌, codes, None, drop}
+use Rattle.wc_model.specs.Tree.{Lines, Negate, End, Plain, Nested}
+use Rattle.wc_model.specs.Marks.{ClosingBracket}
+use Rattle.wc_model.proofs.Spelling.{spelling}
 use Rattle.wc_model.specs.declared.operator.Operator.TheVariants.{And}
-use Rattle.wc_model.specs.declared.source.UnitKind.TheVariants.{Program}
-use Rattle.wc_model.specs.declared.value.Value.TheVariants.{Bool as BoolValue}
-use Rattle.wc_grammar_examples.specs.Texts.{mark, ident, end_of, word, program_of, body_then_end}
-use Rattle.wc_grammar_examples.specs.Faulty.{load_true, opened, behind_load, behind_opening, behind_short_opening, behind_eight_openings, empty_opening, short_opening}
+use Rattle.wc_grammar_examples.specs.Texts.{mark, ident, end_of, program_of, body_then_end}
+use Rattle.wc_grammar_examples.specs.Faulty.{load_true, opened, behind_opening, empty_opening}
 use Rattle.wc_grammar_examples.proofs.faults.empty_parentheses.Goals as goal
 
 -- a parenthesis with NOT inside
@@ -25,4 +21,3 @@ returns-clause-front c = (ident (codes "NOT") 7 ∷ end_of 7 ∷ mark ClosingBra
 
 pub returns-clause-met : goal.returns-clause-met
 returns-clause-met c = (behind_opening, search (spelling, inl, inr) depth 60 fits 20000, empty_opening, ([], refl), λ h. h, refl, refl)
-

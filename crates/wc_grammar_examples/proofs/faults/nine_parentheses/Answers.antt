@@ -1,19 +1,16 @@
-use Rattle.std.proofs.Common.{refl, inl, inr, true, false, arith}
-use Rattle.std.specs.Prelude.{[], ◌∷◌, ◌++◌, ◌⊎◌, codes, Some, None, map}
-use Rattle.wc_model.specs.Tree.{Load, Apply, Negate, Return, Constant, End, Plain, Nested}
-use Rattle.wc_model.specs.Marks.{Mark, OpeningBracket, ClosingBracket, LineEnd}
-use Rattle.wc_model.proofs.Languages.{next, pass, more, cut_at, joined, given_first, regroup}
-use Rattle.wc_model.proofs.Spelling.{spelling, one_unit, no_sections}
-use Rattle.wc_model.specs.declared.operator.Condition.TheVariants.{Always}
+use Rattle.std.proofs.Common.{refl, inl, inr, arith}
+use Rattle.std.specs.Prelude.{[], ◌∷◌, ◌++◌, codes, None, map}
+use Rattle.wc_model.specs.Tree.{End}
+use Rattle.wc_model.specs.Marks.{Mark}
+use Rattle.wc_model.proofs.Languages.{next, pass, cut_at, joined}
+use Rattle.wc_model.proofs.Spelling.{spelling}
 use Rattle.wc_model.specs.declared.operator.Operator.TheVariants.{And}
-use Rattle.wc_model.specs.declared.source.UnitKind.TheVariants.{Program}
-use Rattle.wc_model.specs.declared.value.Value.TheVariants.{Bool as BoolValue}
-use Rattle.wc_grammar_examples.specs.Texts.{mark, ident, end_of, word, program_of}
-use Rattle.wc_grammar_examples.specs.Faulty.{load_true, behind_load, behind_opening, behind_short_opening, behind_eight_openings, empty_opening, short_opening, inner_opening, opening_line}
+use Rattle.wc_grammar_examples.specs.Texts.{ident, end_of}
+use Rattle.wc_grammar_examples.specs.Faulty.{behind_eight_openings, empty_opening, inner_opening, opening_line}
 use Rattle.std.proofs.Common.{ℕ, List}
-use Rattle.wc_model.specs.Languages.{unfinished, optional, ◌then◌}
-use Rattle.wc_model.specs.Grammar.{InBody, InParentheses, lines, label_in, opening}
-use Rattle.wc_model.specs.Positions.{part_of_line, Opening, openings_of}
+use Rattle.wc_model.specs.Languages.{◌then◌}
+use Rattle.wc_model.specs.Grammar.{InParentheses, lines, label_in, opening}
+use Rattle.wc_model.specs.Positions.{openings_of}
 use Rattle.wc_grammar_examples.proofs.faults.nine_parentheses.Goals as goal
 
 -- the tokens of a body up to these openings, innermost first, behind that of line 3
@@ -37,4 +34,3 @@ all_open (line ∷ next ∷ outer) = joined (tokens_at (next ∷ outer)) (openin
 
 pub returns : goal.returns
 returns c = (behind_eight_openings, None, And, cut_at 30 (cut_at 30 (cut_at 0 (pass refl tt) (cut_at 2 (next (refl, refl) (next (refl, refl, refl) ([], refl, refl))) (cut_at 28 (all_open (10 ∷ 9 ∷ 8 ∷ 7 ∷ 6 ∷ 5 ∷ 4 ∷ [])) tt))) refl) (inl refl, refl), omega arith, refl)
-

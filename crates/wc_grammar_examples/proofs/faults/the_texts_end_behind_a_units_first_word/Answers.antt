@@ -1,17 +1,9 @@
-use Rattle.std.proofs.Common.{refl, inl, inr, true, false, arith}
-use Rattle.std.specs.Prelude.{[], ◌∷◌, ◌++◌, ◌⊎◌, codes, Some, None}
-use Rattle.wc_model.specs.Tree.{Load, Apply, Negate, Return, Constant, End, Plain, Nested}
-use Rattle.wc_model.specs.Marks.{Mark, OpeningBracket, ClosingBracket, LineEnd}
-use Rattle.wc_model.proofs.Languages.{next, pass, more, cut_at, joined, given_first, regroup}
-use Rattle.wc_model.proofs.Spelling.{spelling, one_unit, no_sections}
-use Rattle.wc_model.specs.declared.operator.Condition.TheVariants.{Always}
-use Rattle.wc_model.specs.declared.operator.Operator.TheVariants.{And}
-use Rattle.wc_model.specs.declared.source.UnitKind.TheVariants.{Program}
-use Rattle.wc_model.specs.declared.value.Value.TheVariants.{Bool as BoolValue}
-use Rattle.wc_grammar_examples.specs.Texts.{mark, ident, end_of, word, program_of}
-use Rattle.wc_grammar_examples.specs.Faulty.{load_true, behind_load, behind_opening, behind_short_opening, behind_eight_openings, empty_opening, short_opening}
+use Rattle.std.proofs.Common.{refl, inl}
+use Rattle.std.specs.Prelude.{[], codes}
+use Rattle.wc_model.specs.Tree.{End}
+use Rattle.wc_model.proofs.Languages.{next, pass, regroup}
+use Rattle.wc_grammar_examples.specs.Texts.{ident, program_of}
 use Rattle.wc_grammar_examples.proofs.faults.the_texts_end_behind_a_units_first_word.Goals as goal
 
 pub returns : goal.returns
 returns c = (program_of End, ([], End, regroup (pass refl (pass tt (inl ((λ e. cc), (ident (codes "P") 1, [], next (refl, refl) (next (refl, refl, refl) ([], refl, refl)))))))), refl)
-

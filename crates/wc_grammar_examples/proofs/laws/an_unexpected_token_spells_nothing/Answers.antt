@@ -7,7 +7,7 @@ use Rattle.wc_grammar_examples.proofs.laws.an_unexpected_token_spells_nothing.Go
 
 -- the token that is met, and the tokens before it, begin the text
 spells_nothing : (tokens before left : List Mark) (last_line line : ℕ) (text : Text)
-  → tokens ≡ before ++ left → IsMet UnexpectedToken before left last_line line → Spells tokens text → ⊥
+    → tokens ≡ before ++ left → IsMet UnexpectedToken before left last_line line → Spells tokens text → ⊥
 spells_nothing tokens before [] last_line line text e met h = met
 spells_nothing tokens before (mark ∷ behind) last_line line text e met h =
     let same : tokens ≡ (before ++ mark ∷ []) ++ behind = e ∙ sym (append_assoc before (mark ∷ []) behind) in
