@@ -1,3 +1,4 @@
 pub mod Bodies
 pub mod Jmpnc
 pub mod BareLoad
+pub mod Loads

@@ -1,6 +1,6 @@
 -- Texts that are refused: the tokens before the fault and those that are left, and where the former stop.
-use Rattle.std.specs.Prelude.{ℕ, true, false, List, [], ◌∷◌, ◌++◌, map, flat_map, codes, Some, None}
-use Rattle.wc_model.specs.Tree.{Constant, Step, Load, End, Plain}
+use Rattle.std.specs.Prelude.{ℕ, zero, suc, true, false, List, [], ◌∷◌, ◌++◌, map, flat_map, codes, Some, None}
+use Rattle.wc_model.specs.Tree.{Constant, Step, Load, Lines, End, Plain}
 use Rattle.wc_model.specs.Marks.{Mark, OpeningBracket}
 use Rattle.wc_model.specs.Positions.{Opening, Position}
 use Rattle.wc_model.specs.declared.operator.Operator.TheVariants.{And}
@@ -76,3 +76,17 @@ jmpnc_left = ident (codes "L") 2 ∷ end_of 2 ∷ ident (codes "END_PROGRAM") 3 
 -- `PROGRAM P / LD`
 abbrev pub bare_load_before : List Mark
 bare_load_before = program_p ++ ident (codes "LD") 2 ∷ []
+
+-- so many lines `LD TRUE`, from this line on
+abbrev pub loads : ℕ → ℕ → List Mark
+loads line zero = []
+loads line (suc n) = ident (codes "LD") line ∷ ident (codes "TRUE") line ∷ end_of line ∷ loads (suc line) n
+
+-- their tree
+abbrev pub load_lines : ℕ → ℕ → Lines
+load_lines line zero = End
+load_lines line (suc n) = Plain None line load_true (load_lines (suc line) n)
+
+-- `PROGRAM P /` and so many lines `LD TRUE`
+abbrev pub program_of_loads : ℕ → List Mark
+program_of_loads n = program_p ++ loads 2 n

@@ -1,9 +1,9 @@
-ghost use Rattle.std.specs.Prelude.{◌∷◌, [], ◌++◌, codes};
+ghost use Rattle.std.specs.Prelude.{ℕ, ◌≤◌, ◌∷◌, [], ◌++◌, codes};
 ghost use Rattle.wc_grammar_examples.specs.Texts.{mark, ident, end_of, address, program_p};
-ghost use Rattle.wc_grammar_examples.specs.Faulty.{loaded, opened, opened_short, one_program, eight_opened, jmpnc_before, jmpnc_left, bare_load_before};
+ghost use Rattle.wc_grammar_examples.specs.Faulty.{loaded, opened, opened_short, one_program, eight_opened, jmpnc_before, jmpnc_left, bare_load_before, program_of_loads};
 ghost use Rattle.wc_model.specs.Grammar.{IsFront};
 ghost use Rattle.wc_model.specs.Marks.{OpeningBracket, ClosingBracket, Colon};
-ghost use Rattle.wc_model.specs.ReadingFaults.{IsMet, IsFirstFault, UnexpectedToken, UnitNotClosed, NotOneProgramLast, EmptyParentheses, NotAllowedInParentheses, ParenthesisNotPaired, TooDeep};
+ghost use Rattle.wc_model.specs.ReadingFaults.{IsMet, IsFirstFault, UnexpectedToken, UnitNotClosed, NotOneProgramLast, EmptyParentheses, NotAllowedInParentheses, ParenthesisNotPaired, TooDeep, TooMany};
 
 /// `LD TRUE / )`: no parenthesis is open at the `)`, which stands on line 3.
 pub fn a_bracket_with_none_open()
@@ -86,3 +86,9 @@ pub fn a_load_of_nothing()
     ensures front { IsFront bare_load_before }
     ensures met { IsMet UnexpectedToken bare_load_before (end_of 2 ∷ ident (codes "END_PROGRAM") 3 ∷ []) 3 2 }
 {}
+
+/// 1024 lines and more: one further instruction is too many, at its operator's line.
+pub fn one_line_too_many()
+    ensures { (n line : ℕ) → 1024 ≤ n → IsMet TooMany (program_of_loads n) (ident (codes "LD") line ∷ ident (codes "TRUE") line ∷ []) line line }
+{
+}

@@ -1,7 +1,8 @@
-ghost use Rattle.std.specs.Prelude.{◌≡◌, ℕ, List, [], ◌++◌};
-ghost use Rattle.wc_grammar_examples.specs.Texts.{jump_lines};
+ghost use Rattle.std.specs.Prelude.{◌≡◌, ℕ, ◌≤◌, List, [], ◌∷◌, ◌++◌};
+ghost use Rattle.wc_grammar_examples.specs.Faulty.{load_lines};
+ghost use Rattle.wc_grammar_examples.specs.Texts.{jump_lines, program_of};
 ghost use Rattle.wc_model.specs.Grammar.{IsFront, Spells};
-ghost use Rattle.wc_model.specs.Limits.{depth, line_count};
+ghost use Rattle.wc_model.specs.Limits.{depth, line_count, IsWithinLimits};
 ghost use Rattle.wc_model.specs.Marks.{Mark};
 ghost use Rattle.wc_model.specs.ReadingFaults.{IsFirstFault, UnexpectedToken};
 ghost use Rattle.wc_model.specs.Tree.{Text};
@@ -27,3 +28,9 @@ pub fn lines_and_depth()
     ensures lines { line_count jump_lines ≡ 9 }
     ensures depth { depth jump_lines ≡ 1 }
 {}
+
+/// A program of 1024 lines or fewer is within the limits.
+pub fn as_many_lines_as_may_be()
+    ensures { (n : ℕ) → n ≤ 1024 → IsWithinLimits (program_of (load_lines 2 n) ∷ []) }
+{
+}

@@ -1,4 +1,5 @@
--- Where tokens stop inside a text: at the start of a line, in a line that is cut short, or on an opening line.
+-- Where tokens stop inside a text: at the start of a line, in a line that is cut short, or on an opening line (the
+-- profile's own).
 use Rattle.std.specs.Prelude.{ℕ, List, [], ◌∷◌, Option}
 use Rattle.wc_model.specs.Tree.{Word, Term, Step, Lines, ProgramUnit}
 use Rattle.wc_model.specs.Marks.{Mark, ClosingBracket, LineEnd}
@@ -69,11 +70,18 @@ StopsInUnit unit tokens =
     (before : List ProgramUnit) × (done : Lines)
     × (units before then (begun (head unit) or head unit then lines InBody done then part_of_line InBody)) tokens
 
--- The tokens stop in an operator's parentheses: in their opening line, or behind it with no further parenthesis open.
+-- a body's tokens that stop on an opening line, behind its bracket
+abbrev pub opening_cut_short : List Opening → Opening → Language Mark
+opening_cut_short outer o =
+    openings_of outer then lines (setting_in outer) o.before then label_in (setting_in outer) o.label
+    then bracket o.line o.operator then unfinished (optional operand o.operand then symbol LineEnd)
+
+-- a body's tokens that stop inside these openings, with no further parenthesis open
+abbrev pub cut_short_inside : List Opening → Lines → Language Mark
+cut_short_inside openings done = openings_of openings then lines InParentheses done then part_of_line InParentheses
+
+-- The tokens stop in an operator's parentheses: on their opening line, or behind it.
 abbrev pub StopsInParentheses : Opening → List Mark → Type 0
 StopsInParentheses innermost tokens =
     (before : List ProgramUnit) × (unit : ProgramUnit) × (outer : List Opening) × (done : Lines)
-    × (units before then head unit then (
-    openings_of outer then lines (setting_in outer) innermost.before then label_in (setting_in outer) innermost.label
-    then bracket innermost.line innermost.operator then unfinished (optional operand innermost.operand then symbol LineEnd)
-    or openings_of (innermost ∷ outer) then lines InParentheses done then part_of_line InParentheses)) tokens
+    × (units before then head unit then (opening_cut_short outer innermost or cut_short_inside (innermost ∷ outer) done)) tokens

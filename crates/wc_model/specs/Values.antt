@@ -1,5 +1,5 @@
 -- Values, and how results of arithmetic wrap to 32 bits.
-use Rattle.std.specs.Prelude.{◌≡◌, ℤ, pos, ◌+ℤ◌, ◌*ℤ◌, ◌^◌, FitsSigned}
+use Rattle.std.specs.Prelude.{◌≡◌, ℕ, ℤ, pos, ◌+ℤ◌, ◌*ℤ◌, ◌^◌, FitsSigned}
 use Rattle.std.specs.Int.{int_wrap, w32}
 
 -- w has 32 bits and differs from n by a multiple of 2^32

@@ -10,7 +10,7 @@ use Rattle.wc_grammar_examples.proofs.faults.an_open_parenthesis_at_the_texts_en
 
 -- before a line, some instruction has still to come
 stop : part_of_line InParentheses []
-stop = inl (None, 9, Negate, (λ h. h, (ident (codes "NOT") 9, end_of 9 ∷ [], search (spelling, inl, inr) depth 60 fits 20000)))
+stop = inl (None, 9, Negate, (λ h. h, (ident (codes "NOT") 9, end_of 9 ∷ [], search spelling depth 60 fits 20000)))
 
 pub returns : goal.returns
 returns c = (short_opening, ([], program_of End, [], End, search (spelling, inl, inr, stop) depth 60 fits 20000), refl)

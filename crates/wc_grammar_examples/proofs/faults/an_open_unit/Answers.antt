@@ -10,7 +10,7 @@ use Rattle.wc_grammar_examples.proofs.faults.an_open_unit.Goals as goal
 
 -- before a line, some instruction has still to come
 stop : part_of_line InBody []
-stop = inl (None, 9, Negate, (tt, (ident (codes "NOT") 9, end_of 9 ∷ [], search (spelling, inl, inr) depth 60 fits 20000)))
+stop = inl (None, 9, Negate, (tt, (ident (codes "NOT") 9, end_of 9 ∷ [], search spelling depth 60 fits 20000)))
 
 pub returns : goal.returns
 returns c = (program_of End, ([], Plain None 2 load_true End, search (spelling, inl, inr, stop) depth 60 fits 20000), refl)

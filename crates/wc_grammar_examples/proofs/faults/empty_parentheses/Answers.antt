@@ -14,7 +14,7 @@ closed = Nested None 3 And None (Plain None 7 Negate End) 8 End
 
 -- it is spelled from line 3 on
 from_3 : body_then_end closed (drop 6 (opened ++ ident (codes "NOT") 7 ∷ end_of 7 ∷ mark ClosingBracket 8 ∷ end_of 8 ∷ ident (codes "END_PROGRAM") 9 ∷ []))
-from_3 = search (spelling, inl, inr) depth 60 fits 20000
+from_3 = search (spelling, inl) depth 60 fits 20000
 
 pub returns-clause-front : goal.returns-clause-front
 returns-clause-front c = (ident (codes "NOT") 7 ∷ end_of 7 ∷ mark ClosingBracket 8 ∷ end_of 8 ∷ ident (codes "END_PROGRAM") 9 ∷ [], (program_of (Plain None 2 load_true closed) ∷ [], record { spelled = search (spelling, inl, inr, from_3) depth 60 fits 20000; order = refl }))

@@ -24,7 +24,7 @@ first = search (spelling, inl, inr) depth 60 fits 20000
 
 -- one opening line directly behind another
 one_line : (line : ℕ) → (lines InParentheses End then label_in InParentheses None then opening line And None) (opening_line line)
-one_line line = search (spelling, inl, inr) depth 60 fits 20000
+one_line line = search (spelling, inl) depth 60 fits 20000
 
 -- each of them
 all_open : (lines : List ℕ) → openings_of (map inner_opening lines ++ empty_opening ∷ []) (tokens_at lines)

@@ -1,4 +1,4 @@
-use Rattle.std.proofs.Common.{refl, inl, inr}
+use Rattle.std.proofs.Common.{refl}
 use Rattle.std.specs.Prelude.{drop}
 use Rattle.wc_model.proofs.Languages.{cut_at}
 use Rattle.wc_model.proofs.Spelling.{spelling}
@@ -13,10 +13,10 @@ use Rattle.wc_grammar_examples.proofs.spelled.a_call_on_two_lines.Goals as goal
 
 -- the list, in which line ends are skipped, and what follows
 list : (skipping is_line_end (separated (symbol Comma) argument call_arguments) then symbol ClosingBracket then (symbol LineEnd then lines InBody End) then identifier (end_word Program) then empty then line_ends) (drop 6 (program_text call_tokens 4))
-list = cut_at 10 (search (spelling, inl, inr) depth 60 fits 20000) (search (spelling, inl, inr) depth 60 fits 20000)
+list = cut_at 10 (search spelling depth 60 fits 20000) (search spelling depth 60 fits 20000)
 
 pub returns : goal.returns
 returns c = record {
-  spelled = search (spelling, inl, inr, list) depth 60 fits 20000;
+  spelled = search (spelling, list) depth 60 fits 20000;
   order = refl;
 }

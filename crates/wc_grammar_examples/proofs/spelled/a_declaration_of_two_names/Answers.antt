@@ -1,4 +1,4 @@
-use Rattle.std.proofs.Common.{refl, inl, inr}
+use Rattle.std.proofs.Common.{refl}
 use Rattle.std.specs.Prelude.{[], ◌∷◌, drop}
 use Rattle.wc_model.proofs.Languages.{next, cut_at}
 use Rattle.wc_model.proofs.Spelling.{spelling, one_unit, sections_by}
@@ -13,10 +13,10 @@ use Rattle.wc_grammar_examples.proofs.spelled.a_declaration_of_two_names.Goals a
 
 -- the declarations, in which line ends are skipped, and what follows
 declared : (skipping is_line_end (each (declaration Own) declared_group.declarations) then identifier end_var then empty then body_then_end End) (drop 4 (program_text declaration_tokens 4))
-declared = cut_at 9 (search (spelling, inl, inr) depth 60 fits 20000) (search (spelling, inl, inr) depth 60 fits 20000)
+declared = cut_at 9 (search spelling depth 60 fits 20000) (search spelling depth 60 fits 20000)
 
 pub returns : goal.returns
 returns c = record {
-  spelled = one_unit declaring_program (next (refl, refl) (next (refl, refl, refl) (sections_by (declared_group ∷ []) refl (search (spelling, inl, inr, declared) depth 60 fits 20000))));
+  spelled = one_unit declaring_program (next (refl, refl) (next (refl, refl, refl) (sections_by (declared_group ∷ []) refl (search (spelling, declared) depth 60 fits 20000))));
   order = refl;
 }

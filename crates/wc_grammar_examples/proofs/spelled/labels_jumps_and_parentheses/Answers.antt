@@ -1,4 +1,4 @@
-use Rattle.std.proofs.Common.{refl, inl, inr}
+use Rattle.std.proofs.Common.{refl, inl}
 use Rattle.std.specs.Prelude.{drop}
 use Rattle.wc_model.proofs.Spelling.{spelling}
 use Rattle.wc_grammar_examples.specs.Texts.{jump_tokens, jump_lines_from_10, jump_lines_from_8, jump_lines_from_4, program_text, body_then_end}
@@ -6,18 +6,18 @@ use Rattle.wc_grammar_examples.proofs.spelled.labels_jumps_and_parentheses.Goals
 
 -- the lines from line 10 on, with the line end before them
 from_10 : body_then_end jump_lines_from_10 (drop 26 (program_text jump_tokens 12))
-from_10 = search (spelling, inl, inr) depth 60 fits 20000
+from_10 = search spelling depth 60 fits 20000
 
 -- from line 8 on
 from_8 : body_then_end jump_lines_from_8 (drop 20 (program_text jump_tokens 12))
-from_8 = search (spelling, inl, inr, from_10) depth 60 fits 20000
+from_8 = search (spelling, inl, from_10) depth 60 fits 20000
 
 -- from line 4 on
 from_4 : body_then_end jump_lines_from_4 (drop 9 (program_text jump_tokens 12))
-from_4 = search (spelling, inl, inr, from_8) depth 60 fits 20000
+from_4 = search (spelling, inl, from_8) depth 60 fits 20000
 
 pub returns : goal.returns
 returns c = record {
-  spelled = search (spelling, inl, inr, from_4) depth 60 fits 20000;
+  spelled = search (spelling, from_4) depth 60 fits 20000;
   order = refl;
 }
