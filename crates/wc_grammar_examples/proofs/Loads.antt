@@ -41,7 +41,7 @@ pub one_too_many : (n line : ℕ) → 1024 ≤ n → IsMet TooMany (program_of_l
 one_too_many n line many =
     let h : line_count (load_lines 2 n) ≡ n = lines_of_loads 2 n in
     let at : at_instruction (behind_loads n) None (program_of_loads n)
-          = record { front = program_of_loads n; rest = []; whole = sym (append-nil _); begins = at_start n; goes_on = refl } in
+    = record { front = program_of_loads n; rest = []; whole = sym (append-nil _); begins = at_start n; goes_on = refl } in
     (inr (inl (behind_loads n, None, at, omega arith, ((load_true, refl), λ e k. cc))), refl)
 
 -- as many as may be

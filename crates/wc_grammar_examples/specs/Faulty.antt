@@ -5,7 +5,7 @@ use Rattle.wc_model.specs.Marks.{Mark, OpeningBracket}
 use Rattle.wc_model.specs.Positions.{Opening, Position}
 use Rattle.wc_model.specs.declared.operator.Operator.TheVariants.{And}
 use Rattle.wc_model.specs.declared.value.Value.TheVariants.{Bool as BoolValue}
-use Rattle.wc_grammar_examples.specs.Texts.{mark, ident, end_of, program_p, program_of}
+use Rattle.wc_grammar_examples.specs.Texts.{mark, ident, end_of, program_p, program_of, block_tokens}
 
 -- `LD TRUE`
 abbrev pub load_true : Step
@@ -90,3 +90,8 @@ load_lines line (suc n) = Plain None line load_true (load_lines (suc line) n)
 -- `PROGRAM P /` and so many lines `LD TRUE`
 abbrev pub program_of_loads : ℕ → List Mark
 program_of_loads n = program_p ++ loads 2 n
+
+-- so many function blocks, one behind the other
+abbrev pub blocks : ℕ → List Mark
+blocks zero = []
+blocks (suc n) = block_tokens ++ blocks n

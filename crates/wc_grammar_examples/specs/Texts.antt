@@ -9,7 +9,7 @@ use Rattle.wc_model.specs.declared.operator.Condition.TheVariants.{Always, IfTru
 use Rattle.wc_model.specs.declared.operator.Operator.TheVariants.{And, Andn, Or}
 use Rattle.wc_model.specs.declared.operator.Storing.TheVariants.{Result}
 use Rattle.wc_model.specs.declared.source.Section.TheVariants.{Own}
-use Rattle.wc_model.specs.declared.source.UnitKind.TheVariants.{Program}
+use Rattle.wc_model.specs.declared.source.UnitKind.TheVariants.{FunctionBlock, Program}
 use Rattle.wc_model.specs.declared.value.Value.TheVariants.{Bool as BoolValue, Dint, Time}
 
 -- a symbol on a line
@@ -149,3 +149,25 @@ ampersand_lines = Plain None 2 (Load false (Constant (BoolValue true))) (Plain N
 -- the tokens of a body and of what follows
 abbrev pub body_then_end : Lines → Language Mark
 body_then_end body = lines InBody body then identifier (end_word Program) then empty then line_ends
+
+-- a function block B on line 1, with no declaration and no line
+abbrev pub block_b : ProgramUnit
+block_b = record { kind = FunctionBlock; line = 1; name = word (codes "b") 1; spelled = codes "B"; declarations = []; body = End }
+
+-- `FUNCTION_BLOCK B END_FUNCTION_BLOCK`
+abbrev pub block_tokens : List Mark
+block_tokens = ident (codes "FUNCTION_BLOCK") 1 ∷ ident (codes "B") 1 ∷ ident (codes "END_FUNCTION_BLOCK") 1 ∷ []
+
+-- `CAL t / CAL t()`, with an empty line between them
+abbrev pub bare_call_tokens : List Mark
+bare_call_tokens =
+    ident (codes "CAL") 2 ∷ ident (codes "t") 2 ∷ end_of 2 ∷ end_of 3
+    ∷ ident (codes "CAL") 4 ∷ ident (codes "t") 4 ∷ mark OpeningBracket 4 ∷ mark ClosingBracket 4 ∷ end_of 4 ∷ []
+
+-- the second call
+abbrev pub bare_call_lines_from_4 : Lines
+bare_call_lines_from_4 = Plain None 4 (Call Always (codes "t") []) End
+
+-- two calls without arguments
+abbrev pub bare_call_lines : Lines
+bare_call_lines = Plain None 2 (Call Always (codes "t") []) bare_call_lines_from_4

@@ -1,6 +1,6 @@
 ghost use Rattle.std.specs.Prelude.{ℕ, ◌≤◌, ◌∷◌, [], ◌++◌, codes};
 ghost use Rattle.wc_grammar_examples.specs.Texts.{mark, ident, end_of, address, program_p};
-ghost use Rattle.wc_grammar_examples.specs.Faulty.{loaded, opened, opened_short, one_program, eight_opened, jmpnc_before, jmpnc_left, bare_load_before, program_of_loads};
+ghost use Rattle.wc_grammar_examples.specs.Faulty.{loaded, opened, opened_short, one_program, eight_opened, jmpnc_before, jmpnc_left, bare_load_before, blocks, program_of_loads};
 ghost use Rattle.wc_model.specs.Grammar.{IsFront};
 ghost use Rattle.wc_model.specs.Marks.{OpeningBracket, ClosingBracket, Colon};
 ghost use Rattle.wc_model.specs.ReadingFaults.{IsMet, IsFirstFault, UnexpectedToken, UnitNotClosed, NotOneProgramLast, EmptyParentheses, NotAllowedInParentheses, ParenthesisNotPaired, TooDeep, TooMany};
@@ -90,5 +90,9 @@ pub fn a_load_of_nothing()
 /// 1024 lines and more: one further instruction is too many, at its operator's line.
 pub fn one_line_too_many()
     ensures { (n line : ℕ) → 1024 ≤ n → IsMet TooMany (program_of_loads n) (ident (codes "LD") line ∷ ident (codes "TRUE") line ∷ []) line line }
-{
-}
+{}
+
+/// 64 function blocks and more: one further unit is too many, at its first word's line.
+pub fn one_unit_too_many()
+    ensures { (n line : ℕ) → 64 ≤ n → IsMet TooMany (blocks n) (ident (codes "PROGRAM") line ∷ ident (codes "P") line ∷ []) line line }
+{}

@@ -32,5 +32,4 @@ pub fn lines_and_depth()
 /// A program of 1024 lines or fewer is within the limits.
 pub fn as_many_lines_as_may_be()
     ensures { (n : ℕ) → n ≤ 1024 → IsWithinLimits (program_of (load_lines 2 n) ∷ []) }
-{
-}
+{}

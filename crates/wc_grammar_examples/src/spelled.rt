@@ -1,5 +1,5 @@
 ghost use Rattle.std.specs.Prelude.{◌∷◌, [], ◌++◌, codes};
-ghost use Rattle.wc_grammar_examples.specs.Texts.{ident, copy_tokens, copy_lines, jump_tokens, jump_lines, declaration_tokens, declaring_program, call_tokens, call_lines, ampersand_tokens, ampersand_lines, program_of, program_text};
+ghost use Rattle.wc_grammar_examples.specs.Texts.{ident, copy_tokens, copy_lines, jump_tokens, jump_lines, declaration_tokens, declaring_program, call_tokens, call_lines, ampersand_tokens, ampersand_lines, program_of, program_text, bare_call_lines, bare_call_tokens, block_b, block_tokens};
 ghost use Rattle.wc_model.specs.Grammar.{Spells};
 ghost use Rattle.wc_model.specs.Tree.{End};
 
@@ -31,4 +31,14 @@ pub fn a_call_on_two_lines()
 /// `&N x` is AND with a negated x, `& Nx` is AND with Nx, and `& N` is AND with N.
 pub fn ampersands()
     ensures { Spells (program_text ampersand_tokens 6) (program_of ampersand_lines ∷ []) }
+{}
+
+/// `FUNCTION_BLOCK B END_FUNCTION_BLOCK PROGRAM P END_PROGRAM`: two units on one line.
+pub fn two_units_on_one_line()
+    ensures { Spells (block_tokens ++ ident (codes "PROGRAM") 1 ∷ ident (codes "P") 1 ∷ ident (codes "END_PROGRAM") 1 ∷ []) (block_b ∷ program_of End ∷ []) }
+{}
+
+/// `CAL t / / CAL t()`: without arguments the list may be left out, and an empty line is no line.
+pub fn calls_without_arguments()
+    ensures { Spells (program_text bare_call_tokens 5) (program_of bare_call_lines ∷ []) }
 {}

@@ -1,7 +1,7 @@
 -- Laws of languages: how a list of tokens is shown to be in a sequence, part by part.
 use Rattle.std.proofs.Common.{◌≡◌, ℕ, zero, suc, List, [], ◌∷◌, ◌++◌, take, drop, refl, ap, append_assoc, ◌∙◌, sym, inl, inr}
 use Rattle.std.specs.Prelude.{◌⊎◌}
-use Rattle.wc_model.specs.Languages.{empty, one, many, ◌then◌, ◌given◌}
+use Rattle.wc_model.specs.Languages.{empty, one, many, ◌then◌, ◌or◌, ◌given◌}
 
 -- two parts joined
 pub joined : {T : Type 0} {first second : List T → Type 0} (front rest : List T) → first front → second rest → (first then second) (front ++ rest)
@@ -52,6 +52,14 @@ taken (suc n) (token ∷ tokens) = ap (λ ts. token ∷ ts) (taken n tokens)
 -- the first n tokens, then the others
 pub cut_at : {T : Type 0} {first second : List T → Type 0} {tokens : List T} (n : ℕ) → first (take n tokens) → second (drop n tokens) → (first then second) tokens
 cut_at {tokens = tokens} n begins goes_on = record { front = take n tokens; rest = drop n tokens; whole = taken n tokens; begins = begins; goes_on = goes_on }
+
+-- the first of two that a first part may be
+pub either_left : {T : Type 0} {first other second : List T → Type 0} {tokens : List T} → (first then second) tokens → ((first or other) then second) tokens
+either_left h = record { front = h.front; rest = h.rest; whole = h.whole; begins = inl h.begins; goes_on = h.goes_on }
+
+-- or the second of them
+pub either_right : {T : Type 0} {first other second : List T → Type 0} {tokens : List T} → (other then second) tokens → ((first or other) then second) tokens
+either_right h = record { front = h.front; rest = h.rest; whole = h.whole; begins = inr h.begins; goes_on = h.goes_on }
 
 -- where one first part may stand for another
 pub before : {T : Type 0} {first other second : List T → Type 0} {tokens : List T} → ((ts : List T) → first ts → other ts) → (first then second) tokens → (other then second) tokens
