@@ -1,6 +1,8 @@
 -- Laws of fronts: what some further tokens complete, and what none do.
-use Rattle.std.proofs.Common.{◌≡◌, List, [], ◌++◌, ap, append_assoc, append-nil, ◌∙◌, sym, inl, inr}
-use Rattle.wc_model.specs.Languages.{Language, ◌then◌, ◌or◌, front_of}
+use Rattle.std.proofs.Common.{◌≡◌, Bool, List, [], ◌∷◌, ◌++◌, ap, append_assoc, append-nil, ◌∙◌, sym, inl, inr}
+use Rattle.std.proofs.lemmas.List.Elements.{filter-append}
+use Rattle.std.specs.Prelude.{not}
+use Rattle.wc_model.specs.Languages.{Language, one, skipping, ◌then◌, ◌or◌, front_of}
 use Rattle.wc_model.proofs.Languages.{joined}
 
 -- a whole list is a front
@@ -54,3 +56,23 @@ sequence_is_prefix_free first second free free' a b more rest ha hb e =
     (sym (append_assoc ha.front ha.rest more) ∙ ap (λ ts. ts ++ more) (sym ha.whole) ∙ e ∙ ap (λ ts. ts ++ rest) hb.whole ∙ append_assoc hb.front hb.rest rest) in
     let same' = free' ha.rest hb.rest more rest ha.goes_on hb.goes_on same.1 in
     (ha.whole ∙ ap (λ ts. ts ++ ha.rest) same.0 ∙ ap (λ ts. hb.front ++ ts) same'.0 ∙ sym hb.whole, same'.1)
+
+-- one token begins no other one token
+pub one_is_prefix_free : {T : Type 0} (IsSort : T → Type 0) → IsPrefixFree (one IsSort)
+one_is_prefix_free IsSort [] b more rest ha hb e = absurd ha
+one_is_prefix_free IsSort (x ∷ []) [] more rest ha hb e = absurd hb
+one_is_prefix_free IsSort (x ∷ []) (y ∷ []) more rest ha hb e = (cc, cc)
+one_is_prefix_free IsSort (x ∷ []) (y ∷ z ∷ b) more rest ha hb e = absurd hb
+one_is_prefix_free IsSort (x ∷ y ∷ a) b more rest ha hb e = absurd ha
+
+-- a token that is not of the sort
+pub dead_one : {T : Type 0} (IsSort : T → Type 0) (token : T) → ¬ (IsSort token) → IsDead (one IsSort) (token ∷ [])
+dead_one IsSort token wrong more [] rest e h = h
+dead_one IsSort token wrong more (x ∷ []) rest e h = let a : token ≡ x = cc in wrong (rw a h)
+dead_one IsSort token wrong more (x ∷ y ∷ front) rest e h = h
+
+-- two parts of a region in which tokens are passed over
+pub skipping_joined : {T : Type 0} (is_skipped : T → Bool) (first second : Language T) (front rest : List T)
+  → skipping is_skipped first front → skipping is_skipped second rest → skipping is_skipped (first then second) (front ++ rest)
+skipping_joined is_skipped first second front rest begins goes_on =
+    rw (filter-append (λ token. not (is_skipped token)) front rest) (joined _ _ begins goes_on)
