@@ -111,13 +111,20 @@ KeepsLimits before left =
     (seen : List Mark) (mark : Mark) (more : List Mark) (line : ℕ) → before ≡ seen ++ mark ∷ more
     → ¬ (MetAtToken TooDeep seen mark (more ++ left) line) × ¬ (MetAtToken TooMany seen mark (more ++ left) line)
 
--- The fault is the first in text order: the tokens before are a front and break no limit, it is met behind them, and no
--- fault that is met there has a lower rank. `last_line` is the text's last line number.
+-- At none of the tokens before a fault is met. That they are a front says so of each fault but three: a limit that is
+-- exceeded, and a label in parentheses whose name is an operator, of which the colon behind it tells.
+abbrev pub IsFaultFree : (before left : List Mark) → Type 0
+IsFaultFree before left =
+    (seen : List Mark) (mark : Mark) (more : List Mark) (line : ℕ) → before ≡ seen ++ mark ∷ more
+    → (fault : ReadingFault) → ¬ (MetAtToken fault seen mark (more ++ left) line)
+
+-- The fault is the first in text order: the tokens before are a front, no fault is met at one of them, it is met behind
+-- them, and no fault that is met there has a lower rank. `last_line` is the text's last line number.
 pub record IsFirstFault (tokens : List Mark) (last_line : ℕ) (fault : ReadingFault) (line : ℕ) : Type 0 where
   pub before : List Mark
   pub left : List Mark
   pub whole : tokens ≡ before ++ left
   pub is_front : IsFront before
-  pub limits : KeepsLimits before left
+  pub fault_free : IsFaultFree before left
   pub met : IsMet fault before left last_line line
   pub lowest : (other : ReadingFault) (place : ℕ) → IsMet other before left last_line place → rank_of fault ≤ rank_of other
