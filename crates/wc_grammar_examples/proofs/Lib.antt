@@ -3,3 +3,4 @@ pub mod Jmpnc
 pub mod BareLoad
 pub mod Loads
 pub mod Blocks
+pub mod Unique

@@ -4,7 +4,7 @@ ghost use Rattle.wc_grammar_examples.specs.Texts.{jump_lines, program_of};
 ghost use Rattle.wc_model.specs.Grammar.{IsFront, Spells};
 ghost use Rattle.wc_model.specs.Limits.{depth, line_count, IsWithinLimits};
 ghost use Rattle.wc_model.specs.Marks.{Mark};
-ghost use Rattle.wc_model.specs.ReadingFaults.{IsFirstFault, UnexpectedToken};
+ghost use Rattle.wc_model.specs.ReadingFaults.{IsFaultFree, IsFirstFault, KeepsLimits, ReadingFault, UnexpectedToken};
 ghost use Rattle.wc_model.specs.Tree.{Text};
 
 /// The tokens of a whole text are a front.
@@ -32,4 +32,14 @@ pub fn lines_and_depth()
 /// A program of 1024 lines or fewer is within the limits.
 pub fn as_many_lines_as_may_be()
     ensures { (n : ℕ) → n ≤ 1024 → IsWithinLimits (program_of (load_lines 2 n) ∷ []) }
+{}
+
+/// A text has one first fault: a reader that answers by it has no choice of the number.
+pub fn one_first_fault()
+    ensures { (tokens : List Mark) (last_line line place : ℕ) (fault other : ReadingFault) → IsFirstFault tokens last_line fault line → IsFirstFault tokens last_line other place → fault ≡ other }
+{}
+
+/// Before a first fault no limit is exceeded.
+pub fn limits_hold_before_a_fault()
+    ensures { (before left : List Mark) → IsFaultFree before left → KeepsLimits before left }
 {}

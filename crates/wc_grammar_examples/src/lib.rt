@@ -15,7 +15,7 @@ pub use faults::{
 };
 pub use laws::{
     a_front_of_a_front_is_one, a_text_is_a_front, an_unexpected_token_spells_nothing,
-    as_many_lines_as_may_be, lines_and_depth,
+    as_many_lines_as_may_be, limits_hold_before_a_fault, lines_and_depth, one_first_fault,
 };
 pub use spelled::{
     a_call_on_two_lines, a_copy_of_one_bit, a_declaration_of_two_names, ampersands,

@@ -73,6 +73,6 @@ dead_one IsSort token wrong more (x ∷ y ∷ front) rest e h = h
 
 -- two parts of a region in which tokens are passed over
 pub skipping_joined : {T : Type 0} (is_skipped : T → Bool) (first second : Language T) (front rest : List T)
-  → skipping is_skipped first front → skipping is_skipped second rest → skipping is_skipped (first then second) (front ++ rest)
+    → skipping is_skipped first front → skipping is_skipped second rest → skipping is_skipped (first then second) (front ++ rest)
 skipping_joined is_skipped first second front rest begins goes_on =
     rw (filter-append (λ token. not (is_skipped token)) front rest) (joined _ _ begins goes_on)

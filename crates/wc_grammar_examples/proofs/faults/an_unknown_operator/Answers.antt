@@ -61,8 +61,9 @@ harmless seen t behind line fine NotAllowedInParentheses h = elim h.3 [ inl k �
 harmless seen t behind line fine ParenthesisNotPaired h = elim h.2 [ inl k ↦ fine.no_closing k.1 | inr k ↦ fine.no_end h.0.unit.kind k.2 ]
 harmless seen t behind line fine TooDeep h = fine.no_opening h.5
 harmless seen t behind line fine TooMany h = elim h.0 [
-    inl k ↦ let none : units k.0 [] = rw (fine.no_unit k.3) at k.1 in no_units k.0 (no_token k.0 none) k.2
-  | inr r ↦ elim r [ inl k ↦ fine.no_operator k.4.0.0 k.4.0.1 | inr k ↦ fine.no_closing k.4 ] ]
+  | inl k ↦ let none : units k.0 [] = rw (fine.no_unit k.3) at k.1 in no_units k.0 (no_token k.0 none) k.2
+  | inr r ↦ elim r [ inl k ↦ fine.no_operator k.4.0.0 k.4.0.1 | inr k ↦ fine.no_closing k.4 ]
+]
 
 -- P and JMPNC begin no unit, and no token ends one
 no_unit_p : (kind : UnitKind) → IsNamed (unit_word kind) (ident (codes "P") 1) → ⊥
@@ -103,7 +104,7 @@ harmless_jmpnc = record { front = is_front; no_opening = λ h. cc; no_closing = 
 
 -- what is met at a token of a list is met there
 at_token : (seen known : List Mark) (t s : Mark) (more rest : List Mark) (line : ℕ) → seen ≡ known → t ≡ s → more ≡ rest
-  → IsHarmless known s (rest ++ jmpnc_left) → (fault : ReadingFault) → ¬ (MetAtToken fault seen t (more ++ jmpnc_left) line)
+    → IsHarmless known s (rest ++ jmpnc_left) → (fault : ReadingFault) → ¬ (MetAtToken fault seen t (more ++ jmpnc_left) line)
 at_token seen known t s more rest line a b d fine = rw (a, b, d) (harmless known s (rest ++ jmpnc_left) line fine)
 
 fault_free : IsFaultFree jmpnc_before jmpnc_left
