@@ -96,3 +96,9 @@ pub fn one_line_too_many()
 pub fn one_unit_too_many()
     ensures { (n line : ℕ) → 64 ≤ n → IsMet TooMany (blocks n) (ident (codes "PROGRAM") line ∷ ident (codes "P") line ∷ []) line line }
 {}
+
+/// `LD TRUE / AND( TRUE / LD: NOT`: a line's first identifier is a label where a colon follows, also LD. So
+/// the fault stands at LD, though LD alone could begin an instruction.
+pub fn a_label_named_as_an_operator()
+    ensures { IsMet NotAllowedInParentheses opened_short (ident (codes "LD") 4 ∷ mark Colon 4 ∷ ident (codes "NOT") 4 ∷ []) 4 4 }
+{}
