@@ -11,3 +11,8 @@ pub mod Independence
 pub mod Indication
 pub mod PlateTable
 pub mod Answers
+pub mod Languages
+pub mod Spelling
+pub mod LineStarts
+pub mod OperatorWords
+pub mod Fronts

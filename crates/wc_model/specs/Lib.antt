@@ -46,3 +46,10 @@ pub mod Report
 pub mod JobSections
 pub mod Independence
 pub mod Effects
+pub mod Marks
+pub mod Languages
+pub mod Keywords
+pub mod Grammar
+pub mod Positions
+pub mod Limits
+pub mod ReadingFaults

@@ -1,0 +1,6 @@
+pub mod Bodies
+pub mod Jmpnc
+pub mod BareLoad
+pub mod Loads
+pub mod Blocks
+pub mod Unique

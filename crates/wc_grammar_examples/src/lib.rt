@@ -1,0 +1,25 @@
+//! Worked examples of the grammar: which tokens spell which tree, and which fault is met where. In the
+//! texts `/` ends a line.
+#![tactic(auto)]
+
+mod faults;
+mod laws;
+mod spelled;
+
+pub use faults::{
+    a_bracket_with_none_open, a_label_in_parentheses, a_label_named_as_an_operator,
+    a_load_of_nothing, a_return_in_parentheses, a_second_program, an_empty_text,
+    an_open_parenthesis_at_the_texts_end, an_open_parenthesis_at_the_units_end, an_open_unit,
+    an_unknown_operator, empty_parentheses, nine_parentheses, one_line_too_many, one_unit_too_many,
+    the_texts_end_behind_a_bracket, the_texts_end_behind_a_units_first_word,
+    the_texts_end_behind_an_operator,
+};
+pub use laws::{
+    a_front_of_a_front_is_one, a_text_is_a_front, an_unexpected_token_spells_nothing,
+    as_many_lines_as_may_be, limits_hold_before_a_fault, lines_and_depth, one_first_fault,
+};
+pub use spelled::{
+    a_call_on_two_lines, a_copy_of_one_bit, a_declaration_of_two_names, ampersands,
+    calls_without_arguments, end_behind_the_name, labels_jumps_and_parentheses,
+    two_units_on_one_line,
+};
