@@ -53,3 +53,8 @@ pub mod Grammar
 pub mod Positions
 pub mod Limits
 pub mod ReadingFaults
+pub mod Reading
+pub mod Loading
+pub mod ProgramReport
+pub mod Carried
+pub mod Job
