@@ -1,13 +1,16 @@
 -- Programs of BOOL logic.
 use Rattle.std.specs.Prelude.{[], ◌∷◌, None}
 use Rattle.wc_language_examples.specs.Writing.{word, at, ld, ldn, st, stn, op, program, var}
-use Rattle.wc_model.specs.Tree.{Text, End}
+use Rattle.wc_model.specs.Tree.{ProgramUnit, Text, End}
 use Rattle.wc_model.specs.declared.operator.Operator.TheVariants.{And, Or}
 use Rattle.wc_model.specs.declared.source.Section.TheVariants.{Own}
 
 -- PROGRAM P / LD %IX0.0 / ST %QX0.0 / END_PROGRAM
+abbrev pub first_unit : ProgramUnit
+first_unit = program [] (ld 2 (at 2 "%ix0.0") (st 3 (at 3 "%qx0.0") End))
+
 abbrev pub copies_an_input : Text
-copies_an_input = program [] (ld 2 (at 2 "%ix0.0") (st 3 (at 3 "%qx0.0") End)) ∷ []
+copies_an_input = first_unit ∷ []
 
 -- PROGRAM P / END_PROGRAM
 abbrev pub does_nothing : Text

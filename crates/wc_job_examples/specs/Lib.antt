@@ -1,0 +1,2 @@
+pub mod FirstJob
+pub mod Changes

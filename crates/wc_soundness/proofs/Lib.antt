@@ -1,3 +1,0 @@
-pub mod Tests
-pub mod Places
-pub mod Entities

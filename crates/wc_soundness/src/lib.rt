@@ -1,4 +1,0 @@
-//! A program that breaks no rule is never stuck.
-#![tactic(auto)]
-
-pub fn nothing() {}
