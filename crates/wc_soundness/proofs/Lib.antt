@@ -1,0 +1,10 @@
+pub mod Tests
+pub mod Places
+pub mod Entities
+pub mod StandardCalls
+pub mod Applying
+pub mod Steps
+pub mod CallSteps
+pub mod Bodies
+pub mod Programs
+pub mod Texts

@@ -1,0 +1,22 @@
+-- Statements about the runs of texts that break no rule.
+use Rattle.std.specs.Prelude.{◌≡◌, ℕ, [], ◌∷◌, Option, None}
+use Rattle.wc_model.specs.Faults.{body_fault}
+use Rattle.wc_model.specs.Scans.{scan_of, initial_of}
+use Rattle.wc_model.specs.Store.{Store}
+use Rattle.wc_model.specs.Tree.{ProgramUnit, Text}
+use Rattle.wc_model.specs.declared.image.Image.{Image}
+use Rattle.wc_model.specs.declared.value.Value.{Value}
+use Rattle.wc_soundness.specs.Sound.{EndsWell, NestsSimply}
+use Rattle.wc_soundness.specs.Typing.{SameSlots}
+
+-- each unit of a text has only simple instructions inside its parentheses, as the grammar of the language demands
+abbrev pub UnitsNestSimply : Text → Type 0
+UnitsNestSimply [] = Unit {0}
+UnitsNestSimply (unit ∷ text) = NestsSimply unit.body × UnitsNestSimply text
+
+-- a scan of a text whose bodies break no rule is never stuck, from each store that holds what its declarations say; and the
+-- store behind it holds that again
+abbrev pub VerifiedTextIsNeverStuck : Type 0
+VerifiedTextIsNeverStuck = (unit : ProgramUnit) (units : Text) → UnitsNestSimply (unit ∷ units) → body_fault (unit ∷ units) ≡ None →
+    (store : Store) → SameSlots (initial_of (unit ∷ units)) store → (image : Image) (now : ℕ) →
+    EndsWell (λ (result : Option Value). Unit {0}) (initial_of (unit ∷ units)) (scan_of (unit ∷ units) store image now)
