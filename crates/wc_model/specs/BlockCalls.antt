@@ -1,4 +1,5 @@
--- A call of an instance of a standard block: its fields are taken from the store, and written back after one step.
+-- A call of an instance of a standard block: its fields are taken from the store, and written back after one step (IEC
+-- 61131-3:2003, 2.5.2.1 and 2.5.2.3).
 use Rattle.std.specs.Prelude.{ℕ, Bool, List, [], ◌∷◌, ◌++◌, Option, Some, Result, Ok, Err, ℤ, codes}
 use Rattle.wc_model.specs.Blocks.{RTrigFields, SrFields, CtuFields, TonFields, TofFields, r_trig_step, sr_step, ctu_step, ton_step, tof_step}
 use Rattle.wc_model.specs.Names.{Name}

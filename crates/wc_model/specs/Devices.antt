@@ -1,4 +1,4 @@
--- What readers and writers count: failed calls, and what was spent.
+-- What readers and writers count: failed calls, and what was spent. (The profile's own.)
 use Rattle.std.specs.Prelude.{ℕ, zero, suc, ◌+◌, ◌-◌, ◌^◌, min, List, [], ◌∷◌, Result, Ok, Err}
 use Rattle.wc_model.specs.declared.device.Device.{Device}
 

@@ -1,4 +1,4 @@
--- Bytes and numbers in hexadecimal digits.
+-- Bytes and numbers in hexadecimal digits. (The form is the profile's own.)
 use Rattle.std.specs.Prelude.{ℕ, ◌+◌, ◌*◌, ◌/◌, ◌%◌, ◌&&◌, List, [], ◌∷◌, Option, Some, None, if◌then◌else◌}
 use Rattle.std.specs.Char.{digit_value, is_digit, digit_char}
 

@@ -1,4 +1,4 @@
--- Names and their equality.
+-- Names and their equality: letter case is not significant (IEC 61131-3:2003, 2.1.2).
 use Rattle.std.specs.Prelude.{ℕ, List, map}
 use Rattle.std.specs.Char.{to_ascii_lowercase}
 

@@ -1,4 +1,5 @@
--- One scan: the process image is written to the inputs, the program's body is executed, and the outputs are read.
+-- One scan: the process image is written to the inputs, the program's body is executed, and the outputs are read. (The
+-- profile's own; the standard leaves to the implementer when inputs and outputs are moved.)
 use Rattle.std.specs.Prelude.{ℕ, ◌*◌, ◌/◌, ◌%◌, ◌^◌, ◌==◌, Bool, true, List, [], ◌∷◌, ◌++◌, map, reverse, length, sum, Some, None, Result, Ok, ℤ, pos, slice_index_or}
 use Rattle.wc_model.specs.DirectVariables.{InputBit, StatusBit, Weight, OutputBit, OutputWord, numbers_below}
 use Rattle.wc_model.specs.Meaning.{Outcome, Done, Stuck, program_means}

@@ -1,4 +1,4 @@
--- What a run executes, item by item: each counts one.
+-- What a run executes, item by item: each counts one. (What counts is the profile's own.)
 use Rattle.std.specs.Prelude.{ℕ, List, [], ◌∷◌}
 
 -- a line with an instruction, an opening line or a `)`, by its line; an argument of a call that is made; the body of a

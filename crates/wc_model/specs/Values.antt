@@ -1,4 +1,4 @@
--- Values, and how results of arithmetic wrap to 32 bits.
+-- Values of BOOL, DINT and TIME (IEC 61131-3:2003, 2.3.1). That results wrap to 32 bits is the profile's own.
 use Rattle.std.specs.Prelude.{◌≡◌, ℤ, pos, ◌+ℤ◌, ◌*ℤ◌, ◌^◌, FitsSigned}
 use Rattle.std.specs.Int.{int_wrap, w32}
 

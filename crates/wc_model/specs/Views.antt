@@ -1,4 +1,4 @@
--- What a `Source` stands for: the text as a tree, its names in one letter case.
+-- What a `Source` stands for: the text as a tree, its names in one letter case. (No rule of the language.)
 use Rattle.std.specs.Prelude.{List, [], ◌∷◌, map, Option, Some, None}
 use Rattle.std.specs.Option.{option_map}
 use Rattle.wc_model.specs.Names.{Name, name_of}
