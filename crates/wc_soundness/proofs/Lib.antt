@@ -8,3 +8,4 @@ pub mod CallSteps
 pub mod Bodies
 pub mod Programs
 pub mod Texts
+pub mod Spelled

@@ -1,6 +1,9 @@
 -- Statements about the runs of texts that break no rule.
-use Rattle.std.specs.Prelude.{◌≡◌, ℕ, [], ◌∷◌, Option, None}
+use Rattle.std.specs.Prelude.{◌≡◌, ℕ, List, [], ◌∷◌, Option, None}
 use Rattle.wc_model.specs.Faults.{body_fault}
+use Rattle.wc_model.specs.Grammar.{Spells}
+use Rattle.wc_model.specs.Loading.{IsLoaded}
+use Rattle.wc_model.specs.Marks.{Mark}
 use Rattle.wc_model.specs.Scans.{scan_of, initial_of}
 use Rattle.wc_model.specs.Store.{Store}
 use Rattle.wc_model.specs.Tree.{ProgramUnit, Text}
@@ -20,3 +23,14 @@ abbrev pub VerifiedTextIsNeverStuck : Type 0
 VerifiedTextIsNeverStuck = (unit : ProgramUnit) (units : Text) → UnitsNestSimply (unit ∷ units) → body_fault (unit ∷ units) ≡ None →
     (store : Store) → SameSlots (initial_of (unit ∷ units)) store → (image : Image) (now : ℕ) →
     EndsWell (λ (result : Option Value). Unit {0}) (initial_of (unit ∷ units)) (scan_of (unit ∷ units) store image now)
+
+-- a text that is spelled has only simple instructions inside its parentheses
+abbrev pub SpelledTextNestsSimply : Type 0
+SpelledTextNestsSimply = (tokens : List Mark) (text : Text) → Spells tokens text → UnitsNestSimply text
+
+-- a scan of a text that is loaded is never stuck, from each store that holds what its declarations say; and the store behind it
+-- holds that again
+abbrev pub LoadedTextIsNeverStuck : Type 0
+LoadedTextIsNeverStuck = (bytes : List ℕ) (text : Text) → IsLoaded bytes text →
+    (store : Store) → SameSlots (initial_of text) store → (image : Image) (now : ℕ) →
+    EndsWell (λ (result : Option Value). Unit {0}) (initial_of text) (scan_of text store image now)
