@@ -27,7 +27,7 @@ pub fn each_kind()
         } }
 {}
 
-/// Each check refuses a log of one row, which is row 2.
+/// Each check refuses a log of one row behind its heading row.
 pub fn one_refused_row()
     ensures odd_hex { log_with_rows (three_fields (codes "0") (codes "L") (codes "0A5") ∷ []) ≡ refused_at 606 2 }
     ensures data_on_scan { log_with_rows (three_fields (codes "0") (codes "S") (codes "x") ∷ []) ≡ refused_at 608 2 }
