@@ -9,3 +9,4 @@ pub mod Bodies
 pub mod Programs
 pub mod Texts
 pub mod Spelled
+pub mod Runs

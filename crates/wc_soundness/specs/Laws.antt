@@ -4,6 +4,10 @@ use Rattle.wc_model.specs.Faults.{body_fault}
 use Rattle.wc_model.specs.Grammar.{Spells}
 use Rattle.wc_model.specs.Loading.{IsLoaded}
 use Rattle.wc_model.specs.Marks.{Mark}
+use Rattle.wc_model.specs.Plates.{PlateData}
+use Rattle.wc_model.specs.ProcessImage.{image_after}
+use Rattle.wc_model.specs.ProgramReport.{store_after}
+use Rattle.wc_model.specs.Rows.{Past}
 use Rattle.wc_model.specs.Scans.{scan_of, initial_of}
 use Rattle.wc_model.specs.Store.{Store}
 use Rattle.wc_model.specs.Tree.{ProgramUnit, Text}
@@ -34,3 +38,8 @@ abbrev pub LoadedTextIsNeverStuck : Type 0
 LoadedTextIsNeverStuck = (bytes : List ℕ) (text : Text) → IsLoaded bytes text →
     (store : Store) → SameSlots (initial_of text) store → (image : Image) (now : ℕ) →
     EndsWell (λ (result : Option Value). Unit {0}) (initial_of text) (scan_of text store image now)
+
+-- whatever rows have come, in whatever order, the next scan of a text that is loaded is never stuck
+abbrev pub NoRunIsEverStuck : Type 0
+NoRunIsEverStuck = (bytes : List ℕ) (text : Text) → IsLoaded bytes text → (plate : PlateData) (past : Past) (now : ℕ) →
+    EndsWell (λ (result : Option Value). Unit {0}) (initial_of text) (scan_of text (store_after plate text (initial_of text) past) (image_after plate past) now)
