@@ -77,5 +77,13 @@ pub(crate) fn written_in(table: &Table) -> Option<Written<'_>>
     let zero_counts = number_at(table, "zero_counts")?;
     let span_counts = number_at(table, "span_counts")?;
     let window = number_at(table, "window")?;
-    Some(Written { unit, decimals, max, e, zero_counts, span_counts, window })
+    Some(Written {
+        unit,
+        decimals,
+        max,
+        e,
+        zero_counts,
+        span_counts,
+        window,
+    })
 }

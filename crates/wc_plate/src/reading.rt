@@ -32,7 +32,10 @@ pub fn plate(alloc: Global, text: &[u8]) -> Result<Plate, Fault>
     let table = match toml::table_from_slice(alloc, text) {
         Ok(table) => table,
         Err(error) if error.is_memory() => return Err(Fault::Memory),
-        Err(_) => return Err(Fault::Refused { number: 501, place: 0 }),
+        Err(_) => return Err(Fault::Refused {
+            number: 501,
+            place: 0,
+        }),
     };
     match plate_in(&table) {
         Ok(plate) => Ok(plate),
