@@ -92,7 +92,11 @@ impl Indicator {
         ensures told { Tells (λ p history. told.intervals_of p counts) self.now result }
         ensures few { unsigned_abs result ≤ 2 ^ 25 }
     {
-        intervals(counts, self.plate.n() as u32, self.plate.span_counts() as u32)
+        intervals(
+            counts,
+            self.plate.n() as u32,
+            self.plate.span_counts() as u32,
+        )
     }
 
     /// A number of intervals in units of the last decimal.
@@ -168,7 +172,8 @@ impl Indicator {
         ensures { Tells told.is_stable self.now result }
     {
         let spread = u64::from(spread(&self.latest));
-        self.latest.is_full() && 2 * spread * self.plate.n() as u64 <= self.plate.span_counts() as u64
+        self.latest.is_full()
+            && 2 * spread * self.plate.n() as u64 <= self.plate.span_counts() as u64
     }
 
     /// The gross weight, in units of the last decimal, where there is an indication.
@@ -191,6 +196,10 @@ impl Indicator {
     pub fn shown(&self) -> Option<i32>
         ensures { Tells told.shown self.now result }
     {
-        if self.tare_active() { self.net() } else { self.gross() }
+        if self.tare_active() {
+            self.net()
+        } else {
+            self.gross()
+        }
     }
 }

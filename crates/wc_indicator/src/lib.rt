@@ -5,5 +5,7 @@
 mod indicator;
 mod rounding;
 mod spread;
+#[cfg(test)]
+mod tests;
 
 pub use indicator::Indicator;

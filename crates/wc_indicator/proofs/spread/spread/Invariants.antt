@@ -7,5 +7,5 @@ use Rattle.wc_indicator.proofs.spread.spread.Given as goal
 abbrev pub invariant-loop-sample : goal.invariant-loop-sample
 invariant-loop-sample l = record {
   most : fold int_max l.greatest l.sample-iterator ≡ fold int_max l.initial.greatest l.samples.items;
-  least : fold int_min l.least l.sample-iterator ≡ fold int_min l.initial.least l.samples.items
+  least : fold int_min l.least l.sample-iterator ≡ fold int_min l.initial.least l.samples.items;
 }

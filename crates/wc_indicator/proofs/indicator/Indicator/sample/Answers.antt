@@ -14,4 +14,4 @@ returns c = λ p history st.
     let raw : to_z w32 (of_z w32 x) ≡ x = omega (arith, ints) in
     let before : StandsFor (kept_in c.self.inside) p history = subst (λ k. StandsFor k p history) (sym c.self.view_is) st in
     rw raw (stands_after (kept_in c.self.inside) p history x c.push_back-self-inside.new.self.items before
-        (ap (λ b. b.items) c.push_back-self-inside.ensures.items ∙ rw raw (ap (λ n. last_items n (c.self.inside.latest.items ++ x ∷ [])) c.self.invariant.window)))
+    (ap (λ b. b.items) c.push_back-self-inside.ensures.items ∙ rw raw (ap (λ n. last_items n (c.self.inside.latest.items ++ x ∷ [])) c.self.invariant.window)))
