@@ -1,5 +1,6 @@
--- What an indicator keeps, and the plate and the history for which it stands.
-use Rattle.std.specs.Prelude.{◌≡◌, ◌≤◌, ◌^◌, List, length, ℤ, Option, IfSome, unsigned_abs}
+-- What an indicator keeps, and the plate and the history for which it stands. What is kept is this crate's own choice; the
+-- values that it tells are those of the profile on OIML R 76-1:2006.
+use Rattle.std.specs.Prelude.{◌≡◌, ◌≤◌, ◌^◌, List, ℤ, Option, IfSome, unsigned_abs}
 use Rattle.wc_model.specs.Plates.{PlateData, IsPlate}
 use Rattle.wc_model.specs.WeighingHistories.{History, last_sample}
 use Rattle.wc_model.specs.Indication.{window_of, zero_point, active_tare}
@@ -24,10 +25,11 @@ pub record StandsFor (indicator : Kept) (p : PlateData) (history : History) : Ty
 abbrev pub Tells : {X : Type 0} → (PlateData → History → X) → Kept → X → Type 0
 Tells value indicator answer = (p : PlateData) (history : History) → StandsFor indicator p history → answer ≡ value p history
 
--- counts that a sample can be, or twice so many, as the difference of two can be
+-- no farther from 0 than a sample can be
 abbrev pub IsCount : ℤ → Type 0
 IsCount counts = unsigned_abs counts ≤ 2 ^ 23
 
+-- no farther from 0 than the difference of two samples can be
 abbrev pub IsDifference : ℤ → Type 0
 IsDifference counts = unsigned_abs counts ≤ 2 ^ 24
 

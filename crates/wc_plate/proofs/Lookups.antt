@@ -1,7 +1,7 @@
 -- What a look-up in a TOML table finds, as the rules for a plate see it.
-use Rattle.std.proofs.Common.{◌≡◌, ℕ, Bool, true, false, cond, ◌&&◌, List, [], ◌∷◌, refl, ap, sym, ◌∙◌, map, string_bytes, nat_cmp, Ordering, Less, Equal, Greater, is_eq, String, Global}
+use Rattle.std.proofs.Common.{◌≡◌, ℕ, Bool, true, false, cond, ◌&&◌, List, [], ◌∷◌, refl, ap, ◌∙◌, string_bytes, nat_cmp, Ordering, Less, Equal, Greater, is_eq, String, Global}
 use Rattle.std.proofs.lemmas.Map.Text.{is_eq-slice_cmp}
-use Rattle.std.specs.Prelude.{ℤ, Option, Some, None, option_map, option_and_then, find}
+use Rattle.std.specs.Prelude.{Option, Some, None, option_map, option_and_then, find}
 use Rattle.std.specs.List.{list_all, list_any}
 use Rattle.std.specs.Map.{keys_of}
 use Rattle.std.specs.Str.{bytes_eq}
@@ -10,7 +10,7 @@ use Rattle.std.specs.Cmp.Lexicographic.{slice_cmp, nat_list_eq_equiv}
 use Rattle.toml.specs.Data.{Data, string, integer, float, boolean, datetime, array, table, Members, no_members, member, get_member, as_str, as_integer}
 use Rattle.toml.specs.declared.value.Value.{Value}
 use Rattle.toml.specs.View.{members_view}
-use Rattle.wc_model.specs.PlateTable.{Entry, Table, plate_keys, entry_at, text_in, number_in, text_at, number_at, has_no_other_key}
+use Rattle.wc_model.specs.PlateTable.{Entry, plate_keys, entry_at, text_in, number_in, text_at, number_at, has_no_other_key}
 use Rattle.wc_plate.specs.TomlTable.{entry_of, entries_of}
 
 -- at one member, by the order of the keys

@@ -1,6 +1,6 @@
 -- The table of keys that a TOML text gives, as the rules for a plate see it. That a plate is a TOML text is the
 -- profile's own.
-use Rattle.std.specs.Prelude.{ℕ, List, [], ◌∷◌, Option, Some, None, option_map, if◌then◌else◌}
+use Rattle.std.specs.Prelude.{ℕ, List, [], ◌∷◌, Option, None, option_map, if◌then◌else◌}
 use Rattle.std.specs.Str.{is_utf8}
 use Rattle.toml.specs.Data.{Data, string, integer, float, boolean, datetime, array, table, Members, no_members, member}
 use Rattle.toml.specs.Parse.{parse_document}
@@ -14,7 +14,7 @@ entry_of (float number) = Other
 entry_of (boolean truth) = Other
 entry_of (datetime moment) = Other
 entry_of (array items) = Other
-entry_of (table members) = Other
+entry_of (table inner) = Other
 
 -- the members of a TOML table, each with what stands behind its key
 abbrev pub entries_of : Members → Table

@@ -1,6 +1,4 @@
-use Rattle.std.proofs.Common.{◌≡◌, ◌*◌, rules, Ok}
-use Rattle.std.proofs.lemmas.Int.{to_z-of_z}
-use Rattle.wc_model.specs.PlateTable as plate
+use Rattle.std.proofs.Common.{rules}
 use Rattle.wc_plate.specs.Seen.{written_seen}
 use Rattle.wc_plate.proofs.Judged.{judged_is_plate}
 use Rattle.wc_plate.proofs.judging.judged.Goals as goal

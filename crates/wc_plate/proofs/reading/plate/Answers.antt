@@ -1,4 +1,4 @@
-use Rattle.std.proofs.Common.{◌∙◌, refl, ap, sym}
+use Rattle.std.proofs.Common.{◌∙◌, refl, sym}
 use Rattle.std.proofs.lemmas.Bool.{false≢true}
 use Rattle.toml.specs.View.{table_view}
 use Rattle.wc_plate.proofs.Texts.{read_some, read_none}

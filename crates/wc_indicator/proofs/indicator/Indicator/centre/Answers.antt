@@ -1,7 +1,6 @@
 use Rattle.std.proofs.Common.{◌≡◌, ◌*◌, true, ◌&&◌, ap, sym, ◌∙◌, subst, arith, to_z, of_z, w32}
 use Rattle.std.proofs.lemmas.Int.{ints, unsigned_abs-mul}
 use Rattle.std.specs.Prelude.{pos, ◌*ℤ◌, unsigned_abs, nat_le, is_some}
-use Rattle.wc_model.specs.WeighingHistories.{last_sample}
 use Rattle.wc_model.specs.Indication.{from_zero, has_sample}
 use Rattle.wc_indicator.specs.Kept.{StandsFor}
 use Rattle.wc_indicator.specs.Fields.{kept_in}

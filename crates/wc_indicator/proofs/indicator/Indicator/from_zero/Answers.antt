@@ -1,6 +1,6 @@
-use Rattle.std.proofs.Common.{◌≡◌, ◌≤◌, ap, sym, ◌∙◌, subst, arith, to_z, of_z, w32}
+use Rattle.std.proofs.Common.{◌≡◌, ap, sym, ◌∙◌, subst, arith, to_z, of_z, w32}
 use Rattle.std.proofs.lemmas.Int.{ints}
-use Rattle.std.specs.Prelude.{unwrap_or, unsigned_abs}
+use Rattle.std.specs.Prelude.{unwrap_or}
 use Rattle.wc_model.specs.WeighingHistories.{last_sample}
 use Rattle.wc_model.specs.Indication.{present_counts, zero_point}
 use Rattle.wc_indicator.specs.Kept.{StandsFor, IsCount}

@@ -3,7 +3,7 @@ use Rattle.std.proofs.lemmas.Int.{ints}
 use Rattle.std.specs.Prelude.{ℤ}
 use Rattle.std.proofs.Common.{to_z, of_z, w32}
 use Rattle.wc_model.specs.WeighingHistories.{last_items}
-use Rattle.wc_indicator.specs.Kept.{Kept, StandsFor}
+use Rattle.wc_indicator.specs.Kept.{StandsFor}
 use Rattle.wc_indicator.specs.Fields.{kept_in}
 use Rattle.wc_indicator.proofs.Windows.{stands_after}
 use Rattle.wc_indicator.proofs.indicator.Indicator.sample.Goals as goal
