@@ -1,0 +1,4 @@
+pub mod Near
+pub mod Windows
+pub mod Extremes
+pub mod Units

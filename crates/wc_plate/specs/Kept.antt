@@ -1,0 +1,20 @@
+-- The plate that the fields of a `Plate` stand for.
+use Rattle.wc_model.specs.Plates.{PlateData, IsPlate}
+use Rattle.wc_plate.specs.declared.kept.Plate.TheInside.{Inside}
+
+-- the plate of the fields
+abbrev pub plate_kept : Inside → PlateData
+plate_kept a = record {
+  unit = a.unit;
+  decimals = a.decimals;
+  max = a.max;
+  e = a.e;
+  n = a.n;
+  zero_counts = a.zero_counts;
+  span_counts = a.span_counts;
+  window = a.window;
+}
+
+-- it keeps the ranges of a plate
+abbrev pub IsKept : Inside → Type 0
+IsKept a = IsPlate (plate_kept a)

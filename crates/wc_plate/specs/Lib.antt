@@ -1,0 +1,4 @@
+pub mod TomlTable
+pub mod Verdict
+pub mod Kept
+pub mod Seen

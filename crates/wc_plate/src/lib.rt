@@ -1,0 +1,13 @@
+//! The plate of an instrument: a TOML text with seven keys, read and judged by the rules for a class III
+//! instrument with a single range (OIML R 76-1:2006).
+#![tactic(auto)]
+
+mod judging;
+mod kept;
+mod keys;
+mod reading;
+#[cfg(test)]
+mod tests;
+
+pub use kept::Plate;
+pub use reading::plate;
