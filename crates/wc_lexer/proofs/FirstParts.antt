@@ -1,5 +1,5 @@
 -- A duration's first part by its longest number and its longest letters.
-use Rattle.std.proofs.Common.{◌≡◌, ℕ, zero, suc, ◌+◌, ◌-◌, ◌<◌, ◌≤◌, Bool, true, false, cond, not, ◌&&◌, List, [], ◌∷◌, ◌++◌, length, drop, take, refl, sym, ap, ◌∙◌, subst, arith, one-add, length-drop, take-append-drop, true≢false}
+use Rattle.std.proofs.Common.{◌≡◌, ℕ, ◌+◌, ◌≤◌, Bool, true, false, cond, not, List, [], ◌∷◌, ◌++◌, length, drop, take, refl, sym, ap, ◌∙◌, subst, arith, one-add, take-append-drop, true≢false}
 use Rattle.std.proofs.lemmas.Bool.{and_parts, cond-true, cond-false, not-true}
 use Rattle.std.proofs.lemmas.List.{append-nil}
 use Rattle.std.specs.Char.{is_ascii_alphabetic}
@@ -7,7 +7,7 @@ use Rattle.std.specs.List.{list_all, prefix_len}
 use Rattle.wc_model.proofs.Attained.{front_passes}
 use Rattle.wc_model.proofs.DurationParts.{has_no_letter, part, first_part, onto_number}
 use Rattle.wc_model.specs.Characters.{begins}
-use Rattle.wc_model.specs.Durations.{Part, parts_of, onto_parts}
+use Rattle.wc_model.specs.Durations.{parts_of, onto_parts}
 
 -- the byte is no letter
 abbrev pub is_no_letter : ℕ → Bool

@@ -1,16 +1,16 @@
 -- What is told of a part, and of the parts behind it.
-use Rattle.std.proofs.Common.{◌≡◌, ℕ, zero, suc, ◌+◌, ◌-◌, ◌*◌, ◌^◌, ◌<◌, ◌≤◌, ◌/◌, ◌%◌, ◌==◌, Bool, true, false, cond, not, ◌&&◌, ◌||◌, List, [], ◌∷◌, ◌++◌, length, drop, take, map, Option, Some, None, option_map, is_some, nat_lt, nat_le, true≢false, length-drop, refl, sym, ap, ◌∙◌, subst, ⊎_elim, inl, inr, ◌⊎◌, arith, IfSome, ℤ, pos, neg_ℤ, sum_by, count_by}
+use Rattle.std.proofs.Common.{◌≡◌, ℕ, ◌+◌, ◌-◌, ◌*◌, ◌^◌, ◌<◌, ◌≤◌, ◌/◌, ◌%◌, ◌==◌, Bool, true, false, cond, not, ◌&&◌, ◌||◌, List, [], ◌∷◌, ◌++◌, length, drop, take, map, Option, Some, None, option_map, is_some, nat_lt, nat_le, true≢false, length-drop, refl, sym, ap, ◌∙◌, subst, ⊎_elim, inl, inr, ◌⊎◌, arith, ℤ, pos, neg_ℤ, count_by}
 use Rattle.std.proofs.lemmas.Bool.{and_from, cases_lt}
 use Rattle.std.proofs.lemmas.List.Sums.{sum_by-cons}
 use Rattle.std.specs.Bool.{then_some}
 use Rattle.std.specs.Char.{is_ascii_alphabetic, is_ascii_digit}
-use Rattle.std.specs.List.{after_first, before_first, list_all, list_any, position_or_len, prefix_len}
+use Rattle.std.specs.List.{after_first, list_all, list_any, position_or_len, prefix_len}
 use Rattle.std.specs.Option.{option_and_then, option_map_or}
 use Rattle.std.specs.Str.Parse.{digits_value}
 use Rattle.wc_lexer.proofs.Cuts.{some_passes}
 use Rattle.wc_lexer.proofs.FirstParts.{is_no_letter, text_parts}
 use Rattle.wc_model.proofs.DurationParts.{part}
-use Rattle.wc_lexer.proofs.Fractions.{is_narrow, wide_product}
+use Rattle.wc_lexer.proofs.Fractions.{wide_product}
 use Rattle.wc_lexer.proofs.Widths.{from_wide, narrow, wide, wide_for_32_bits}
 use Rattle.wc_lexer.specs.Parts.{IsPartTold, IsSumTold, Tells, are_later, are_none, fraction_told, part_by}
 use Rattle.wc_lexer.specs.Widths.{within_64_bits}
@@ -86,15 +86,15 @@ told_by_width part unit h e form = ⊎_elim narrow_whole wide_case (cases_lt (wh
 
     last : IsPartTold part (option_map (λ n. record { milliseconds = unit.milliseconds; below = unit.below; whole = whole_of part; has_point = has_point part; billionths = n }) (within_64_bits ((whole_of part * 10 ^ 9 + fraction_value part) * unit.milliseconds)))
     last = subst (λ n. IsPartTold part (option_map (λ m. record { milliseconds = unit.milliseconds; below = unit.below; whole = whole_of part; has_point = has_point part; billionths = m }) (within_64_bits n))) (sym grown) (⊎_elim
-      (λ less. subst (λ o. IsPartTold part (option_map (λ m. record { milliseconds = unit.milliseconds; below = unit.below; whole = whole_of part; has_point = has_point part; billionths = m }) o)) (sym (narrow (billionths_of part) less)) (record { form = form; milliseconds = facts.0; below = facts.1; whole = refl; point = refl; billionths = refl }))
-      (λ more. subst (λ o. IsPartTold part (option_map (λ m. record { milliseconds = unit.milliseconds; below = unit.below; whole = whole_of part; has_point = has_point part; billionths = m }) o)) (sym (wide (billionths_of part) more)) (inr more))
-      (cases_lt (billionths_of part) (2 ^ 64)))
+        (λ less. subst (λ o. IsPartTold part (option_map (λ m. record { milliseconds = unit.milliseconds; below = unit.below; whole = whole_of part; has_point = has_point part; billionths = m }) o)) (sym (narrow (billionths_of part) less)) (record { form = form; milliseconds = facts.0; below = facts.1; whole = refl; point = refl; billionths = refl }))
+        (λ more. subst (λ o. IsPartTold part (option_map (λ m. record { milliseconds = unit.milliseconds; below = unit.below; whole = whole_of part; has_point = has_point part; billionths = m }) o)) (sym (wide (billionths_of part) more)) (inr more))
+        (cases_lt (billionths_of part) (2 ^ 64)))
 
     narrow_whole : whole_of part < 2 ^ 64 → IsPartTold part (part_by unit (within_64_bits (whole_of part)) (within_64_bits (fraction_value part)) (has_point part))
     narrow_whole less = ⊎_elim
-      (λ narrow_fraction. subst (λ o. IsPartTold part (part_by unit o (within_64_bits (fraction_value part)) (has_point part))) (sym (narrow _ less)) (subst (λ o. IsPartTold part (part_by unit (Some (whole_of part)) o (has_point part))) (sym (narrow _ narrow_fraction)) last))
-      (λ more. wide_told _ _ (omega arith) (inr (wide (fraction_value part) more)))
-      (cases_lt (fraction_value part) (2 ^ 64))
+        (λ narrow_fraction. subst (λ o. IsPartTold part (part_by unit o (within_64_bits (fraction_value part)) (has_point part))) (sym (narrow _ less)) (subst (λ o. IsPartTold part (part_by unit (Some (whole_of part)) o (has_point part))) (sym (narrow _ narrow_fraction)) last))
+        (λ more. wide_told _ _ (omega arith) (inr (wide (fraction_value part) more)))
+        (cases_lt (fraction_value part) (2 ^ 64))
 
 -- a part without a whole number or without billionths is none
 pub part_by_none : (part : Part) (unit : units.TimeUnit) (w f : Option ℕ) → is_part part ≡ false → (w ≡ None) ⊎ (f ≡ None) → IsPartTold part (part_by unit w f (has_point part))

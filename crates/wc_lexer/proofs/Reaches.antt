@@ -1,12 +1,11 @@
 -- What the look ahead finds lies within the text, and what it says of its place.
-use Rattle.std.proofs.Common.{Bool, true, false, cond, nat_eq, ◌≡◌, ℕ, zero, suc, ◌+◌, ◌≤◌, List, [], ◌∷◌, ◌++◌, length, take, Result, Ok, Err, refl, sym, ap, ◌∙◌, ⊎_elim, arith, length-append}
+use Rattle.std.proofs.Common.{true, false, cond, ◌≡◌, ℕ, zero, suc, ◌≤◌, List, [], ◌∷◌, length, take, Ok, Err, refl, ap, ◌∙◌, ⊎_elim, arith, length-append}
 use Rattle.std.proofs.lemmas.Bool.{cases_lt}
 use Rattle.wc_model.proofs.Attained.{attained}
-use Rattle.wc_model.proofs.FoundTokens.{Sight, Take, Refuse, sight_by_reach, sight_of_lexeme}
+use Rattle.wc_model.proofs.FoundTokens.{Take, Refuse, sight_by_reach, sight_of_lexeme}
 use Rattle.wc_model.proofs.Reach.{reach}
 use Rattle.std.proofs.lemmas.Bool.{or_cases}
 use Rattle.std.specs.Cmp.Lexicographic.{bytes_decides}
-use Rattle.std.specs.List.{starts_with}
 use Rattle.wc_model.specs.Blanks.{comment_closing, comment_opening, from_bracket, starts_with_bracket}
 use Rattle.wc_model.specs.Shapes.{Shape, shape_of}
 

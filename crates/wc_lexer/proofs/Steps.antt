@@ -1,7 +1,7 @@
 -- Piece by piece to the tokens of a text, or to its first fault.
 use Rattle.std.proofs.Common.{◌≡◌, ℕ, zero, suc, cond, ◌+◌, ◌≤◌, ◌<◌, List, [], ◌∷◌, ◌++◌, length, drop, take, count_by, Ok, refl, sym, ap, ◌∙◌, subst, subst₂, arith, append_assoc, take-append-drop, length-drop, length-take-le}
 use Rattle.std.proofs.Math.Seq.{take-add}
-use Rattle.std.proofs.lemmas.List.{append-nil, drop-drop, take_all}
+use Rattle.std.proofs.lemmas.List.{append-nil, drop-drop}
 use Rattle.std.proofs.lemmas.List.Sums.{sum_by-append}
 use Rattle.wc_lexer.proofs.PartSums.{empty}
 use Rattle.wc_model.proofs.FoundTokens.{Holds, Pass, Refuse, Sight, Take, sight, sight_holds}

@@ -1,5 +1,5 @@
 -- Whole numbers by their sign.
-use Rattle.std.proofs.Common.{◌≡◌, ℕ, Bool, true, false, cond, List, [], ◌∷◌, drop, Option, Some, None, ℤ, pos, neg_ℤ, option_map, refl, sym, ap, ◌∙◌, subst}
+use Rattle.std.proofs.Common.{◌≡◌, ℕ, Bool, true, false, cond, List, [], ◌∷◌, drop, Option, ℤ, pos, neg_ℤ, option_map, refl, sym, ap, ◌∙◌}
 use Rattle.std.proofs.lemmas.Bool.{cond-true, cond-false}
 use Rattle.std.specs.Option.{option_and_then}
 use Rattle.wc_lexer.proofs.Widths.{narrowed_size}

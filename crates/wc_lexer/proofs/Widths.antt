@@ -1,5 +1,5 @@
 -- Numbers that are too wide for a word stay so.
-use Rattle.std.proofs.Common.{◌≡◌, ℕ, zero, suc, ◌+◌, ◌*◌, ◌^◌, ◌<◌, ◌≤◌, Bool, true, false, cond, not, List, [], ◌∷◌, length, get_or, filter, Option, Some, None, ℤ, pos, negsuc, neg_ℤ, option_map, refl, sym, ap, ◌∙◌, subst, arith, le_refl, le_trans, nat_lt, ⊎_elim}
+use Rattle.std.proofs.Common.{◌≡◌, ℕ, zero, suc, ◌+◌, ◌*◌, ◌^◌, ◌<◌, ◌≤◌, Bool, true, false, cond, not, List, [], ◌∷◌, length, get_or, filter, Option, Some, None, pos, negsuc, neg_ℤ, option_map, refl, sym, ap, ◌∙◌, arith, le_refl, ⊎_elim}
 use Rattle.std.specs.Bool.{then_some}
 use Rattle.std.specs.Option.{option_and_then}
 use Rattle.std.specs.Char.{digit_value}

@@ -1,5 +1,5 @@
 -- What the lexer's shapes and tokens say.
-use Rattle.std.specs.Prelude.{ℕ, List, Option, Some, None, option_map, Result, Ok, Err}
+use Rattle.std.specs.Prelude.{ℕ, Result, Ok, Err}
 use Rattle.wc_lexer.specs.declared.shape.Shape.{Shape}
 use Rattle.wc_lexer.specs.declared.shape.Shape.TheVariants.{Identifier, Whole, Duration, Truth, Address, And, AndNot, Opening, Closing, Comma, Colon, Semicolon, Point, Assign, Arrow, LineEnd}
 use Rattle.wc_lexer.specs.declared.shape.Token.{Token}

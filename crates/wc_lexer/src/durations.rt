@@ -1,6 +1,3 @@
-use crate::fronts::{begins_with, behind_first, is_word, length_before, letterless_length, letters_length};
-use crate::numbers::{are_digits, signed, value_of_digits};
-
 ghost use Rattle.std.specs.Prelude.{◌≡◌, ◌^◌, ◌-◌, ◌*◌, ◌+◌, ◌∷◌, ◌<◌, ◌≤◌, ◌&&◌, ◌||◌, IfSome, if◌then◌else◌, drop, map, length, option_map, option_and_then, count_by, not};
 ghost use Rattle.std.specs.Bool.{nat_le, nat_lt, then_some};
 ghost use Rattle.std.specs.Char.{is_ascii_digit};
@@ -11,6 +8,11 @@ ghost use Rattle.wc_lexer.specs.Widths.{within_64_bits};
 ghost use Rattle.wc_model.specs.Characters.{begins, is_empty, is_point, is_underscore};
 ghost use Rattle.wc_model.specs.Digits.{are_digits, value_of_digits};
 ghost use Rattle.wc_model.specs.Durations.{are_duration_parts, billionths, duration_of, duration_parts, milliseconds_of, parts_of, unit_named, without_separator};
+
+use crate::fronts::{
+    begins_with, behind_first, is_word, length_before, letterless_length, letters_length,
+};
+use crate::numbers::{are_digits, signed, value_of_digits};
 
 /// A unit of time.
 #[derive(Clone, Copy)]
@@ -42,15 +44,30 @@ fn unit_named(letters: &[u8]) -> Option<TimeUnit>
     ensures positive { IfSome result (λ unit. 1 ≤ unit.milliseconds) }
 {
     if is_word(letters, b"d") {
-        Some(TimeUnit { milliseconds: 86_400_000, below: 0 })
+        Some(TimeUnit {
+            milliseconds: 86_400_000,
+            below: 0,
+        })
     } else if is_word(letters, b"h") {
-        Some(TimeUnit { milliseconds: 3_600_000, below: 24 })
+        Some(TimeUnit {
+            milliseconds: 3_600_000,
+            below: 24,
+        })
     } else if is_word(letters, b"m") {
-        Some(TimeUnit { milliseconds: 60_000, below: 60 })
+        Some(TimeUnit {
+            milliseconds: 60_000,
+            below: 60,
+        })
     } else if is_word(letters, b"s") {
-        Some(TimeUnit { milliseconds: 1_000, below: 60 })
+        Some(TimeUnit {
+            milliseconds: 1_000,
+            below: 60,
+        })
     } else if is_word(letters, b"ms") {
-        Some(TimeUnit { milliseconds: 1, below: 1_000 })
+        Some(TimeUnit {
+            milliseconds: 1,
+            below: 1_000,
+        })
     } else {
         None
     }
@@ -67,7 +84,11 @@ fn digit_count(text: &[u8]) -> usize
 fn whole(text: &[u8]) -> Option<u64>
     ensures { result ≡ option_and_then within_64_bits (then_some (are_digits 10 text.now && nat_le (count_by (λ byte. not (is_underscore byte)) text.now) 12) (value_of_digits 10 text.now)) }
 {
-    if are_digits(10, text) && digit_count(text) <= 12 { value_of_digits(10, text) } else { None }
+    if are_digits(10, text) && digit_count(text) <= 12 {
+        value_of_digits(10, text)
+    } else {
+        None
+    }
 }
 
 /// How many billionths the last of so many digits behind a point counts.
@@ -150,13 +171,24 @@ fn billionths(whole: u64, fraction: u64, milliseconds: u64) -> Option<u64>
 }
 
 /// A part by its unit and its numbers.
-fn part_by(unit: TimeUnit, whole: Option<u64>, fraction: Option<u64>, has_point: bool) -> Option<Part>
+fn part_by(
+    unit: TimeUnit,
+    whole: Option<u64>,
+    fraction: Option<u64>,
+    has_point: bool,
+) -> Option<Part>
     requires { 1 ≤ unit.milliseconds }
     ensures { result ≡ part_by unit whole fraction has_point }
 {
     match (whole, fraction) {
         (Some(whole), Some(fraction)) => match billionths(whole, fraction, unit.milliseconds) {
-            Some(billionths) => Some(Part { milliseconds: unit.milliseconds, below: unit.below, whole, has_point, billionths }),
+            Some(billionths) => Some(Part {
+                milliseconds: unit.milliseconds,
+                below: unit.below,
+                whole,
+                has_point,
+                billionths,
+            }),
             None => None,
         },
         _ => None,
@@ -190,7 +222,11 @@ fn after_point(number: &[u8]) -> &[u8]
 fn fraction_of(number: &[u8]) -> Option<u64>
     ensures { result ≡ fraction_told number.now }
 {
-    if has_point(number) { fraction(after_point(number)) } else { Some(0) }
+    if has_point(number) {
+        fraction(after_point(number))
+    } else {
+        Some(0)
+    }
 }
 
 /// What a part says.
@@ -200,7 +236,12 @@ fn judged_part(number: &[u8], letters: &[u8]) -> Option<Part>
     let Some(unit) = unit_named(letters) else {
         return None;
     };
-    part_by(unit, whole(before_point(number)), fraction_of(number), has_point(number))
+    part_by(
+        unit,
+        whole(before_point(number)),
+        fraction_of(number),
+        has_point(number),
+    )
 }
 
 /// The number without an underscore before it.
@@ -288,12 +329,20 @@ fn milliseconds(negative: bool, text: &[u8]) -> Option<i32>
     let Some(sum) = all_billionths(text) else {
         return None;
     };
-    if sum % 1_000_000_000 == 0 { signed(negative, sum / 1_000_000_000) } else { None }
+    if sum % 1_000_000_000 == 0 {
+        signed(negative, sum / 1_000_000_000)
+    } else {
+        None
+    }
 }
 
 /// The milliseconds of a duration, as it stands behind its `#`.
 pub(crate) fn duration(text: &[u8]) -> Option<i32>
     ensures { result ≡ duration_of text.now }
 {
-    if begins_with(text, b'-') { milliseconds(true, behind_first(text)) } else { milliseconds(false, text) }
+    if begins_with(text, b'-') {
+        milliseconds(true, behind_first(text))
+    } else {
+        milliseconds(false, text)
+    }
 }

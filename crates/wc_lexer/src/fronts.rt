@@ -1,17 +1,19 @@
-use crate::characters::{is_address_character, is_identifier_character, is_number_character};
-
 ghost use Rattle.std.specs.Prelude.{◌≡◌, ◌≤◌, ◌==◌, length, true, drop, false, not, MatchOption, bytes_eq};
 ghost use Rattle.std.specs.Char.{is_ascii_alphabetic};
 ghost use Rattle.std.specs.List.{after_first, before_first, list_any, position_or_len, prefix_len};
 ghost use Rattle.wc_model.specs.Characters.{begins, is_address_character, is_identifier_character, is_number_character};
 ghost use Rattle.wc_model.specs.Names.{name_of};
 
+use crate::characters::{is_address_character, is_identifier_character, is_number_character};
+
 /// How many characters of an identifier stand at the front.
 pub(crate) fn identifier_length(text: &[u8]) -> usize
     ensures longest { result ≡ prefix_len is_identifier_character text.now }
     ensures within { result ≤ length text.now }
 {
-    text.iter().take_while(|byte| is_identifier_character(**byte)).count()
+    text.iter()
+        .take_while(|byte| is_identifier_character(**byte))
+        .count()
 }
 
 /// How many characters of a number stand at the front.
@@ -19,7 +21,9 @@ pub(crate) fn number_length(text: &[u8]) -> usize
     ensures longest { result ≡ prefix_len is_number_character text.now }
     ensures within { result ≤ length text.now }
 {
-    text.iter().take_while(|byte| is_number_character(**byte)).count()
+    text.iter()
+        .take_while(|byte| is_number_character(**byte))
+        .count()
 }
 
 /// How many characters of an address stand at the front.
@@ -27,7 +31,9 @@ pub(crate) fn address_length(text: &[u8]) -> usize
     ensures longest { result ≡ prefix_len is_address_character text.now }
     ensures within { result ≤ length text.now }
 {
-    text.iter().take_while(|byte| is_address_character(**byte)).count()
+    text.iter()
+        .take_while(|byte| is_address_character(**byte))
+        .count()
 }
 
 /// How many letters stand at the front.
@@ -35,7 +41,9 @@ pub(crate) fn letters_length(text: &[u8]) -> usize
     ensures longest { result ≡ prefix_len is_ascii_alphabetic text.now }
     ensures within { result ≤ length text.now }
 {
-    text.iter().take_while(|byte| byte.is_ascii_alphabetic()).count()
+    text.iter()
+        .take_while(|byte| byte.is_ascii_alphabetic())
+        .count()
 }
 
 /// How many bytes that are no letters stand at the front.
@@ -43,7 +51,9 @@ pub(crate) fn letterless_length(text: &[u8]) -> usize
     ensures longest { result ≡ prefix_len (λ byte. not (is_ascii_alphabetic byte)) text.now }
     ensures within { result ≤ length text.now }
 {
-    text.iter().take_while(|byte| !byte.is_ascii_alphabetic()).count()
+    text.iter()
+        .take_while(|byte| !byte.is_ascii_alphabetic())
+        .count()
 }
 
 /// How many bytes stand before the first such byte.

@@ -1,11 +1,11 @@
+ghost use Rattle.std.specs.Prelude.{◌≡◌, ◌+◌, ◌≤◌, length};
+ghost use Rattle.wc_model.proofs.Reach.{hash_reach, is_mark_before, reach, signed_reach, value_reach, word_reach};
+ghost use Rattle.wc_lexer.specs.Sights.{mark_reach_of};
+
 use crate::Shape;
 use crate::characters::{is_sign, starts_identifier};
 use crate::fronts::{address_length, identifier_length, number_length};
 use crate::marks::{mark, may_stand_before};
-
-ghost use Rattle.std.specs.Prelude.{◌≡◌, ◌+◌, ◌≤◌, length};
-ghost use Rattle.wc_model.proofs.Reach.{hash_reach, is_mark_before, reach, signed_reach, value_reach, word_reach};
-ghost use Rattle.wc_lexer.specs.Sights.{mark_reach_of};
 
 /// How long the value of a typed literal is.
 fn value_length(text: &[u8]) -> usize

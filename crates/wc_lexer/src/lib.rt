@@ -11,6 +11,8 @@ mod piece;
 mod shape;
 mod shapes;
 mod spaces;
+#[cfg(test)]
+mod tests;
 mod text;
 
 pub use shape::{Shape, Token};

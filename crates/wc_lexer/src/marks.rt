@@ -1,11 +1,11 @@
-use crate::Shape;
-use crate::characters::is_identifier_character;
-
 ghost use Rattle.std.specs.Prelude.{◌≡◌, option_map};
 ghost use Rattle.wc_lexer.specs.Views.{said_shape};
 ghost use Rattle.wc_model.proofs.Reach.{is_mark_before, mark_reach};
 ghost use Rattle.wc_model.specs.Lexemes.{may_stand_before};
 ghost use Rattle.wc_model.specs.Shapes.{mark_of};
+
+use crate::Shape;
+use crate::characters::is_identifier_character;
 
 /// The mark that is spelled so.
 pub(crate) fn mark(spelling: &[u8]) -> Option<Shape>

@@ -1,5 +1,3 @@
-use crate::fronts::{begins_with, behind_first, cut_at};
-
 ghost use Rattle.std.specs.Prelude.{◌≡◌, ◌≤◌, ◌+◌, ◌*◌, ◌||◌, if◌then◌else◌, neg_ℤ, pos, option_and_then};
 ghost use Rattle.std.specs.Char.{digit_value, is_digit};
 ghost use Rattle.std.specs.List.{list_all};
@@ -7,6 +5,8 @@ ghost use Rattle.wc_lexer.specs.Widths.{within_64_bits};
 ghost use Rattle.wc_model.specs.Characters.{begins, is_underscore};
 ghost use Rattle.wc_model.specs.Digits.{are_digits, digits_of, has_single_underscores, value_of_digits};
 ghost use Rattle.wc_model.specs.WholeNumbers.{base_of, unsigned_of, whole_number_of, within_32_bits};
+
+use crate::fronts::{begins_with, behind_first, cut_at};
 
 /// The value of a digit or a letter, 36 for any other byte.
 fn digit_value(byte: u8) -> u64
@@ -55,7 +55,8 @@ fn begins_with_digit(base: u64, text: &[u8]) -> bool
 fn has_only_digits(base: u64, text: &[u8]) -> bool
     ensures { result ≡ list_all (λ byte. is_digit byte base || is_underscore byte) text.now }
 {
-    text.iter().all(|byte| is_digit(*byte, base) || *byte == b'_')
+    text.iter()
+        .all(|byte| is_digit(*byte, base) || *byte == b'_')
 }
 
 /// The text is digits of that base with single underscores between them.
@@ -96,7 +97,11 @@ pub(crate) fn digits(base: u64, text: &[u8]) -> Option<u64>
     requires { 1 ≤ base }
     ensures { result ≡ option_and_then within_64_bits (digits_of base text.now) }
 {
-    if are_digits(base, text) { value_of_digits(base, text) } else { None }
+    if are_digits(base, text) {
+        value_of_digits(base, text)
+    } else {
+        None
+    }
 }
 
 /// The base that stands before a `#`.

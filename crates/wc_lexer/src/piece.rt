@@ -1,13 +1,13 @@
-use crate::Shape;
-use crate::lengths::lexeme_length;
-use crate::shapes::shape;
-use crate::spaces::{from_bracket, opens_comment, starts_space};
-
 ghost use Rattle.std.specs.Prelude.{◌≡◌, ◌+◌, ◌≤◌, length};
 ghost use Rattle.wc_lexer.specs.Sights.{IsWithin, said_sight};
 ghost use Rattle.wc_model.proofs.FoundTokens.{sight, sight_by_reach, sight_in_comment};
 ghost use Rattle.wc_model.proofs.Reach.{reach};
 ghost use Rattle.wc_model.specs.Blanks.{from_bracket};
+
+use crate::Shape;
+use crate::lengths::lexeme_length;
+use crate::shapes::shape;
+use crate::spaces::{from_bracket, opens_comment, starts_space};
 
 /// What stands at a place of a text.
 #[derive(Clone, Copy, Debug, PartialEq, Eq)]

@@ -1,10 +1,3 @@
-use crate::Shape;
-use crate::characters::{is_sign, starts_identifier};
-use crate::durations::duration;
-use crate::fronts::{cut_at, is_word};
-use crate::marks::mark;
-use crate::numbers::{has_single_underscores, whole_number};
-
 ghost use Rattle.std.specs.Prelude.{◌≡◌, if◌then◌else◌, ok_or};
 ghost use Rattle.std.specs.List.{list_any};
 ghost use Rattle.wc_lexer.specs.Views.{said_judgement};
@@ -12,11 +5,22 @@ ghost use Rattle.wc_model.specs.Characters.{is_hash};
 ghost use Rattle.wc_model.specs.Names.{name_of};
 ghost use Rattle.wc_model.specs.Shapes.{duration_shape, identifier_shape, literal_shape, number_shape, shape_of, truth_shape, typed_shape, mark_of};
 
+use crate::Shape;
+use crate::characters::{is_sign, starts_identifier};
+use crate::durations::duration;
+use crate::fronts::{cut_at, is_word};
+use crate::marks::mark;
+use crate::numbers::{has_single_underscores, whole_number};
+
 /// An identifier has at most 32 characters and single underscores.
 fn identifier_shape(lexeme: &[u8]) -> Result<Shape, u16>
     ensures { said_judgement result ≡ identifier_shape lexeme.now }
 {
-    if lexeme.len() <= 32 && has_single_underscores(lexeme) { Ok(Shape::Identifier) } else { Err(104) }
+    if lexeme.len() <= 32 && has_single_underscores(lexeme) {
+        Ok(Shape::Identifier)
+    } else {
+        Err(104)
+    }
 }
 
 /// A number has one of the forms of whole-number literals.

@@ -1,4 +1,4 @@
-use Rattle.std.proofs.Common.{◌∙◌, ap, subst, sym}
+use Rattle.std.proofs.Common.{◌∙◌, subst, sym}
 use Rattle.wc_lexer.proofs.PartSums.{text_all, text_unfit}
 use Rattle.wc_lexer.proofs.durations.all_billionths.Goals as goal
 use Rattle.wc_lexer.specs.Parts.{IsPartTold}

@@ -1,6 +1,4 @@
 use Rattle.std.proofs.Common.{ap, ◌∙◌, ◌≤◌, IfSome, subst}
-use Rattle.std.specs.Bool.{nat_le, then_some}
-use Rattle.std.specs.Option.{option_and_then}
 use Rattle.wc_lexer.proofs.PartSums.{part_told, whole_told}
 use Rattle.wc_lexer.proofs.durations.judged_part.Goals as goal
 

@@ -1,4 +1,4 @@
-use Rattle.std.proofs.Common.{ap, ◌∙◌, ◌==◌, drop, take, sym}
+use Rattle.std.proofs.Common.{ap, ◌∙◌, ◌==◌, drop, take}
 use Rattle.wc_lexer.proofs.Cuts.{cut_some}
 use Rattle.wc_lexer.proofs.fronts.cut_at.Goals as goal
 

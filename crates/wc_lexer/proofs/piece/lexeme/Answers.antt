@@ -1,5 +1,5 @@
-use Rattle.std.proofs.Common.{◌∙◌, ap, arith, sym, length-take-le}
-use Rattle.wc_lexer.proofs.Reaches.{reach_within, sees_fault, sees_token}
+use Rattle.std.proofs.Common.{◌∙◌, ap, sym, length-take-le}
+use Rattle.wc_lexer.proofs.Reaches.{sees_fault, sees_token}
 use Rattle.wc_lexer.proofs.piece.lexeme.Goals as goal
 use Rattle.wc_lexer.specs.Views.{said_judgement, said_shape}
 
