@@ -1,0 +1,38 @@
+-- What the look ahead finds lies within the text, and what it says of its place.
+use Rattle.std.proofs.Common.{true, false, cond, ◌≡◌, ℕ, zero, suc, ◌≤◌, List, [], ◌∷◌, length, take, Ok, Err, refl, ap, ◌∙◌, ⊎_elim, arith, length-append}
+use Rattle.std.proofs.lemmas.Bool.{cases_lt}
+use Rattle.wc_model.proofs.Attained.{attained}
+use Rattle.wc_model.proofs.FoundTokens.{Take, Refuse, sight_by_reach, sight_of_lexeme}
+use Rattle.wc_model.proofs.Reach.{reach}
+use Rattle.std.proofs.lemmas.Bool.{or_cases}
+use Rattle.std.specs.Cmp.Lexicographic.{bytes_decides}
+use Rattle.wc_model.specs.Blanks.{comment_closing, comment_opening, from_bracket, starts_with_bracket}
+use Rattle.wc_model.specs.Shapes.{Shape, shape_of}
+
+-- the longest lexeme is no longer than the text
+pub reach_within : (text : List ℕ) → reach text ≤ length text
+reach_within [] = omega arith
+reach_within (b ∷ rest) =
+    ⊎_elim (λ none. omega arith) (λ some. let here = attained b rest some in omega (arith, here.full, length-append here.piece here.after, ap length here.whole)) (cases_lt (reach (b ∷ rest)) 1)
+
+-- a lexeme with a shape
+pub sees_token : (count : ℕ) (text : List ℕ) (shape : Shape) → count ≡ reach text → ¬ (count ≡ 0) → Ok shape ≡ shape_of (take count text) → Take count shape ≡ sight_by_reach (reach text) text
+sees_token zero text shape e some judged = absurd (some refl)
+sees_token (suc n) text shape e some judged = ap (sight_of_lexeme (suc n)) judged ∙ ap (λ k. sight_by_reach k text) e
+
+-- a lexeme with a fault
+pub sees_fault : (count number : ℕ) (text : List ℕ) → count ≡ reach text → ¬ (count ≡ 0) → Err number ≡ shape_of (take count text) → Refuse number ≡ sight_by_reach (reach text) text
+sees_fault zero number text e some judged = absurd (some refl)
+sees_fault (suc n) number text e some judged = ap (sight_of_lexeme (suc n)) judged ∙ ap (λ k. sight_by_reach k text) e
+
+-- what opens or closes a comment has two bytes
+pub bracket_is_long : (b : ℕ) (rest : List ℕ) → starts_with_bracket (b ∷ rest) ≡ true → 1 ≤ length rest
+bracket_is_long b (c ∷ rest) h = omega arith
+bracket_is_long b [] h = ⊎_elim (λ opens. let e : comment_opening ≡ b ∷ [] = (bytes_decides comment_opening (b ∷ [])).0 opens in absurd (cc)) (λ closes. let e : comment_closing ≡ b ∷ [] = (bytes_decides comment_closing (b ∷ [])).0 closes in absurd (cc)) (or_cases _ _ h)
+
+-- so has what is left from the first one on
+pub left_is_long : (text : List ℕ) → 1 ≤ length (from_bracket text) → 2 ≤ length (from_bracket text)
+left_is_long [] h = absurd (omega arith)
+left_is_long (b ∷ rest) h =
+    elim (starts_with_bracket (b ∷ rest)) as (λ v. starts_with_bracket (b ∷ rest) ≡ v → 1 ≤ length (cond v (b ∷ rest) (from_bracket rest)) → 2 ≤ length (cond v (b ∷ rest) (from_bracket rest)))
+    [ true ↦ λ e k. omega (arith, bracket_is_long b rest e) | false ↦ λ e k. left_is_long rest k ] refl h

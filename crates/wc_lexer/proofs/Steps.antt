@@ -1,0 +1,103 @@
+-- Piece by piece to the tokens of a text, or to its first fault.
+use Rattle.std.proofs.Common.{◌≡◌, ℕ, zero, suc, cond, ◌+◌, ◌≤◌, ◌<◌, List, [], ◌∷◌, ◌++◌, length, drop, take, count_by, Ok, refl, sym, ap, ◌∙◌, subst, subst₂, arith, append_assoc, take-append-drop, length-drop, length-take-le}
+use Rattle.std.proofs.Math.Seq.{take-add}
+use Rattle.std.proofs.lemmas.List.{append-nil, drop-drop}
+use Rattle.std.proofs.lemmas.List.Sums.{sum_by-append}
+use Rattle.wc_lexer.proofs.PartSums.{empty}
+use Rattle.wc_model.proofs.FoundTokens.{Holds, Pass, Refuse, Sight, Take, sight, sight_holds}
+use Rattle.wc_model.proofs.TokenSteps.{blank_is_filled, lexeme_is_filled}
+use Rattle.wc_model.specs.Blanks.{Blank}
+use Rattle.wc_model.specs.Characters.{is_line_feed}
+use Rattle.wc_model.specs.Lexemes.{IsLongest}
+use Rattle.wc_model.specs.Shapes.{Shape, shape_of}
+use Rattle.wc_model.specs.Tokens.{AtEnd, Cuts, Faulty, IsCut, IsFirstFault, Nothing, Skipped, Stands, Taken, Token, line_after, most_bytes, token_behind}
+
+-- what goes on from here completes these tokens
+abbrev pub Goes : (List ℕ → List ℕ → Type 0) → List ℕ → ℕ → List Token → Type 0
+Goes Ends text n tokens = (more : List Token) → Cuts Ends (take n text) (drop n text) more → Cuts Ends [] text (tokens ++ more)
+
+-- what goes on from here, to the end or to a fault
+pub record Going (text : List ℕ) (n : ℕ) (tokens : List Token) : Type 0 where
+  pub at_end : Goes AtEnd text n tokens
+  pub at_fault : (number line : ℕ) → Goes (Faulty number line) text n tokens
+
+-- nothing is read at first
+pub going_first : (text : List ℕ) → Going text 0 []
+going_first text = record { at_end = λ more cuts. cuts; at_fault = λ number line more cuts. cuts }
+
+-- a cut from a later place is one from behind a piece
+pub moved : (Ends : List ℕ → List ℕ → Type 0) (text : List ℕ) (n count : ℕ) (more : List Token) → Cuts Ends (take (n + count) text) (drop (n + count) text) more → Cuts Ends (take n text ++ take count (drop n text)) (drop count (drop n text)) more
+moved Ends text n count more cuts = subst₂ (λ b r. Cuts Ends b r more) (take-add n count text) (sym (drop-drop count n text)) cuts
+
+-- over a blank
+pub blank_goes : (Ends : List ℕ → List ℕ → Type 0) (text : List ℕ) (n count : ℕ) (tokens : List Token) → Blank (take count (drop n text)) (drop count (drop n text)) → Goes Ends text n tokens → Goes Ends text (n + count) tokens
+blank_goes Ends text n count tokens blank goes more cuts = goes more (Skipped (take count (drop n text)) (drop count (drop n text)) (take-append-drop count (drop n text)) blank (moved Ends text n count more cuts))
+
+-- over a token
+pub token_goes : (Ends : List ℕ → List ℕ → Type 0) (text : List ℕ) (n count : ℕ) (tokens : List Token) (shape : Shape) → IsLongest (take count (drop n text)) (drop count (drop n text)) → shape_of (take count (drop n text)) ≡ Ok shape → Goes Ends text n tokens → Goes Ends text (n + count) (tokens ++ (token_behind (take n text) shape (take count (drop n text)) ∷ []))
+token_goes Ends text n count tokens shape longest h goes more cuts =
+    subst (Cuts Ends [] text) (sym (append_assoc tokens (token_behind (take n text) shape (take count (drop n text)) ∷ []) more))
+    (goes (token_behind (take n text) shape (take count (drop n text)) ∷ more) (Taken shape (take count (drop n text)) (drop count (drop n text)) (take-append-drop count (drop n text)) longest h (moved Ends text n count more cuts)))
+
+-- what stands at a place, where something does
+pub holds_at : (rest : List ℕ) (seen : Sight) → 1 ≤ length rest → seen ≡ sight rest → Holds rest seen
+holds_at [] seen long e = absurd (omega arith)
+holds_at (b ∷ rest) seen long e = subst (Holds (b ∷ rest)) (sym e) (sight_holds b rest)
+
+-- something is left before the end
+pub some_left : (text : List ℕ) (n : ℕ) → n < length text → 1 ≤ length (drop n text)
+some_left text n h = omega (arith, length-drop n text)
+
+-- a blank is passed over
+pub going_on : (text rest : List ℕ) (n count : ℕ) (tokens : List Token) → rest ≡ drop n text → n < length text → Pass count ≡ sight rest → Going text n tokens → Going text (n + count) tokens
+going_on text rest n count tokens r h e going =
+    let blank : Holds (drop n text) (Pass count) = holds_at (drop n text) (Pass count) (some_left text n h) (e ∙ ap sight r) in
+    record { at_end = blank_goes AtEnd text n count tokens blank going.at_end; at_fault = λ number line. blank_goes (Faulty number line) text n count tokens blank (going.at_fault number line) }
+
+-- a token is taken
+pub going_with : (text rest : List ℕ) (n count : ℕ) (tokens : List Token) (token : Token) → rest ≡ drop n text → n < length text → Take count token.shape ≡ sight rest → token.text ≡ take count rest → token.start ≡ n → token.line ≡ line_after (take n text) → Going text n tokens → Going text (n + count) (tokens ++ (token ∷ []))
+going_with text rest n count tokens token r h e piece started counted going =
+    let shape = token.shape in
+    let held : Holds (drop n text) (Take count shape) = holds_at (drop n text) (Take count shape) (some_left text n h) (e ∙ ap sight r) in
+    let here : Token = token_behind (take n text) shape (take count (drop n text)) in
+    let same : here ≡ token = ap (λ t. record { shape = shape; text = t; start = length (take n text); line = line_after (take n text) }) (sym (piece ∙ ap (take count) r)) ∙ ap (λ s. record { shape = shape; text = token.text; start = s; line = line_after (take n text) }) (length-take-le n text (omega arith) ∙ sym started) ∙ ap (λ l. record { shape = shape; text = token.text; start = token.start; line = l }) (sym counted) in
+    subst (λ t. Going text (n + count) (tokens ++ (t ∷ []))) same (record { at_end = token_goes AtEnd text n count tokens shape held.0 held.1 going.at_end; at_fault = λ number line. token_goes (Faulty number line) text n count tokens shape held.0 held.1 (going.at_fault number line) })
+
+-- lines are counted on
+pub counted_on : (text rest piece : List ℕ) (n count line feeds : ℕ) → rest ≡ drop n text → piece ≡ take count rest → line ≡ line_after (take n text) → feeds ≡ count_by is_line_feed piece → line + feeds ≡ line_after (take (n + count) text)
+counted_on text rest piece n count line feeds r p l f =
+    let both = sum_by-append (λ b. cond (is_line_feed b) 1 0) (take n text) (take count (drop n text)) in
+    let here : feeds ≡ count_by is_line_feed (take count (drop n text)) = f ∙ ap (count_by is_line_feed) (p ∙ ap (take count) r) in
+    let split = ap line_after (take-add n count text) in
+    omega (arith, both, here, split, l)
+
+-- at the end these are the tokens
+pub cut_at_end : (text : List ℕ) (n : ℕ) (tokens : List Token) → length text ≤ n → Going text n tokens → IsCut text tokens
+cut_at_end text n tokens h going =
+    subst (IsCut text) (append-nil tokens) (going.at_end [] (Nothing (empty (drop n text) (omega (arith, length-drop n text)))))
+
+-- at a fault it is the first
+pub fault_here : (text rest : List ℕ) (n number line : ℕ) (tokens : List Token) → length text ≤ most_bytes → rest ≡ drop n text → n < length text → Refuse number ≡ sight rest → line ≡ line_after (take n text) → Going text n tokens → IsFirstFault text number line
+fault_here text rest n number line tokens short r h e l going =
+    let held = holds_at (drop n text) (Refuse number) (some_left text n h) (e ∙ ap sight r) in
+    Stands (tokens ++ []) short (going.at_fault number line [] (Nothing (record { fault = held; here = l })))
+
+-- a piece that is passed over has a byte
+pub pass_is_filled : (text rest : List ℕ) (n count : ℕ) → rest ≡ drop n text → n < length text → Pass count ≡ sight rest → 1 ≤ count
+pass_is_filled text rest n count r h e =
+    let blank : Holds (drop n text) (Pass count) = holds_at (drop n text) (Pass count) (some_left text n h) (e ∙ ap sight r) in
+    filled count (drop n text) (blank_is_filled (take count (drop n text)) (drop count (drop n text)) blank)
+  where
+    filled : (k : ℕ) (xs : List ℕ) → ¬ (take k xs ≡ []) → 1 ≤ k
+    filled zero xs some = absurd (some refl)
+    filled (suc k) xs some = omega arith
+
+-- a token has a byte
+pub take_is_filled : (text rest : List ℕ) (n count : ℕ) (shape : Shape) → rest ≡ drop n text → n < length text → Take count shape ≡ sight rest → 1 ≤ count
+take_is_filled text rest n count shape r h e =
+    let held : Holds (drop n text) (Take count shape) = holds_at (drop n text) (Take count shape) (some_left text n h) (e ∙ ap sight r) in
+    filled count (drop n text) (lexeme_is_filled (take count (drop n text)) (drop count (drop n text)) held.0.lexeme)
+  where
+    filled : (k : ℕ) (xs : List ℕ) → 1 ≤ length (take k xs) → 1 ≤ k
+    filled zero xs some = some
+    filled (suc k) xs some = omega arith

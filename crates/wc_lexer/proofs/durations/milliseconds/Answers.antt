@@ -1,0 +1,9 @@
+use Rattle.std.proofs.Common.{subst}
+use Rattle.wc_lexer.proofs.PartSums.{no_milliseconds}
+use Rattle.wc_lexer.proofs.durations.milliseconds.Goals as goal
+use Rattle.wc_lexer.specs.Parts.{IsSumTold}
+use Rattle.wc_model.specs.Durations.{are_duration_parts, billionths, duration_parts}
+
+pub returns-in_default : goal.returns-in_default
+returns-in_default c =
+    no_milliseconds c.args.negative (duration_parts c.args.text.now) (subst (IsSumTold (are_duration_parts (duration_parts c.args.text.now)) (billionths (duration_parts c.args.text.now))) c.in_default.is c.all_billionths.ensures)

@@ -1,0 +1,5 @@
+pub mod Views
+pub mod Widths
+pub mod Sights
+pub mod Parts
+pub mod Refusals

@@ -1,0 +1,49 @@
+-- What the lexer's parts of durations say.
+use Rattle.std.specs.Prelude.{◌≡◌, ◌≤◌, ℕ, ◌^◌, ◌+◌, ◌*◌, ◌-◌, length, Bool, true, false, not, ◌&&◌, ◌||◌, List, [], ◌∷◌, Option, Some, None, option_map, option_and_then, ◌⊎◌}
+use Rattle.std.specs.Bool.{nat_lt, then_some}
+use Rattle.std.specs.Str.Parse.{digits_value}
+use Rattle.wc_lexer.specs.Widths.{within_64_bits}
+use Rattle.wc_lexer.specs.declared.durations.Part.{Part}
+use Rattle.wc_lexer.specs.declared.durations.TimeUnit.{TimeUnit}
+use Rattle.wc_model.specs.Durations as durations
+
+-- the part is so long, has this unit and this whole number, and has a point or none
+pub record Tells (part : durations.Part) (told : Part) : Type 0 where
+  pub form : durations.is_part part ≡ true
+  pub milliseconds : told.milliseconds ≡ durations.unit_milliseconds part
+  pub below : told.below ≡ durations.unit_below part
+  pub whole : told.whole ≡ durations.whole_of part
+  pub point : told.has_point ≡ durations.has_point part
+  pub billionths : told.billionths ≡ durations.billionths_of part
+
+-- a part that tells nothing has a wrong form or is too long for 64 bits
+abbrev pub IsPartTold : durations.Part → Option Part → Type 0
+IsPartTold part None = (durations.is_part part ≡ false) ⊎ (2 ^ 64 ≤ durations.billionths_of part)
+IsPartTold part (Some told) = Tells part told
+
+-- a part by its unit and its numbers, where its length has 64 bits
+abbrev pub part_by : TimeUnit → Option ℕ → Option ℕ → Bool → Option Part
+part_by unit None fraction has_point = None
+part_by unit (Some whole) None has_point = None
+part_by unit (Some whole) (Some fraction) has_point = option_map (λ n. record { milliseconds = unit.milliseconds; below = unit.below; whole = whole; has_point = has_point; billionths = n }) (within_64_bits ((whole * 10 ^ 9 + fraction) * unit.milliseconds))
+
+-- the billionths behind the point of a number, where its form is right and they have 64 bits
+abbrev pub fraction_told : List ℕ → Option ℕ
+fraction_told number =
+    let part : durations.Part = record { number = number; letters = [] } in
+    option_and_then within_64_bits (then_some (durations.has_fraction_form part) (digits_value 10 (durations.fraction_digits part) * 10 ^ (9 - length (durations.fraction_digits part))))
+
+-- there are no parts
+abbrev pub are_none : List durations.Part → Bool
+are_none [] = true
+are_none (part ∷ parts) = false
+
+-- the parts may stand behind a unit so long: units fall, and none but the last has a point
+abbrev pub are_later : ℕ → List durations.Part → Bool
+are_later above [] = true
+are_later above (part ∷ parts) = durations.is_later_part part && nat_lt (durations.unit_milliseconds part) above && (not (durations.has_point part) || are_none parts) && are_later (durations.unit_milliseconds part) parts
+
+-- the sum, where the form is right; no sum is told where the form is wrong or the sum is too long for 64 bits
+abbrev pub IsSumTold : Bool → ℕ → Option ℕ → Type 0
+IsSumTold form sum None = (form ≡ false) ⊎ (2 ^ 64 ≤ sum)
+IsSumTold form sum (Some told) = (form ≡ true) × (told ≡ sum)

@@ -1,0 +1,24 @@
+-- What the lexer's functions say of a place in a text.
+use Rattle.std.specs.Prelude.{ℕ, ◌≤◌, List, [], ◌∷◌}
+use Rattle.wc_lexer.specs.Views.{said_shape}
+use Rattle.wc_lexer.specs.declared.piece.Piece.{Piece}
+use Rattle.wc_lexer.specs.declared.piece.Piece.TheVariants.{Blank, Lexeme, Fault}
+use Rattle.wc_model.proofs.FoundTokens.{Sight, Pass, Take, Refuse}
+use Rattle.wc_model.proofs.Reach.{mark_reach}
+
+-- how long the mark is that stands here
+abbrev pub mark_reach_of : List ℕ → ℕ
+mark_reach_of [] = 0
+mark_reach_of (b ∷ rest) = mark_reach b rest
+
+-- what a piece says of its place
+abbrev pub said_sight : Piece → Sight
+said_sight (Blank count) = Pass count
+said_sight (Lexeme count shape) = Take count (said_shape shape)
+said_sight (Fault number) = Refuse number
+
+-- the piece has at most so many bytes
+abbrev pub IsWithin : ℕ → Piece → Type 0
+IsWithin most (Blank count) = count ≤ most
+IsWithin most (Lexeme count shape) = count ≤ most
+IsWithin most (Fault number) = Unit {0}

@@ -1,0 +1,19 @@
+//! The tokens of a program text in Instruction List.
+#![tactic(auto)]
+
+mod characters;
+mod durations;
+mod fronts;
+mod lengths;
+mod marks;
+mod numbers;
+mod piece;
+mod shape;
+mod shapes;
+mod spaces;
+#[cfg(test)]
+mod tests;
+mod text;
+
+pub use shape::{Shape, Token};
+pub use text::tokens;

@@ -1,0 +1,39 @@
+ghost use Rattle.std.specs.Prelude.{◌≡◌, option_map};
+ghost use Rattle.wc_lexer.specs.Views.{said_shape};
+ghost use Rattle.wc_model.proofs.Reach.{is_mark_before, mark_reach};
+ghost use Rattle.wc_model.specs.Lexemes.{may_stand_before};
+ghost use Rattle.wc_model.specs.Shapes.{mark_of};
+
+use crate::Shape;
+use crate::characters::is_identifier_character;
+
+/// The mark that is spelled so.
+pub(crate) fn mark(spelling: &[u8]) -> Option<Shape>
+    ensures { option_map said_shape result ≡ mark_of spelling.now }
+{
+    match spelling {
+        b"&" => Some(Shape::And),
+        b"&N" | b"&n" => Some(Shape::AndNot),
+        b"(" => Some(Shape::Opening),
+        b")" => Some(Shape::Closing),
+        b"," => Some(Shape::Comma),
+        b":" => Some(Shape::Colon),
+        b";" => Some(Shape::Semicolon),
+        b"." => Some(Shape::Point),
+        b":=" => Some(Shape::Assign),
+        b"=>" => Some(Shape::Arrow),
+        b"\n" => Some(Shape::LineEnd),
+        _ => None,
+    }
+}
+
+/// `&N` ends where no character of an identifier follows, and `(` before `*` opens a comment.
+pub(crate) fn may_stand_before(shape: Shape, after: &[u8]) -> bool
+    ensures { result ≡ may_stand_before (said_shape shape) after.now }
+{
+    match (shape, after) {
+        (Shape::AndNot, [first, ..]) => !is_identifier_character(*first),
+        (Shape::Opening, [first, ..]) => *first != b'*',
+        _ => true,
+    }
+}

@@ -1,0 +1,63 @@
+ghost use Rattle.std.specs.Prelude.{◌≡◌, ◌+◌, ◌≤◌, length};
+ghost use Rattle.wc_lexer.specs.Sights.{IsWithin, said_sight};
+ghost use Rattle.wc_model.proofs.FoundTokens.{sight, sight_by_reach, sight_in_comment};
+ghost use Rattle.wc_model.proofs.Reach.{reach};
+ghost use Rattle.wc_model.specs.Blanks.{from_bracket};
+
+use crate::Shape;
+use crate::lengths::lexeme_length;
+use crate::shapes::shape;
+use crate::spaces::{from_bracket, opens_comment, starts_space};
+
+/// What stands at a place of a text.
+#[derive(Clone, Copy, Debug, PartialEq, Eq)]
+pub(crate) enum Piece {
+    /// A blank of that many bytes.
+    Blank(usize),
+    /// A token of that many bytes.
+    Lexeme(usize, Shape),
+    /// The fault of that number.
+    Fault(u16),
+}
+
+/// What a comment's inside says.
+fn comment(inside: &[u8]) -> Piece
+    ensures stands { said_sight result ≡ sight_in_comment inside.now (from_bracket inside.now) }
+    ensures within { IsWithin (length inside.now + 2) result }
+{
+    match from_bracket(inside) {
+        [] => Piece::Fault(102),
+        [b'*', after @ ..] => Piece::Blank(2 + (inside.len() - after.len()) + 1),
+        _ => Piece::Fault(103),
+    }
+}
+
+/// The longest lexeme that stands here.
+fn lexeme(text: &[u8]) -> Piece
+    ensures stands { said_sight result ≡ sight_by_reach (reach text.now) text.now }
+    ensures within { IsWithin (length text.now) result }
+{
+    let count = lexeme_length(text);
+    if count == 0 {
+        return Piece::Fault(101);
+    }
+    match shape(&text[..count]) {
+        Ok(shape) => Piece::Lexeme(count, shape),
+        Err(number) => Piece::Fault(number),
+    }
+}
+
+/// What stands here.
+pub(crate) fn first_piece(text: &[u8]) -> Piece
+    requires { 1 ≤ length text.now }
+    ensures stands { said_sight result ≡ sight text.now }
+    ensures within { IsWithin (length text.now) result }
+{
+    if opens_comment(text) {
+        comment(&text[2..])
+    } else if starts_space(text) {
+        Piece::Blank(1)
+    } else {
+        lexeme(text)
+    }
+}

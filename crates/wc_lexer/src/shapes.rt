@@ -1,0 +1,100 @@
+ghost use Rattle.std.specs.Prelude.{◌≡◌, if◌then◌else◌, ok_or};
+ghost use Rattle.std.specs.List.{list_any};
+ghost use Rattle.wc_lexer.specs.Views.{said_judgement};
+ghost use Rattle.wc_model.specs.Characters.{is_hash};
+ghost use Rattle.wc_model.specs.Names.{name_of};
+ghost use Rattle.wc_model.specs.Shapes.{duration_shape, identifier_shape, literal_shape, number_shape, shape_of, truth_shape, typed_shape, mark_of};
+
+use crate::Shape;
+use crate::characters::{is_sign, starts_identifier};
+use crate::durations::duration;
+use crate::fronts::{cut_at, is_word};
+use crate::marks::mark;
+use crate::numbers::{has_single_underscores, whole_number};
+
+/// An identifier has at most 32 characters and single underscores.
+fn identifier_shape(lexeme: &[u8]) -> Result<Shape, u16>
+    ensures { said_judgement result ≡ identifier_shape lexeme.now }
+{
+    if lexeme.len() <= 32 && has_single_underscores(lexeme) {
+        Ok(Shape::Identifier)
+    } else {
+        Err(104)
+    }
+}
+
+/// A number has one of the forms of whole-number literals.
+fn number_shape(lexeme: &[u8]) -> Result<Shape, u16>
+    ensures { said_judgement result ≡ number_shape lexeme.now }
+{
+    match whole_number(lexeme) {
+        Some(value) => Ok(Shape::Whole(value)),
+        None => Err(105),
+    }
+}
+
+/// `BOOL#0` and `BOOL#1` are truth values.
+fn truth_shape(value: &[u8]) -> Result<Shape, u16>
+    ensures { said_judgement result ≡ truth_shape value.now }
+{
+    match value {
+        b"0" => Ok(Shape::Truth(false)),
+        b"1" => Ok(Shape::Truth(true)),
+        _ => Err(105),
+    }
+}
+
+/// `T#` and `TIME#` stand before durations.
+fn duration_shape(value: &[u8]) -> Result<Shape, u16>
+    ensures { said_judgement result ≡ duration_shape value.now }
+{
+    match duration(value) {
+        Some(milliseconds) => Ok(Shape::Duration(milliseconds)),
+        None => Err(106),
+    }
+}
+
+/// A literal by its type's name and what stands behind the `#`.
+fn typed_shape(name: &[u8], value: &[u8]) -> Result<Shape, u16>
+    ensures { said_judgement result ≡ typed_shape (name_of name.now) value.now }
+{
+    if is_word(name, b"bool") {
+        truth_shape(value)
+    } else if is_word(name, b"t") || is_word(name, b"time") {
+        duration_shape(value)
+    } else {
+        Err(105)
+    }
+}
+
+/// An identifier, or a typed literal where it holds a `#`.
+fn word_shape(lexeme: &[u8]) -> Result<Shape, u16>
+    ensures { said_judgement result ≡ (if list_any is_hash lexeme.now then literal_shape lexeme.now else identifier_shape lexeme.now) }
+{
+    match cut_at(lexeme, b'#') {
+        Some((name, value)) => typed_shape(name, value),
+        None => identifier_shape(lexeme),
+    }
+}
+
+/// A mark.
+fn mark_shape(lexeme: &[u8]) -> Result<Shape, u16>
+    ensures { said_judgement result ≡ ok_or (mark_of lexeme.now) 101 }
+{
+    match mark(lexeme) {
+        Some(shape) => Ok(shape),
+        None => Err(101),
+    }
+}
+
+/// The shape of a lexeme, or the number of its fault.
+pub(crate) fn shape(lexeme: &[u8]) -> Result<Shape, u16>
+    ensures { said_judgement result ≡ shape_of lexeme.now }
+{
+    match lexeme {
+        [first, ..] if starts_identifier(*first) => word_shape(lexeme),
+        [first, ..] if first.is_ascii_digit() || is_sign(*first) => number_shape(lexeme),
+        [b'%', ..] => Ok(Shape::Address),
+        _ => mark_shape(lexeme),
+    }
+}

@@ -1,0 +1,47 @@
+ghost use Rattle.std.specs.Prelude.{◌≡◌, ◌≤◌, count_by, length};
+ghost use Rattle.wc_model.proofs.FoundTokens.{opens_comment, starts_space};
+ghost use Rattle.wc_model.specs.Blanks.{from_bracket, starts_with_bracket};
+ghost use Rattle.wc_model.specs.Characters.{is_line_feed};
+
+/// A comment opens here.
+pub(crate) fn opens_comment(text: &[u8]) -> bool
+    ensures { result ≡ opens_comment text.now }
+{
+    matches!(text, [b'(', b'*', ..])
+}
+
+/// A space, a tab, or a CR before LF stands here.
+pub(crate) fn starts_space(text: &[u8]) -> bool
+    ensures { result ≡ starts_space text.now }
+{
+    matches!(text, [b' ' | b'\t', ..] | [b'\r', b'\n', ..])
+}
+
+/// What opens or closes a comment stands here.
+fn starts_with_bracket(text: &[u8]) -> bool
+    ensures { result ≡ starts_with_bracket text.now }
+{
+    text.starts_with(b"(*") || text.starts_with(b"*)")
+}
+
+/// What is left from the first `(*` or `*)` on.
+pub(crate) fn from_bracket(text: &[u8]) -> &[u8]
+    ensures { result.now ≡ from_bracket text.now }
+{
+    let mut rest = text;
+    while let [_, after @ ..] = rest {
+        if starts_with_bracket(rest) {
+            return rest;
+        }
+        rest = after;
+    }
+    rest
+}
+
+/// How many line feeds the text has.
+pub(crate) fn line_feeds(text: &[u8]) -> usize
+    ensures counted { result ≡ count_by is_line_feed text.now }
+    ensures within { result ≤ length text.now }
+{
+    text.iter().filter(|byte| **byte == b'\n').count()
+}

@@ -1,0 +1,53 @@
+ghost use Rattle.std.specs.Prelude.{◌≤◌, IfErr, IfOk, length, map};
+ghost use Rattle.wc_lexer.specs.Refusals.{Names};
+ghost use Rattle.wc_lexer.specs.Views.{said_token};
+ghost use Rattle.wc_model.specs.Tokens.{IsCut, most_bytes};
+
+use crate::Token;
+use crate::piece::{Piece, first_piece};
+use crate::spaces::line_feeds;
+use std::alloc::Global;
+use wc_model::Fault;
+
+/// The tokens of a text, or its first fault.
+pub fn tokens<'a>(alloc: Global, text: &'a [u8]) -> Result<Vec<Token<'a>>, Fault>
+    ensures cut { IfOk result (λ tokens. (length text.now ≤ most_bytes) × IsCut text.now (map said_token tokens.items)) }
+    ensures refused { IfErr result (λ fault. Names text.now fault) }
+{
+    if text.len() > 65536 {
+        return Err(Fault::Refused {
+            number: 107,
+            place: 0,
+        });
+    }
+    let mut tokens = Vec::new(alloc);
+    let mut start = 0_usize;
+    let mut line = 1_u32;
+    while start < text.len() {
+        let (_, rest) = text.split_at(start);
+        let count = match first_piece(rest) {
+            Piece::Fault(number) => return Err(Fault::Refused {
+                number,
+                place: line,
+            }),
+            Piece::Blank(count) => count,
+            Piece::Lexeme(count, shape) => {
+                let (lexeme, _) = rest.split_at(count);
+                let token = Token {
+                    shape,
+                    text: lexeme,
+                    start: start as u32,
+                    line,
+                };
+                if tokens.push(token).is_err() {
+                    return Err(Fault::Memory);
+                }
+                count
+            }
+        };
+        let (piece, _) = rest.split_at(count);
+        line += line_feeds(piece) as u32;
+        start += count;
+    }
+    Ok(tokens)
+}
