@@ -34,7 +34,7 @@ pub fn as_many_lines_as_may_be()
     ensures { (n : ℕ) → n ≤ 1024 → IsWithinLimits (program_of (load_lines 2 n) ∷ []) }
 {}
 
-/// A text has one first fault: a reader that answers by it has no choice of the number.
+/// Two first faults of the same tokens have the same number: a reader that answers by them has no choice of it.
 pub fn one_first_fault()
     ensures { (tokens : List Mark) (last_line line place : ℕ) (fault other : ReadingFault) → IsFirstFault tokens last_line fault line → IsFirstFault tokens last_line other place → fault ≡ other }
 {}
