@@ -1,0 +1,4 @@
+mod DigitValues
+mod HexDigits
+mod ThreeFields
+mod StatusBits

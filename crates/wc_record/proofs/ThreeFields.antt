@@ -1,0 +1,72 @@
+-- A record of three fields, from its fields one by one.
+use Rattle.std.proofs.Common.{◌≡◌, ◌≤◌, ℕ, true, List, [], ◌∷◌, Option, Some, None, Result, Ok, Err, refl, arith}
+use Rattle.std.proofs.lemmas.Bool.Decides.{nat_tests}
+use Rattle.std.specs.Prelude.{nat_le}
+use Rattle.csv.specs.Records.{field_at}
+use Rattle.wc_model.specs.Log.{Record, moment_of, row_data_of, row_of_fields}
+use Rattle.wc_model.specs.Rows.{RowData}
+use Rattle.wc_record.specs.Views.{SaysData, SaysRow, three_of}
+use Rattle.wc_record.specs.declared.row_data.RowFault.{RowFault}
+use Rattle.wc_record.specs.declared.row_data.RowFault.TheVariants.{Refused, Memory}
+
+-- no first field
+pub no_first : (fields : Record) → None ≡ field_at fields 0 → None ≡ three_of fields
+unfolding field_at
+no_first [] e = refl
+no_first (a ∷ more) e = cc
+
+-- no second
+pub no_second : (fields : Record) → None ≡ field_at fields 1 → None ≡ three_of fields
+unfolding field_at
+no_second [] e = refl
+no_second (a ∷ []) e = refl
+no_second (a ∷ b ∷ more) e = cc
+
+-- no third
+pub no_third : (fields : Record) → None ≡ field_at fields 2 → None ≡ three_of fields
+unfolding field_at
+no_third [] e = refl
+no_third (a ∷ []) e = refl
+no_third (a ∷ b ∷ []) e = refl
+no_third (a ∷ b ∷ c ∷ more) e = cc
+
+-- a fourth
+pub a_fourth : (fields : Record) (d : List ℕ) → Some d ≡ field_at fields 3 → None ≡ three_of fields
+unfolding field_at
+a_fourth [] d e = refl
+a_fourth (a ∷ []) d e = refl
+a_fourth (a ∷ b ∷ []) d e = refl
+a_fourth (a ∷ b ∷ c ∷ []) d e = cc
+a_fourth (a ∷ b ∷ c ∷ f ∷ more) d e = refl
+
+-- three and no fourth
+pub just_three : (fields : Record) (a b c : List ℕ) → Some a ≡ field_at fields 0 → Some b ≡ field_at fields 1 → Some c ≡ field_at fields 2 → None ≡ field_at fields 3 → Some (a ∷ b ∷ c ∷ []) ≡ three_of fields
+unfolding field_at
+just_three [] a b c e f g h = cc
+just_three (x ∷ []) a b c e f g h = cc
+just_three (x ∷ y ∷ []) a b c e f g h = cc
+just_three (x ∷ y ∷ z ∷ []) a b c e f g h = cc
+just_three (x ∷ y ∷ z ∷ w ∷ more) a b c e f g h = cc
+
+-- which record has these three
+pub three_are : (fields : Record) (a b c : List ℕ) → Some (a ∷ b ∷ c ∷ []) ≡ three_of fields → fields ≡ a ∷ b ∷ c ∷ []
+three_are [] a b c e = cc
+three_are (x ∷ []) a b c e = cc
+three_are (x ∷ y ∷ []) a b c e = cc
+three_are (x ∷ y ∷ z ∷ []) a b c e = cc
+three_are (x ∷ y ∷ z ∷ w ∷ more) a b c e = cc
+
+-- three fields, a moment in order and data make a row
+pub row_read : (fields : Record) (a k d : List ℕ) (number last ms : ℕ) (brings : RowData) → Some (a ∷ k ∷ d ∷ []) ≡ three_of fields → Some ms ≡ moment_of a → last ≤ ms → row_data_of k d ≡ Ok brings
+    → row_of_fields number (Some last) fields ≡ Ok (record { number = number; ms = ms; brings = brings })
+row_read fields a k d number last ms brings e f h g =
+    let order : nat_le last ms ≡ true = grind (arith, nat_tests) in
+    rw (three_are fields a k d e, ← f, order, g) refl
+
+-- three fields, a moment in order and data at fault make none
+pub row_refused : (fields : Record) (a k d : List ℕ) (number last ms : ℕ) (fault : RowFault) → Some (a ∷ k ∷ d ∷ []) ≡ three_of fields → Some ms ≡ moment_of a → last ≤ ms → SaysData (Err fault) (row_data_of k d)
+    → SaysRow (Err fault) (row_of_fields number (Some last) fields)
+row_refused fields a k d number last ms (Refused n) e f h g =
+    let order : nat_le last ms ≡ true = grind (arith, nat_tests) in
+    rw (three_are fields a k d e, ← f, order, g) refl
+row_refused fields a k d number last ms Memory e f h g = tt

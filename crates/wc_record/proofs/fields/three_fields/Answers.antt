@@ -1,0 +1,20 @@
+use Rattle.std.proofs.Common.{sym, ap, ◌∙◌, option_map}
+use Rattle.wc_record.proofs.ThreeFields.{no_first, no_second, no_third, a_fourth, just_three}
+use Rattle.wc_record.proofs.fields.three_fields.Goals as goal
+use Rattle.wc_record.specs.Views.{fields_seen}
+
+pub returns-in_err-moment : goal.returns-in_err-moment
+returns-in_err-moment c = ap (option_map fields_seen) c.from_residual.ensures ∙ no_first _ c.in_err-moment.ensures.value
+
+pub returns-in_err-kind : goal.returns-in_err-kind
+returns-in_err-kind c = ap (option_map fields_seen) c.from_residual-in_err-kind.ensures ∙ no_second _ c.in_err-kind.ensures.value
+
+pub returns-in_err-data : goal.returns-in_err-data
+returns-in_err-data c = ap (option_map fields_seen) c.from_residual-in_err-data.ensures ∙ no_third _ c.in_err-data.ensures.value
+
+pub returns-in-Some : goal.returns-in-Some
+returns-in-Some c = a_fourth _ c.in-Some.field-0.now c.in-Some.ensures.value
+
+pub returns-in-None : goal.returns-in-None
+returns-in-None c =
+    just_three _ c.in_ok-moment.moment.now c.in_ok-kind.kind.now c.in_ok-data.data.now c.in_ok-moment.ensures.value c.in_ok-kind.ensures.value c.in_ok-data.ensures.value c.in-None.ensures.value

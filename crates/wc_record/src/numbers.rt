@@ -1,0 +1,89 @@
+ghost use Rattle.std.specs.Prelude.{◌≡◌, ◌≤◌, ◌<◌, ◌^◌, ◌-◌, ◌&&◌, nat_le, length, map, true, IfSome, unsigned_abs};
+ghost use Rattle.std.specs.Char.{is_ascii_digit};
+ghost use Rattle.std.specs.Int.Digits.{number_from_digits};
+ghost use Rattle.std.specs.List.{list_all};
+ghost use Rattle.wc_model.specs.Log.{number_within, moment_of, whole_of, counts_of};
+
+/// The number that at most thirteen digits write.
+fn value_of_digits(text: &[u8]) -> u64
+    requires digits { list_all is_ascii_digit text.now ≡ true }
+    requires few { length text.now ≤ 13 }
+    ensures value { result ≡ number_from_digits 10 (map (λ digit. digit - 48) text.now) }
+    ensures few { result < 10 ^ length text.now }
+{
+    let mut value = 0_u64;
+    let mut rest = text;
+    while let [first, after @ ..] = rest {
+        value = value * 10 + u64::from(*first - b'0');
+        rest = after;
+    }
+    value
+}
+
+/// Whether each byte is a digit.
+fn are_digits(text: &[u8]) -> bool
+    ensures { result ≡ list_all is_ascii_digit text.now }
+{
+    text.iter().all(|digit| digit.is_ascii_digit())
+}
+
+/// Whether the text is 1 to so many digits.
+fn is_number(most: usize, text: &[u8]) -> bool
+    ensures { result ≡ (nat_le 1 (length text.now) && nat_le (length text.now) most && list_all is_ascii_digit text.now) }
+{
+    !text.is_empty() && text.len() <= most && are_digits(text)
+}
+
+/// The number that 1 to so many digits write.
+#[tactic(auto, using(crate::proofs::DigitValues::number_form, crate::proofs::DigitValues::ten_rises))]
+fn number_within(most: usize, text: &[u8]) -> Option<u64>
+    requires { most ≤ 13 }
+    ensures value { result ≡ number_within most text.now }
+    ensures few { IfSome result (λ number. number < 10 ^ most) }
+{
+    if is_number(most, text) {
+        Some(value_of_digits(text))
+    } else {
+        None
+    }
+}
+
+/// The moment of a row: 1 to 13 digits, below 2^40.
+pub(crate) fn moment(text: &[u8]) -> Option<u64>
+    ensures { result ≡ moment_of text.now }
+{
+    match number_within(13, text) {
+        Some(ms) if ms <= 1099511627775 => Some(ms),
+        _ => None,
+    }
+}
+
+/// A whole number: 1 to 10 digits, with `-` before them where it is negative.
+fn whole(text: &[u8]) -> Option<i64>
+    ensures { result ≡ whole_of text.now }
+{
+    let [first, rest @ ..] = text else {
+        return None;
+    };
+    if *first == b'-' {
+        match number_within(10, rest) {
+            Some(number) => Some(-(number as i64)),
+            None => None,
+        }
+    } else {
+        match number_within(10, text) {
+            Some(number) => Some(number as i64),
+            None => None,
+        }
+    }
+}
+
+/// Counts: a whole number in the range of a sample.
+pub(crate) fn counts(text: &[u8]) -> Option<i32>
+    ensures { result ≡ counts_of text.now }
+{
+    match whole(text) {
+        Some(counts) if counts >= -8388608 && counts <= 8388607 => Some(counts as i32),
+        _ => None,
+    }
+}

@@ -1,0 +1,73 @@
+ghost use Rattle.std.specs.Prelude.{◌≡◌};
+ghost use Rattle.wc_model.specs.Log.{row_data_of};
+ghost use Rattle.wc_model.specs.Log as log;
+ghost use Rattle.wc_model.specs.Rows as rows;
+ghost use Rattle.wc_record.specs.Views.{SaysData};
+
+use crate::hexadecimal::{inputs_word, line_piece};
+use crate::numbers::counts;
+use crate::row_kind::RowKind;
+use std::alloc::Global;
+
+/// Why fields are no row.
+pub(crate) enum RowFault {
+    /// They break the rule of this number.
+    Refused(u16),
+    /// Memory was refused.
+    Memory,
+}
+
+/// A sample.
+fn sample(text: &[u8]) -> Result<RowKind, RowFault>
+    ensures { SaysData result (log.brings_or 605 rows.Counts (log.counts_of text.now)) }
+{
+    match counts(text) {
+        Some(counts) => Ok(RowKind::Counts(counts)),
+        None => Err(RowFault::Refused(605)),
+    }
+}
+
+/// Bytes on the line.
+fn line_bytes(alloc: Global, text: &[u8]) -> Result<RowKind, RowFault>
+    ensures { SaysData result (log.brings_or 606 rows.Bytes (log.line_piece_of text.now)) }
+{
+    match line_piece(alloc, text) {
+        Ok(Some(bytes)) => Ok(RowKind::Bytes(bytes)),
+        Ok(None) => Err(RowFault::Refused(606)),
+        Err(_) => Err(RowFault::Memory),
+    }
+}
+
+/// Inputs.
+fn inputs(text: &[u8]) -> Result<RowKind, RowFault>
+    ensures { SaysData result (log.brings_or 606 rows.Inputs (log.inputs_word_of text.now)) }
+{
+    match inputs_word(text) {
+        Some(inputs) => Ok(RowKind::Inputs(inputs)),
+        None => Err(RowFault::Refused(606)),
+    }
+}
+
+/// A scan, which has no data.
+fn scan(text: &[u8]) -> Result<RowKind, RowFault>
+    ensures { SaysData result (log.scan_of_data text.now) }
+{
+    if text.is_empty() {
+        Ok(RowKind::Scan)
+    } else {
+        Err(RowFault::Refused(608))
+    }
+}
+
+/// What a kind and its data bring.
+pub(crate) fn row_data(alloc: Global, kind: &[u8], text: &[u8]) -> Result<RowKind, RowFault>
+    ensures { SaysData result (row_data_of kind.now text.now) }
+{
+    match kind {
+        b"C" => sample(text),
+        b"L" => line_bytes(alloc, text),
+        b"I" => inputs(text),
+        b"S" => scan(text),
+        _ => Err(RowFault::Refused(604)),
+    }
+}
