@@ -83,6 +83,12 @@ piece_read text bytes few e =
     let short : nat_le (length bytes) 4096 ≡ true = grind (arith, nat_tests) in
     rw (read, short) refl
 
+-- they are few
+pub piece_few : (text bytes : List ℕ) → length text ≤ 8192 → decode_of text ≡ Ok bytes → length bytes ≤ 4096
+piece_few text bytes few e =
+    let read : bytes_of_hex text ≡ Some bytes = sym (decoded_same text) ∙ ap ok_of e in
+    omega (arith, halves text bytes read)
+
 -- what is not decoded is no piece
 piece_refused : (text : List ℕ) (e : FromHexError) → decode_of text ≡ Err e → None ≡ line_piece_of text
 piece_refused text e h =

@@ -2,3 +2,7 @@ mod DigitValues
 mod HexDigits
 mod ThreeFields
 mod StatusBits
+mod RecordEnds
+mod ReadRecords
+mod Sources
+mod LogSteps

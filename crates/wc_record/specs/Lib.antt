@@ -1,1 +1,5 @@
+pub mod Bound
 pub mod Views
+pub mod Reading
+pub mod Source
+pub mod Left

@@ -1,6 +1,7 @@
 -- What the rows of this crate stand for, and what their answers say.
-use Rattle.std.specs.Prelude.{◌≡◌, ⊤, ℕ, List, [], ◌∷◌, Option, Some, None, Result, Ok, Err}
+use Rattle.std.specs.Prelude.{◌≡◌, ◌≤◌, ◌<◌, ◌^◌, ◌≤ℤ◌, ⊤, ℕ, length, List, [], ◌∷◌, Option, Some, None, Result, Ok, Err}
 use Rattle.wc_model.specs.Log.{Record}
+use Rattle.wc_model.specs.Plates.{least_sample, greatest_sample}
 use Rattle.wc_model.specs.Rows.{RowData, LogRow, Counts, Bytes, Inputs, Scan}
 use Rattle.wc_record.specs.declared.fields.RowFields.{RowFields}
 use Rattle.wc_record.specs.declared.row_kind.Row.{Row}
@@ -20,6 +21,13 @@ brought kind.Scan = Scan
 abbrev pub log_row : Row → LogRow
 log_row row = record { number = row.number; ms = row.ms; brings = brought row.kind }
 
+-- what a row brings is in its range
+abbrev pub IsInRange : RowData → Type 0
+IsInRange (Counts counts) = (least_sample ≤ℤ counts) × (counts ≤ℤ greatest_sample)
+IsInRange (Bytes bytes) = length bytes ≤ 4096
+IsInRange (Inputs inputs) = inputs < 2 ^ 16
+IsInRange Scan = ⊤
+
 -- the answer says what is said, where memory was not refused
 abbrev pub SaysData : Result RowKind RowFault → Result RowData ℕ → Type 0
 SaysData (Ok kind) said = said ≡ Ok (brought kind)
@@ -34,7 +42,7 @@ SaysRow (Err Memory) said = ⊤
 
 -- three fields
 abbrev pub fields_seen : RowFields → Record
-fields_seen fields = fields.moment.now ∷ fields.kind.now ∷ fields.data.now ∷ []
+fields_seen fields = fields.moment.now ∷ fields.kind.now ∷ fields.text.now ∷ []
 
 -- a record of three fields
 abbrev pub three_of : Record → Option Record

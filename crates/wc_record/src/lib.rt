@@ -1,14 +1,19 @@
 //! The log of a run, row by row, and what a scan sees of the rows so far.
 #![tactic(auto)]
 
+mod bounded;
 mod fields;
 mod hexadecimal;
+mod log;
 mod numbers;
 mod process_image;
+mod records;
 mod row_data;
 mod row_kind;
+mod source;
 #[cfg(test)]
 mod tests;
 
+pub use log::Rows;
 pub use process_image::image;
 pub use row_kind::{LogFault, Row, RowKind};

@@ -1,7 +1,8 @@
-ghost use Rattle.std.specs.Prelude.{◌≡◌, ◌≤◌, ◌<◌, ◌^◌, ◌-◌, ◌&&◌, nat_le, length, map, true, IfSome, unsigned_abs};
+ghost use Rattle.std.specs.Prelude.{◌≡◌, ◌≤◌, ◌≤ℤ◌, ◌<◌, ◌^◌, ◌-◌, ◌&&◌, nat_le, length, map, true, IfSome};
 ghost use Rattle.std.specs.Char.{is_ascii_digit};
 ghost use Rattle.std.specs.Int.Digits.{number_from_digits};
 ghost use Rattle.std.specs.List.{list_all};
+ghost use Rattle.wc_model.specs.Plates.{least_sample, greatest_sample};
 ghost use Rattle.wc_model.specs.Log.{number_within, moment_of, whole_of, counts_of};
 
 /// The number that at most thirteen digits write.
@@ -80,7 +81,8 @@ fn whole(text: &[u8]) -> Option<i64>
 
 /// Counts: a whole number in the range of a sample.
 pub(crate) fn counts(text: &[u8]) -> Option<i32>
-    ensures { result ≡ counts_of text.now }
+    ensures value { result ≡ counts_of text.now }
+    ensures range { IfSome result (λ counts. (least_sample ≤ℤ counts) × (counts ≤ℤ greatest_sample)) }
 {
     match whole(text) {
         Some(counts) if counts >= -8388608 && counts <= 8388607 => Some(counts as i32),

@@ -1,8 +1,8 @@
-ghost use Rattle.std.specs.Prelude.{◌≡◌};
+ghost use Rattle.std.specs.Prelude.{IfOk};
 ghost use Rattle.wc_model.specs.Log.{row_data_of};
 ghost use Rattle.wc_model.specs.Log as log;
 ghost use Rattle.wc_model.specs.Rows as rows;
-ghost use Rattle.wc_record.specs.Views.{SaysData};
+ghost use Rattle.wc_record.specs.Views.{IsInRange, SaysData, brought};
 
 use crate::hexadecimal::{inputs_word, line_piece};
 use crate::numbers::counts;
@@ -19,7 +19,8 @@ pub(crate) enum RowFault {
 
 /// A sample.
 fn sample(text: &[u8]) -> Result<RowKind, RowFault>
-    ensures { SaysData result (log.brings_or 605 rows.Counts (log.counts_of text.now)) }
+    ensures says { SaysData result (log.brings_or 605 rows.Counts (log.counts_of text.now)) }
+    ensures range { IfOk result (λ kind. IsInRange (brought kind)) }
 {
     match counts(text) {
         Some(counts) => Ok(RowKind::Counts(counts)),
@@ -29,7 +30,8 @@ fn sample(text: &[u8]) -> Result<RowKind, RowFault>
 
 /// Bytes on the line.
 fn line_bytes(alloc: Global, text: &[u8]) -> Result<RowKind, RowFault>
-    ensures { SaysData result (log.brings_or 606 rows.Bytes (log.line_piece_of text.now)) }
+    ensures says { SaysData result (log.brings_or 606 rows.Bytes (log.line_piece_of text.now)) }
+    ensures range { IfOk result (λ kind. IsInRange (brought kind)) }
 {
     match line_piece(alloc, text) {
         Ok(Some(bytes)) => Ok(RowKind::Bytes(bytes)),
@@ -40,7 +42,8 @@ fn line_bytes(alloc: Global, text: &[u8]) -> Result<RowKind, RowFault>
 
 /// Inputs.
 fn inputs(text: &[u8]) -> Result<RowKind, RowFault>
-    ensures { SaysData result (log.brings_or 606 rows.Inputs (log.inputs_word_of text.now)) }
+    ensures says { SaysData result (log.brings_or 606 rows.Inputs (log.inputs_word_of text.now)) }
+    ensures range { IfOk result (λ kind. IsInRange (brought kind)) }
 {
     match inputs_word(text) {
         Some(inputs) => Ok(RowKind::Inputs(inputs)),
@@ -50,7 +53,8 @@ fn inputs(text: &[u8]) -> Result<RowKind, RowFault>
 
 /// A scan, which has no data.
 fn scan(text: &[u8]) -> Result<RowKind, RowFault>
-    ensures { SaysData result (log.scan_of_data text.now) }
+    ensures says { SaysData result (log.scan_of_data text.now) }
+    ensures range { IfOk result (λ kind. IsInRange (brought kind)) }
 {
     if text.is_empty() {
         Ok(RowKind::Scan)
@@ -61,7 +65,8 @@ fn scan(text: &[u8]) -> Result<RowKind, RowFault>
 
 /// What a kind and its data bring.
 pub(crate) fn row_data(alloc: Global, kind: &[u8], text: &[u8]) -> Result<RowKind, RowFault>
-    ensures { SaysData result (row_data_of kind.now text.now) }
+    ensures says { SaysData result (row_data_of kind.now text.now) }
+    ensures range { IfOk result (λ kind. IsInRange (brought kind)) }
 {
     match kind {
         b"C" => sample(text),

@@ -6,4 +6,4 @@ use Rattle.wc_record.proofs.fields.is_first_row.Goals as goal
 pub returns-in-Some : goal.returns-in-Some
 returns-in-Some c =
     let f = c.in-Some.fields in
-    c.is_first.ensures ∙ sym (ap (has_fields first_row) (three_are _ f.moment.now f.kind.now f.data.now c.in-Some.ensures))
+    c.is_first.ensures ∙ sym (ap (has_fields first_row) (three_are _ f.moment.now f.kind.now f.text.now c.in-Some.ensures))

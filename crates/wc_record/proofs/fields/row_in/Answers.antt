@@ -2,10 +2,12 @@ use Rattle.wc_record.proofs.ThreeFields.{row_read, row_refused}
 use Rattle.wc_record.proofs.fields.row_in.Goals as goal
 use Rattle.wc_record.specs.Views.{brought}
 
-pub returns-in-Ok : goal.returns-in-Ok
-returns-in-Ok c =
-    row_read _ c.in-Some.fields.moment.now c.in-Some.fields.kind.now c.in-Some.fields.data.now c.args.number c.args.last c.in-Some-moment.ms (brought c.in-Ok.kind) c.in-Some.ensures c.in-Some-moment.ensures c.if-ms-last.false c.in-Ok.ensures
+pub returns-in-Ok-clause-says : goal.returns-in-Ok-clause-says
+returns-in-Ok-clause-says c =
+    row_read _ c.in-Some.fields.moment.now c.in-Some.fields.kind.now c.in-Some.fields.text.now c.args.number c.args.last c.in-Some-moment.ms (brought c.in-Ok.kind) c.in-Some.ensures c.in-Some-moment.ensures c.if-ms-last.false c.in-Ok.ensures.says
 
 pub returns-in-Err : goal.returns-in-Err
-returns-in-Err c =
-    row_refused _ c.in-Some.fields.moment.now c.in-Some.fields.kind.now c.in-Some.fields.data.now c.args.number c.args.last c.in-Some-moment.ms c.in-Err.fault c.in-Some.ensures c.in-Some-moment.ensures c.if-ms-last.false c.in-Err.ensures
+returns-in-Err c = record {
+  says = row_refused _ c.in-Some.fields.moment.now c.in-Some.fields.kind.now c.in-Some.fields.text.now c.args.number c.args.last c.in-Some-moment.ms c.in-Err.fault c.in-Some.ensures c.in-Some-moment.ensures c.if-ms-last.false c.in-Err.ensures.says;
+  range = tt;
+}

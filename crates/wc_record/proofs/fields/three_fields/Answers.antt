@@ -9,12 +9,12 @@ returns-in_err-moment c = ap (option_map fields_seen) c.from_residual.ensures �
 pub returns-in_err-kind : goal.returns-in_err-kind
 returns-in_err-kind c = ap (option_map fields_seen) c.from_residual-in_err-kind.ensures ∙ no_second _ c.in_err-kind.ensures.value
 
-pub returns-in_err-data : goal.returns-in_err-data
-returns-in_err-data c = ap (option_map fields_seen) c.from_residual-in_err-data.ensures ∙ no_third _ c.in_err-data.ensures.value
+pub returns-in_err-text : goal.returns-in_err-text
+returns-in_err-text c = ap (option_map fields_seen) c.from_residual-in_err-text.ensures ∙ no_third _ c.in_err-text.ensures.value
 
 pub returns-in-Some : goal.returns-in-Some
 returns-in-Some c = a_fourth _ c.in-Some.field-0.now c.in-Some.ensures.value
 
 pub returns-in-None : goal.returns-in-None
 returns-in-None c =
-    just_three _ c.in_ok-moment.moment.now c.in_ok-kind.kind.now c.in_ok-data.data.now c.in_ok-moment.ensures.value c.in_ok-kind.ensures.value c.in_ok-data.ensures.value c.in-None.ensures.value
+    just_three _ c.in_ok-moment.moment.now c.in_ok-kind.kind.now c.in_ok-text.text.now c.in_ok-moment.ensures.value c.in_ok-kind.ensures.value c.in_ok-text.ensures.value c.in-None.ensures.value

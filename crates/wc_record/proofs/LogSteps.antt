@@ -1,0 +1,124 @@
+-- One step of a log, from a record that was read.
+use Rattle.std.proofs.Common.{◌≡◌, ◌≤◌, ◌<◌, ◌+◌, ◌^◌, ◌&&◌, ℕ, zero, suc, Bool, true, false, cond, List, [], ◌∷◌, length, Option, Some, None, Result, Ok, Err, refl, sym, ap, ◌∙◌, arith, add-one}
+use Rattle.std.proofs.lemmas.Bool.Decides.{nat_tests}
+use Rattle.std.proofs.lemmas.Slice.Eq.{bytes_eq-Decides}
+use Rattle.std.specs.Prelude.{codes, nat_le, nat_lt, IfSome}
+use Rattle.std.specs.Str.{bytes_eq}
+use Rattle.wc_model.specs.Log.{Record, LogOf, first_row, has_fields, last_moment, log_after, log_of, log_with, moment_of, number_within, refused_at, row_at, row_data_of, row_from, row_of, row_of_fields, where_passes, with_row}
+use Rattle.wc_model.specs.Rows.{LogRow, RowData}
+use Rattle.wc_record.specs.Left.{Answer, EndSays, Gives, HasLeft, IsLeft, StandsBehind, Takes, answer_at, end_behind, log_behind, moment_or_zero}
+use Rattle.wc_record.specs.Reading.{records_of}
+use Rattle.wc_record.specs.Source.{SourceHas}
+use Rattle.wc_record.specs.declared.log.LogEnd.{LogEnd}
+use Rattle.wc_record.specs.declared.log.LogEnd.TheVariants.{AllRead, Met}
+use Rattle.wc_record.specs.declared.log.Rows.{Rows}
+use Rattle.wc_record.specs.declared.row_kind.LogFault.{LogFault}
+use Rattle.wc_record.specs.declared.row_kind.LogFault.TheVariants as fault
+use Rattle.wc_record.specs.declared.row_kind.Row.{Row}
+
+-- a moment is below 2^40
+moment_early : (o : Option ℕ) (ms : ℕ) → where_passes (λ n. nat_le n 1099511627775) o ≡ Some ms → ms < 2 ^ 40
+moment_early None ms e = cc
+moment_early (Some n) ms e = by_test (nat_le n 1099511627775) refl e
+  where
+    by_test : (b : Bool) → nat_le n 1099511627775 ≡ b → cond b (Some n) None ≡ Some ms → ms < 2 ^ 40
+    by_test true f h =
+        let same : n ≡ ms = cc in
+        let small : n ≤ 1099511627775 = grind (arith, nat_tests) in
+        rw (← same) (omega arith)
+    by_test false f h = cc
+
+-- what a row keeps of the fields that write it
+pub record RowFacts (n last : ℕ) (fields : Record) (row : LogRow) : Type 0 where
+  pub number : row.number ≡ n
+  pub in_order : last ≤ row.ms
+  pub early : row.ms < 2 ^ 40
+  pub moment : (before : List Record) → last_moment (fields ∷ before) ≡ Some row.ms
+
+-- by its data
+from_data : (n last ms : ℕ) (moment : List ℕ) (more : Record) (row : LogRow) → moment_of moment ≡ Some ms → last ≤ ms → (brings : Result RowData ℕ) → row_from n ms brings ≡ Ok row → RowFacts n last (moment ∷ more) row
+from_data n last ms moment more row m order (Err e) h = cc
+from_data n last ms moment more row m order (Ok brings) h =
+    let same : record { number = n; ms = ms; brings = brings } ≡ row = cc in
+    rw (← same) (record { number = refl; in_order = order; early = moment_early (number_within 13 moment) ms m; moment = λ before. m })
+
+-- by its moment
+from_moment : (n last : ℕ) (moment kind text : List ℕ) (more : Record) (row : LogRow) (o : Option ℕ) → moment_of moment ≡ o → row_at n (Some last) o kind text ≡ Ok row → RowFacts n last (moment ∷ more) row
+from_moment n last moment kind text more row None m e = cc
+from_moment n last moment kind text more row (Some ms) m e = by_order (nat_le last ms) refl e
+  where
+    by_order : (b : Bool) → nat_le last ms ≡ b → cond b (row_from n ms (row_data_of kind text)) (Err 603) ≡ Ok row → RowFacts n last (moment ∷ more) row
+    by_order true f h = from_data n last ms moment more row m (grind (arith, nat_tests)) (row_data_of kind text) h
+    by_order false f h = cc
+
+-- the facts of a row
+pub row_facts : (n last : ℕ) (fields : Record) (row : LogRow) → row_of_fields n (Some last) fields ≡ Ok row → RowFacts n last fields row
+row_facts n last [] row e = cc
+row_facts n last (a ∷ []) row e = cc
+row_facts n last (a ∷ b ∷ []) row e = cc
+row_facts n last (moment ∷ kind ∷ text ∷ []) row e = from_moment n last moment kind text (kind ∷ text ∷ []) row (moment_of moment) refl e
+row_facts n last (a ∷ b ∷ c ∷ d ∷ more) row e = cc
+
+-- no moment before is like the moment 0 before
+at_zero : (n : ℕ) (o : Option ℕ) (kind text : List ℕ) → row_at n None o kind text ≡ row_at n (Some 0) o kind text
+at_zero n None kind text = refl
+at_zero n (Some ms) kind text = let first : nat_le 0 ms ≡ true = grind (arith, nat_tests) in rw first refl
+
+-- so for the fields of a row
+from_zero : (n : ℕ) (o : Option ℕ) (fields : Record) → row_of_fields n o fields ≡ row_of_fields n (Some (moment_or_zero o)) fields
+from_zero n (Some last) fields = refl
+from_zero n None [] = refl
+from_zero n None (a ∷ []) = refl
+from_zero n None (a ∷ b ∷ []) = refl
+from_zero n None (moment ∷ kind ∷ text ∷ []) = at_zero n (moment_of moment) kind text
+from_zero n None (a ∷ b ∷ c ∷ d ∷ more) = refl
+
+-- the row of a record within the limit of rows
+row_within : (before : List Record) (fields : Record) (n last : ℕ) → n ≡ length before → n < 1000000 → last ≡ moment_or_zero (last_moment before) → row_of before fields ≡ row_of_fields (n + 1) (Some last) fields
+row_within before fields n last counted few is =
+    let below : nat_lt 1000000 (suc (length before)) ≡ false = grind (arith, nat_tests) in
+    let next : n + 1 ≡ suc (length before) = omega arith in
+    rw (below, next, is) (from_zero (suc (length before)) (last_moment before) fields)
+
+-- a record that writes a row
+pub step_row : (before rest : List Record) (fields : Record) (n last : ℕ) (row : LogRow) → n ≡ length before → n < 1000000 → last ≡ moment_or_zero (last_moment before) → row_of_fields (n + 1) (Some last) fields ≡ Ok row
+    → log_after before (fields ∷ rest) ≡ with_row row (log_after (fields ∷ before) rest)
+step_row before rest fields n last row counted few is e = ap (λ r. log_with before r (log_after (fields ∷ before) rest)) (row_within before fields n last counted few is ∙ e)
+
+-- a record that is refused
+pub step_refused : (before rest : List Record) (fields : Record) (n last number : ℕ) → n ≡ length before → n < 1000000 → last ≡ moment_or_zero (last_moment before) → row_of_fields (n + 1) (Some last) fields ≡ Err number
+    → log_after before (fields ∷ rest) ≡ refused_at number (n + 1)
+step_refused before rest fields n last number counted few is e =
+    let next : suc (length before) ≡ n + 1 = omega arith in
+    ap (λ r. log_with before r (log_after (fields ∷ before) rest)) (row_within before fields n last counted few is ∙ e) ∙ ap (refused_at number) next
+
+-- the first row has no moment
+pub first_has_none : (fields : Record) → true ≡ has_fields first_row fields → last_moment (fields ∷ []) ≡ None
+first_has_none [] e = refl
+first_has_none (name ∷ more) e = by_name (bytes_eq (codes "ms") name) refl (sym e)
+  where
+    by_name : (b : Bool) → bytes_eq (codes "ms") name ≡ b → (b && has_fields (codes "kind" ∷ codes "data" ∷ []) more) ≡ true → moment_of name ≡ None
+    by_name true f h = let same : codes "ms" ≡ name = (bytes_eq-Decides (codes "ms") name).0 f in rw (← same) refl
+    by_name false f h = cc
+
+-- the first row, where it is as it must be
+pub first_read : (left rest : List Record) (fields : Record) → left ≡ fields ∷ rest → true ≡ has_fields first_row fields → log_of left ≡ log_after (fields ∷ []) rest
+first_read left rest fields e f = rw (e, ← f) refl
+
+-- what is given is taken, and the end is kept
+pub taken : {R : Type 0} (bytes_left : R → Option (List ℕ)) (log : LogOf) (answer : Answer) (given : Rows R) (end : Option LogEnd) → end ≡ end_behind answer → Gives bytes_left log answer given → Takes bytes_left log answer (record given { end = end })
+taken bytes_left log (Ok (Some row)) given end e h = (log_behind h.0 h.1, h.2, rw e (h.0, h.1, record { has = h.3.has; number = h.3.number; last = h.3.last; few = h.3.few }, refl))
+taken bytes_left log (Ok None) given end e h = (h, rw e h)
+taken bytes_left log (Err (fault.Refused number place)) given end e h = (h, rw e h)
+taken bytes_left log (Err fault.Read) given end e h = tt
+taken bytes_left log (Err fault.Memory) given end e h = tt
+
+-- what is left where nothing has ended the log
+pub not_ended : {R : Type 0} (bytes_left : R → Option (List ℕ)) (rows : Rows R) (log : LogOf) (end : Option LogEnd) → end ≡ None → IsLeft bytes_left end rows log → IsLeft bytes_left None rows log
+not_ended bytes_left rows log end e h = rw e at h
+
+-- where the bytes are known, their log is left at first
+pub all_left : {R : Type 0} (bytes_left : R → Option (List ℕ)) (rows : Rows R) (known : Option (List ℕ)) → rows.number ≡ 0 → rows.last ≡ 0 → rows.end ≡ None → IfSome known (λ bytes. SourceHas bytes_left rows.source (records_of bytes)) → IfSome known (λ bytes. HasLeft bytes_left rows (log_of (records_of bytes)))
+all_left bytes_left rows None number last end h = tt
+all_left bytes_left rows (Some bytes) number last end h =
+    rw end ([], records_of bytes, record { has = h; number = number; last = last; few = omega arith }, refl)

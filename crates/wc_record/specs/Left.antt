@@ -1,0 +1,136 @@
+-- What is left of a log: its rows and its refusal, where the bytes of the reader are known.
+use Rattle.std.specs.Prelude.{◌≡◌, ◌≤◌, ◌<◌, ◌^◌, ◌⊎◌, ⊤, ℕ, ◌-◌, true, List, [], ◌∷◌, length, Option, Some, None, Result, Ok, Err}
+use Rattle.wc_model.specs.Log.{Record, LogOf, log_of, log_after, last_moment, refused_at, with_row}
+use Rattle.wc_record.specs.Bound.{is_used_up}
+use Rattle.wc_record.specs.Source.{SourceHas, counted_in}
+use Rattle.wc_record.specs.Views.{IsInRange, brought, log_row}
+use Rattle.wc_record.specs.declared.log.LogEnd.{LogEnd}
+use Rattle.wc_record.specs.declared.log.LogEnd.TheVariants.{AllRead, Met}
+use Rattle.wc_record.specs.declared.log.Rows.{Rows}
+use Rattle.wc_record.specs.declared.row_kind.LogFault.{LogFault}
+use Rattle.wc_record.specs.declared.row_kind.LogFault.TheVariants as fault
+use Rattle.wc_record.specs.declared.row_kind.Row.{Row}
+
+-- what a call answers
+abbrev pub Answer : Type 0
+Answer = Result (Option Row) LogFault
+
+-- what each call answers behind an end
+abbrev pub answer_at : LogEnd → Answer
+answer_at AllRead = Ok None
+answer_at (Met met) = Err met
+
+-- how an answer ends the log, if it does
+abbrev pub end_behind : Answer → Option LogEnd
+end_behind (Ok (Some row)) = None
+end_behind (Ok None) = Some AllRead
+end_behind (Err met) = Some (Met met)
+
+-- how the log has ended, if it has
+abbrev pub ended : {R : Type 0} → Rows R → Option LogEnd
+ended rows = rows.end
+
+-- how many rows were read, the first one too
+abbrev pub rows_read : {R : Type 0} → Rows R → ℕ
+rows_read rows = rows.number
+
+-- the moment of the last row, 0 before it
+abbrev pub last_ms : {R : Type 0} → Rows R → ℕ
+last_ms rows = rows.last
+
+-- what the reader had spent when it was lent
+abbrev pub started_at : {R : Type 0} → Rows R → ℕ
+started_at rows = rows.start
+
+-- a count of the reader that is lent
+abbrev pub count_in : {R : Type 0} → (R → ℕ) → Rows R → ℕ
+count_in count rows = counted_in count rows.source
+
+-- the moment of a row, 0 where there is none
+abbrev pub moment_or_zero : Option ℕ → ℕ
+moment_or_zero None = 0
+moment_or_zero (Some ms) = ms
+
+-- the log behind the records that were read (newest first)
+abbrev pub log_behind : List Record → List Record → LogOf
+log_behind [] left = log_of left
+log_behind (fields ∷ before) left = log_after (fields ∷ before) left
+
+-- these records were read, and behind them stands this log
+pub record StandsBehind {R : Type 0} (bytes_left : R → Option (List ℕ)) (rows : Rows R) (before left : List Record) : Type 0 where
+  pub has : SourceHas bytes_left rows.source left
+  pub number : rows.number ≡ length before
+  pub last : rows.last ≡ moment_or_zero (last_moment before)
+  pub few : rows.number ≤ 1000000
+
+-- a log of which nothing is left
+abbrev pub nothing_left : LogOf
+nothing_left = record { rows = []; refusal = None }
+
+-- an end says what is left; behind a fault of the reader or of memory nothing is known
+abbrev pub EndSays : LogEnd → LogOf → Type 0
+EndSays AllRead log = log ≡ nothing_left
+EndSays (Met (fault.Refused number place)) log = log ≡ refused_at number place
+EndSays (Met fault.Read) log = ⊥
+EndSays (Met fault.Memory) log = ⊥
+
+-- this is left
+abbrev pub IsLeft : {R : Type 0} → (R → Option (List ℕ)) → Option LogEnd → Rows R → LogOf → Type 0
+IsLeft bytes_left (Some end) rows log = EndSays end log
+IsLeft bytes_left None rows log = (before : List Record) × (left : List Record) × StandsBehind bytes_left rows before left × (log ≡ log_behind before left)
+
+-- these rows and this refusal are left
+abbrev pub HasLeft : {R : Type 0} → (R → Option (List ℕ)) → Rows R → LogOf → Type 0
+HasLeft bytes_left rows log = IsLeft bytes_left rows.end rows log
+
+-- an answer takes the first row that is left, or tells that none is left, or the refusal; a fault of the reader or of
+-- memory says nothing
+abbrev pub Takes : {R : Type 0} → (R → Option (List ℕ)) → LogOf → Answer → Rows R → Type 0
+Takes bytes_left log (Ok (Some row)) rows = (rest : LogOf) × (log ≡ with_row (log_row row) rest) × HasLeft bytes_left rows rest
+Takes bytes_left log (Ok None) rows = (log ≡ nothing_left) × HasLeft bytes_left rows log
+Takes bytes_left log (Err (fault.Refused number place)) rows = (log ≡ refused_at number place) × HasLeft bytes_left rows log
+Takes bytes_left log (Err fault.Read) rows = ⊤
+Takes bytes_left log (Err fault.Memory) rows = ⊤
+
+-- a row of that number, not before that moment, is the last that was read
+pub record IsNext {R : Type 0} (number ms : ℕ) (rows : Rows R) (row : Row) : Type 0 where
+  pub number_is : row.number ≡ number
+  pub counted : rows_read rows ≡ row.number
+  pub few : row.number ≤ 1000000
+  pub in_order : ms ≤ row.ms
+  pub kept : last_ms rows ≡ row.ms
+  pub early : row.ms < 2 ^ 40
+  pub in_range : IsInRange (brought row.kind)
+
+-- a failed read has its cause in the reader: it has failed since, or its count of failures stands at its end, or as much
+-- was read as may be
+abbrev pub HasCause : ℕ → ℕ → ℕ → ℕ → Type 0
+HasCause failures_before failures start spent = (failures_before < failures) ⊎ (failures ≡ 2 ^ 64 - 1) ⊎ (is_used_up start spent ≡ true)
+
+-- the same of the reader that is lent
+abbrev pub HasCauseIn : {R : Type 0} → (R → ℕ) → (R → ℕ) → ℕ → Rows R → Type 0
+HasCauseIn failures spent before rows = HasCause before (count_in failures rows) (started_at rows) (count_in spent rows)
+
+-- a refusal says what is left; a fault of the reader or of memory says nothing
+abbrev pub Refuses : LogFault → LogOf → Type 0
+Refuses (fault.Refused number place) log = log ≡ refused_at number place
+Refuses fault.Read log = ⊤
+Refuses fault.Memory log = ⊤
+
+-- an answer gives the first row that is left, or tells that none is left, or the refusal
+abbrev pub Gives : {R : Type 0} → (R → Option (List ℕ)) → LogOf → Answer → Rows R → Type 0
+Gives bytes_left log (Ok (Some row)) rows = (before : List Record) × (left : List Record) × (log ≡ with_row (log_row row) (log_behind before left)) × StandsBehind bytes_left rows before left
+Gives bytes_left log (Ok None) rows = log ≡ nothing_left
+Gives bytes_left log (Err met) rows = Refuses met log
+
+-- what a step on the way to a row keeps
+pub record Keeps {R : Type 0} (old new : Rows R) : Type 0 where
+  pub start : new.start ≡ old.start
+  pub end : new.end ≡ old.end
+
+-- the same, and the row at hand
+pub record KeepsRow {R : Type 0} (old new : Rows R) : Type 0 where
+  pub start : new.start ≡ old.start
+  pub end : new.end ≡ old.end
+  pub number : new.number ≡ old.number
+  pub last : new.last ≡ old.last

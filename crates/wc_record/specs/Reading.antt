@@ -1,0 +1,32 @@
+-- What a reader of records has still to give, where it is known.
+use Rattle.std.specs.Prelude.{◌≡◌, ◌∷◌, Bool, true, false, ℕ, List, [], Option, Some, None}
+use Rattle.csv.specs.Reading.{AreRecords, Ready, default_config, has_failed, is_flexible, reader_config, reader_state, reader_trim, reader_source, records, source_of, strip_bom}
+use Rattle.csv.specs.declared.parser.State.{State}
+use Rattle.csv.specs.declared.parser.State.TheVariants as st
+use Rattle.csv.specs.declared.reader.Reader.{Reader}
+use Rattle.csv.specs.declared.reader.Trim.TheVariants as trim
+use Rattle.wc_model.specs.Log.{Record}
+use Rattle.wc_record.specs.declared.bounded.Bounded.{Bounded}
+use Rattle.wc_record.specs.declared.records.Records.{Records}
+
+-- the records that `csv` reads of bytes: a byte order mark at their start is dropped
+abbrev pub records_of : List ℕ → List Record
+records_of bytes = records default_config (strip_bom bytes)
+
+-- the reader that is lent
+abbrev pub lent : {R : Type 0} → Bounded R → R
+lent bounded = bounded.reader.now
+
+-- the bytes behind a reader that is lent
+abbrev pub lent_bytes : {R : Type 0} → (R → Option (List ℕ)) → Bounded R → Option (List ℕ)
+lent_bytes bytes_left bounded = bytes_left (lent bounded)
+
+-- `csv` reads by its defaults, from known bytes, and these records are left
+pub record HasRecords {R : Type 0} (bytes_left : R → Option (List ℕ)) (records : Records R) (left : List Record) : Type 0 where
+  pub config : reader_config records.csv ≡ default_config
+  pub untrimmed : reader_trim records.csv ≡ trim.None
+  pub flexible : is_flexible records.csv ≡ true
+  pub ready : Ready records.csv
+  pub bytes : List ℕ
+  pub known : source_of (lent_bytes bytes_left) records.csv ≡ Some bytes
+  pub are_left : AreRecords default_config (reader_state records.csv) bytes left

@@ -1,0 +1,43 @@
+ghost use Rattle.std.specs.Prelude.{◌≡◌, true, IsErr};
+ghost use Rattle.std.specs.Io.{ReadsAtMost};
+ghost use Rattle.std.specs.Io.KnownBytes.{ReadConsumes};
+ghost use Rattle.wc_record.specs.Bound.{is_used_up};
+
+use std::io;
+use std::io::Read;
+use wc_model::ByteIn;
+
+/// Whether as much was read as may be: 134217728 bytes and calls since the start, or a count at its end.
+pub(crate) fn is_used_up(start: u64, spent: u64) -> bool
+    ensures { result ≡ is_used_up start spent }
+{
+    spent == u64::MAX || spent.saturating_sub(start) >= 134217728
+}
+
+/// Reads, unless as much was read as may be.
+fn read_within<R: ByteIn>(reader: &mut R, start: u64, buffer: &mut [u8]) -> io::Result<usize>
+    ensures bound { ReadsAtMost result buffer.new }
+    ensures bytes { ReadConsumes (R.bytes_left reader.old) (R.bytes_left reader.new) result buffer.new }
+    // What is used up reads no further.
+    ensures used_up { is_used_up start (R.spent_count reader.old) ≡ true → IsErr result × (reader.new ≡ reader.old) }
+{
+    if is_used_up(start, reader.spent()) {
+        return Err(io::Error::from(io::ErrorKind::Other));
+    }
+    reader.read(buffer)
+}
+
+/// A reader that is lent, and the count at which it was.
+#[derive(Drop)]
+pub(crate) struct Bounded<'r, R> {
+    pub(crate) reader: &'r mut R,
+    pub(crate) start: u64,
+}
+
+impl<'r, R: ByteIn> Read for Bounded<'r, R> {
+    ghost remaining = { λ b. R.bytes_left b.reader.now };
+
+    fn read(&mut self, buffer: &mut [u8]) -> io::Result<usize> {
+        read_within(self.reader, self.start, buffer)
+    }
+}

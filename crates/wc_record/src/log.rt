@@ -1,0 +1,216 @@
+ghost use Rattle.std.specs.Prelude.{◌≡◌, ◌⊎◌, ◌∷◌, [], suc, max, ℕ, List, Some, None, true, false, IfOk, IfErr, IfSome, OnOk, IsErrOf};
+ghost use Rattle.csv.specs.Records.{fields_of};
+ghost use Rattle.wc_model.specs.Log.{Record, LogOf, log_of, log_after};
+ghost use Rattle.wc_record.specs.Left.{Gives, HasCauseIn, HasLeft, IsNext, Keeps, KeepsRow, Refuses, StandsBehind, Takes, count_in, ended, last_ms, log_behind, rows_read, started_at};
+ghost use Rattle.wc_record.specs.Left as left;
+ghost use Rattle.wc_record.specs.Reading.{records_of};
+ghost use Rattle.wc_record.specs.Source.{SourceHas};
+
+use crate::bounded::{Bounded, is_used_up};
+use crate::fields::{is_first_row, row_in};
+use crate::records::ReadFault;
+use crate::row_data::RowFault;
+use crate::row_kind::{LogFault, Row};
+use crate::source::Source;
+use csv::ByteRecord;
+use std::alloc::Global;
+use wc_model::ByteIn;
+
+/// How a log ended.
+#[derive(Clone, Copy, Debug, PartialEq, Eq)]
+pub(crate) enum LogEnd {
+    /// No row is left.
+    AllRead,
+    /// A fault was met.
+    Met(LogFault),
+}
+
+/// What each further call answers.
+fn answer_at(end: LogEnd) -> Result<Option<Row>, LogFault>
+    ensures { result ≡ left.answer_at end }
+{
+    match end {
+        LogEnd::AllRead => Ok(None),
+        LogEnd::Met(fault) => Err(fault),
+    }
+}
+
+/// How the log has ended, where that answer ends it.
+fn end_behind(answer: &Result<Option<Row>, LogFault>) -> Option<LogEnd>
+    ensures { result ≡ left.end_behind answer.now }
+{
+    match answer {
+        Ok(Some(_)) => None,
+        Ok(None) => Some(LogEnd::AllRead),
+        Err(fault) => Some(LogEnd::Met(*fault)),
+    }
+}
+
+/// The rows of a log.
+#[derive(Drop)]
+pub struct Rows<'r, R> {
+    alloc: Global,
+    source: Source<'r, R>,
+    row: ByteRecord,
+    start: u64,
+    number: u32,
+    last: u64,
+    end: Option<LogEnd>,
+}
+
+impl<'r, R: ByteIn> Rows<'r, R> {
+    /// The rows of the log that the reader has to give. Nothing is read yet.
+    pub fn new(alloc: Global, reader: &'r mut R) -> Rows<'r, R>
+        ensures rows { IfSome (R.bytes_left reader.old) (λ bytes. HasLeft R.bytes_left result (log_of (records_of bytes))) }
+        ensures fresh { (rows_read result ≡ 0) × (last_ms result ≡ 0) × (ended result ≡ None) }
+        ensures start { started_at result ≡ R.spent_count reader.old }
+        ensures failures { count_in R.failure_count result ≡ R.failure_count reader.old }
+        ensures spent { count_in R.spent_count result ≡ R.spent_count reader.old }
+    {
+        let start = reader.spent();
+        Rows {
+            alloc,
+            source: Source::new(alloc, Bounded { reader, start }),
+            row: ByteRecord::new(alloc),
+            start,
+            number: 0,
+            last: 0,
+            end: None,
+        }
+    }
+
+    /// The fault behind a read that failed: the reader's where it failed in this call or as much was read as may
+    /// be, else memory.
+    fn cause(&self, failures_before: u64) -> LogFault
+        ensures read { (result ≡ LogFault.Read) → HasCauseIn R.failure_count R.spent_count failures_before self.now }
+        ensures fault { (result ≡ LogFault.Read) ⊎ (result ≡ LogFault.Memory) }
+    {
+        let failures = self.source.failures();
+        if failures > failures_before
+            || failures == u64::MAX
+            || is_used_up(self.start, self.source.spent())
+        {
+            LogFault::Read
+        } else {
+            LogFault::Memory
+        }
+    }
+
+    /// Reads the next record, where there is one.
+    fn read(&mut self, failures_before: u64) -> Result<bool, LogFault>
+        ensures next { IfOk result (λ found. found ≡ true → (left : List Record) → SourceHas R.bytes_left self.old.source left → (rest : List Record) × (left ≡ fields_of self.new.row ∷ rest) × SourceHas R.bytes_left self.new.source rest) }
+        ensures end { IfOk result (λ found. found ≡ false → (left : List Record) → SourceHas R.bytes_left self.old.source left → left ≡ []) }
+        ensures fault { IfErr result (λ met. (met ≡ LogFault.Read) ⊎ (met ≡ LogFault.Memory)) }
+        ensures cause { IsErrOf result LogFault.Read → HasCauseIn R.failure_count R.spent_count failures_before self.new }
+        ensures keeps { KeepsRow self.old self.new }
+    {
+        match self.source.read(&mut self.row) {
+            Ok(found) => Ok(found),
+            Err(ReadFault::Memory) => Err(LogFault::Memory),
+            Err(ReadFault::Device) => Err(self.cause(failures_before)),
+        }
+    }
+
+    /// Reads the first row, which is no row of the log.
+    fn first_row(&mut self, failures_before: u64) -> Result<(), LogFault>
+        ensures first { OnOk result ((left : List Record) → StandsBehind R.bytes_left self.old [] left → (fields : Record) × (rest : List Record) × (log_of left ≡ log_after (fields ∷ []) rest) × StandsBehind R.bytes_left self.new (fields ∷ []) rest) }
+        ensures refused { IfErr result (λ met. (left : List Record) → StandsBehind R.bytes_left self.old [] left → Refuses met (log_of left)) }
+        ensures cause { IsErrOf result LogFault.Read → HasCauseIn R.failure_count R.spent_count failures_before self.new }
+        ensures counted { OnOk result ((rows_read self.new ≡ 1) × (last_ms self.new ≡ last_ms self.old)) }
+        ensures keeps { Keeps self.old self.new }
+    {
+        match self.read(failures_before) {
+            Ok(found) => {
+                if found && is_first_row(&self.row) {
+                    self.number = 1;
+                    Ok(())
+                } else {
+                    Err(LogFault::Refused {
+                        number: 601,
+                        place: 1,
+                    })
+                }
+            }
+            Err(fault) => Err(fault),
+        }
+    }
+
+    /// The row that the record writes.
+    fn judged(&mut self) -> Result<Option<Row>, LogFault>
+        ensures gives { (first : Record) (before rest : List Record) → StandsBehind R.bytes_left self.old (first ∷ before) rest → Gives R.bytes_left (log_after (first ∷ before) (fields_of self.old.row ∷ rest)) result self.new }
+        ensures row { IfOk result (λ given. IfSome given (λ row. IsNext (suc (rows_read self.old)) (last_ms self.old) self.new row)) }
+        ensures no_device { IfErr result (λ met. met ≡ LogFault.Read → ⊥) }
+        ensures keeps { Keeps self.old self.new }
+    {
+        if self.number >= 1000000 {
+            return Err(LogFault::Refused {
+                number: 607,
+                place: self.number.saturating_add(1),
+            });
+        }
+        let number = self.number + 1;
+        match row_in(self.alloc, &self.row, number, self.last) {
+            Ok(row) => {
+                self.number = number;
+                self.last = row.ms;
+                Ok(Some(row))
+            }
+            Err(RowFault::Refused(rule)) => Err(LogFault::Refused {
+                number: rule,
+                place: number,
+            }),
+            Err(RowFault::Memory) => Err(LogFault::Memory),
+        }
+    }
+
+    /// The next row behind the first.
+    fn later_row(&mut self, failures_before: u64) -> Result<Option<Row>, LogFault>
+        ensures gives { (first : Record) (before left : List Record) → StandsBehind R.bytes_left self.old (first ∷ before) left → Gives R.bytes_left (log_after (first ∷ before) left) result self.new }
+        ensures row { IfOk result (λ given. IfSome given (λ row. IsNext (suc (rows_read self.old)) (last_ms self.old) self.new row)) }
+        ensures cause { IsErrOf result LogFault.Read → HasCauseIn R.failure_count R.spent_count failures_before self.new }
+        ensures keeps { Keeps self.old self.new }
+    {
+        match self.read(failures_before) {
+            Ok(true) => self.judged(),
+            Ok(false) => Ok(None),
+            Err(fault) => Err(fault),
+        }
+    }
+
+    /// The next row, where nothing has ended the log.
+    fn next_row(&mut self) -> Result<Option<Row>, LogFault>
+        ensures gives { (before left : List Record) → StandsBehind R.bytes_left self.old before left → Gives R.bytes_left (log_behind before left) result self.new }
+        ensures row { IfOk result (λ given. IfSome given (λ row. IsNext (suc (max 1 (rows_read self.old))) (last_ms self.old) self.new row)) }
+        ensures cause { IsErrOf result LogFault.Read → HasCauseIn R.failure_count R.spent_count (count_in R.failure_count self.old) self.new }
+        ensures keeps { Keeps self.old self.new }
+    {
+        let failures_before = self.source.failures();
+        if self.number == 0 {
+            match self.first_row(failures_before) {
+                Ok(()) => self.later_row(failures_before),
+                Err(fault) => Err(fault),
+            }
+        } else {
+            self.later_row(failures_before)
+        }
+    }
+
+    /// The next row, where there is one.
+    pub fn next(&mut self) -> Result<Option<Row>, LogFault>
+        ensures takes { (log : LogOf) → HasLeft R.bytes_left self.old log → Takes R.bytes_left log result self.new }
+        ensures row { IfOk result (λ given. IfSome given (λ row. IsNext (suc (max 1 (rows_read self.old))) (last_ms self.old) self.new row)) }
+        ensures ends { ended self.new ≡ left.end_behind result }
+        ensures again { IfSome (ended self.old) (λ end. (result ≡ left.answer_at end) × (self.new ≡ self.old)) }
+        ensures cause { ended self.old ≡ None → IsErrOf result LogFault.Read → HasCauseIn R.failure_count R.spent_count (count_in R.failure_count self.old) self.new }
+        ensures start { started_at self.new ≡ started_at self.old }
+    {
+        match self.end {
+            Some(end) => answer_at(end),
+            None => {
+                let answer = self.next_row();
+                self.end = end_behind(&answer);
+                answer
+            }
+        }
+    }
+}

@@ -1,0 +1,70 @@
+ghost use Rattle.std.specs.Prelude.{◌≡◌, ◌∷◌, [], ◌⊎◌, ℕ, List, Some, true, false, IfOk, IsErrOf};
+ghost use Rattle.csv.specs.Records.{fields_of};
+ghost use Rattle.csv.specs.Reading.{reader_source};
+ghost use Rattle.wc_model.specs.Log.{Record};
+ghost use Rattle.wc_record.specs.Reading.{HasRecords, lent, records_of};
+
+use crate::bounded::Bounded;
+use csv::{ByteRecord, ErrorKind, Reader, ReaderBuilder};
+use std::alloc::Global;
+use wc_model::ByteIn;
+
+/// Why no record was read.
+pub(crate) enum ReadFault {
+    /// The reader answered an error.
+    Device,
+    /// Memory was refused.
+    Memory,
+}
+
+/// The records of a log, one after the other.
+#[derive(Drop)]
+pub(crate) struct Records<'r, R> {
+    csv: Reader<Bounded<'r, R>>,
+}
+
+impl<'r, R: ByteIn> Records<'r, R> {
+    /// The records that the reader has to give: no header, of any number of fields, which keep their blanks.
+    pub(crate) fn new(alloc: Global, bounded: Bounded<'r, R>) -> Records<'r, R>
+        ensures records { (bytes : List ℕ) → R.bytes_left (lent bounded.entry) ≡ Some bytes → HasRecords R.bytes_left result (records_of bytes) }
+        ensures lent { lent (reader_source result.csv) ≡ lent bounded.entry }
+    {
+        Records {
+            csv: ReaderBuilder::new()
+                .has_headers(false)
+                .flexible(true)
+                .from_reader(alloc, bounded),
+        }
+    }
+
+    /// Reads the next record into `row`, where there is one.
+    pub(crate) fn read(&mut self, row: &mut ByteRecord) -> Result<bool, ReadFault>
+        ensures next { IfOk result (λ found. found ≡ true → (left : List Record) → HasRecords R.bytes_left self.old left → (rest : List Record) × (left ≡ fields_of row.new ∷ rest) × HasRecords R.bytes_left self.new rest) }
+        ensures end { IfOk result (λ found. found ≡ false → (left : List Record) → HasRecords R.bytes_left self.old left → left ≡ []) }
+    {
+        match self.csv.read_byte_record(row) {
+            Ok(found) => Ok(found),
+            Err(error) => {
+                if error.is_io_error() {
+                    Err(ReadFault::Device)
+                } else {
+                    Err(ReadFault::Memory)
+                }
+            }
+        }
+    }
+
+    /// How many calls of the reader failed.
+    pub(crate) fn failures(&self) -> u64
+        ensures { result ≡ R.failure_count (lent (reader_source self.now.csv)) }
+    {
+        self.csv.get_ref().reader.failures()
+    }
+
+    /// What the reader has given, and its calls.
+    pub(crate) fn spent(&self) -> u64
+        ensures { result ≡ R.spent_count (lent (reader_source self.now.csv)) }
+    {
+        self.csv.get_ref().reader.spent()
+    }
+}

@@ -1,0 +1,84 @@
+ghost use Rattle.std.specs.Prelude.{◌≡◌, ◌∷◌, [], ℕ, List, Some, true, false, IfOk, IfSome};
+ghost use Rattle.csv.specs.Records.{fields_of};
+ghost use Rattle.wc_model.specs.Log.{Record};
+ghost use Rattle.wc_record.specs.Source.{SourceHas, counted_in};
+ghost use Rattle.wc_record.specs.Reading.{records_of};
+
+use crate::bounded::Bounded;
+use crate::records::{ReadFault, Records};
+use csv::ByteRecord;
+use std::alloc::Global;
+use wc_model::ByteIn;
+
+/// A reader of records that is made when the first of them is read.
+#[derive(Drop)]
+pub(crate) struct Source<'r, R> {
+    alloc: Global,
+    unread: Option<Bounded<'r, R>>,
+    opened: Option<Records<'r, R>>,
+}
+
+impl<'r, R: ByteIn> Source<'r, R> {
+    /// The records that the reader has to give, none of which is read yet.
+    pub(crate) fn new(alloc: Global, bounded: Bounded<'r, R>) -> Source<'r, R>
+        ensures records { IfSome (R.bytes_left bounded.entry.reader.now) (λ bytes. SourceHas R.bytes_left result (records_of bytes)) }
+        ensures failures { counted_in R.failure_count result ≡ R.failure_count bounded.entry.reader.now }
+        ensures spent { counted_in R.spent_count result ≡ R.spent_count bounded.entry.reader.now }
+    {
+        Source {
+            alloc,
+            unread: Some(bounded),
+            opened: None,
+        }
+    }
+
+    /// Makes the reader of records, where it is not made yet.
+    fn open(&mut self)
+        ensures records { (left : List Record) → SourceHas R.bytes_left self.old left → SourceHas R.bytes_left self.new left }
+    {
+        if self.opened.is_some() {
+            return;
+        }
+        if let Some(bounded) = self.unread.take() {
+            self.opened.replace(Records::new(self.alloc, bounded));
+        }
+    }
+
+    /// Reads the next record into `row`, where there is one.
+    pub(crate) fn read(&mut self, row: &mut ByteRecord) -> Result<bool, ReadFault>
+        ensures next { IfOk result (λ found. found ≡ true → (left : List Record) → SourceHas R.bytes_left self.old left → (rest : List Record) × (left ≡ fields_of row.new ∷ rest) × SourceHas R.bytes_left self.new rest) }
+        ensures end { IfOk result (λ found. found ≡ false → (left : List Record) → SourceHas R.bytes_left self.old left → left ≡ []) }
+    {
+        self.open();
+        match &mut self.opened {
+            Some(records) => records.read(row),
+            None => Err(ReadFault::Memory),
+        }
+    }
+
+    /// How many calls of the reader failed.
+    pub(crate) fn failures(&self) -> u64
+        ensures { result ≡ counted_in R.failure_count self.now }
+    {
+        match &self.opened {
+            Some(records) => records.failures(),
+            None => match &self.unread {
+                Some(bounded) => bounded.reader.failures(),
+                None => 0,
+            },
+        }
+    }
+
+    /// What the reader has given, and its calls.
+    pub(crate) fn spent(&self) -> u64
+        ensures { result ≡ counted_in R.spent_count self.now }
+    {
+        match &self.opened {
+            Some(records) => records.spent(),
+            None => match &self.unread {
+                Some(bounded) => bounded.reader.spent(),
+                None => 0,
+            },
+        }
+    }
+}
