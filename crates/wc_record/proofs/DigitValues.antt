@@ -1,5 +1,5 @@
 -- Decimal digits as numbers.
-use Rattle.std.proofs.Common.{◌≡◌, ◌≤◌, ◌<◌, ◌+◌, ◌*◌, ◌-◌, ◌^◌, get_or, ℕ, zero, suc, subst, add-zero, add-suc, Bool, true, false, List, [], ◌∷◌, length, map, ◌&&◌, refl, sym, ap, ◌∙◌, arith}
+use Rattle.std.proofs.Common.{◌≡◌, ◌≤◌, ◌<◌, ◌+◌, ◌*◌, ◌-◌, ◌^◌, get_or, ℕ, zero, suc, subst, add-zero, add-suc, Bool, true, false, List, [], ◌∷◌, length, map, ◌&&◌, refl, arith}
 use Rattle.std.specs.Char.{is_ascii_digit}
 use Rattle.std.specs.Int.Digits.{AllBelowBase, number_from_digits, number_from_digits_after}
 use Rattle.std.specs.List.{list_all}

@@ -1,20 +1,17 @@
 -- One step of a log, from a record that was read.
-use Rattle.std.proofs.Common.{◌≡◌, ◌≤◌, ◌<◌, ◌+◌, ◌^◌, ◌&&◌, ℕ, zero, suc, Bool, true, false, cond, List, [], ◌∷◌, length, Option, Some, None, Result, Ok, Err, refl, sym, ap, ◌∙◌, arith, add-one}
+use Rattle.std.proofs.Common.{◌≡◌, ◌≤◌, ◌<◌, ◌+◌, ◌^◌, ◌&&◌, ℕ, suc, Bool, true, false, cond, List, [], ◌∷◌, length, Option, Some, None, Result, Ok, Err, refl, sym, ap, ◌∙◌, arith}
 use Rattle.std.proofs.lemmas.Bool.Decides.{nat_tests}
 use Rattle.std.proofs.lemmas.Slice.Eq.{bytes_eq-Decides}
 use Rattle.std.specs.Prelude.{codes, nat_le, nat_lt, IfSome}
 use Rattle.std.specs.Str.{bytes_eq}
 use Rattle.wc_model.specs.Log.{Record, LogOf, first_row, has_fields, last_moment, log_after, log_of, log_with, moment_of, number_within, refused_at, row_at, row_data_of, row_from, row_of, row_of_fields, where_passes, with_row}
 use Rattle.wc_model.specs.Rows.{LogRow, RowData}
-use Rattle.wc_record.specs.Left.{Answer, EndSays, Gives, HasLeft, IsLeft, StandsBehind, Takes, answer_at, end_behind, log_behind, moment_or_zero}
+use Rattle.wc_record.specs.Left.{Answer, Gives, HasLeft, IsLeft, Takes, end_behind, log_behind, moment_or_zero}
 use Rattle.wc_record.specs.Reading.{records_of}
 use Rattle.wc_record.specs.Source.{SourceHas}
 use Rattle.wc_record.specs.declared.log.LogEnd.{LogEnd}
-use Rattle.wc_record.specs.declared.log.LogEnd.TheVariants.{AllRead, Met}
 use Rattle.wc_record.specs.declared.log.Rows.{Rows}
-use Rattle.wc_record.specs.declared.row_kind.LogFault.{LogFault}
 use Rattle.wc_record.specs.declared.row_kind.LogFault.TheVariants as fault
-use Rattle.wc_record.specs.declared.row_kind.Row.{Row}
 
 -- a moment is below 2^40
 moment_early : (o : Option ℕ) (ms : ℕ) → where_passes (λ n. nat_le n 1099511627775) o ≡ Some ms → ms < 2 ^ 40

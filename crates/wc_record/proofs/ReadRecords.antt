@@ -1,13 +1,11 @@
 -- What one read of `csv` takes of the records that are left.
-use Rattle.std.proofs.Common.{◌≡◌, ℕ, Bool, true, false, List, [], ◌∷◌, Option, Some, None, refl, sym, ap, ◌∙◌, inl}
+use Rattle.std.proofs.Common.{◌≡◌, ℕ, true, false, List, [], ◌∷◌, Option, Some, None, refl, sym, ap, ◌∙◌, inl}
 use Rattle.csv.specs.Machine.{Read, next_record}
-use Rattle.csv.specs.Reading.{AreRecords, NextIs, Reached, ReadRecord, ReadsNext, is_flexible, pending_of, source_of, took_first}
+use Rattle.csv.specs.Reading.{AreRecords, NextIs, Reached, ReadRecord, ReadsNext, is_flexible, pending_of, took_first}
 use Rattle.csv.specs.declared.parser.Config.{Config}
 use Rattle.csv.specs.declared.parser.State.{State}
-use Rattle.csv.specs.declared.reader.Reader.{Reader}
 use Rattle.wc_model.specs.Log.{Record}
 use Rattle.wc_record.specs.Reading.{HasRecords, lent_bytes}
-use Rattle.wc_record.specs.declared.bounded.Bounded.{Bounded}
 use Rattle.wc_record.specs.declared.records.Records.{Records}
 
 -- a record that was found is the first that is left
@@ -52,16 +50,19 @@ pub next_left : {R : Type 0} (bytes_left : R → Option (List ℕ)) (old new : R
     → ReadRecord (lent_bytes bytes_left) old.csv new.csv true fields → took_first new.csv ≡ true → is_flexible new.csv ≡ is_flexible old.csv
     → (rest : List Record) × (left ≡ fields ∷ rest) × HasRecords bytes_left new rest
 next_left bytes_left old new fields left h r first flexible =
-    let t = found_one _ old.csv.state new.csv.state h.bytes fields (pending_of (lent_bytes bytes_left new.csv.rdr) new.csv) left h.are_left (rw (h.config, h.known) at r.0) in
-    (t.rest, t.first, record {
-      config = r.2 ∙ h.config;
-      untrimmed = r.3 ∙ h.untrimmed;
-      flexible = flexible ∙ h.flexible;
-      ready = inl first;
-      bytes = t.bytes;
-      known = rw r.1 t.known;
-      are_left = t.are_left;
-    })
+    let t = found_one _ old.csv.state new.csv.state h.bytes fields (pending_of (lent_bytes bytes_left new.csv.rdr) new.csv) left h.are_left (rw (h.config, h.known) at r.0) in (
+      t.rest,
+      t.first,
+      record {
+        config = r.2 ∙ h.config;
+        untrimmed = r.3 ∙ h.untrimmed;
+        flexible = flexible ∙ h.flexible;
+        ready = inl first;
+        bytes = t.bytes;
+        known = rw r.1 t.known;
+        are_left = t.are_left;
+      },
+    )
 
 -- the read that finds no record
 pub none_left : {R : Type 0} (bytes_left : R → Option (List ℕ)) (old new : Records R) (fields : Record) (left : List Record) → HasRecords bytes_left old left

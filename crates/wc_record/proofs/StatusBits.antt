@@ -1,5 +1,5 @@
 -- Six bits as one number.
-use Rattle.std.proofs.Common.{◌≡◌, ◌+◌, ◌*◌, ℕ, Bool, cond, List, [], ◌∷◌, refl, add-zero}
+use Rattle.std.proofs.Common.{◌≡◌, ◌+◌, ◌*◌, ℕ, Bool, cond, [], ◌∷◌, refl, add-zero}
 use Rattle.wc_model.specs.ProcessImage.{number_of_bits}
 
 -- a bit as a number

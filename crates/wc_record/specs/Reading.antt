@@ -1,9 +1,6 @@
 -- What a reader of records has still to give, where it is known.
-use Rattle.std.specs.Prelude.{◌≡◌, ◌∷◌, Bool, true, false, ℕ, List, [], Option, Some, None}
-use Rattle.csv.specs.Reading.{AreRecords, Ready, default_config, has_failed, is_flexible, reader_config, reader_state, reader_trim, reader_source, records, source_of, strip_bom}
-use Rattle.csv.specs.declared.parser.State.{State}
-use Rattle.csv.specs.declared.parser.State.TheVariants as st
-use Rattle.csv.specs.declared.reader.Reader.{Reader}
+use Rattle.std.specs.Prelude.{◌≡◌, true, ℕ, List, Option, Some}
+use Rattle.csv.specs.Reading.{AreRecords, Ready, default_config, is_flexible, reader_config, reader_state, reader_trim, records, source_of, strip_bom}
 use Rattle.csv.specs.declared.reader.Trim.TheVariants as trim
 use Rattle.wc_model.specs.Log.{Record}
 use Rattle.wc_record.specs.declared.bounded.Bounded.{Bounded}

@@ -1,7 +1,6 @@
 -- What a source of records has still to give, where it is known.
-use Rattle.std.specs.Prelude.{◌≡◌, ℕ, List, [], Option, Some, None, IfSome}
+use Rattle.std.specs.Prelude.{◌≡◌, ℕ, List, Option, Some, None}
 use Rattle.csv.specs.Reading.{reader_source}
-use Rattle.csv.specs.Records.{fields_of}
 use Rattle.wc_model.specs.Log.{Record}
 use Rattle.wc_record.specs.Reading.{HasRecords, lent, records_of}
 use Rattle.wc_record.specs.declared.bounded.Bounded.{Bounded}

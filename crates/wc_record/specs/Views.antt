@@ -1,5 +1,5 @@
 -- What the rows of this crate stand for, and what their answers say.
-use Rattle.std.specs.Prelude.{◌≡◌, ◌≤◌, ◌<◌, ◌^◌, ◌≤ℤ◌, ⊤, ℕ, length, List, [], ◌∷◌, Option, Some, None, Result, Ok, Err}
+use Rattle.std.specs.Prelude.{◌≡◌, ◌≤◌, ◌<◌, ◌^◌, ◌≤ℤ◌, ⊤, ℕ, length, [], ◌∷◌, Option, Some, None, Result, Ok, Err}
 use Rattle.wc_model.specs.Log.{Record}
 use Rattle.wc_model.specs.Plates.{least_sample, greatest_sample}
 use Rattle.wc_model.specs.Rows.{RowData, LogRow, Counts, Bytes, Inputs, Scan}

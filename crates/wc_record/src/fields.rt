@@ -48,7 +48,12 @@ pub(crate) fn is_first_row(row: &ByteRecord) -> bool
 }
 
 /// The row of that number that a record writes, where the last row's moment was `last`, 0 before any.
-pub(crate) fn row_in(alloc: Global, row: &ByteRecord, number: u32, last: u64) -> Result<Row, RowFault>
+pub(crate) fn row_in(
+    alloc: Global,
+    row: &ByteRecord,
+    number: u32,
+    last: u64,
+) -> Result<Row, RowFault>
     ensures says { SaysRow result (row_of_fields number (Some last) (fields_of row.now)) }
     ensures range { IfOk result (λ read. IsInRange (brought read.kind)) }
 {

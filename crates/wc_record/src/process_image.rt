@@ -5,7 +5,6 @@ ghost use Rattle.wc_model.specs.ProcessImage.{image_with, status_of, weights_of}
 use wc_indicator::Indicator;
 use wc_model::Image;
 
-
 /// A bit as a number.
 fn bit(set: bool) -> u8
     ensures { result ≡ (if set then 1 else 0) }
@@ -22,8 +21,7 @@ fn status(indicator: &Indicator) -> u8
         + 2 * (bit(indicator.over())
             + 2 * (bit(indicator.under())
                 + 2 * (bit(indicator.centre())
-                    + 2 * (bit(indicator.tare_active())
-                        + 2 * bit(indicator.valid())))))
+                    + 2 * (bit(indicator.tare_active()) + 2 * bit(indicator.valid())))))
 }
 
 /// The gross weight, the net weight and the tare value, all 0 without an indication.

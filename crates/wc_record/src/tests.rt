@@ -36,7 +36,8 @@ fn refused(number: u16, place: u32) -> Option<LogFault> {
 #[test]
 fn rows_of_each_kind(rt: HostRuntime) {
     let alloc = rt.alloc();
-    let text = b"ms,kind,data\r\n\r\n0,C,-8388608\r\n\n5,L,0a5A0d\n\"5\",\"I\",\"fF01\"\n0000000000006,S,\n7,L,\n8,C,-0\n1099511627775,C,0008388607";
+    let text =
+        b"ms,kind,data\r\n\r\n0,C,-8388608\r\n\n5,L,0a5A0d\n\"5\",\"I\",\"fF01\"\n0000000000006,S,\n7,L,\n8,C,-0\n1099511627775,C,0008388607";
     let mut device = Device::new(text.as_slice());
     let mut rows = Rows::new(alloc, &mut device);
     for (want_number, want_ms) in [
@@ -93,10 +94,22 @@ fn refusals(rt: HostRuntime) {
         (b"\xef\xbb\xbf\"ms\",kind,data\n".as_slice(), 0, None),
         (b"ms,kind,data\n0,S\n".as_slice(), 0, refused(601, 2)),
         (b"ms,kind,data\n0,S,,\n".as_slice(), 0, refused(601, 2)),
-        (b"ms,kind,data\nms,kind,data\n".as_slice(), 0, refused(602, 2)),
+        (
+            b"ms,kind,data\nms,kind,data\n".as_slice(),
+            0,
+            refused(602, 2),
+        ),
         (b"ms,kind,data\n,S,\n".as_slice(), 0, refused(602, 2)),
-        (b"ms,kind,data\n1099511627776,S,".as_slice(), 0, refused(602, 2)),
-        (b"ms,kind,data\n00000000000000,S,".as_slice(), 0, refused(602, 2)),
+        (
+            b"ms,kind,data\n1099511627776,S,".as_slice(),
+            0,
+            refused(602, 2),
+        ),
+        (
+            b"ms,kind,data\n00000000000000,S,".as_slice(),
+            0,
+            refused(602, 2),
+        ),
         (b"ms,kind,data\n+1,S,".as_slice(), 0, refused(602, 2)),
         (b"ms,kind,data\n5,S,\n4,S,\n".as_slice(), 1, refused(603, 3)),
         (b"ms,kind,data\n5,S,\n4,X,\n".as_slice(), 1, refused(603, 3)),
@@ -104,11 +117,23 @@ fn refusals(rt: HostRuntime) {
         (b"ms,kind,data\n0,X,\n".as_slice(), 0, refused(604, 2)),
         (b"ms,kind,data\n0,s,\n".as_slice(), 0, refused(604, 2)),
         (b"ms,kind,data\n0,,\n".as_slice(), 0, refused(604, 2)),
-        (b"ms,kind,data\n0,C,8388608\n".as_slice(), 0, refused(605, 2)),
-        (b"ms,kind,data\n0,C,-8388609\n".as_slice(), 0, refused(605, 2)),
+        (
+            b"ms,kind,data\n0,C,8388608\n".as_slice(),
+            0,
+            refused(605, 2),
+        ),
+        (
+            b"ms,kind,data\n0,C,-8388609\n".as_slice(),
+            0,
+            refused(605, 2),
+        ),
         (b"ms,kind,data\n0,C,-\n".as_slice(), 0, refused(605, 2)),
         (b"ms,kind,data\n0,C,+0\n".as_slice(), 0, refused(605, 2)),
-        (b"ms,kind,data\n0,C,00000000001\n".as_slice(), 0, refused(605, 2)),
+        (
+            b"ms,kind,data\n0,C,00000000001\n".as_slice(),
+            0,
+            refused(605, 2),
+        ),
         (b"ms,kind,data\n0,L,0A5\n".as_slice(), 0, refused(606, 2)),
         (b"ms,kind,data\n0,L,0g\n".as_slice(), 0, refused(606, 2)),
         (b"ms,kind,data\n0,I,001\n".as_slice(), 0, refused(606, 2)),
@@ -237,7 +262,8 @@ fn blank_lines_until_the_count_ends(rt: HostRuntime) {
 #[test]
 fn images(rt: HostRuntime) {
     let alloc = rt.alloc();
-    let text = b"unit = \"kg\"\ndecimals = 3\nmax = 15000\ne = 5\nzero_counts = 10000\nspan_counts = 600000\nwindow = 4\n";
+    let text =
+        b"unit = \"kg\"\ndecimals = 3\nmax = 15000\ne = 5\nzero_counts = 10000\nspan_counts = 600000\nwindow = 4\n";
     for (counts, status, gross) in [
         (10000, 1 + 8 + 32, 0),
         (10100, 1 + 32, 5),

@@ -1,4 +1,4 @@
-use Rattle.std.proofs.Common.{sym, ap, ◌∙◌, option_map}
+use Rattle.std.proofs.Common.{ap, ◌∙◌, option_map}
 use Rattle.wc_record.proofs.ThreeFields.{no_first, no_second, no_third, a_fourth, just_three}
 use Rattle.wc_record.proofs.fields.three_fields.Goals as goal
 use Rattle.wc_record.specs.Views.{fields_seen}

@@ -1,4 +1,3 @@
-use Rattle.std.proofs.Common.{arith, refl, sym, ◌∙◌, ap}
 use Rattle.wc_record.proofs.HexDigits.{word_read, word_refused}
 use Rattle.wc_record.proofs.hexadecimal.inputs_word.Goals as goal
 

@@ -1,4 +1,3 @@
-use Rattle.std.proofs.Common.{arith, refl, sym, ◌∙◌, ap}
 use Rattle.wc_record.proofs.HexDigits.{piece_few, piece_read, piece_not_read, piece_too_long}
 use Rattle.wc_record.proofs.hexadecimal.line_piece.Goals as goal
 

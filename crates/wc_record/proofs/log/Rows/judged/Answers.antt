@@ -8,16 +8,20 @@ use Rattle.wc_record.specs.Views.{log_row}
 pub returns-in-Ok-clause-gives : goal.returns-in-Ok-clause-gives
 returns-in-Ok-clause-gives g c =
     λ first before rest stands.
-      let fields = fields_of c.args.self.now.row in
-      let says = c.in-Ok.ensures.says in
-      let facts = row_facts _ c.args.self.now.last fields (log_row c.in-Ok.row) says in
-      let counted = stands.number in
-      (fields ∷ (first ∷ before), rest, step_row (first ∷ before) rest fields c.args.self.now.number c.args.self.now.last (log_row c.in-Ok.row) stands.number c.if-self-ge1000000.false stands.last says, record {
+    let fields = fields_of c.args.self.now.row in
+    let says = c.in-Ok.ensures.says in
+    let facts = row_facts _ c.args.self.now.last fields (log_row c.in-Ok.row) says in
+    let counted = stands.number in (
+      fields ∷ (first ∷ before),
+      rest,
+      step_row (first ∷ before) rest fields c.args.self.now.number c.args.self.now.last (log_row c.in-Ok.row) stands.number c.if-self-ge1000000.false stands.last says,
+      record {
         has = stands.has;
         number = add-one c.args.self.now.number ∙ ap suc stands.number;
         last = sym (ap moment_or_zero (facts.moment (first ∷ before)));
         few = omega arith;
-      })
+      },
+    )
 
 pub returns-in-Ok-clause-row : goal.returns-in-Ok-clause-row
 returns-in-Ok-clause-row g c =
@@ -35,4 +39,4 @@ returns-in-Ok-clause-row g c =
 pub returns-in-Err-Refused-clause-gives : goal.returns-in-Err-Refused-clause-gives
 returns-in-Err-Refused-clause-gives g c =
     λ first before rest stands.
-      step_refused (first ∷ before) rest (fields_of c.args.self.now.row) c.args.self.now.number c.args.self.now.last c.in-Err-Refused.rule stands.number c.if-self-ge1000000.false stands.last (rw c.in-Err-Refused.field-0-is at c.in-Err-Refused.ensures.says)
+    step_refused (first ∷ before) rest (fields_of c.args.self.now.row) c.args.self.now.number c.args.self.now.last c.in-Err-Refused.rule stands.number c.if-self-ge1000000.false stands.last (rw c.in-Err-Refused.field-0-is at c.in-Err-Refused.ensures.says)

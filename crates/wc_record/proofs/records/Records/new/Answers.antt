@@ -1,4 +1,4 @@
-use Rattle.std.proofs.Common.{◌≡◌, true, false, inr, ap, refl, sym, ◌∙◌, option_map}
+use Rattle.std.proofs.Common.{◌≡◌, true, false, inr, ap, ◌∙◌, option_map}
 use Rattle.csv.specs.Reading.{builder_config, builder_is_flexible, builder_names_headers, builder_trim, strip_bom, with_flexible, with_names_headers}
 use Rattle.wc_record.proofs.RecordEnds.{records_are_all}
 use Rattle.wc_record.proofs.records.Records.new.Goals as goal
@@ -7,17 +7,17 @@ use Rattle.wc_record.specs.Reading.{lent}
 pub returns-clause-records : goal.returns-clause-records
 returns-clause-records g c =
     λ bytes e.
-      let fr = c.from_reader.ensures in
-      let built : c.flexible.result.now ≡ with_flexible (with_names_headers c.new.result false) true = rw c.has_headers.ensures at c.flexible.ensures in
-      record {
-        config = fr.config ∙ ap builder_config built ∙ c.new.ensures.config;
-        untrimmed = fr.trim ∙ ap builder_trim built ∙ c.new.ensures.trim;
-        flexible = fr.flexible ∙ ap builder_is_flexible built;
-        ready = inr (inr (fr.has_headers ∙ ap builder_names_headers built, fr.headers));
-        bytes = strip_bom bytes;
-        known = fr.source ∙ ap (option_map strip_bom) e;
-        are_left = rw fr.state (records_are_all _ (strip_bom bytes));
-      }
+    let fr = c.from_reader.ensures in
+    let built : c.flexible.result.now ≡ with_flexible (with_names_headers c.new.result false) true = rw c.has_headers.ensures at c.flexible.ensures in
+    record {
+      config = fr.config ∙ ap builder_config built ∙ c.new.ensures.config;
+      untrimmed = fr.trim ∙ ap builder_trim built ∙ c.new.ensures.trim;
+      flexible = fr.flexible ∙ ap builder_is_flexible built;
+      ready = inr (inr (fr.has_headers ∙ ap builder_names_headers built, fr.headers));
+      bytes = strip_bom bytes;
+      known = fr.source ∙ ap (option_map strip_bom) e;
+      are_left = rw fr.state (records_are_all _ (strip_bom bytes));
+    }
 
 pub returns-clause-lent : goal.returns-clause-lent
 returns-clause-lent g c = ap lent c.from_reader.ensures.rdr

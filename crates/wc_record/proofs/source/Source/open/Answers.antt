@@ -5,5 +5,5 @@ use Rattle.wc_record.proofs.source.Source.open.Goals as goal
 pub returns-in-Some : goal.returns-in-Some
 returns-in-Some g c = record {
   records = kept_at_opening g.R.ByteIn.bytes_left c.args.self.now.opened c.replace.new.self c.args.self.now.unread c.take.new.self c.in-Some.bounded c.new.result
-    c.if-is_some.ensures (sym c.in-Some.ensures.value) c.replace.ensures.after c.new.ensures.records;
+      c.if-is_some.ensures (sym c.in-Some.ensures.value) c.replace.ensures.after c.new.ensures.records;
 }
