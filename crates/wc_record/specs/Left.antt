@@ -63,6 +63,10 @@ pub record StandsBehind {R : Type 0} (bytes_left : R → Option (List ℕ)) (row
   pub last : rows.last ≡ moment_or_zero (last_moment before)
   pub few : rows.number ≤ 1000000
 
+-- the first row was read, and behind it stands this log
+abbrev pub IsBehindFirst : {R : Type 0} → (R → Option (List ℕ)) → Rows R → LogOf → Type 0
+IsBehindFirst bytes_left rows log = (fields : Record) × (rest : List Record) × (log ≡ log_after (fields ∷ []) rest) × StandsBehind bytes_left rows (fields ∷ []) rest
+
 -- a log of which nothing is left
 abbrev pub nothing_left : LogOf
 nothing_left = record { rows = []; refusal = None }

@@ -1,5 +1,5 @@
 -- What a reader of records has still to give, where it is known.
-use Rattle.std.specs.Prelude.{◌≡◌, true, ℕ, List, Option, Some}
+use Rattle.std.specs.Prelude.{◌≡◌, ◌∷◌, [], Bool, true, false, ℕ, List, Option, Some}
 use Rattle.csv.specs.Reading.{AreRecords, Ready, default_config, is_flexible, reader_config, reader_state, reader_trim, records, source_of, strip_bom}
 use Rattle.csv.specs.declared.reader.Trim.TheVariants as trim
 use Rattle.wc_model.specs.Log.{Record}
@@ -27,3 +27,8 @@ pub record HasRecords {R : Type 0} (bytes_left : R → Option (List ℕ)) (recor
   pub bytes : List ℕ
   pub known : source_of (lent_bytes bytes_left) records.csv ≡ Some bytes
   pub are_left : AreRecords default_config (reader_state records.csv) bytes left
+
+-- a read that found a record took the first that was left, and one that found none had none left
+abbrev pub TakesFirst : (List Record → Type 0) → (List Record → Type 0) → Bool → Record → Type 0
+TakesFirst had has true fields = (left : List Record) → had left → (rest : List Record) × (left ≡ fields ∷ rest) × has rest
+TakesFirst had has false fields = (left : List Record) → had left → left ≡ []

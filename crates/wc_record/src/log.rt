@@ -1,9 +1,9 @@
 ghost use Rattle.std.specs.Prelude.{◌≡◌, ◌⊎◌, ◌∷◌, [], suc, max, ℕ, List, Some, None, true, false, IfOk, IfErr, IfSome, OnOk, IsErrOf};
 ghost use Rattle.csv.specs.Records.{fields_of};
 ghost use Rattle.wc_model.specs.Log.{Record, LogOf, log_of, log_after};
-ghost use Rattle.wc_record.specs.Left.{Gives, HasCauseIn, HasLeft, IsNext, Keeps, KeepsRow, Refuses, StandsBehind, Takes, count_in, ended, last_ms, log_behind, rows_read, started_at};
+ghost use Rattle.wc_record.specs.Left.{Gives, HasCauseIn, HasLeft, IsBehindFirst, IsNext, Keeps, KeepsRow, Refuses, StandsBehind, Takes, count_in, ended, last_ms, log_behind, rows_read, started_at};
 ghost use Rattle.wc_record.specs.Left as left;
-ghost use Rattle.wc_record.specs.Reading.{records_of};
+ghost use Rattle.wc_record.specs.Reading.{TakesFirst, records_of};
 ghost use Rattle.wc_record.specs.Source.{SourceHas};
 
 use crate::bounded::{Bounded, is_used_up};
@@ -46,7 +46,8 @@ fn end_behind(answer: &Result<Option<Row>, LogFault>) -> Option<LogEnd>
     }
 }
 
-/// The rows of a log.
+/// The rows of a log of CSV records, read one at a time from a reader that is lent. The records are those that `csv`
+/// reads: without a byte order mark, of any number of fields, and blank lines are none.
 #[derive(Drop)]
 pub struct Rows<'r, R> {
     alloc: Global,
@@ -59,7 +60,8 @@ pub struct Rows<'r, R> {
 }
 
 impl<'r, R: ByteIn> Rows<'r, R> {
-    /// The rows of the log that the reader has to give. Nothing is read yet.
+    /// The rows of the log that the reader has to give. Nothing is read, and no memory is taken, before the first
+    /// `next`.
     pub fn new(alloc: Global, reader: &'r mut R) -> Rows<'r, R>
         ensures rows { IfSome (R.bytes_left reader.old) (λ bytes. HasLeft R.bytes_left result (log_of (records_of bytes))) }
         ensures fresh { (rows_read result ≡ 0) × (last_ms result ≡ 0) × (ended result ≡ None) }
@@ -98,8 +100,7 @@ impl<'r, R: ByteIn> Rows<'r, R> {
 
     /// Reads the next record, where there is one.
     fn read(&mut self, failures_before: u64) -> Result<bool, LogFault>
-        ensures next { IfOk result (λ found. found ≡ true → (left : List Record) → SourceHas R.bytes_left self.old.source left → (rest : List Record) × (left ≡ fields_of self.new.row ∷ rest) × SourceHas R.bytes_left self.new.source rest) }
-        ensures end { IfOk result (λ found. found ≡ false → (left : List Record) → SourceHas R.bytes_left self.old.source left → left ≡ []) }
+        ensures next { IfOk result (λ found. TakesFirst (SourceHas R.bytes_left self.old.source) (SourceHas R.bytes_left self.new.source) found (fields_of self.new.row)) }
         ensures fault { IfErr result (λ met. (met ≡ LogFault.Read) ⊎ (met ≡ LogFault.Memory)) }
         ensures cause { IsErrOf result LogFault.Read → HasCauseIn R.failure_count R.spent_count failures_before self.new }
         ensures keeps { KeepsRow self.old self.new }
@@ -113,7 +114,7 @@ impl<'r, R: ByteIn> Rows<'r, R> {
 
     /// Reads the first row, which is no row of the log.
     fn first_row(&mut self, failures_before: u64) -> Result<(), LogFault>
-        ensures first { OnOk result ((left : List Record) → StandsBehind R.bytes_left self.old [] left → (fields : Record) × (rest : List Record) × (log_of left ≡ log_after (fields ∷ []) rest) × StandsBehind R.bytes_left self.new (fields ∷ []) rest) }
+        ensures first { OnOk result ((left : List Record) → StandsBehind R.bytes_left self.old [] left → IsBehindFirst R.bytes_left self.new (log_of left)) }
         ensures refused { IfErr result (λ met. (left : List Record) → StandsBehind R.bytes_left self.old [] left → Refuses met (log_of left)) }
         ensures cause { IsErrOf result LogFault.Read → HasCauseIn R.failure_count R.spent_count failures_before self.new }
         ensures counted { OnOk result ((rows_read self.new ≡ 1) × (last_ms self.new ≡ last_ms self.old)) }
@@ -195,7 +196,11 @@ impl<'r, R: ByteIn> Rows<'r, R> {
         }
     }
 
-    /// The next row, where there is one.
+    /// The next row behind the first, or `None` where none is left. `Refused` names the first rule that is broken, 601
+    /// to 608, and its row. `Read` comes only where the reader failed in this call or its count of failures is at its
+    /// end, or where as much was read as may be: 134217728 bytes and calls since `new`. `Memory` comes where a growth
+    /// was refused, and where a read failed without such a cause. After `None` or a fault each call answers the same
+    /// again and reads nothing.
     pub fn next(&mut self) -> Result<Option<Row>, LogFault>
         ensures takes { (log : LogOf) → HasLeft R.bytes_left self.old log → Takes R.bytes_left log result self.new }
         ensures row { IfOk result (λ given. IfSome given (λ row. IsNext (suc (max 1 (rows_read self.old))) (last_ms self.old) self.new row)) }

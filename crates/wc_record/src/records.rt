@@ -2,7 +2,7 @@ ghost use Rattle.std.specs.Prelude.{◌≡◌, ◌∷◌, [], ◌⊎◌, ℕ, Li
 ghost use Rattle.csv.specs.Records.{fields_of};
 ghost use Rattle.csv.specs.Reading.{reader_source};
 ghost use Rattle.wc_model.specs.Log.{Record};
-ghost use Rattle.wc_record.specs.Reading.{HasRecords, lent, records_of};
+ghost use Rattle.wc_record.specs.Reading.{HasRecords, TakesFirst, lent, records_of};
 
 use crate::bounded::Bounded;
 use csv::{ByteRecord, ErrorKind, Reader, ReaderBuilder};
@@ -39,8 +39,7 @@ impl<'r, R: ByteIn> Records<'r, R> {
 
     /// Reads the next record into `row`, where there is one.
     pub(crate) fn read(&mut self, row: &mut ByteRecord) -> Result<bool, ReadFault>
-        ensures next { IfOk result (λ found. found ≡ true → (left : List Record) → HasRecords R.bytes_left self.old left → (rest : List Record) × (left ≡ fields_of row.new ∷ rest) × HasRecords R.bytes_left self.new rest) }
-        ensures end { IfOk result (λ found. found ≡ false → (left : List Record) → HasRecords R.bytes_left self.old left → left ≡ []) }
+        ensures { IfOk result (λ found. TakesFirst (HasRecords R.bytes_left self.old) (HasRecords R.bytes_left self.new) found (fields_of row.new)) }
     {
         match self.csv.read_byte_record(row) {
             Ok(found) => Ok(found),

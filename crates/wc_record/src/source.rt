@@ -2,7 +2,7 @@ ghost use Rattle.std.specs.Prelude.{◌≡◌, ◌∷◌, [], ℕ, List, Some, t
 ghost use Rattle.csv.specs.Records.{fields_of};
 ghost use Rattle.wc_model.specs.Log.{Record};
 ghost use Rattle.wc_record.specs.Source.{SourceHas, counted_in};
-ghost use Rattle.wc_record.specs.Reading.{records_of};
+ghost use Rattle.wc_record.specs.Reading.{TakesFirst, records_of};
 
 use crate::bounded::Bounded;
 use crate::records::{ReadFault, Records};
@@ -46,8 +46,7 @@ impl<'r, R: ByteIn> Source<'r, R> {
 
     /// Reads the next record into `row`, where there is one.
     pub(crate) fn read(&mut self, row: &mut ByteRecord) -> Result<bool, ReadFault>
-        ensures next { IfOk result (λ found. found ≡ true → (left : List Record) → SourceHas R.bytes_left self.old left → (rest : List Record) × (left ≡ fields_of row.new ∷ rest) × SourceHas R.bytes_left self.new rest) }
-        ensures end { IfOk result (λ found. found ≡ false → (left : List Record) → SourceHas R.bytes_left self.old left → left ≡ []) }
+        ensures { IfOk result (λ found. TakesFirst (SourceHas R.bytes_left self.old) (SourceHas R.bytes_left self.new) found (fields_of row.new)) }
     {
         self.open();
         match &mut self.opened {

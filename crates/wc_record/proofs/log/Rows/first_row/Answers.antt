@@ -7,7 +7,7 @@ use Rattle.wc_record.specs.Left.{moment_or_zero}
 pub returns-then-is_first_row-clause-first : goal.returns-then-is_first_row-clause-first
 returns-then-is_first_row-clause-first g c =
     λ left stands.
-    let read = c.in-Ok.ensures.next c.if-found.true left stands.has in
+    let read = (rw c.if-found.true at c.in-Ok.ensures.next) left stands.has in
     let first = c.if-is_first_row.ensures in
     let fields = fields_of c.read.new.self.row in (
       fields,
