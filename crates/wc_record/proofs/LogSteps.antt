@@ -6,7 +6,8 @@ use Rattle.std.specs.Prelude.{codes, nat_le, nat_lt, IfSome}
 use Rattle.std.specs.Str.{bytes_eq}
 use Rattle.wc_model.specs.Log.{Record, LogOf, first_row, has_fields, last_moment, log_after, log_of, log_with, moment_of, number_within, refused_at, row_at, row_data_of, row_from, row_of, row_of_fields, where_passes, with_row}
 use Rattle.wc_model.specs.Rows.{LogRow, RowData}
-use Rattle.wc_record.specs.Left.{Answer, Gives, HasLeft, IsLeft, Takes, end_behind, log_behind, moment_or_zero}
+use Rattle.wc_record.specs.Left.{Answer, HasLeft, IsLeft, Takes, end_behind, log_behind, moment_or_zero}
+use Rattle.wc_record.specs.Steps.{Gives}
 use Rattle.wc_record.specs.Reading.{records_of}
 use Rattle.wc_record.specs.Source.{SourceHas}
 use Rattle.wc_record.specs.declared.log.LogEnd.{LogEnd}

@@ -63,10 +63,6 @@ pub record StandsBehind {R : Type 0} (bytes_left : R → Option (List ℕ)) (row
   pub last : rows.last ≡ moment_or_zero (last_moment before)
   pub few : rows.number ≤ 1000000
 
--- the first row was read, and behind it stands this log
-abbrev pub IsBehindFirst : {R : Type 0} → (R → Option (List ℕ)) → Rows R → LogOf → Type 0
-IsBehindFirst bytes_left rows log = (fields : Record) × (rest : List Record) × (log ≡ log_after (fields ∷ []) rest) × StandsBehind bytes_left rows (fields ∷ []) rest
-
 -- a log of which nothing is left
 abbrev pub nothing_left : LogOf
 nothing_left = record { rows = []; refusal = None }
@@ -114,27 +110,3 @@ HasCause failures_before failures start spent = (failures_before < failures) ⊎
 -- the same of the reader that is lent
 abbrev pub HasCauseIn : {R : Type 0} → (R → ℕ) → (R → ℕ) → ℕ → Rows R → Type 0
 HasCauseIn failures spent before rows = HasCause before (count_in failures rows) (started_at rows) (count_in spent rows)
-
--- a refusal says what is left; a fault of the reader or of memory says nothing
-abbrev pub Refuses : LogFault → LogOf → Type 0
-Refuses (fault.Refused number place) log = log ≡ refused_at number place
-Refuses fault.Read log = ⊤
-Refuses fault.Memory log = ⊤
-
--- an answer gives the first row that is left, or tells that none is left, or the refusal
-abbrev pub Gives : {R : Type 0} → (R → Option (List ℕ)) → LogOf → Answer → Rows R → Type 0
-Gives bytes_left log (Ok (Some row)) rows = (before : List Record) × (left : List Record) × (log ≡ with_row (log_row row) (log_behind before left)) × StandsBehind bytes_left rows before left
-Gives bytes_left log (Ok None) rows = log ≡ nothing_left
-Gives bytes_left log (Err met) rows = Refuses met log
-
--- what a step on the way to a row keeps
-pub record Keeps {R : Type 0} (old new : Rows R) : Type 0 where
-  pub start : new.start ≡ old.start
-  pub end : new.end ≡ old.end
-
--- the same, and the row at hand
-pub record KeepsRow {R : Type 0} (old new : Rows R) : Type 0 where
-  pub start : new.start ≡ old.start
-  pub end : new.end ≡ old.end
-  pub number : new.number ≡ old.number
-  pub last : new.last ≡ old.last

@@ -3,3 +3,4 @@ pub mod Views
 pub mod Reading
 pub mod Source
 pub mod Left
+pub mod Steps

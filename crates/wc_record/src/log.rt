@@ -1,10 +1,11 @@
 ghost use Rattle.std.specs.Prelude.{◌≡◌, ◌⊎◌, ◌∷◌, [], suc, max, ℕ, List, Some, None, true, false, IfOk, IfErr, IfSome, OnOk, IsErrOf};
 ghost use Rattle.csv.specs.Records.{fields_of};
 ghost use Rattle.wc_model.specs.Log.{Record, LogOf, log_of, log_after};
-ghost use Rattle.wc_record.specs.Left.{Gives, HasCauseIn, HasLeft, IsBehindFirst, IsNext, Keeps, KeepsRow, Refuses, StandsBehind, Takes, count_in, ended, last_ms, log_behind, rows_read, started_at};
+ghost use Rattle.wc_record.specs.Left.{HasCauseIn, HasLeft, IsNext, StandsBehind, Takes, count_in, ended, last_ms, log_behind, rows_read, started_at};
 ghost use Rattle.wc_record.specs.Left as left;
 ghost use Rattle.wc_record.specs.Reading.{TakesFirst, records_of};
 ghost use Rattle.wc_record.specs.Source.{SourceHas};
+ghost use Rattle.wc_record.specs.Steps.{Gives, IsBehindFirst, Keeps, KeepsRow, Refuses};
 
 use crate::bounded::{Bounded, is_used_up};
 use crate::fields::{is_first_row, row_in};
