@@ -1,0 +1,6 @@
+//! The machine that runs a text scan by scan over a store of tagged values by name, and, in `first`, the passes
+//! that load a text of the first language: one PROGRAM of BOOL logic.
+#![tactic(auto)]
+
+mod key;
+mod places;
