@@ -1,2 +1,4 @@
 pub mod Keys
 pub mod Contents
+pub mod FirstLanguage
+pub mod Machines

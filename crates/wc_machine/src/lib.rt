@@ -2,5 +2,6 @@
 //! that load a text of the first language: one PROGRAM of BOOL logic.
 #![tactic(auto)]
 
+mod address;
 mod key;
 mod places;
