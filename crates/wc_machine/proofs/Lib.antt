@@ -1,2 +1,6 @@
 pub mod Held
 pub mod Addresses
+pub mod Operands
+pub mod Steps
+pub mod Lines
+pub mod LineViews

@@ -4,4 +4,5 @@
 
 mod address;
 mod key;
+mod line;
 mod places;
