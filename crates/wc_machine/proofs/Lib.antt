@@ -4,3 +4,4 @@ pub mod Operands
 pub mod Steps
 pub mod Lines
 pub mod LineViews
+pub mod Images

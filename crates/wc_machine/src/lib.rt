@@ -3,6 +3,8 @@
 #![tactic(auto)]
 
 mod address;
+mod body;
+mod image;
 mod key;
 mod line;
 mod places;
