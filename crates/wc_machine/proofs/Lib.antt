@@ -5,3 +5,4 @@ pub mod Steps
 pub mod Lines
 pub mod LineViews
 pub mod Images
+pub mod Growing

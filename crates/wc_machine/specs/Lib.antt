@@ -2,3 +2,4 @@ pub mod Keys
 pub mod Contents
 pub mod FirstLanguage
 pub mod Machines
+pub mod Frames

@@ -4,7 +4,9 @@
 
 mod address;
 mod body;
+mod frame;
 mod image;
 mod key;
 mod line;
+mod outputs;
 mod places;
