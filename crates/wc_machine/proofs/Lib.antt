@@ -6,3 +6,6 @@ pub mod Lines
 pub mod LineViews
 pub mod Images
 pub mod Growing
+pub mod Runs
+pub mod Bounds
+pub mod Initial

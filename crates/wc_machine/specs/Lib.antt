@@ -3,3 +3,4 @@ pub mod Contents
 pub mod FirstLanguage
 pub mod Machines
 pub mod Frames
+pub mod Accepted

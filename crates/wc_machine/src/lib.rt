@@ -4,9 +4,13 @@
 
 mod address;
 mod body;
+pub mod first;
 mod frame;
 mod image;
 mod key;
 mod line;
+mod machine;
 mod outputs;
 mod places;
+
+pub use machine::Machine;
