@@ -81,12 +81,12 @@ outputs_read : list_all (λ i. is_output_bit i (variable_at (codes "%qx0." ++ nu
 unfolding is_output_bit
 outputs_read = refl
 
-input_read : (name : Name) (i : ℕ) → bit_behind (codes "%ix0.") name ≡ Some i → variable_at name ≡ Some (InputBit i)
+pub input_read : (name : Name) (i : ℕ) → bit_behind (codes "%ix0.") name ≡ Some i → variable_at name ≡ Some (InputBit i)
 input_read name i e =
     let h = found_passes (λ bit. bytes_eq name (codes "%ix0." ++ numeral bit)) (λ bit. is_input_bit bit (variable_at (codes "%ix0." ++ numeral bit))) (numbers_below 16) i e inputs_read in
     ap variable_at ((bytes_eq-Decides name (codes "%ix0." ++ numeral i)).0 h.0) ∙ is_input_bit-sound i (variable_at (codes "%ix0." ++ numeral i)) h.1
 
-output_read : (name : Name) (i : ℕ) → bit_behind (codes "%qx0.") name ≡ Some i → variable_at name ≡ Some (OutputBit i)
+pub output_read : (name : Name) (i : ℕ) → bit_behind (codes "%qx0.") name ≡ Some i → variable_at name ≡ Some (OutputBit i)
 output_read name i e =
     let h = found_passes (λ bit. bytes_eq name (codes "%qx0." ++ numeral bit)) (λ bit. is_output_bit bit (variable_at (codes "%qx0." ++ numeral bit))) (numbers_below 16) i e outputs_read in
     ap variable_at ((bytes_eq-Decides name (codes "%qx0." ++ numeral i)).0 h.0) ∙ is_output_bit-sound i (variable_at (codes "%qx0." ++ numeral i)) h.1

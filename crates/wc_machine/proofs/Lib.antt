@@ -9,3 +9,6 @@ pub mod Growing
 pub mod Runs
 pub mod Bounds
 pub mod Initial
+pub mod InstrViews
+pub mod Judging
+pub mod Known

@@ -4,3 +4,4 @@ pub mod FirstLanguage
 pub mod Machines
 pub mod Frames
 pub mod Accepted
+pub mod Scoped

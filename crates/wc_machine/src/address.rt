@@ -1,4 +1,4 @@
-ghost use Rattle.std.specs.Prelude.{◌≡◌, [], ◌∷◌, ◌<◌, option_map};
+ghost use Rattle.std.specs.Prelude.{◌≡◌, [], ◌∷◌, ◌<◌, option_map, is_some, codes};
 ghost use Rattle.std.specs.Char.{to_ascii_lowercase};
 ghost use Rattle.std.specs.Str.{bytes_eq};
 ghost use Rattle.wc_model.specs.DirectVariables.{numeral};
@@ -36,9 +36,17 @@ fn bit_behind(text: &[u8], letter: u8) -> Option<u8>
     None
 }
 
+/// Whether an address names an input bit.
+pub(crate) fn is_input(text: &[u8]) -> bool
+    ensures { result ≡ is_some (bit_behind (codes "%ix0.") (name_of text.now)) }
+{
+    bit_behind(text, b'I').is_some()
+}
+
 /// The variable that an address of the first language names.
 pub(crate) fn variable_at<'a>(text: &[u8]) -> Option<Key<'a>>
-    ensures { option_map location_of result ≡ option_map Direct (first_variable_at (name_of text.now)) }
+    ensures place { option_map location_of result ≡ option_map Direct (first_variable_at (name_of text.now)) }
+    ensures found { is_some result ≡ is_some (first_variable_at (name_of text.now)) }
 {
     match bit_behind(text, b'I') {
         Some(bit) => Some(Key::InputBit(bit)),

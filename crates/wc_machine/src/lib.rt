@@ -8,9 +8,11 @@ pub mod first;
 mod frame;
 mod image;
 mod key;
+mod language;
 mod line;
 mod machine;
 mod outputs;
 mod places;
+mod verdict;
 
 pub use machine::Machine;
