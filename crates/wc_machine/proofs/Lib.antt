@@ -12,3 +12,4 @@ pub mod Initial
 pub mod InstrViews
 pub mod Judging
 pub mod Known
+pub mod Judged

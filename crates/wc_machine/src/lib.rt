@@ -3,6 +3,7 @@
 #![tactic(auto)]
 
 mod address;
+mod bodies;
 mod body;
 pub mod first;
 mod frame;

@@ -36,7 +36,7 @@ fn is_writable<'a>(operand: &Operand<'a>) -> bool
 }
 
 /// Judges LD and LDN.
-fn judge_load<'a>(
+pub(crate) fn judge_load<'a>(
     own: &Places<'a>,
     operand: &Operand<'a>,
     line: u32,
@@ -53,7 +53,7 @@ fn judge_load<'a>(
 }
 
 /// Judges ST and STN.
-fn judge_store<'a>(
+pub(crate) fn judge_store<'a>(
     own: &Places<'a>,
     target: &Operand<'a>,
     line: u32,
@@ -76,7 +76,7 @@ fn judge_store<'a>(
 }
 
 /// Judges AND and OR.
-fn judge_apply<'a>(
+pub(crate) fn judge_apply<'a>(
     own: &Places<'a>,
     operand: &Operand<'a>,
     line: u32,
