@@ -13,3 +13,5 @@ pub mod InstrViews
 pub mod Judging
 pub mod Known
 pub mod Judged
+pub mod Words
+pub mod HeldNames

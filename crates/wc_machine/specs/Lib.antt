@@ -5,3 +5,5 @@ pub mod Machines
 pub mod Frames
 pub mod Accepted
 pub mod Scoped
+pub mod Words
+pub mod HeldNames

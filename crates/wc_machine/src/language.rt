@@ -50,7 +50,7 @@ fn is_own(section: Section) -> bool
 }
 
 /// Whether a word is this one.
-fn is_word(text: &[u8], word: &[u8]) -> bool
+pub(crate) fn is_word(text: &[u8], word: &[u8]) -> bool
     ensures { result ≡ bytes_eq (name_of text.now) (name_of word.now) }
 {
     text.eq_ignore_ascii_case(word)

@@ -12,8 +12,10 @@ mod key;
 mod language;
 mod line;
 mod machine;
+mod names;
 mod outputs;
 mod places;
+mod reserved;
 mod verdict;
 
 pub use machine::Machine;
