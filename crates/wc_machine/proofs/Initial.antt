@@ -17,7 +17,7 @@ use Rattle.wc_model.specs.Tree.{Word, Declaration, ProgramUnit, Text}
 use Rattle.wc_model.specs.declared.kind.Kind.TheVariants.{Bool as KindBool}
 use Rattle.wc_model.specs.declared.source.Section.{Section}
 use Rattle.wc_model.specs.declared.value.Value.TheVariants.{Bool as Truth}
-use Rattle.wc_machine.specs.Accepted.{IsAccepted}
+use Rattle.wc_machine.specs.Passes.{IsAccepted}
 use Rattle.wc_machine.specs.Contents.{SameStore}
 use Rattle.wc_machine.specs.FirstLanguage.{language_fault, unit_language, declaration_language, body_language, other_elementary_types, standard_block_names}
 use Rattle.wc_machine.specs.Frames.{first_at, names_contents, own_contents}
@@ -48,11 +48,9 @@ apart_from name first names e =
     let h = either_false (same_name name first) (is_among names name) e in
     (turned_name name first h.0 (same_name first name) refl, h.1)
 
--- a type that may be used, and that is none of those which the language has not, is BOOL
-bool_is_left : (name : Name) (section : Section) (b : Bool) → same_name (codes "bool") name ≡ b → is_among other_elementary_types name ≡ false → is_among standard_block_names name ≡ false →
-    is_usable_type [] section name ≡ true → type_named [] name ≡ Some (Elementary KindBool)
-bool_is_left name section true same others blocks usable = rw same refl
-bool_is_left name section false same others blocks usable =
+-- what is neither BOOL nor one of those that the language has not is no type
+pub type_unknown : (name : Name) → same_name (codes "bool") name ≡ false → is_among other_elementary_types name ≡ false → is_among standard_block_names name ≡ false → type_named [] name ≡ None
+type_unknown name same others blocks =
     let dint = apart_from name (codes "dint") (codes "time" ∷ []) others in
     let time = apart_from name (codes "time") [] dint.1 in
     let a = apart_from name (codes "r_trig") (codes "sr" ∷ codes "ctu" ∷ codes "ton" ∷ codes "tof" ∷ []) blocks in
@@ -60,9 +58,20 @@ bool_is_left name section false same others blocks usable =
     let c = apart_from name (codes "ctu") (codes "ton" ∷ codes "tof" ∷ []) b.1 in
     let d = apart_from name (codes "ton") (codes "tof" ∷ []) c.1 in
     let e = apart_from name (codes "tof") [] d.1 in
-    let none : type_named [] name ≡ None = rw (same, dint.0, time.0, a.0, b.0, c.0, d.0, e.0) refl in
-    let useless : is_usable_type [] section name ≡ false = ap (λ (t : Option VariableType). elim t as (λ x. Bool) [ Some type ↦ may_stand section type | None ↦ false ]) none in
-    absurd (let h = sym usable ∙ useless in cc)
+    rw (same, dint.0, time.0, a.0, b.0, c.0, d.0, e.0) refl
+
+pub type_bool : (name : Name) → same_name (codes "bool") name ≡ true → type_named [] name ≡ Some (Elementary KindBool)
+type_bool name same = rw same refl
+
+-- so a type may be used as it is known
+pub usable_by : (name : Name) (section : Section) (type : Option VariableType) → type_named [] name ≡ type →
+    is_usable_type [] section name ≡ (elim type as (λ x. Bool) [ Some t ↦ may_stand section t | None ↦ false ])
+usable_by name section type e = ap (λ (t : Option VariableType). elim t as (λ x. Bool) [ Some type ↦ may_stand section type | None ↦ false ]) e
+
+bool_is_left : (name : Name) (section : Section) (b : Bool) → same_name (codes "bool") name ≡ b → is_among other_elementary_types name ≡ false → is_among standard_block_names name ≡ false →
+    is_usable_type [] section name ≡ true → type_named [] name ≡ Some (Elementary KindBool)
+bool_is_left name section true same others blocks usable = type_bool name same
+bool_is_left name section false same others blocks usable = absurd (let h = sym usable ∙ usable_by name section None (type_unknown name same others blocks) in cc)
 
 -- each declaration of an accepted text is plain
 no_value : (initial : Option Rattle.wc_model.specs.declared.source.Initial.Initial) →
@@ -70,23 +79,34 @@ no_value : (initial : Option Rattle.wc_model.specs.declared.source.Initial.Initi
 no_value (Some i) e = cc
 no_value None e = refl
 
-pub is_plain : (text : Text) (names : List Name) (taken : Taken) (d : Declaration) → first_broken (declaration_language d) ≡ None → first_broken (declaration_checks text [] names taken d) ≡ None → IsPlain d
-is_plain text names taken d language declared =
+-- what the language asks of a declaration
+pub record OfLanguage (d : Declaration) : Type 0 where
+  pub own : is_own d.section ≡ true
+  pub others : is_among other_elementary_types d.type_name.name ≡ false
+  pub blocks : is_among standard_block_names d.type_name.name ≡ false
+  pub initial : d.initial ≡ None
+
+pub of_language : (d : Declaration) → first_broken (declaration_language d) ≡ None → OfLanguage d
+of_language d language =
     let values : List Check = elim d.initial as (λ x. List Check) [ Some i ↦ asks 201 i.line false ∷ [] | None ↦ [] ] in
     let line = d.type_name.line in
     let name = d.type_name.name in
     let l1 = first_holds (asks 201 line (is_own d.section)) (asks 201 line (not (is_among other_elementary_types name)) ∷ asks 302 line (not (is_among standard_block_names name)) ∷ values) language in
     let l2 = first_holds (asks 201 line (not (is_among other_elementary_types name))) (asks 302 line (not (is_among standard_block_names name)) ∷ values) l1.1 in
     let l3 = first_holds (asks 302 line (not (is_among standard_block_names name))) values l2.1 in
+    record { own = l1.0; others = not_true (is_among other_elementary_types name) l2.0; blocks = not_true (is_among standard_block_names name) l3.0; initial = no_value d.initial l3.1 }
+
+pub is_plain : (text : Text) (names : List Name) (taken : Taken) (d : Declaration) → first_broken (declaration_language d) ≡ None → first_broken (declaration_checks text [] names taken d) ≡ None → IsPlain d
+is_plain text names taken d language declared =
+    let of = of_language d language in
+    let line = d.type_name.line in
+    let name = d.type_name.name in
     let d1 = both_hold (names_are_new names d.names ++ type_checks text [] d ++ initial_checks [] d) (room_checks taken (places_of_type [] name) d.names) declared in
     let d2 = both_hold (names_are_new names d.names ++ type_checks text [] d) (initial_checks [] d) d1.0 in
     let d3 = both_hold (names_are_new names d.names) (type_checks text [] d) d2.0 in
     let d4 = first_holds (asks 308 line (is_closed_before text [] name)) (asks 302 line (is_usable_type [] d.section name) ∷ []) d3.1 in
     let d5 = first_holds (asks 302 line (is_usable_type [] d.section name)) [] d4.1 in
-    record {
-      type = bool_is_left name d.section (same_name (codes "bool") name) refl (not_true (is_among other_elementary_types name) l2.0) (not_true (is_among standard_block_names name) l3.0) d5.0;
-      initial = no_value d.initial l3.1;
-    }
+    record { type = bool_is_left name d.section (same_name (codes "bool") name) refl of.others of.blocks d5.0; initial = of.initial }
 
 -- its variables stand in the frame as own variables, all FALSE
 abbrev pub places_of_variable : Variable → List (List Name × Content)
@@ -124,7 +144,7 @@ own_placed (d ∷ ds) plain =
 abbrev pub asked_of : Text → Taken → Spot Declaration → List Check
 asked_of text first spot = declaration_checks text [] (names_declared spot.before) (taken_by [] first spot.before) spot.item
 
-all_plain : (text : Text) (first : Taken) (before ds : List Declaration) → first_broken (flat_map declaration_language ds) ≡ None → first_broken (flat_map (asked_of text first) (spots_behind before ds)) ≡ None → ArePlain ds
+pub all_plain : (text : Text) (first : Taken) (before ds : List Declaration) → first_broken (flat_map declaration_language ds) ≡ None → first_broken (flat_map (asked_of text first) (spots_behind before ds)) ≡ None → ArePlain ds
 all_plain text first before [] language declared = tt
 all_plain text first before (d ∷ ds) language declared =
     let l = both_hold (declaration_language d) (flat_map declaration_language ds) language in
@@ -149,3 +169,6 @@ initial_told unit accepted empty direct own none first later = λ place.
     later place ∙ appended_alike direct (empty ++ map first_at direct_variables) (own_contents unit.declarations) first place
     ∙ ap (λ xs. store_of ((xs ++ map first_at direct_variables) ++ own_contents unit.declarations) place) none
     ∙ ap (λ xs. store_of (map first_at direct_variables ++ xs) place) (sym (own_placed unit.declarations (accepted_plain unit accepted)))
+
+pub declared_plain : (unit : ProgramUnit) → first_broken (flat_map declaration_language unit.declarations) ≡ None → first_broken (unit_declaration_checks (unit ∷ []) [] unit) ≡ None → ArePlain unit.declarations
+declared_plain unit language declared = all_plain (unit ∷ []) (taken_at_first unit) [] unit.declarations language declared

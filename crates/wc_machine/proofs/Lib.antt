@@ -15,3 +15,7 @@ pub mod Known
 pub mod Judged
 pub mod Words
 pub mod HeldNames
+pub mod Declaring
+pub mod DeclaredSoFar
+pub mod InScope
+pub mod Passing

@@ -3,6 +3,7 @@ pub mod Contents
 pub mod FirstLanguage
 pub mod Machines
 pub mod Frames
+pub mod Passes
 pub mod Accepted
 pub mod Scoped
 pub mod Words

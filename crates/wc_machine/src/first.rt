@@ -1,11 +1,13 @@
 //! The passes behind reading, for the first language.
-ghost use Rattle.std.specs.Prelude.{◌≡◌, ◌<◌, Some, length, slice_get, option_map};
-ghost use Rattle.wc_model.specs.Views.{unit_of};
-ghost use Rattle.wc_machine.specs.Accepted.{IsRunnable};
+ghost use Rattle.std.specs.Prelude.{◌≡◌, ◌<◌, Some, length, slice_get, option_map, IfOk, IfErr, OnOk};
+ghost use Rattle.wc_model.specs.Views.{text_of, unit_of};
+ghost use Rattle.wc_machine.specs.Passes.{IsAccepted, IsFit, Refuses};
 ghost use Rattle.wc_machine.specs.Machines.{text_by_itself};
 
+use crate::program::{judge_program, single};
+use std::alloc::Global;
 use std::marker::Model;
-use wc_model::Unit;
+use wc_model::{Fault, Source, Unit};
 
 /// A text of the first language that breaks no rule.
 #[derive(Drop)]
@@ -49,8 +51,25 @@ impl<'a> Loaded<'a> {
     /// The program, by itself.
     pub(crate) fn into_program(self) -> Unit<'a>
         ensures text { self.entry ≡ result }
-        ensures runnable { IsRunnable (unit_of result) }
+        ensures runnable { IsFit (unit_of result) }
     {
         self.program
+    }
+}
+
+/// Loads a text of the first language, pass by pass: what the language has not, declarations, bodies, cost. The first
+/// pass with a fault names it; `Memory` comes only where a growth was refused.
+pub fn load<'a>(alloc: Global, source: Source<'a>) -> Result<Loaded<'a>, Fault>
+    ensures stands { IfOk result (λ loaded. text_by_itself loaded ≡ text_of source.entry) }
+    ensures accepted { OnOk result (IsAccepted (text_of source.entry)) }
+    ensures refused { IfErr result (Refuses (text_of source.entry)) }
+{
+    let program = match single(source) {
+        Ok(program) => program,
+        Err(fault) => return Err(fault),
+    };
+    match judge_program(alloc, &program) {
+        Ok(()) => Ok(Loaded { program }),
+        Err(fault) => Err(fault),
     }
 }

@@ -6,6 +6,8 @@ mod address;
 mod bodies;
 mod body;
 pub mod first;
+mod count;
+mod declarations;
 mod frame;
 mod image;
 mod key;
@@ -15,6 +17,7 @@ mod machine;
 mod names;
 mod outputs;
 mod places;
+mod program;
 mod reserved;
 mod verdict;
 
