@@ -2,8 +2,9 @@
 ghost use Rattle.std.specs.Prelude.{◌≡◌, ◌<◌, Some, length, slice_get, option_map, IfOk, IfErr, OnOk};
 ghost use Rattle.wc_model.specs.Views.{text_of, unit_of};
 ghost use Rattle.wc_machine.specs.Passes.{IsAccepted, IsFit, Refuses};
-ghost use Rattle.wc_machine.specs.Machines.{text_by_itself};
+ghost use Rattle.wc_machine.specs.Machines.{IsProgramBound, text_by_itself};
 
+use crate::count::line_count;
 use crate::program::{judge_program, single};
 use std::alloc::Global;
 use std::marker::Model;
@@ -46,6 +47,15 @@ impl<'a> Loaded<'a> {
         ensures { option_map (λ u. u.spelled) (slice_get (text_by_itself self.now) unit) ≡ Some result.now }
     {
         self.program.name.text
+    }
+
+    /// How many steps a unit takes at most: the length of its longest path.
+    pub fn bound(&self, unit: usize) -> u32
+        requires { unit < length (text_by_itself self.now) }
+        ensures { IsProgramBound (text_by_itself self.now) result }
+    {
+        let _unit = unit;
+        line_count(&self.program) as u32
     }
 
     /// The program, by itself.

@@ -5,6 +5,7 @@ ghost use Rattle.wc_model.specs.Tree.{Text};
 ghost use Rattle.wc_machine.specs.Machines.{text_by_itself, StandsFor, Leaves, IsProgramBound};
 
 use crate::body::run;
+use crate::count::line_count;
 use crate::first::Loaded;
 use crate::frame::{declare_direct, declare_own};
 use crate::image::copy_image;
@@ -85,5 +86,12 @@ impl<'a> Machine<'a> {
         ensures { result ≡ self.now.last }
     {
         self.last
+    }
+
+    /// How many steps a scan takes at most: the length of the program's longest path.
+    pub fn bound(&self) -> u32
+        ensures { IsProgramBound (text_by_itself self.now.program) result }
+    {
+        line_count(&self.program) as u32
     }
 }
