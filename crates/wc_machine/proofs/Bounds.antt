@@ -1,12 +1,11 @@
 -- The one path of a body of the first language.
-use Rattle.std.proofs.Common.{◌≡◌, ℕ, ◌≤◌, ◌+◌, false, List, [], ◌∷◌, ◌++◌, Option, Some, None, length, suc, refl, sym, ap, subst, ◌∙◌, arith}
-use Rattle.std.proofs.lemmas.List.{length-append}
+use Rattle.std.proofs.Common.{◌≡◌, ℕ, ◌≤◌, List, [], ◌∷◌, ◌++◌, None, length, suc, refl, ap, subst, ◌∙◌, arith}
 use Rattle.wc_model.specs.Checks.{first_broken}
 use Rattle.wc_model.specs.Names.{Name}
 use Rattle.wc_model.specs.Paths.{Way, Onward, IsPathFrom, IsLongest, GoesOn, MayStep, IsBlockPath}
 use Rattle.wc_model.specs.Scopes.{Scope}
 use Rattle.wc_model.specs.Traces.{Item, At}
-use Rattle.wc_model.specs.Tree.{Word, Step, Load, Store, Apply, Negate, Jump, Call, Return, Lines, End, Alone, Plain, Nested, ProgramUnit}
+use Rattle.wc_model.specs.Tree.{Step, Load, Store, Apply, Negate, Jump, Call, Return, Lines, End, Alone, Plain, Nested, ProgramUnit}
 use Rattle.wc_machine.specs.FirstLanguage.{body_language, step_language}
 use Rattle.wc_machine.specs.Machines.{line_count}
 use Rattle.wc_machine.proofs.Lines.{plain_language}

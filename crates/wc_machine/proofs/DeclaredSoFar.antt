@@ -1,17 +1,15 @@
 -- What the declarations so far leave for those that are left.
-use Rattle.std.proofs.Common.{◌≡◌, ℕ, ◌+◌, ◌*◌, ◌≤◌, Bool, true, false, List, [], ◌∷◌, ◌++◌, Option, Some, None, length, map, append_assoc, refl, sym, ap, subst, ◌∙◌, arith}
+use Rattle.std.proofs.Common.{◌≡◌, ℕ, ◌+◌, ◌*◌, ◌≤◌, Bool, true, false, List, [], ◌∷◌, ◌++◌, None, length, map, append_assoc, refl, sym, ap, subst, ◌∙◌, arith}
 use Rattle.std.proofs.lemmas.List.{append-nil}
 use Rattle.std.proofs.lemmas.List.Folds.{list_any-append}
 use Rattle.std.specs.Prelude.{◌||◌}
 use Rattle.std.specs.List.{flat_map, list_any}
 use Rattle.wc_model.specs.Checks.{Check, first_broken, spots_behind}
 use Rattle.wc_model.specs.DeclarationRules.{Taken, and_more, declaration_checks, is_among, name_of_word, names_declared, places_of_type, taken_by, taken_at_first}
-use Rattle.wc_model.specs.Declarations.{Elementary, same_name, is_block}
-use Rattle.wc_model.specs.DirectVariables.{direct_variables}
+use Rattle.wc_model.specs.Declarations.{same_name, is_block}
 use Rattle.wc_model.specs.Names.{Name}
 use Rattle.wc_model.specs.Store.{Store, block_places, variable_places}
 use Rattle.wc_model.specs.Tree.{Declaration, ProgramUnit}
-use Rattle.wc_model.specs.declared.kind.Kind.TheVariants.{Bool as KindBool}
 use Rattle.wc_machine.specs.FirstLanguage.{declaration_language}
 use Rattle.wc_machine.specs.HeldNames.{HoldsNames, HasTaken}
 use Rattle.wc_machine.proofs.Initial.{asked_of, is_plain}

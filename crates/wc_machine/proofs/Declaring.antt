@@ -1,7 +1,7 @@
 -- What the rules on a declaration of the first language find.
-use Rattle.std.proofs.Common.{◌≡◌, ℕ, zero, suc, ◌+◌, ◌*◌, ◌≤◌, ◌<◌, Bool, true, false, ◌&&◌, List, [], ◌∷◌, ◌++◌, Option, Some, None, length, map, get_or, append_assoc, refl, sym, ap, subst, ◌∙◌, arith}
+use Rattle.std.proofs.Common.{◌≡◌, ℕ, zero, suc, ◌+◌, ◌*◌, ◌≤◌, ◌<◌, Bool, true, false, ◌&&◌, List, [], ◌∷◌, ◌++◌, Option, Some, None, length, map, get_or, append_assoc, refl, ap, ◌∙◌, arith}
 use Rattle.std.proofs.lemmas.Bool.{leb-true, le-leb}
-use Rattle.std.specs.Prelude.{nat_le, slice_get, if◌then◌else◌, codes, not, ◌||◌}
+use Rattle.std.specs.Prelude.{nat_le, if◌then◌else◌, codes, not, ◌||◌}
 use Rattle.wc_model.specs.Checks.{Check, Spot, Refusal, asks, first_broken, spots_behind}
 use Rattle.wc_model.specs.DeclarationRules.{Taken, and_more, has_room, room_checks, declaration_checks, names_are_new, type_checks, initial_checks, places_of_type, is_closed_before, is_usable_type, is_among, type_words, suits_type}
 use Rattle.wc_model.specs.Declarations.{Elementary, same_name, is_block, type_named}
@@ -87,7 +87,7 @@ type_taken unit d t rest program of same =
     let known = type_bool d.type_name.name same in
     let size : places_of_type [] d.type_name.name ≡ 1 = ap (λ type. length (variable_places (block_places []) type None)) known in
     let values : initial_checks [] d ≡ [] =
-      ap (λ (o : Option Initial). elim o as (λ x. List Check) [ Some initial ↦ asks 303 initial.line (suits_type (type_named [] d.type_name.name) initial.value) ∷ [] | None ↦ [] ]) of.initial in
+    ap (λ (o : Option Initial). elim o as (λ x. List Check) [ Some initial ↦ asks 303 initial.line (suits_type (type_named [] d.type_name.name) initial.value) ∷ [] | None ↦ [] ]) of.initial in
     let more = initial_checks [] d ++ (room_checks t (places_of_type [] d.type_name.name) d.names ++ rest) in
     room_check 308 d.type_name.line (is_closed_before (unit ∷ []) [] d.type_name.name) true (asks 302 d.type_name.line (is_usable_type [] d.section d.type_name.name) ∷ more) (first_broken (room_checks t 1 d.names ++ rest))
     (closed unit d.type_name.name program)

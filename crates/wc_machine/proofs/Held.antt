@@ -1,11 +1,11 @@
 -- What a map of keys holds, as a store.
-use Rattle.std.proofs.Common.{◌≡◌, Bool, true, false, List, [], ◌∷◌, ◌++◌, Option, Some, None, cond, option_map, is_some, refl, sym, ap, subst, ◌∙◌}
+use Rattle.std.proofs.Common.{◌≡◌, Bool, true, false, List, [], ◌∷◌, ◌++◌, Option, Some, None, cond, option_map, is_some, refl, sym, ap, ◌∙◌}
 use Rattle.std.specs.Prelude.{if◌then◌else◌}
 use Rattle.std.specs.Map.{lookup, set_value}
-use Rattle.wc_model.specs.Store.{Location, Content, Plain, Store, same_place, store_of, with_content}
+use Rattle.wc_model.specs.Store.{Location, Content, Plain, same_place, store_of, with_content}
 use Rattle.wc_model.specs.declared.value.Value.{Value}
 use Rattle.wc_soundness.proofs.Tests.{same_place-sound}
-use Rattle.wc_machine.specs.Keys.{location_of, same_key, same_place-refl, same_place_laws}
+use Rattle.wc_machine.specs.Keys.{location_of, same_key, same_place_laws}
 use Rattle.wc_machine.specs.Contents.{contents_of, SameStore}
 use Rattle.wc_machine.specs.declared.key.Key.{Key}
 

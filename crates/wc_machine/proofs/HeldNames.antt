@@ -8,7 +8,7 @@ use Rattle.wc_model.specs.Checks.{Check, Spot, first_broken, spots_behind}
 use Rattle.wc_model.specs.DeclarationRules.{is_among, is_new, not_reserved, name_of_word}
 use Rattle.wc_model.specs.Declarations.{same_name}
 use Rattle.wc_model.specs.Names.{Name}
-use Rattle.wc_model.specs.Store.{Location, Path, Content, Store, same_place, store_of}
+use Rattle.wc_model.specs.Store.{Location, Path, Content, Store, store_of}
 use Rattle.wc_model.specs.Tree.{Word}
 use Rattle.wc_machine.specs.Contents.{SameStore}
 use Rattle.wc_machine.specs.HeldNames.{HoldsNames}

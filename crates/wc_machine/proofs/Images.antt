@@ -1,5 +1,5 @@
 -- What copying numbered contents, one after the other, leaves in a store.
-use Rattle.std.proofs.Common.{◌≡◌, ℕ, zero, suc, ◌+◌, ◌<◌, ◌≤◌, Bool, true, false, List, [], ◌∷◌, ◌++◌, Option, Some, None, map, is_some, refl, sym, ap, subst, ◌∙◌, arith, add-one, ◌&&◌, below_more}
+use Rattle.std.proofs.Common.{◌≡◌, ℕ, zero, suc, ◌+◌, ◌<◌, ◌≤◌, Bool, true, false, List, [], ◌∷◌, ◌++◌, Option, Some, None, map, is_some, refl, sym, ap, ◌∙◌, arith, add-one, below_more}
 use Rattle.std.proofs.lemmas.List.Folds.{list_all-append}
 use Rattle.std.proofs.lemmas.Bool.{eqb-true}
 use Rattle.std.proofs.lemmas.List.{map-append}
@@ -51,7 +51,7 @@ one_more at value apart n old = λ place.
     overlaid_first (numbered at value (suc n)) old place ∙ ap (λ es. or_else (store_of es place) (old place)) (numbered_more at value n)
     ∙ ap (λ o. or_else o (old place)) (store_of-append (numbered at value n) ((at n, value n) ∷ []) place)
     ∙ over (value n) (store_of (numbered at value n) place) (old place) (same_place (at n) place)
-      (λ same. ap (store_of (numbered at value n)) (sym (same_place-sound (at n) place same)) ∙ missing at value apart n n (omega arith))
+    (λ same. ap (store_of (numbered at value n)) (sym (same_place-sound (at n) place same)) ∙ missing at value apart n n (omega arith))
     ∙ ap (λ o. if same_place (at n) place then Some (value n) else o) (sym (overlaid_first (numbered at value n) old place))
 
 pub copied_more : (at : ℕ → Location) (value : ℕ → Content) → AreApart at → (n : ℕ) (old before after : Store) (content : Content) → content ≡ value n →

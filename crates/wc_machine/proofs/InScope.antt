@@ -3,10 +3,10 @@ use Rattle.std.proofs.Common.{◌≡◌, ℕ, Bool, true, false, List, [], ◌�
 use Rattle.std.proofs.lemmas.List.Folds.{find-append, list_any-append}
 use Rattle.std.specs.Prelude.{find, ◌||◌}
 use Rattle.std.specs.Option.{option_or}
-use Rattle.std.specs.List.{flat_map, list_any}
+use Rattle.std.specs.List.{flat_map}
 use Rattle.wc_model.specs.Checks.{Check, Refusal, asks, first_broken}
 use Rattle.wc_model.specs.DeclarationRules.{is_among, is_own, name_of_word, names_declared, body_name_checks, term_checks, step_checks}
-use Rattle.wc_model.specs.Declarations.{Variable, Elementary, same_name, is_block, type_named, declared_by, variables_of, variable_named}
+use Rattle.wc_model.specs.Declarations.{Variable, Elementary, same_name, is_block, type_named, declared_by}
 use Rattle.wc_model.specs.DirectVariables.{DirectVariable, variable_at}
 use Rattle.wc_model.specs.Names.{Name}
 use Rattle.wc_model.specs.Scopes.{is_input}

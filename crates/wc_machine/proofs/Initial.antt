@@ -1,25 +1,24 @@
 -- The store of the declarations of an accepted text.
-use Rattle.std.proofs.Common.{◌≡◌, ℕ, Bool, true, false, ◌&&◌, List, [], ◌∷◌, ◌++◌, Option, Some, None, map, refl, sym, ap, subst, ◌∙◌}
+use Rattle.std.proofs.Common.{◌≡◌, Bool, true, false, List, [], ◌∷◌, ◌++◌, Option, Some, None, map, refl, sym, ap, ◌∙◌}
 use Rattle.std.proofs.lemmas.List.{map-append}
 use Rattle.std.proofs.lemmas.Grind.{flat_map-append}
 use Rattle.std.proofs.lemmas.Slice.Eq.{bytes_eq-Decides}
 use Rattle.std.specs.Prelude.{codes, not, ◌||◌}
-use Rattle.std.specs.List.{flat_map, list_any}
+use Rattle.std.specs.List.{flat_map}
 use Rattle.wc_model.specs.Checks.{Check, Spot, asks, first_broken, spots_behind}
 use Rattle.wc_model.specs.DeclarationRules.{is_among, is_own, is_usable_type, may_stand, declaration_checks, names_declared, names_are_new, type_checks, initial_checks, room_checks, is_closed_before, places_of_type, taken_by, taken_at_first, Taken, not_reserved, is_new, unit_declaration_checks, unit_checks, body_name_checks}
-use Rattle.wc_model.specs.Declarations.{Variable, VariableType, Elementary, same_name, is_block, named_in, elementary_types, standard_blocks, type_named, declared_by, variables_of}
+use Rattle.wc_model.specs.Declarations.{Variable, VariableType, Elementary, same_name, is_block, type_named, declared_by}
 use Rattle.wc_model.specs.DirectVariables.{direct_variables}
-use Rattle.wc_model.specs.Faults.{declaration_fault}
 use Rattle.wc_model.specs.Names.{Name}
 use Rattle.wc_model.specs.Scans.{initial_of}
-use Rattle.wc_model.specs.Store.{Location, Path, Content, Plain, Store, store_of, below, block_places, variable_places, unit_places}
+use Rattle.wc_model.specs.Store.{Location, Path, Content, Plain, store_of, below, block_places, variable_places}
 use Rattle.wc_model.specs.Tree.{Word, Declaration, ProgramUnit, Text}
 use Rattle.wc_model.specs.declared.kind.Kind.TheVariants.{Bool as KindBool}
 use Rattle.wc_model.specs.declared.source.Section.{Section}
 use Rattle.wc_model.specs.declared.value.Value.TheVariants.{Bool as Truth}
 use Rattle.wc_machine.specs.Passes.{IsAccepted}
 use Rattle.wc_machine.specs.Contents.{SameStore}
-use Rattle.wc_machine.specs.FirstLanguage.{language_fault, unit_language, declaration_language, body_language, other_elementary_types, standard_block_names}
+use Rattle.wc_machine.specs.FirstLanguage.{unit_language, declaration_language, body_language, other_elementary_types, standard_block_names}
 use Rattle.wc_machine.specs.Frames.{first_at, names_contents, own_contents}
 use Rattle.wc_machine.proofs.Growing.{appended_alike}
 use Rattle.wc_machine.proofs.Lines.{first_holds, both_hold}

@@ -1,10 +1,10 @@
 -- What any instruction of the code stands for, behind its label.
-use Rattle.std.proofs.Common.{◌≡◌, ℕ, suc, false, List, [], ◌∷◌, ◌++◌, Option, Some, None, option_map, refl, sym, ap, ◌∙◌}
-use Rattle.wc_model.specs.Checks.{first_broken, Refusal}
+use Rattle.std.proofs.Common.{◌≡◌, suc, Option, Some, option_map, refl, ap, ◌∙◌}
+use Rattle.wc_model.specs.Checks.{first_broken}
 use Rattle.wc_model.specs.Tree.{Word, Lines}
 use Rattle.wc_model.specs.Views.{line_view, seen_instr, seen_line, word_of}
 use Rattle.wc_model.specs.declared.operand.Word.{Word as Spelled}
-use Rattle.wc_model.specs.declared.tree.Instr.{Instr, fold-Instr, fold_out-Instr}
+use Rattle.wc_model.specs.declared.tree.Instr.{Instr, fold_out-Instr}
 use Rattle.wc_model.specs.declared.tree.Instr.TheOpen.{Instr-F}
 use Rattle.wc_model.specs.declared.tree.Line.{Line, fold_out-Line}
 use Rattle.wc_machine.specs.FirstLanguage.{body_language}

@@ -1,13 +1,11 @@
 -- What the rules on bodies find at a line of the first language.
-use Rattle.std.proofs.Common.{◌≡◌, ℕ, Bool, true, false, List, [], ◌∷◌, ◌++◌, Option, Some, None, Ok, Err, is_some, refl, sym, ap, subst, ◌∙◌}
+use Rattle.std.proofs.Common.{◌≡◌, ℕ, Bool, true, false, List, [], ◌∷◌, ◌++◌, Option, Some, None, Ok, Err, is_some, refl, sym, ap, ◌∙◌}
 use Rattle.std.specs.Prelude.{if◌then◌else◌}
 use Rattle.std.specs.List.{flat_map}
 use Rattle.wc_model.specs.BodyRules.{is_readable, load_checks, step_rules, spot_rules}
 use Rattle.wc_model.specs.Checks.{Check, Refusal, asks, first_broken, spots_behind}
 use Rattle.wc_model.specs.Kinds.{BodyLine, PlainLine, lines_of, term_kind, kind_after_step, step_leaves}
-use Rattle.wc_model.specs.Store.{Store}
 use Rattle.wc_model.specs.Tree.{Word, Term, Step, Load, Apply, Lines, Plain, ProgramUnit}
-use Rattle.wc_model.specs.Tree.{Store as StoreStep}
 use Rattle.wc_model.specs.declared.fault.Fault.{Fault}
 use Rattle.wc_model.specs.declared.fault.Fault.TheVariants.{Refused, Memory}
 use Rattle.wc_model.specs.declared.kind.Kind.{Kind}
@@ -66,12 +64,13 @@ pub plain_ok : (unit : ProgramUnit) (before : List BodyLine) (label : Option Wor
     first_broken (step_rules (scope_in unit) line step (lines_of rest) (result_kind has_result)) ≡ None → kind_after_step (scope_in unit) step (result_kind has_result) ≡ result_kind after →
     JudgesOn found unit rest (Ok after)
 plain_ok unit before label line step rest found has_result after none e stays handed fine kind =
-    let more = flat_map (spot_rules (scope_in unit)) (spots_behind (PlainLine None line step ∷ before) (lines_of rest)) in
-    (PlainLine None line step ∷ before,
-    e ∙ ap (λ l. found_behind unit before (Plain l line step rest)) none
-    ∙ ap (λ k. first_broken (step_rules (scope_in unit) line step (lines_of rest) k ++ more)) handed
-    ∙ nothing_found (step_rules (scope_in unit) line step (lines_of rest) (result_kind has_result)) more fine,
-    line_hands unit before line step stays ∙ ap (kind_after_step (scope_in unit) step) handed ∙ kind)
+    let more = flat_map (spot_rules (scope_in unit)) (spots_behind (PlainLine None line step ∷ before) (lines_of rest)) in (
+      PlainLine None line step ∷ before,
+      e ∙ ap (λ l. found_behind unit before (Plain l line step rest)) none
+          ∙ ap (λ k. first_broken (step_rules (scope_in unit) line step (lines_of rest) k ++ more)) handed
+          ∙ nothing_found (step_rules (scope_in unit) line step (lines_of rest) (result_kind has_result)) more fine,
+      line_hands unit before line step stays ∙ ap (kind_after_step (scope_in unit) step) handed ∙ kind,
+    )
 
 -- a line that breaks a rule
 pub plain_err : (unit : ProgramUnit) (before : List BodyLine) (label : Option Word) (line : ℕ) (step : Step) (rest : Lines) (found : Option Refusal) (has_result : Bool) (fault : Fault) →

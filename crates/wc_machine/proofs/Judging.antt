@@ -1,7 +1,7 @@
 -- What is found first, piece by piece.
-use Rattle.std.proofs.Common.{◌≡◌, ℕ, Bool, true, false, List, [], ◌∷◌, ◌++◌, Option, Some, None, Result, Ok, Err, option_map, refl, sym, ap, subst, ◌∙◌}
+use Rattle.std.proofs.Common.{◌≡◌, ℕ, Bool, true, List, ◌∷◌, ◌++◌, Option, None, Result, Ok, Err, option_map, refl, subst, ◌∙◌}
 use Rattle.wc_model.specs.Checks.{Check, Refusal, asks, first_broken}
-use Rattle.wc_model.specs.Tree.{Word, Step, Load, Store, Apply, Term, Lines, Plain}
+use Rattle.wc_model.specs.Tree.{Load, Store, Apply, Term, Lines, Plain}
 use Rattle.wc_model.specs.Views.{word_of}
 use Rattle.wc_model.specs.declared.fault.Fault.{Fault}
 use Rattle.wc_model.specs.declared.fault.Fault.TheVariants.{Refused, Memory}

@@ -1,9 +1,9 @@
 -- What an operand of the first language names in its scope.
-use Rattle.std.proofs.Common.{◌≡◌, ℕ, Bool, true, false, List, [], ◌∷◌, Option, Some, None, option_map, is_some, refl, sym, ap, subst, ◌∙◌}
+use Rattle.std.proofs.Common.{◌≡◌, ℕ, Bool, true, false, [], ◌∷◌, Option, Some, None, option_map, is_some, refl, sym, ap, subst, ◌∙◌}
 use Rattle.std.specs.Prelude.{not, codes, if◌then◌else◌, ◌||◌}
 use Rattle.wc_model.specs.BodyRules.{is_readable, is_writable, is_of, is_bool, is_bit_literal, load_checks, apply_checks, store_checks}
-use Rattle.wc_model.specs.Checks.{Check, Refusal, asks, first_broken}
-use Rattle.wc_model.specs.Declarations.{Variable, VariableType, Elementary, type_named, variables_of, variable_named}
+use Rattle.wc_model.specs.Checks.{Refusal, asks, first_broken}
+use Rattle.wc_model.specs.Declarations.{Variable, VariableType, Elementary, variable_named}
 use Rattle.wc_model.specs.DirectVariables.{DirectVariable, InputBit, OutputBit, variable_at, kind_of_direct, is_output}
 use Rattle.wc_model.specs.Kinds.{is_kind, elementary_kind}
 use Rattle.wc_model.specs.Names.{Name}

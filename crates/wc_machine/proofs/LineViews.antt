@@ -1,6 +1,6 @@
 -- What the code's lines stand for, by their instructions.
-use Rattle.std.proofs.Common.{◌≡◌, ℕ, Bool, List, [], ◌∷◌, Option, Some, None, option_map, refl, sym, ap, ◌∙◌, rules}
-use Rattle.wc_model.specs.Tree.{Word, Load, Store, Apply, Lines, Plain}
+use Rattle.std.proofs.Common.{◌≡◌, ℕ, Bool, Option, Some, None, option_map, ap, ◌∙◌, rules}
+use Rattle.wc_model.specs.Tree.{Load, Store, Apply, Lines, Plain}
 use Rattle.wc_model.specs.Views.{line_view, seen_label, word_of, term_of}
 use Rattle.wc_model.specs.declared.operand.Operand.{Operand}
 use Rattle.wc_model.specs.declared.operand.Word.{Word as Spelled}

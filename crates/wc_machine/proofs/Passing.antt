@@ -1,8 +1,8 @@
 -- What the passes of the first language find in a program by itself.
-use Rattle.std.proofs.Common.{◌≡◌, ℕ, ◌≤◌, ◌<◌, Bool, true, false, List, [], ◌∷◌, ◌++◌, Option, Some, None, Ok, Err, cond, map, length, get_or, append_assoc, refl, sym, ap, ◌∙◌, inl, inr, arith}
+use Rattle.std.proofs.Common.{◌≡◌, ℕ, ◌≤◌, ◌<◌, Bool, true, false, List, [], ◌∷◌, ◌++◌, Option, Some, None, Err, cond, map, length, get_or, append_assoc, refl, sym, ap, ◌∙◌, inl, inr, arith}
 use Rattle.std.specs.Prelude.{not, if◌then◌else◌, slice_get}
 use Rattle.std.specs.List.{flat_map}
-use Rattle.wc_model.specs.Checks.{Check, Refusal, first_broken}
+use Rattle.wc_model.specs.Checks.{Refusal, first_broken}
 use Rattle.wc_model.specs.DeclarationRules.{is_among, reserved_words, body_name_checks, unit_declaration_checks}
 use Rattle.wc_model.specs.Declarations.{is_block}
 use Rattle.wc_model.specs.Faults.{declaration_fault, body_fault, IsCostFault}
@@ -13,7 +13,7 @@ use Rattle.wc_model.specs.declared.fault.Fault.{Fault}
 use Rattle.wc_model.specs.declared.fault.Fault.TheVariants.{Refused, Memory}
 use Rattle.wc_machine.specs.FirstLanguage.{body_language, declaration_language, language_fault, unit_language}
 use Rattle.wc_machine.specs.Machines.{Judges, line_count}
-use Rattle.wc_machine.specs.Passes.{IsRefused, at_language, at_declarations, at_bodies, at_costs, Refuses}
+use Rattle.wc_machine.specs.Passes.{at_language, at_declarations, at_bodies, Refuses}
 use Rattle.wc_machine.proofs.Bounds.{lines_are_longest}
 use Rattle.wc_machine.proofs.InScope.{body_there}
 use Rattle.wc_machine.proofs.Judged.{nothing_found}

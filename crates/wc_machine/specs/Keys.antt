@@ -1,7 +1,7 @@
 -- The place that a key of the machine's map names. (No rule of the language.)
-use Rattle.std.specs.Prelude.{◌≡◌, ◌+◌, Bool, true, false, IsTrue, List, [], ◌∷◌}
+use Rattle.std.specs.Prelude.{◌≡◌, ◌+◌, Bool, true, IsTrue, [], ◌∷◌}
 use Rattle.std.proofs.Common.{refl, sym, ap}
-use Rattle.std.specs.Cmp.{IsEquivalence, decided, on_equiv}
+use Rattle.std.specs.Cmp.{IsEquivalence, decided}
 use Rattle.std.specs.Hash as fed
 use Rattle.wc_model.specs.DirectVariables as direct
 use Rattle.wc_model.specs.Names.{name_of}

@@ -1,5 +1,5 @@
 -- What a program of the first language has in its scope.
-use Rattle.std.specs.Prelude.{◌≡◌, Bool, true, false, List, [], ◌∷◌, ◌++◌, Option, Some, None, is_some, not, Result, Ok, Err}
+use Rattle.std.specs.Prelude.{◌≡◌, Bool, true, false, List, [], ◌∷◌, ◌++◌, Option, Some, None, is_some, Result, Ok, Err}
 use Rattle.std.specs.List.{flat_map}
 use Rattle.wc_model.specs.BodyRules.{spot_rules}
 use Rattle.wc_model.specs.Checks.{Refusal, first_broken, spots_behind}

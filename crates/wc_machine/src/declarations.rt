@@ -55,10 +55,7 @@ fn judge_declaration<'a>(
 }
 
 /// Judges the declarations of the language, and collects their names.
-pub(crate) fn judge_declarations<'a>(
-    own: &mut Places<'a>,
-    program: &Unit<'a>,
-) -> Result<(), Fault>
+pub(crate) fn judge_declarations<'a>(own: &mut Places<'a>, program: &Unit<'a>) -> Result<(), Fault>
     requires program { is_block (unit_of program.now) ≡ false }
     requires language { first_broken (flat_map declaration_language (unit_of program.now).declarations) ≡ None }
     requires none { HoldsNames (store_of own.old) [] }

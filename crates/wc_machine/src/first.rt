@@ -10,6 +10,9 @@ use std::alloc::Global;
 use std::marker::Model;
 use wc_model::{Fault, Source, Unit};
 
+/// A text of the first language is one program.
+const UNITS: usize = 1;
+
 /// A text of the first language that breaks no rule.
 #[derive(Drop)]
 pub struct Loaded<'a> {
@@ -38,7 +41,7 @@ impl<'a> Loaded<'a> {
     pub fn units(&self) -> usize
         ensures { result ≡ length (text_by_itself self.now) }
     {
-        1
+        UNITS
     }
 
     /// The name of a unit, as it is spelled.

@@ -5,9 +5,9 @@
 mod address;
 mod bodies;
 mod body;
-pub mod first;
 mod count;
 mod declarations;
+pub mod first;
 mod frame;
 mod image;
 mod key;

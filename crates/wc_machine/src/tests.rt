@@ -66,19 +66,23 @@ fn program(
     names: Vec<Word<'static>, Global>,
     body: Vec<Line<'static>, Global>,
 ) -> Result<Source<'static>, AllocError> {
-    let declarations = vec![in alloc; Decl {
-        section: Section::Own,
-        names,
-        type_name: word(b"BOOL", 2),
-        initial: None,
-    }]?;
-    let units = vec![in alloc; Unit {
-        kind: UnitKind::Program,
-        line: 1,
-        name: word(b"P", 1),
-        declarations,
-        body,
-    }]?;
+    let declarations = vec![in alloc;
+        Decl {
+            section: Section::Own,
+            names,
+            type_name: word(b"BOOL", 2),
+            initial: None,
+        },
+    ]?;
+    let units = vec![in alloc;
+        Unit {
+            kind: UnitKind::Program,
+            line: 1,
+            name: word(b"P", 1),
+            declarations,
+            body,
+        },
+    ]?;
     Ok(Source { units })
 }
 
@@ -112,7 +116,7 @@ fn variables_and_bits(rt: HostRuntime) -> Result<(), Fail> {
         st(Storing::Result, name(b"A", 5), 5),
         ld(true, name(b"a", 6), 6),
         apply(Operator::Or, name(b"b", 7), 7),
-        st(Storing::Negation, address(b"%QX0.1", 8), 8)
+        st(Storing::Negation, address(b"%QX0.1", 8), 8),
     ]?;
     match load(alloc, program(alloc, names, body)?) {
         Ok(loaded) => {
@@ -156,22 +160,51 @@ fn an_empty_program(rt: HostRuntime) -> Result<(), Fail> {
 fn refusals(rt: HostRuntime) -> Result<(), Fail> {
     let alloc = rt.alloc();
     let no_result = vec![in alloc; apply(Operator::And, address(b"%IX0.0", 2), 2)]?;
-    assert_eq!(rt; refusal(alloc, program(alloc, Vec::new(alloc), no_result)?), (403, 2));
+    assert_eq!(rt;
+        refusal(alloc, program(alloc, Vec::new(alloc), no_result)?),
+        (403, 2)
+    );
     let unknown = vec![in alloc; ld(false, name(b"x", 2), 2)]?;
-    assert_eq!(rt; refusal(alloc, program(alloc, Vec::new(alloc), unknown)?), (401, 2));
+    assert_eq!(rt;
+        refusal(alloc, program(alloc, Vec::new(alloc), unknown)?),
+        (401, 2)
+    );
     let input = vec![in alloc;
         ld(false, address(b"%IX0.0", 2), 2),
-        st(Storing::Result, address(b"%IX0.1", 3), 3)
+        st(Storing::Result, address(b"%IX0.1", 3), 3),
     ]?;
-    assert_eq!(rt; refusal(alloc, program(alloc, Vec::new(alloc), input)?), (404, 3));
+    assert_eq!(rt;
+        refusal(alloc, program(alloc, Vec::new(alloc), input)?),
+        (404, 3)
+    );
     let other_address = vec![in alloc; ld(false, address(b"%IX1.0", 2), 2)]?;
-    assert_eq!(rt; refusal(alloc, program(alloc, Vec::new(alloc), other_address)?), (304, 2));
+    assert_eq!(rt;
+        refusal(alloc, program(alloc, Vec::new(alloc), other_address)?),
+        (304, 2)
+    );
     let negation = vec![in alloc; line(Instr::Not { line: 4 })]?;
-    assert_eq!(rt; refusal(alloc, program(alloc, Vec::new(alloc), negation)?), (201, 4));
+    assert_eq!(rt;
+        refusal(alloc, program(alloc, Vec::new(alloc), negation)?),
+        (201, 4)
+    );
     let twice = vec![in alloc; word(b"a", 2), word(b"A", 3)]?;
-    assert_eq!(rt; refusal(alloc, program(alloc, twice, Vec::new(alloc))?), (301, 3));
+    assert_eq!(rt;
+        refusal(alloc, program(alloc, twice, Vec::new(alloc))?),
+        (301, 3)
+    );
     let reserved = vec![in alloc; word(b"ton", 2)]?;
-    assert_eq!(rt; refusal(alloc, program(alloc, reserved, Vec::new(alloc))?), (307, 2));
-    assert_eq!(rt; refusal(alloc, Source { units: Vec::new(alloc) }), (201, 0));
+    assert_eq!(rt;
+        refusal(alloc, program(alloc, reserved, Vec::new(alloc))?),
+        (307, 2)
+    );
+    assert_eq!(rt;
+        refusal(
+            alloc,
+            Source {
+                units: Vec::new(alloc)
+            }
+        ),
+        (201, 0)
+    );
     Ok(())
 }

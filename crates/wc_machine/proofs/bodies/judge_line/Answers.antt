@@ -1,14 +1,14 @@
-use Rattle.std.proofs.Common.{◌≡◌, true, refl, Some, None, option_map, ap, sym, ◌∙◌}
+use Rattle.std.proofs.Common.{true, refl, Some, option_map, ap, sym, ◌∙◌}
 use Rattle.wc_model.specs.Checks.{asks, first_broken}
 use Rattle.wc_model.specs.Store.{store_of}
-use Rattle.wc_model.specs.Tree.{Word, Load, Store, Apply}
+use Rattle.wc_model.specs.Tree.{Load, Store, Apply}
 use Rattle.wc_model.specs.Views.{line_view, term_of, word_of}
-use Rattle.wc_machine.specs.FirstLanguage.{body_language, label_language, step_language, operand_language, is_plain_operator, is_plain_storing}
-use Rattle.wc_machine.specs.Scoped.{found_behind, result_kind, scope_in}
+use Rattle.wc_machine.specs.FirstLanguage.{body_language, operand_language, is_plain_operator, is_plain_storing}
+use Rattle.wc_machine.specs.Scoped.{found_behind, result_kind}
 use Rattle.wc_machine.proofs.Judged.{no_label, plain_ok, plain_err, load_kind, apply_kind}
 use Rattle.wc_machine.proofs.Known.{named}
 use Rattle.wc_machine.proofs.Lines.{plain_language, first_holds}
-use Rattle.wc_machine.proofs.LineViews.{view_none, view_load, view_store, view_apply}
+use Rattle.wc_machine.proofs.LineViews.{view_load, view_store, view_apply}
 use Rattle.wc_machine.proofs.bodies.judge_line.Goals as goal
 
 pub returns-in-Ok-clause-judged : goal.returns-in-Ok-clause-judged

@@ -1,11 +1,9 @@
-use Rattle.std.proofs.Common.{◌≡◌, ◌++◌, [], ◌∷◌, Some, Err, None, List, map, ap, sym, ◌∙◌}
+use Rattle.std.proofs.Common.{◌++◌, [], ◌∷◌, Err, sym, ◌∙◌}
 use Rattle.std.specs.Prelude.{codes}
-use Rattle.wc_model.specs.Checks.{Check, first_broken}
+use Rattle.wc_model.specs.Checks.{first_broken}
 use Rattle.wc_model.specs.DeclarationRules.{declaration_checks, names_are_new, type_checks, initial_checks, room_checks, places_of_type}
-use Rattle.wc_model.specs.Declarations.{same_name}
-use Rattle.wc_model.specs.Names.{name_of}
 use Rattle.wc_model.specs.Tree.{Declaration}
-use Rattle.wc_model.specs.Views.{declaration_of, word_of}
+use Rattle.wc_model.specs.Views.{declaration_of}
 use Rattle.wc_machine.proofs.Declaring.{pieces, type_refused, type_taken}
 use Rattle.wc_machine.proofs.HeldNames.{same_turned}
 use Rattle.wc_machine.proofs.Initial.{of_language}

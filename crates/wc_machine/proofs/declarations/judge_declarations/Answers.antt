@@ -1,16 +1,16 @@
-use Rattle.std.proofs.Common.{◌≡◌, ℕ, ◌+◌, ◌++◌, [], ◌∷◌, None, Err, List, map, drop, length, append_assoc, ap, sym, subst, ◌∙◌, arith}
+use Rattle.std.proofs.Common.{◌≡◌, ℕ, ◌+◌, ◌++◌, [], ◌∷◌, Err, map, drop, append_assoc, ap, sym, subst, ◌∙◌}
 use Rattle.std.proofs.lemmas.List.{drop_all, length-map}
 use Rattle.std.specs.List.{flat_map}
-use Rattle.wc_model.specs.Checks.{Check, first_broken, spots_behind}
+use Rattle.wc_model.specs.Checks.{first_broken, spots_behind}
 use Rattle.wc_model.specs.DeclarationRules.{declaration_checks, is_among, names_declared, taken_by, taken_at_first}
-use Rattle.wc_model.specs.Store.{Store, store_of}
+use Rattle.wc_model.specs.Store.{store_of}
 use Rattle.wc_model.specs.Tree.{Declaration, ProgramUnit}
 use Rattle.wc_model.specs.Views.{declaration_of, unit_of, word_of}
 use Rattle.wc_machine.specs.FirstLanguage.{declaration_language}
 use Rattle.wc_machine.proofs.DeclaredSoFar.{Declares, none_declared, one_declared, all_declared}
 use Rattle.wc_machine.proofs.Growing.{from_index}
 use Rattle.wc_machine.proofs.Initial.{asked_of}
-use Rattle.wc_machine.proofs.Judging.{judges_same, judges_fault, judges_ok}
+use Rattle.wc_machine.proofs.Judging.{judges_same, judges_fault}
 use Rattle.wc_machine.proofs.Lines.{both_hold}
 use Rattle.wc_machine.proofs.declarations.judge_declarations.Goals as goal
 
@@ -31,7 +31,7 @@ returns-in-Err-clause-judged c = λ rest.
     let cut = from_index items i c.declaration-item.result c.loop-declaration-test.true c.declaration-item.is in
     let left = map declaration_of (drop (i + 1) items) in
     let h : Declares (store_of c.loop-declaration.own) unit c.loop-declaration.taken (map declaration_of items) (d ∷ left) =
-      subst (λ xs. Declares (store_of c.loop-declaration.own) unit c.loop-declaration.taken (map declaration_of items) (map declaration_of xs)) cut c.loop-declaration.invariant in
+    subst (λ xs. Declares (store_of c.loop-declaration.own) unit c.loop-declaration.taken (map declaration_of items) (map declaration_of xs)) cut c.loop-declaration.invariant in
     let checks = declaration_checks (unit ∷ []) [] (names_declared h.before) (taken_by [] (taken_at_first unit) h.before) d in
     let more = flat_map (asked_of (unit ∷ []) (taken_at_first unit)) (spots_behind (d ∷ h.before) left) ++ rest in
     let asked = both_hold (declaration_language d) (flat_map declaration_language left) h.language in
@@ -50,7 +50,7 @@ loop-declaration-preserved c =
     let cut = from_index items i c.declaration-item.result c.loop-declaration-test.true c.declaration-item.is in
     let left = map declaration_of (drop (i + 1) items) in
     let h : Declares (store_of c.loop-declaration.own) unit c.loop-declaration.taken (map declaration_of items) (d ∷ left) =
-      subst (λ xs. Declares (store_of c.loop-declaration.own) unit c.loop-declaration.taken (map declaration_of items) (map declaration_of xs)) cut c.loop-declaration.invariant in
+    subst (λ xs. Declares (store_of c.loop-declaration.own) unit c.loop-declaration.taken (map declaration_of items) (map declaration_of xs)) cut c.loop-declaration.invariant in
     let asked = both_hold (declaration_language d) (flat_map declaration_language left) h.language in
     one_declared (store_of c.loop-declaration.own) (store_of c.judge_declaration.new.own) unit c.loop-declaration.taken c.in-Ok.count (map declaration_of items) d left h
     (λ rest. c.in-Ok.ensures.judged unit (names_declared h.before) (taken_by [] (taken_at_first unit) h.before) rest c.requires.program h.held h.taken asked.0)

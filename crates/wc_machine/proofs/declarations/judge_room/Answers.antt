@@ -1,4 +1,4 @@
-use Rattle.std.proofs.Common.{◌≡◌, ◌++◌, ◌-◌, ◌≤◌, ◌<◌, [], Some, None, map, length, subst, ap, sym, ◌∙◌, arith}
+use Rattle.std.proofs.Common.{◌++◌, ◌-◌, [], Some, map, ap, sym, ◌∙◌, arith}
 use Rattle.wc_model.specs.Checks.{first_broken}
 use Rattle.wc_model.specs.DeclarationRules.{room_checks}
 use Rattle.wc_model.specs.Views.{word_of}

@@ -1,11 +1,10 @@
-use Rattle.std.proofs.Common.{◌≡◌, ◌+◌, ◌++◌, [], ◌∷◌, map, drop, get_or, false, refl, sym, ap, ◌∙◌, subst}
+use Rattle.std.proofs.Common.{◌≡◌, ◌+◌, ◌++◌, [], ◌∷◌, map, drop, get_or, false, refl, sym, ap, ◌∙◌}
 use Rattle.std.proofs.lemmas.List.{drop_all}
 use Rattle.wc_model.specs.Names.{name_of}
 use Rattle.wc_model.specs.Store.{Path, Plain, store_of}
 use Rattle.wc_model.specs.Views.{word_of}
 use Rattle.wc_model.specs.declared.operand.Word.{Word}
 use Rattle.wc_model.specs.declared.value.Value.TheVariants.{Bool as Truth}
-use Rattle.wc_machine.specs.Contents.{SameStore}
 use Rattle.wc_machine.specs.Frames.{names_contents}
 use Rattle.wc_machine.proofs.Growing.{added_on, all_added, from_index_or}
 use Rattle.wc_machine.proofs.frame.declare_names.Goals as goal

@@ -1,4 +1,4 @@
-use Rattle.std.proofs.Common.{◌≡◌, ◌++◌, is_some, sym, ap, ◌∙◌}
+use Rattle.std.proofs.Common.{◌++◌, sym, ◌∙◌}
 use Rattle.wc_model.specs.Scans.{overlaid}
 use Rattle.wc_model.specs.Store.{store_of}
 use Rattle.wc_machine.specs.Contents.{input_contents, status_contents, weight_contents}
@@ -21,5 +21,5 @@ returns c =
     let first = store_of c.args.places.now in
     λ place. c.copy_inputs.ensures place
     ∙ overlaid_alike inputs (store_of c.copy_status.new.places) (overlaid status (overlaid weights first))
-      (λ p. c.copy_status.ensures p ∙ overlaid_alike status (store_of c.copy_weights.new.places) (overlaid weights first) c.copy_weights.ensures p) place
+    (λ p. c.copy_status.ensures p ∙ overlaid_alike status (store_of c.copy_weights.new.places) (overlaid weights first) c.copy_weights.ensures p) place
     ∙ sym (overlaid_both inputs status (overlaid weights first) place) ∙ sym (overlaid_both (inputs ++ status) weights first place)

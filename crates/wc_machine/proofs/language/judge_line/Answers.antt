@@ -1,7 +1,7 @@
 use Rattle.std.proofs.Common.{◌≡◌, true, Some, ap, sym, ◌∙◌}
 use Rattle.wc_model.specs.Checks.{first_broken}
-use Rattle.wc_model.specs.Views.{line_view, term_of}
-use Rattle.wc_machine.specs.FirstLanguage.{body_language, operand_language, is_plain_operator, is_plain_storing}
+use Rattle.wc_model.specs.Views.{term_of}
+use Rattle.wc_machine.specs.FirstLanguage.{body_language, is_plain_operator, is_plain_storing}
 use Rattle.wc_machine.proofs.Judging.{judges_same, load_judged, store_judged, apply_judged}
 use Rattle.wc_machine.proofs.LineViews.{view_load, view_store, view_apply}
 use Rattle.wc_machine.proofs.language.judge_line.Goals as goal

@@ -1,12 +1,12 @@
-use Rattle.std.proofs.Common.{◌≡◌, ◌++◌, [], ◌∷◌, None, ap, sym, ◌∙◌, refl, arith}
+use Rattle.std.proofs.Common.{◌++◌, [], ◌∷◌, None, sym, ◌∙◌, arith}
 use Rattle.std.specs.List.{flat_map}
 use Rattle.wc_model.specs.Checks.{first_broken}
 use Rattle.wc_model.specs.DeclarationRules.{body_name_checks, unit_declaration_checks}
-use Rattle.wc_model.specs.Faults.{declaration_fault, body_fault}
+use Rattle.wc_model.specs.Faults.{body_fault}
 use Rattle.wc_model.specs.Store.{store_of}
 use Rattle.wc_model.specs.Tree.{ProgramUnit}
 use Rattle.wc_model.specs.Views.{unit_of}
-use Rattle.wc_machine.specs.FirstLanguage.{body_language, declaration_language, language_fault, unit_language}
+use Rattle.wc_machine.specs.FirstLanguage.{body_language, declaration_language, unit_language}
 use Rattle.wc_machine.specs.Passes.{at_declarations, at_costs}
 use Rattle.wc_machine.proofs.InScope.{is_frame}
 use Rattle.wc_machine.proofs.Initial.{declared_plain}
@@ -58,8 +58,8 @@ returns-in-Err-judge_body-clause-err c =
     let language = judges_ok (first_broken (unit_language unit)) None c.judge_unit.result c.in_default.field-0 c.in_default.is c.judge_unit.ensures in
     let rest = body_name_checks unit unit.body ++ [] in
     let declared = declarations_are unit (sym c.is_reserved.ensures ∙ c.if-is_reserved.false)
-      ∙ judges_ok (first_broken (unit_declaration_checks (unit ∷ []) [] unit ++ rest)) (first_broken rest) c.judge_declarations.result c.in_default-judge_declarations.field-0 c.in_default-judge_declarations.is (c.judge_declarations.ensures.judged rest)
-      ∙ names_there unit c.requires language in
+    ∙ judges_ok (first_broken (unit_declaration_checks (unit ∷ []) [] unit ++ rest)) (first_broken rest) c.judge_declarations.result c.in_default-judge_declarations.field-0 c.in_default-judge_declarations.is (c.judge_declarations.ensures.judged rest)
+    ∙ names_there unit c.requires language in
     refused_at_bodies unit c.in-Err-judge_body.fault (language_is unit c.requires ∙ language) declared c.in-Err-judge_body.ensures
 
 pub returns-then-line_count-gt-MOST_STEPS-clause-err : goal.returns-then-line_count-gt-MOST_STEPS-clause-err
@@ -69,8 +69,8 @@ returns-then-line_count-gt-MOST_STEPS-clause-err c =
     let parts = both_hold (flat_map declaration_language unit.declarations) (body_language unit.body) language in
     let rest = body_name_checks unit unit.body ++ [] in
     let declared = declarations_are unit (sym c.is_reserved.ensures ∙ c.if-is_reserved.false)
-      ∙ judges_ok (first_broken (unit_declaration_checks (unit ∷ []) [] unit ++ rest)) (first_broken rest) c.judge_declarations.result c.in_default-judge_declarations.field-0 c.in_default-judge_declarations.is (c.judge_declarations.ensures.judged rest)
-      ∙ names_there unit c.requires language in
+    ∙ judges_ok (first_broken (unit_declaration_checks (unit ∷ []) [] unit ++ rest)) (first_broken rest) c.judge_declarations.result c.in_default-judge_declarations.field-0 c.in_default-judge_declarations.is (c.judge_declarations.ensures.judged rest)
+    ∙ names_there unit c.requires language in
     let bodies = judges_ok (body_fault (unit ∷ [])) None c.judge_body.result c.in_default-judge_body.field-0 c.in_default-judge_body.is c.judge_body.ensures in
     rw c.refused-then-line_count-gt-MOST_STEPS.ensures (at_costs (language_is unit c.requires ∙ language) declared bodies (too_long unit parts.1 (omega (arith, c.line_count.ensures, c.if-line_count-gt-MOST_STEPS.true))))
 
@@ -81,8 +81,8 @@ returns-clause-ok c =
     let parts = both_hold (flat_map declaration_language unit.declarations) (body_language unit.body) language in
     let rest = body_name_checks unit unit.body ++ [] in
     let declared = declarations_are unit (sym c.is_reserved.ensures ∙ c.if-is_reserved.false)
-      ∙ judges_ok (first_broken (unit_declaration_checks (unit ∷ []) [] unit ++ rest)) (first_broken rest) c.judge_declarations.result c.in_default-judge_declarations.field-0 c.in_default-judge_declarations.is (c.judge_declarations.ensures.judged rest)
-      ∙ names_there unit c.requires language in
+    ∙ judges_ok (first_broken (unit_declaration_checks (unit ∷ []) [] unit ++ rest)) (first_broken rest) c.judge_declarations.result c.in_default-judge_declarations.field-0 c.in_default-judge_declarations.is (c.judge_declarations.ensures.judged rest)
+    ∙ names_there unit c.requires language in
     let bodies = judges_ok (body_fault (unit ∷ [])) None c.judge_body.result c.in_default-judge_body.field-0 c.in_default-judge_body.is c.judge_body.ensures in
     record {
       accepted = record { language = language_is unit c.requires ∙ language; declarations = declared; bodies = bodies; costs = short_enough unit parts.1 (omega (arith, c.line_count.ensures, c.if-line_count-gt-MOST_STEPS.false)) };

@@ -1,7 +1,5 @@
-use Rattle.std.proofs.Common.{◌≡◌, ◌<◌, Some, ap, sym, ◌∙◌, map, length, get_or, subst}
+use Rattle.std.proofs.Common.{◌≡◌, ◌<◌, ap, sym, ◌∙◌, length, get_or, subst}
 use Rattle.std.specs.Prelude.{slice_get}
-use Rattle.wc_model.specs.Views.{unit_of}
-use Rattle.wc_machine.specs.FirstLanguage.{language_fault}
 use Rattle.wc_machine.proofs.Passing.{other_refused}
 use Rattle.wc_machine.proofs.program.single.Goals as goal
 

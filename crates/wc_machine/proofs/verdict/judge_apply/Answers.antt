@@ -1,11 +1,8 @@
-use Rattle.std.proofs.Common.{◌≡◌, Some, None, ap, sym, ◌∙◌}
+use Rattle.std.proofs.Common.{Some, None, ap, sym, ◌∙◌}
 use Rattle.std.specs.Prelude.{if◌then◌else◌}
-use Rattle.wc_model.specs.Checks.{Refusal, first_broken}
-use Rattle.wc_model.specs.BodyRules.{apply_checks}
 use Rattle.wc_model.specs.Store.{store_of}
-use Rattle.wc_model.specs.Tree.{ProgramUnit}
 use Rattle.wc_model.specs.Views.{term_of}
-use Rattle.wc_machine.specs.Scoped.{scope_in, result_kind}
+use Rattle.wc_machine.specs.Scoped.{scope_in}
 use Rattle.wc_machine.proofs.Known.{named, entity_there, apply_fine}
 use Rattle.wc_machine.proofs.verdict.judge_apply.Goals as goal
 

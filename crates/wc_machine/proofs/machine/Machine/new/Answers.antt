@@ -1,7 +1,6 @@
-use Rattle.std.proofs.Common.{◌≡◌, [], ◌∷◌, ap, sym, subst, refl, ◌∙◌}
+use Rattle.std.proofs.Common.{[], ◌∷◌, ap, sym, ◌∙◌}
 use Rattle.wc_model.specs.Scans.{initial_of}
 use Rattle.wc_model.specs.Store.{store_of}
-use Rattle.wc_model.specs.Tree.{ProgramUnit}
 use Rattle.wc_model.specs.Views.{unit_of}
 use Rattle.wc_soundness.proofs.Places.{SameSlots-refl}
 use Rattle.wc_machine.specs.Contents.{SameStore}

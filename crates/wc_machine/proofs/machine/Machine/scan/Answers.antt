@@ -5,7 +5,7 @@ use Rattle.wc_model.specs.Store.{Store, store_of}
 use Rattle.wc_model.specs.Tree.{ProgramUnit}
 use Rattle.wc_model.specs.Views.{unit_of}
 use Rattle.wc_machine.specs.Accepted.{kept_in}
-use Rattle.wc_machine.specs.Machines.{Kept, StandsFor, Leaves, line_count}
+use Rattle.wc_machine.specs.Machines.{Kept, StandsFor, Leaves}
 use Rattle.wc_machine.proofs.Bounds.{lines_are_within}
 use Rattle.wc_machine.proofs.Runs.{body_asked, scan_ends_well, run_leaves, run_slots}
 use Rattle.wc_machine.proofs.machine.Machine.scan.Goals as goal
@@ -32,9 +32,9 @@ returns-clause-means c = λ text store stands.
     let before : StandsFor (kept_in c.self.inside) text store = subst (λ k. StandsFor k text store) (sym c.self.view_is) stands in
     let same : first ≡ store = λ i place. before.same_store place i in
     let left : Leaves after (unit ∷ []) c.run-steps.result (scan_of (unit ∷ []) first c.args.image.now c.args.now) =
-      run_leaves (initial_of (unit ∷ [])) (scan_of (unit ∷ []) first c.args.image.now c.args.now) after (unit ∷ []) c.run-steps.result Rattle.std.proofs.Common.refl
-      (scan_ends_well unit c.self.invariant.runnable.accepted first c.self.invariant.slots c.args.image.now c.args.now)
-      (c.run-steps.ensures.ran unit c.args.now (with_image c.args.image.now first) c.copy_image.ensures) in
+    run_leaves (initial_of (unit ∷ [])) (scan_of (unit ∷ []) first c.args.image.now c.args.now) after (unit ∷ []) c.run-steps.result Rattle.std.proofs.Common.refl
+    (scan_ends_well unit c.self.invariant.runnable.accepted first c.self.invariant.slots c.args.image.now c.args.now)
+    (c.run-steps.ensures.ran unit c.args.now (with_image c.args.image.now first) c.copy_image.ensures) in
     subst (λ t. Leaves after t c.run-steps.result (scan_of t store c.args.image.now c.args.now)) before.same_text
     (subst (λ s. Leaves after (unit ∷ []) c.run-steps.result (scan_of (unit ∷ []) s c.args.image.now c.args.now)) same left)
 

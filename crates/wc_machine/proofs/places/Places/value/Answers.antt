@@ -1,4 +1,4 @@
-use Rattle.std.proofs.Common.{option_map, ap, subst, ◌∙◌}
+use Rattle.std.proofs.Common.{option_map, ap, ◌∙◌}
 use Rattle.wc_model.specs.Store.{Plain, store_of}
 use Rattle.wc_machine.specs.Keys.{location_of}
 use Rattle.wc_machine.proofs.Held.{held_value}
