@@ -1,0 +1,10 @@
+pub mod Keys
+pub mod Contents
+pub mod FirstLanguage
+pub mod Machines
+pub mod Frames
+pub mod Passes
+pub mod Accepted
+pub mod Scoped
+pub mod Words
+pub mod HeldNames
