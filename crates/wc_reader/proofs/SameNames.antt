@@ -1,7 +1,6 @@
 -- The test of two names, and what it says.
 use Rattle.std.proofs.Common.{◌≡◌, ℕ, Bool, true, false, List, [], ◌∷◌, refl, arith}
 use Rattle.std.proofs.lemmas.Bool.Decides.{nat_tests}
-use Rattle.std.specs.Prelude.{◌&&◌}
 use Rattle.wc_model.proofs.Spelling.{same}
 
 -- a name is the same as itself

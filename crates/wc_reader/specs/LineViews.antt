@@ -1,5 +1,5 @@
 -- What the reader's places on a line stand for.
-use Rattle.std.specs.Prelude.{List, map, Option, option_map}
+use Rattle.std.specs.Prelude.{map, option_map}
 use Rattle.wc_grammar_laws.proofs.LineMoves as lines
 use Rattle.wc_model.specs.Tree as tree
 use Rattle.wc_model.specs.Views.{assignment_of, name_in, term_of, word_of}

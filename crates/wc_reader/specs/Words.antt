@@ -1,5 +1,5 @@
 -- What the reader's words and tokens stand for.
-use Rattle.std.specs.Prelude.{◌≡◌, List, map}
+use Rattle.std.specs.Prelude.{List, map}
 use Rattle.wc_grammar_laws.proofs.Words as words
 use Rattle.wc_lexer.specs.Views.{said_shape, said_token}
 use Rattle.wc_lexer.specs.declared.shape.Token.{Token}

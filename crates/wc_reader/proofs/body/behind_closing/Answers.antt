@@ -1,4 +1,4 @@
-use Rattle.std.proofs.Common.{◌≡◌, ◌+◌, [], ◌∷◌, true, false, option_map, refl, sym, ap, ◌∙◌, arith}
+use Rattle.std.proofs.Common.{◌≡◌, [], ◌∷◌, true, false, option_map, refl, sym, ap, ◌∙◌, arith}
 use Rattle.wc_grammar_laws.proofs.Moves.{has_content}
 use Rattle.wc_model.specs.Limits.{line_count, lines_before, lines_opened}
 use Rattle.wc_model.specs.Tree.{End, Nested}

@@ -1,5 +1,4 @@
-use Rattle.std.proofs.Common.{◌≡◌, ◌+◌, refl, arith}
-use Rattle.wc_model.specs.Limits.{line_count, lines_opened}
+use Rattle.std.proofs.Common.{refl, arith}
 use Rattle.wc_model.specs.Tree.{End, Alone}
 use Rattle.wc_model.specs.Views.{lines_view, word_of}
 use Rattle.wc_reader.proofs.LineLists.{lines_view-push, line_count-and, seen-push}

@@ -1,4 +1,4 @@
-use Rattle.std.proofs.Common.{◌≡◌, ◌+◌, [], refl, arith}
+use Rattle.std.proofs.Common.{[], refl, arith}
 use Rattle.wc_model.specs.Limits.{lines_before}
 use Rattle.wc_reader.proofs.Counting.{counted_more}
 use Rattle.wc_reader.proofs.Openings.{opened-append}

@@ -1,5 +1,5 @@
-use Rattle.std.proofs.Common.{◌≡◌, ◌+◌, [], option_map, refl, arith}
-use Rattle.wc_model.specs.Limits.{line_count, lines_before}
+use Rattle.std.proofs.Common.{[], option_map, refl, arith}
+use Rattle.wc_model.specs.Limits.{lines_before}
 use Rattle.wc_model.specs.Tree.{End, Plain}
 use Rattle.wc_model.specs.Views.{lines_view, word_of}
 use Rattle.wc_reader.proofs.Counting.{counted_more}

@@ -1,4 +1,4 @@
-use Rattle.std.proofs.Common.{◌≡◌, [], ap, ◌∙◌}
+use Rattle.std.proofs.Common.{[], ap, ◌∙◌}
 use Rattle.wc_grammar_laws.proofs.Moves.{begun_line}
 use Rattle.wc_model.specs.Positions.{setting_in}
 use Rattle.wc_reader.proofs.Outcomes.{ok-map}

@@ -1,4 +1,4 @@
-use Rattle.std.proofs.Common.{◌≡◌, true, map, sym, ap, ◌∙◌}
+use Rattle.std.proofs.Common.{true, map, ap, ◌∙◌}
 use Rattle.wc_grammar_laws.proofs.LineMoves.{Start, line_move}
 use Rattle.wc_grammar_laws.proofs.Moves.{begun_line}
 use Rattle.wc_model.specs.Grammar.{InBody}

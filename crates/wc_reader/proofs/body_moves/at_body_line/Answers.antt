@@ -1,4 +1,4 @@
-use Rattle.std.proofs.Common.{◌≡◌, map, sym, ap, ◌∙◌}
+use Rattle.std.proofs.Common.{map, sym, ap, ◌∙◌}
 use Rattle.wc_grammar_laws.proofs.Moves.{begun_line}
 use Rattle.wc_model.specs.Views.{unit_of}
 use Rattle.wc_reader.proofs.FirstTokens.{body-other}

@@ -1,4 +1,4 @@
-use Rattle.std.proofs.Common.{◌≡◌, [], option_map, sym, ap, ◌∙◌}
+use Rattle.std.proofs.Common.{[], option_map, sym, ap, ◌∙◌}
 use Rattle.wc_grammar_laws.proofs.Moves.{judge_closing}
 use Rattle.wc_reader.specs.TextViews.{fault_of, said_body, said_openings_in}
 use Rattle.wc_reader.proofs.line_faults.closing_fault.Goals as goal

@@ -1,4 +1,4 @@
-use Rattle.std.proofs.Common.{◌≡◌, Bool, Option, Some, None, if◌then◌else◌, ap, ◌∙◌}
+use Rattle.std.proofs.Common.{Bool, Option, Some, None, if◌then◌else◌, ap, ◌∙◌}
 use Rattle.wc_grammar_laws.proofs.Moves.{is_full}
 use Rattle.wc_model.specs.ReadingFaults.{TooMany}
 use Rattle.wc_model.specs.declared.fault.Fault.{Fault}

@@ -1,4 +1,4 @@
-use Rattle.std.proofs.Common.{◌≡◌, [], option_map, refl, sym, ap, ◌∙◌}
+use Rattle.std.proofs.Common.{[], option_map, refl, sym, ap, ◌∙◌}
 use Rattle.wc_grammar_laws.proofs.Moves.{judge_line}
 use Rattle.wc_reader.specs.TextViews.{fault_of, said_body, said_opening, said_openings_in}
 use Rattle.wc_reader.specs.Words.{symbol_in}

@@ -1,7 +1,6 @@
-use Rattle.std.proofs.Common.{◌≡◌, option_map, sym, ap, ◌∙◌}
+use Rattle.std.proofs.Common.{option_map, sym, ap, ◌∙◌}
 use Rattle.wc_reader.proofs.Outcomes.{err-map, ok-map}
 use Rattle.wc_reader.specs.TextViews.{said_reading}
-use Rattle.wc_reader.specs.Told.{IsUnexpected}
 use Rattle.wc_reader.proofs.text.moved.Goals as goal
 
 pub returns-in-Ok-clause-goes_on : goal.returns-in-Ok-clause-goes_on

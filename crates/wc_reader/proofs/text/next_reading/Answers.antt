@@ -1,4 +1,4 @@
-use Rattle.std.proofs.Common.{◌≡◌, sym, ◌∙◌}
+use Rattle.std.proofs.Common.{sym, ◌∙◌}
 use Rattle.wc_lexer.specs.Views.{said_token}
 use Rattle.wc_model.specs.Reading.{mark_of_token}
 use Rattle.wc_reader.proofs.Outcomes.{err-map, ok-map}
