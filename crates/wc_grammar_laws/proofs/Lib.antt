@@ -5,3 +5,4 @@ pub mod Moves
 pub mod LineRests
 pub mod Skipping
 pub mod LineSound
+pub mod LineComplete

@@ -90,10 +90,22 @@ operation_found (Returns IfFalse) = refl
 pub truth_found : (name : Name) (value : Bool) → found truths name ≡ Some value → name ≡ truth_word value
 truth_found name value e = found_is (λ n v. n ≡ truth_word v) truths (refl, (refl, tt)) name value e
 
+-- each literal's word is found
+pub truth_is_found : (value : Bool) → found truths (truth_word value) ≡ Some value
+truth_is_found true = refl
+truth_is_found false = refl
+
 -- a name under which no literal is found has the word of none
 pub not_truth : (name : Name) → found truths name ≡ None → (value : Bool) → name ≢ truth_word value
 not_truth name e true k = let h : found truths (truth_word true) ≡ None = subst (λ n. found truths n ≡ None) k e in cc
 not_truth name e false k = let h : found truths (truth_word false) ≡ None = subst (λ n. found truths n ≡ None) k e in cc
+
+-- and the other way round
+pub no_truth : (name : Name) → ((value : Bool) → name ≢ truth_word value) → found truths name ≡ None
+no_truth name ordinary = elim (found truths name) as (λ o. found truths name ≡ o → o ≡ None) [
+  | None ↦ λ e. refl
+  | Some value ↦ λ e. absurd (ordinary value (truth_found name value e))
+] refl
 
 -- the kind of unit that is found under a name has that word
 pub found_unit_kind : (name : Name) (kind : UnitKind) → found unit_kinds name ≡ Some kind → name ≡ unit_word kind
