@@ -6,3 +6,5 @@ pub mod LineRests
 pub mod Skipping
 pub mod LineSound
 pub mod LineComplete
+pub mod LineStart
+pub mod WalkedLines

@@ -151,12 +151,12 @@ first_argument_led bytes line first others tokens h =
     let e = k.0 in ((cc), ungroup k.1)
 
 -- a line's end, behind which there is nothing
-end_is : (symbol : Symbol) (line : ℕ) (tokens : List Mark) → grammar.symbol LineEnd (mark_on symbol line ∷ tokens) → (symbol ≡ LineEnd) × (tokens ≡ [])
+pub end_is : (symbol : Symbol) (line : ℕ) (tokens : List Mark) → grammar.symbol LineEnd (mark_on symbol line ∷ tokens) → (symbol ≡ LineEnd) × (tokens ≡ [])
 end_is symbol line [] h = (h, refl)
 end_is symbol line (x ∷ xs) h = absurd h
 
 -- a token that is this symbol leads where the symbol does
-by_symbol : (f : Symbol → Option LineState) (symbol other : Symbol) (form : LineForm) (tokens : List Mark) → symbol ≡ other → Leads (f other) form tokens → Leads (f symbol) form tokens
+pub by_symbol : (f : Symbol → Option LineState) (symbol other : Symbol) (form : LineForm) (tokens : List Mark) → symbol ≡ other → Leads (f other) form tokens → Leads (f symbol) form tokens
 by_symbol f symbol other form tokens e h = subst (λ s. Leads (f s) form tokens) (sym e) h
 
 -- the end of a list in which nothing is missing
@@ -356,7 +356,7 @@ instanced_led begun condition instance arguments form symbol line tokens setting
     by_arguments (first ∷ others) e h = listed (first ∷ others) e h
 
 -- behind the operator of a step
-behind_step : (label : Option Word) (line : ℕ) (step : Step) (tokens : List Mark) → (operands_of step then grammar.symbol LineEnd) tokens
+pub behind_step : (label : Option Word) (line : ℕ) (step : Step) (tokens : List Mark) → (operands_of step then grammar.symbol LineEnd) tokens
     → rest_of (behind_operator label line (operation_in step)) (Instructs label line step) tokens
 behind_step label line (Load negated x) tokens k = inl (x, refl, k)
 behind_step label line (Store storing x) tokens k = inl (x, refl, k)
@@ -367,12 +367,12 @@ behind_step label line (Call condition instance arguments) tokens k = (instance,
 behind_step label line (Return condition) tokens k = (refl, passed k)
 
 -- a step's first token, and what is behind it
-step_parts : (line : ℕ) (step : Step) (symbol : Symbol) (here : ℕ) (tokens : List Mark) → (instruction line step then grammar.symbol LineEnd) (mark_on symbol here ∷ tokens)
+pub step_parts : (line : ℕ) (step : Step) (symbol : Symbol) (here : ℕ) (tokens : List Mark) → (instruction line step then grammar.symbol LineEnd) (mark_on symbol here ∷ tokens)
     → (operation_of symbol ≡ Some (operation_in step)) × (here ≡ line) × (operands_of step then grammar.symbol LineEnd) tokens
 step_parts line step symbol here tokens h = let k = next_is (ungroup h) in (step_begins step (mark_on symbol here) k.0.0, k.0.1, k.1)
 
 -- an opening line's first token, and what is behind it
-opening_parts : (line : ℕ) (operator : Operator) (x : Option Term) (symbol : Symbol) (here : ℕ) (tokens : List Mark) → opening line operator x (mark_on symbol here ∷ tokens)
+pub opening_parts : (line : ℕ) (operator : Operator) (x : Option Term) (symbol : Symbol) (here : ℕ) (tokens : List Mark) → opening line operator x (mark_on symbol here ∷ tokens)
     → (operation_of symbol ≡ Some (Operates (Applies operator))) × (here ≡ line) × (grammar.symbol OpeningBracket then optional operand x then grammar.symbol LineEnd) tokens
 opening_parts line operator x symbol here tokens h = let k = next_is (ungroup h) in (operator_is operator (mark_on symbol here) k.0.0, k.0.1, k.1)
 
