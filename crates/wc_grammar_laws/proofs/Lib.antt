@@ -8,3 +8,5 @@ pub mod LineSound
 pub mod LineComplete
 pub mod LineStart
 pub mod WalkedLines
+pub mod DeclarationRests
+pub mod WalkedDeclarations

@@ -36,7 +36,7 @@ First x symbol line second tokens =
     ⊎ ((name : Name) × LeadsTo symbol line (λ begun place. Named begun place name) × (behind_its_name name x then second) tokens)
 
 -- an identifier of a name
-named : {A : Type 0} (symbol : Symbol) (name : Name) → name_in symbol ≡ Some name → ((bytes : List ℕ) → symbol ≡ Identifier bytes → name_of bytes ≡ name → A) → A
+pub named : {A : Type 0} (symbol : Symbol) (name : Name) → name_in symbol ≡ Some name → ((bytes : List ℕ) → symbol ≡ Identifier bytes → name_of bytes ≡ name → A) → A
 named (Identifier bytes) name e f = f bytes refl (cc)
 named _ name e f = absurd (cc)
 
@@ -48,13 +48,14 @@ literal_first (BoolValue value) symbol line (inr e) =
 literal_first (Dint number) symbol line e = subst (λ s. LeadsTo s line (λ begun place. behind_operand begun place (Constant (Dint number)))) (sym e) (λ begun place. refl)
 literal_first (Time number) symbol line e = subst (λ s. LeadsTo s line (λ begun place. behind_operand begun place (Constant (Time number)))) (sym e) (λ begun place. refl)
 
+-- a word by its line and its name
+pub word_is : (word : Word) (line : ℕ) (name : Name) → line ≡ word.line → name ≡ word.name → record { line = line; name = name } ≡ word
+word_is word line name a b = λ i. record { line = a i; name = b i }
+
 address_first : (word : Word) (symbol : Symbol) (line : ℕ) → address_in symbol ≡ Some word.name → line ≡ word.line → LeadsTo symbol line (λ begun place. behind_operand begun place (Address word))
 address_first word (Direct bytes) line e at begun place =
     let n : name_of bytes ≡ word.name = cc in
     ap (λ w. Some (behind_operand begun place (Address w))) (word_is word line (name_of bytes) at n)
-  where
-    word_is : (word : Word) (line : ℕ) (name : Name) → line ≡ word.line → name ≡ word.name → record { line = line; name = name } ≡ word
-    word_is word line name a b = λ i. record { line = a i; name = b i }
 address_first word _ line e at begun place = absurd (cc)
 
 variable_first : (name : Name) (symbol : Symbol) (line : ℕ) → name_in symbol ≡ Some name → ((value : Bool) → name ≢ truth_word value) → LeadsTo symbol line (λ begun place. Named begun place name)

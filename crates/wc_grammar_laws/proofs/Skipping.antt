@@ -7,11 +7,13 @@ use Rattle.wc_model.specs.Languages.{Language, ◌then◌, skipping}
 abbrev pub behind : {T : Type 0} → T → Language T → Language T
 behind token language tokens = language (token ∷ tokens)
 
-kept : {T : Type 0} (is_skipped : T → Bool) (token : T) (tokens : List T) → is_skipped token ≡ false
+-- a token that is not passed over is kept
+pub kept : {T : Type 0} (is_skipped : T → Bool) (token : T) (tokens : List T) → is_skipped token ≡ false
     → filter (λ t. not (is_skipped t)) (token ∷ tokens) ≡ token ∷ filter (λ t. not (is_skipped t)) tokens
 kept is_skipped token tokens h = rw h refl
 
-passed_over : {T : Type 0} (is_skipped : T → Bool) (token : T) (tokens : List T) → is_skipped token ≡ true
+-- a token that is passed over is dropped
+pub passed_over : {T : Type 0} (is_skipped : T → Bool) (token : T) (tokens : List T) → is_skipped token ≡ true
     → filter (λ t. not (is_skipped t)) (token ∷ tokens) ≡ filter (λ t. not (is_skipped t)) tokens
 passed_over is_skipped token tokens h = rw h refl
 

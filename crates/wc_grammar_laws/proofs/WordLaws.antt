@@ -32,6 +32,10 @@ pub is_same : (xs : List ℕ) → same xs xs ≡ true
 is_same [] = refl
 is_same (x ∷ xs) = grind (arith, nat_tests, is_same xs)
 
+-- names that differ are told apart
+pub told_apart : (xs ys : List ℕ) → xs ≢ ys → same xs ys ≡ false
+told_apart xs ys n = elim (same xs ys) as (λ b. same xs ys ≡ b → b ≡ false) [ true ↦ λ e. absurd (n (same_is xs ys e)) | false ↦ λ e. refl ] refl
+
 -- what is found stands in the table under that name
 pub found_is : {A : Type 0} (Good : Name → A → Type 0) (table : List (Name × A)) → AllByRecursion (λ entry. Good entry.0 entry.1) table
     → (name : Name) (value : A) → found table name ≡ Some value → Good name value

@@ -95,7 +95,7 @@ abbrev pub truths : List (Name × Bool)
 truths = (truth_word true, true) ∷ (truth_word false, false) ∷ []
 
 -- the literal that a word is
-abbrev truth_value : Option Bool → Option Value
+abbrev pub truth_value : Option Bool → Option Value
 truth_value None = None
 truth_value (Some value) = Some (BoolValue value)
 
