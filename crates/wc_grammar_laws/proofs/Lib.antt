@@ -10,3 +10,4 @@ pub mod LineStart
 pub mod WalkedLines
 pub mod DeclarationRests
 pub mod WalkedDeclarations
+pub mod WalkedUnits

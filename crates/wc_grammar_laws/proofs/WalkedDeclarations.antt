@@ -37,7 +37,7 @@ pub record DeclarationLeads (units : List ProgramUnit) (unit : ProgramUnit) (sec
   pub rest : declared_rest section place left tokens
 
 -- the first declaration's names, and what is behind them
-first_names : (section : Section) (d : Declaration) (more : List Declaration) (tokens : List Mark) → declarations_of section (d ∷ more) tokens
+pub first_names : (section : Section) (d : Declaration) (more : List Declaration) (tokens : List Mark) → declarations_of section (d ∷ more) tokens
     → (d.section ≡ section) × (declared_names d.names then grammar.symbol Colon then from_type section d more) tokens
 first_names section d more tokens h =
     let g = given_are h in
@@ -117,7 +117,7 @@ literal_taken units unit section names type_name LineEnd line value e = absurd (
 literal_taken units unit section names type_name symbol line value e = ap (at_value units unit section names type_name line) e
 
 -- each token of what completes a section is taken, other than a line end
-declared_led : (units : List ProgramUnit) (unit : ProgramUnit) (section : Section) (place : InDeclaration) (ds : List Declaration) (symbol : Symbol) (line : ℕ) (tokens : List Mark)
+pub declared_led : (units : List ProgramUnit) (unit : ProgramUnit) (section : Section) (place : InDeclaration) (ds : List Declaration) (symbol : Symbol) (line : ℕ) (tokens : List Mark)
     → declared_rest section place ds (mark_on symbol line ∷ tokens) → DeclarationLeads units unit section ds (declaration_move units unit section place symbol line) tokens
 declared_led units unit section Undeclared [] symbol line tokens h = absurd (cc)
 declared_led units unit section Undeclared (d ∷ more) symbol line tokens h = let k = first_names section d more _ h in first_led units unit section d more d.names symbol line tokens k.0 refl k.1
