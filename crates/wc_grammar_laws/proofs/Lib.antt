@@ -11,3 +11,5 @@ pub mod WalkedLines
 pub mod DeclarationRests
 pub mod WalkedDeclarations
 pub mod WalkedUnits
+pub mod Appending
+pub mod DeclarationSound
