@@ -53,7 +53,7 @@ lines_behind setting (Nested label line operator x inside close rest) others a b
     (ha.0, append_last b (λ ts k. append_last b (λ us l. append_last b (λ vs m. append_last b (λ ws n. append_last b (λ xs o. append_last b (λ ys q. lines_behind setting rest others ys b q hb) o) n) m) l) k) ha.1)
 
 -- nothing behind
-with_nothing : {T : Type 0} {first : List T → Type 0} (second : List T → Type 0) {tokens : List T} → second [] → first tokens → (first then second) tokens
+pub with_nothing : {T : Type 0} {first : List T → Type 0} (second : List T → Type 0) {tokens : List T} → second [] → first tokens → (first then second) tokens
 with_nothing second {tokens = tokens} none h = record { front = tokens; rest = []; whole = sym (append-nil tokens); begins = h; goes_on = none }
 
 alone_line : (setting : Setting) (label : Word) (b : List Mark) → line_of setting (LabelAlone label) b → lines setting (Alone label End) b

@@ -13,3 +13,5 @@ pub mod WalkedDeclarations
 pub mod WalkedUnits
 pub mod Appending
 pub mod DeclarationSound
+pub mod Told
+pub mod ExactLines
