@@ -15,3 +15,4 @@ pub mod Appending
 pub mod DeclarationSound
 pub mod Told
 pub mod ExactLines
+pub mod ToldOn

@@ -85,14 +85,14 @@ Keeps tokens mark None = Unit {0}
 Keeps tokens mark (Some next) = Told next (tokens ++ mark ∷ [])
 
 -- a line end behind whole units
-outside_end : (us : List ProgramUnit) (tokens : List Mark) (line : ℕ) → units us tokens → units us (tokens ++ mark_on LineEnd line ∷ [])
+pub outside_end : (us : List ProgramUnit) (tokens : List Mark) (line : ℕ) → units us tokens → units us (tokens ++ mark_on LineEnd line ∷ [])
 outside_end us tokens line h = append_last (mark_on LineEnd line ∷ []) (λ rest k. one_more_end rest k) h
   where
     one_more_end : (rest : List Mark) → line_ends rest → line_ends (rest ++ mark_on LineEnd line ∷ [])
     one_more_end [] k = (refl, tt)
     one_more_end (mark ∷ marks) k = (k.0, one_more_end marks k.1)
 
-unit_kept : (us : List ProgramUnit) (tokens : List Mark) (bytes : List ℕ) (line : ℕ) (kind : Option UnitKind) → found unit_kinds (name_of bytes) ≡ kind → units us tokens
+pub unit_kept : (us : List ProgramUnit) (tokens : List Mark) (bytes : List ℕ) (line : ℕ) (kind : Option UnitKind) → found unit_kinds (name_of bytes) ≡ kind → units us tokens
     → Keeps tokens (mark_on (Identifier bytes) line) (option_map (λ kind. Unnamed us kind line) kind)
 unit_kept us tokens bytes line None e h = tt
 unit_kept us tokens bytes line (Some kind) e h = joined tokens (mark_on (Identifier bytes) line ∷ []) h (ap (λ n. Some n) (found_unit_kind (name_of bytes) kind e), refl)
@@ -101,7 +101,7 @@ unit_kept us tokens bytes line (Some kind) e h = joined tokens (mark_on (Identif
 start_of_body : (us : List ProgramUnit) (unit : ProgramUnit) (tokens : List Mark) → (units us then head unit) tokens → at_line (body_start us unit) tokens
 start_of_body us unit tokens h = after (λ ts k. with_nothing _ (pass refl tt) k) h
 
-name_kept : (us : List ProgramUnit) (kind : UnitKind) (first line : ℕ) (bytes : List ℕ) (tokens : List Mark) → (units us then one (IsOn first (IsNamed (unit_word kind)))) tokens
+pub name_kept : (us : List ProgramUnit) (kind : UnitKind) (first line : ℕ) (bytes : List ℕ) (tokens : List Mark) → (units us then one (IsOn first (IsNamed (unit_word kind)))) tokens
     → at_line (body_start us (named_unit kind first line bytes)) (tokens ++ mark_on (Identifier bytes) line ∷ [])
 name_kept us kind first line bytes tokens h =
     start_of_body us (named_unit kind first line bytes) _ (append_last (mark_on (Identifier bytes) line ∷ []) (λ rest k. joined rest (mark_on (Identifier bytes) line ∷ []) k (with_nothing _ ([], refl, refl) (refl, refl, refl))) h)
@@ -119,7 +119,7 @@ one_more_section : (earlier : List Declaration) (group : Group) (a b : List Mark
 one_more_section earlier group a b ha hb = (ha.0 ++ group ∷ [], ap (λ ds. ds ++ group.declarations) ha.1 ∙ sym (declared_by ha.0 group), more_groups ha.0 group a b ha.2 hb)
 
 -- behind a section's END_VAR
-section_done : (us : List ProgramUnit) (unit : ProgramUnit) (section : Section) (tokens : List Mark) (mark : Mark) → InSection us unit section Undeclared tokens → identifier end_var (mark ∷ []) → at_line (body_start us unit) (tokens ++ mark ∷ [])
+pub section_done : (us : List ProgramUnit) (unit : ProgramUnit) (section : Section) (tokens : List Mark) (mark : Mark) → InSection us unit section Undeclared tokens → identifier end_var (mark ∷ []) → at_line (body_start us unit) (tokens ++ mark ∷ [])
 section_done us unit section tokens mark h e =
     subst (at_line (body_start us unit)) (sym (ap (λ ts. ts ++ mark ∷ []) h.whole ∙ append_assoc h.front h.inside (mark ∷ [])))
       (start_of_body us unit _ (append_last (h.inside ++ mark ∷ []) (λ rest k. headed_by rest k) h.begins))
