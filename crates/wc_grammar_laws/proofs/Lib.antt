@@ -16,3 +16,4 @@ pub mod DeclarationSound
 pub mod Told
 pub mod ExactLines
 pub mod ToldOn
+pub mod Exits
