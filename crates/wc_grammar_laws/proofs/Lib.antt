@@ -17,3 +17,4 @@ pub mod Told
 pub mod ExactLines
 pub mod ToldOn
 pub mod Exits
+pub mod Judged

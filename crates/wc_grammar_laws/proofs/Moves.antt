@@ -211,9 +211,14 @@ abbrev pub met_or : Option Met → Option Met → Option Met
 met_or None other = other
 met_or (Some met) other = Some met
 
+-- whether a unit is a program
+abbrev pub is_program : UnitKind → Bool
+is_program FunctionBlock = false
+is_program Program = true
+
 -- whether there is a program among the units
 abbrev pub has_program : List ProgramUnit → Bool
-has_program units = list_any (λ unit. elim unit.kind [ FunctionBlock ↦ false | Program ↦ true ]) units
+has_program units = list_any (λ unit. is_program unit.kind) units
 
 -- whether the unit has as many lines as it may
 abbrev pub is_full : Position → Bool

@@ -30,7 +30,9 @@ use Rattle.wc_model.specs.declared.source.UnitKind.TheVariants.{FunctionBlock, P
 abbrev pub walk_on : Option State → List Mark → Bool → Option State
 walk_on next tokens colon = elim next as (λ _. Option State) [ None ↦ None | Some state ↦ walk state tokens colon ]
 
-next_of_both : (front rest : List Mark) (colon : Bool) → colon_next (front ++ rest) colon ≡ colon_next front (colon_next rest colon)
+
+-- whether a colon follows a front, where it follows the whole
+pub next_of_both : (front rest : List Mark) (colon : Bool) → colon_next (front ++ rest) colon ≡ colon_next front (colon_next rest colon)
 next_of_both [] rest colon = refl
 next_of_both (mark ∷ front) rest colon = refl
 

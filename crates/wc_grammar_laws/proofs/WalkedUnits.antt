@@ -112,7 +112,9 @@ groups_walked units unit (group ∷ groups) tokens colon h =
 abbrev pub headed : ProgramUnit → ProgramUnit
 headed unit = record unit { body = End }
 
-unit_found : (kind : UnitKind) → found unit_kinds (unit_word kind) ≡ Some kind
+
+-- each kind is found under its word
+pub unit_found : (kind : UnitKind) → found unit_kinds (unit_word kind) ≡ Some kind
 unit_found FunctionBlock = refl
 unit_found Program = refl
 
