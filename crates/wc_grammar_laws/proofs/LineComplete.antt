@@ -378,7 +378,7 @@ pub opening_parts : (line : ℕ) (operator : Operator) (x : Option Term) (symbol
 opening_parts line operator x symbol here tokens h = let k = next_is (ungroup h) in (operator_is operator (mark_on symbol here) k.0.0, k.0.1, k.1)
 
 -- behind a label an operator is taken
-labelled_operator : (label : Word) (symbol : Symbol) (line : ℕ) (operation : Operation) → operation_of symbol ≡ Some operation → at_labelled label symbol line ≡ Some (behind_operator (Some label) line operation)
+pub labelled_operator : (label : Word) (symbol : Symbol) (line : ℕ) (operation : Operation) → operation_of symbol ≡ Some operation → at_labelled label symbol line ≡ Some (behind_operator (Some label) line operation)
 labelled_operator label LineEnd line operation e = absurd (cc)
 labelled_operator label symbol line operation e = ap (λ o. at_operator (Some label) line o) e
 

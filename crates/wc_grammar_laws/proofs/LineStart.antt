@@ -94,7 +94,7 @@ no_transfer (Call condition instance arguments) h = absurd (h tt)
 no_transfer (Return condition) h = absurd (h tt)
 
 -- an operator is taken, where it may stand
-taken : (setting : Setting) (symbol : Symbol) (line : ℕ) (operation : Operation) (colon : Bool) → operation_of symbol ≡ Some operation → colon ≡ false → (setting ≡ InParentheses → is_transfer operation ≡ false)
+pub taken : (setting : Setting) (symbol : Symbol) (line : ℕ) (operation : Operation) (colon : Bool) → operation_of symbol ≡ Some operation → colon ≡ false → (setting ≡ InParentheses → is_transfer operation ≡ false)
     → at_start_in setting symbol line colon ≡ Some (behind_operator None line operation)
 taken InBody symbol line operation colon e n may = operator_taken symbol line operation colon e n
 taken InParentheses symbol line operation colon e n may = simple_taken symbol line operation e (may refl)

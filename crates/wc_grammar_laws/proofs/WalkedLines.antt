@@ -181,7 +181,7 @@ body_begins p (Identifier bytes) line form marks colon false e r = word_led p by
 body_begins p symbol line form marks colon here e r = refl
 
 -- the first token of a line begins the line
-begins : (p : Position) (openings : List Opening) (symbol : Symbol) (line : ℕ) (form : LineForm) (marks : List Mark) (colon : Bool) → p.openings ≡ openings
+pub begins : (p : Position) (openings : List Opening) (symbol : Symbol) (line : ℕ) (form : LineForm) (marks : List Mark) (colon : Bool) → p.openings ≡ openings
     → Leads (at_start_in (setting_in openings) symbol line (colon_next marks colon)) form marks
     → move (AtLine p) symbol line (colon_next marks colon) ≡ begun_line p (at_start_in (setting_in openings) symbol line (colon_next marks colon))
 begins p openings LineEnd line form marks colon e r = absurd (nothing_begins openings r)
