@@ -18,3 +18,4 @@ pub mod ExactLines
 pub mod ToldOn
 pub mod Exits
 pub mod Judged
+pub mod MetThere

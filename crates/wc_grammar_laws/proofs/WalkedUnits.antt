@@ -27,7 +27,7 @@ use Rattle.wc_model.specs.declared.source.UnitKind.{UnitKind}
 use Rattle.wc_model.specs.declared.source.UnitKind.TheVariants.{FunctionBlock, Program}
 
 -- only a colon is one
-colon_is : (symbol : Symbol) → is_colon symbol ≡ true → symbol ≡ Colon
+pub colon_is : (symbol : Symbol) → is_colon symbol ≡ true → symbol ≡ Colon
 colon_is Colon e = refl
 colon_is _ e = absurd (cc)
 
