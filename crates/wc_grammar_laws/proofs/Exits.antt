@@ -138,7 +138,7 @@ pub exits_line : (p : Position) → Exits (AtLine p) p.before p.unit
 exits_line p = exits_open p.openings p refl
 
 -- behind a `)`
-exits_closed : (p : Position) → Exits (Closed p) p.before p.unit
+pub exits_closed : (p : Position) → Exits (Closed p) p.before p.unit
 exits_closed p = exits_by (Closed p) (AtLine p) p.before p.unit LineEnd (λ c. refl) (exits_line p)
 
 -- a unit is a program only as the last
@@ -211,7 +211,7 @@ pub record Finishing (state : State) : Type 0 where
   pub order : IsProgramLast text
 
 -- from a state that exits
-finishing_exit : (state : State) (before : List ProgramUnit) (unit : ProgramUnit) → AreBlocks before → Exits state before unit → Finishing state
+pub finishing_exit : (state : State) (before : List ProgramUnit) (unit : ProgramUnit) → AreBlocks before → Exits state before unit → Finishing state
 finishing_exit state before unit h x =
     let p : Position = record (body_start before unit) { done = x.done } in
     let f = finishes_line p refl h in

@@ -19,3 +19,5 @@ pub mod ToldOn
 pub mod Exits
 pub mod Judged
 pub mod MetThere
+pub mod Orders
+pub mod Stops
