@@ -35,7 +35,7 @@ pub record Judged (met : Option Met) (fault : ReadingFault) : Type 0 where
   pub lower : rank_of judged.fault ≤ rank_of fault
 
 -- where the walk has two ends, they are the same
-same_end : (tokens : List Mark) (colon : Bool) (state other : State) → walk at_first tokens colon ≡ Some state → walk at_first tokens colon ≡ Some other → state ≡ other
+pub same_end : (tokens : List Mark) (colon : Bool) (state other : State) → walk at_first tokens colon ≡ Some state → walk at_first tokens colon ≡ Some other → state ≡ other
 same_end tokens colon state other a b = some_is (sym a ∙ b)
   where
     some_is : Some state ≡ Some other → state ≡ other
@@ -219,7 +219,7 @@ one_walked state p label line operator (mark ∷ []) h f =
     ap (λ o. walk_on o [] false) (f mark h.0) ∙ ap (λ n. Some (OnLine p (Operated (record { label = label; line = n }) (Applies operator)))) h.1
 
 -- tokens that stop behind an operator that may open a parenthesis lead there
-operator_walked : (p : Position) (label : Option Word) (line : ℕ) (operator : Operator) (tokens : List Mark) → (at_instruction p label then one (IsOn line (IsOperator operator))) tokens
+pub operator_walked : (p : Position) (label : Option Word) (line : ℕ) (operator : Operator) (tokens : List Mark) → (at_instruction p label then one (IsOn line (IsOperator operator))) tokens
     → walk at_first tokens false ≡ Some (OnLine (plain p) (Operated (record { label = label; line = line }) (Applies operator)))
 operator_walked p None line operator tokens h =
     subst (λ ts. walk at_first ts false ≡ Some (OnLine (plain p) (Operated (record { label = None; line = line }) (Applies operator)))) (sym h.whole)

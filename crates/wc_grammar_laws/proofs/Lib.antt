@@ -21,3 +21,4 @@ pub mod Judged
 pub mod MetThere
 pub mod Orders
 pub mod Stops
+pub mod InParentheses

@@ -45,7 +45,7 @@ stays_on p state form (mark ∷ front) next more colon o r =
     ] (move_led (setting_in p.openings) state form mark.symbol mark.line (colon_next front colon) (front ++ next ∷ more) r)
 
 -- a front of a line that has a token is on it
-line_stays : (p : Position) (form : LineForm) (mark : Mark) (front : List Mark) (next : Mark) (more : List Mark) (colon : Bool)
+pub line_stays : (p : Position) (form : LineForm) (mark : Mark) (front : List Mark) (next : Mark) (more : List Mark) (colon : Bool)
     → move (AtLine p) mark.symbol mark.line (colon_next front colon) ≡ begun_line p (at_start_in (setting_in p.openings) mark.symbol mark.line (colon_next (front ++ next ∷ more) false))
     → line_of (setting_in p.openings) form (mark ∷ front ++ next ∷ more) → StaysOn p form (next ∷ more) (mark ∷ front) colon (Some (AtLine p))
 line_stays p form mark front next more colon e h =
@@ -57,7 +57,7 @@ line_stays p form mark front next more colon e h =
     (go.0, ap (λ o. walk_on o front colon) e ∙ go.1, go.2, go.3)
 
 -- inside parentheses it makes no difference whether a colon follows
-inside_begins : (p : Position) (o : Opening) (outer : List Opening) (form : LineForm) (mark : Mark) (marks : List Mark) (colon : Bool) → p.openings ≡ o ∷ outer → line_of (setting_in p.openings) form (mark ∷ marks)
+pub inside_begins : (p : Position) (o : Opening) (outer : List Opening) (form : LineForm) (mark : Mark) (marks : List Mark) (colon : Bool) → p.openings ≡ o ∷ outer → line_of (setting_in p.openings) form (mark ∷ marks)
     → move (AtLine p) mark.symbol mark.line colon ≡ begun_line p (at_start_in (setting_in p.openings) mark.symbol mark.line (colon_next marks false))
 inside_begins p o outer form mark marks colon e h =
     same_move mark.symbol
@@ -73,7 +73,7 @@ inside_begins p o outer form mark marks colon e h =
 abbrev pub EndsInParentheses : State → Type 0
 EndsInParentheses state = (last_line : ℕ) → (line : ℕ) × (at_end state last_line ≡ Err (record { fault = ParenthesisNotPaired; line = line }))
 
-on_line_ends : (p : Position) (o : Opening) (outer : List Opening) (state : LineState) → p.openings ≡ o ∷ outer → EndsInParentheses (OnLine p state)
+pub on_line_ends : (p : Position) (o : Opening) (outer : List Opening) (state : LineState) → p.openings ≡ o ∷ outer → EndsInParentheses (OnLine p state)
 on_line_ends p o outer (Bracketed begun operator) e last_line = (begun.line, refl)
 on_line_ends p o outer (BracketedWith begun operator x) e last_line = (begun.line, refl)
 on_line_ends p o outer (Named begun (OfOpening operator) name) e last_line = (begun.line, refl)
@@ -88,7 +88,7 @@ IsOpening (Named begun (OfOpening operator) name) = Unit {0}
 IsOpening (Pointed begun (OfOpening operator) name) = Unit {0}
 IsOpening _ = ⊥
 
-opening_ends : (p : Position) (state : LineState) → IsOpening state → EndsInParentheses (OnLine p state)
+pub opening_ends : (p : Position) (state : LineState) → IsOpening state → EndsInParentheses (OnLine p state)
 opening_ends p (Bracketed begun operator) h last_line = (begun.line, refl)
 opening_ends p (BracketedWith begun operator x) h last_line = (begun.line, refl)
 opening_ends p (Named begun (OfOpening operator) name) h last_line = (begun.line, refl)
@@ -159,7 +159,7 @@ opening_on p form front next more colon f (Named begun place name) o h = f (Name
 opening_on p form front next more colon f (Pointed begun place name) o h = f (Pointed begun place name) o h
 opening_on p form front next more colon f state o h = absurd o
 
-opening_stays : (p : Position) (state : LineState) (form : LineForm) (front : List Mark) (next : Mark) (more : List Mark) (colon : Bool) → IsOpening state → rest_of state form (front ++ next ∷ more) → OpeningOn p front colon (Some (OnLine p state))
+pub opening_stays : (p : Position) (state : LineState) (form : LineForm) (front : List Mark) (next : Mark) (more : List Mark) (colon : Bool) → IsOpening state → rest_of state form (front ++ next ∷ more) → OpeningOn p front colon (Some (OnLine p state))
 opening_stays p state form [] next more colon o r = (state, refl, o)
 opening_stays p state form (mark ∷ front) next more colon o r =
     elim (line_move (setting_in p.openings) state mark.symbol mark.line (colon_next front colon)) as (λ l. OpeningNext l → Leads l form (front ++ next ∷ more) → OpeningOn p front colon (begun_line p l)) [

@@ -248,7 +248,7 @@ content_is None (Nested label line operator operand inside close rest) h = refl
 content_is (Some x) inside h = refl
 
 -- a parenthesis closes
-closing_walked : (q : Position) (o : Opening) (outer : List Opening) (close : ℕ) (tokens : List Mark) (colon : Bool) → q.openings ≡ o ∷ outer → HasContent o.operand q.done
+pub closing_walked : (q : Position) (o : Opening) (outer : List Opening) (close : ℕ) (tokens : List Mark) (colon : Bool) → q.openings ≡ o ∷ outer → HasContent o.operand q.done
     → one (IsOn close (IsSymbol ClosingBracket)) tokens → walk (AtLine q) tokens colon ≡ Some (Closed (behind_closing q o outer close))
 closing_walked q o outer close [] colon e content h = absurd h
 closing_walked q o outer close (x ∷ y ∷ more) colon e content h = absurd h
