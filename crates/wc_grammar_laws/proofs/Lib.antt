@@ -22,3 +22,4 @@ pub mod MetThere
 pub mod Orders
 pub mod Stops
 pub mod InParentheses
+pub mod InUnit

@@ -4,6 +4,7 @@ use Rattle.std.proofs.lemmas.Bool.Decides.{nat_tests}
 use Rattle.std.proofs.lemmas.List.Folds.{Any-from_list_any}
 use Rattle.std.specs.Prelude.{◌⊎◌, ◌&&◌, Any, nat_le, is_some}
 use Rattle.wc_grammar_laws.proofs.Appending.{with_nothing}
+use Rattle.wc_grammar_laws.proofs.ExactLines.{one_operator}
 use Rattle.wc_grammar_laws.proofs.LineMoves.{Begun, LineState, Start, Worded, Labelled, Operated, Jumped, Called, Instanced, Listing, Bracketed, Named, Pointed, Stepped, BracketedWith, Ended}
 use Rattle.wc_grammar_laws.proofs.LineSound.{mark_on}
 use Rattle.wc_grammar_laws.proofs.Moves.{State, Outside, Unnamed, Declaring, AtLine, OnLine, Closed, begins_transfer, colon_next, has_content, has_name, has_program, is_colon, is_full, is_identifier, is_program, judge, judge_closing, judge_line, judge_on_line, judge_operator, judge_unit, Met, met_if, met_or}
@@ -184,11 +185,6 @@ labelled_there p label before mark behind h =
   where
     here : at_instruction p (Some label) before
     here = subst (at_instruction p (Some label)) (sym h.whole) (joined h.front h.part h.begins (subst (λ s. label_in s (Some label) h.part) (sym h.exact.0) h.exact.1))
-
-one_operator : (line : ℕ) (operator : Operator) (tokens : List Mark) → one (IsOn line (λ mark. operation_of mark.symbol ≡ Some (Operates (Applies operator)))) tokens → one (IsOn line (IsOperator operator)) tokens
-one_operator line operator [] h = absurd h
-one_operator line operator (mark ∷ []) h = (is_operator operator mark.symbol mark.line h.0, h.1)
-one_operator line operator (x ∷ y ∷ more) h = absurd h
 
 -- a bracket behind an operator
 bracket_there : (p : Position) (begun : Begun) (operator : Operator) (before behind : List Mark) (line : ℕ) → InLine p (Operated begun (Applies operator)) before

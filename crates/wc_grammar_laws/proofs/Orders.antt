@@ -129,7 +129,9 @@ ordered_on (OnLine p state) symbol line colon h e = begun_ordered p (line_move (
 ordered_on (Closed p) LineEnd line colon h e = h
 ordered_on _ symbol line colon h e = tt
 
-open_is : (line : LineState) → IsOpen line → (form : LineForm) → line ≢ Ended form
+
+-- what has not ended is no end
+pub open_is : (line : LineState) → IsOpen line → (form : LineForm) → line ≢ Ended form
 open_is line h form e = subst IsOpen e h
 
 -- from each place of the walk a text is finished

@@ -16,9 +16,9 @@ use Rattle.wc_grammar_laws.proofs.WordLaws.{found_section, found_unit_kind, same
 use Rattle.wc_grammar_laws.proofs.Words.{Applies, Operates, found, operation_of, section_words, unit_kinds}
 use Rattle.wc_model.proofs.Languages.{joined, pass, regroup, ungroup, before, after}
 use Rattle.wc_model.proofs.Spelling.{same}
-use Rattle.wc_model.specs.Grammar.{Group, HasContent, InBody, InParentheses, IsNameOf, IsOn, Setting, bracket, head, identifier, label_in, line_ends, lines, section_of, sections, symbol, unit_of, units}
+use Rattle.wc_model.specs.Grammar.{Group, HasContent, InBody, InParentheses, IsNameOf, IsOn, Setting, bracket, head, identifier, label_in, line_ends, lines, operand, section_of, sections, symbol, unit_of, units}
 use Rattle.wc_model.specs.Keywords.{end_var, end_word, section_word, unit_word}
-use Rattle.wc_model.specs.Languages.{◌then◌, each, one, skipping}
+use Rattle.wc_model.specs.Languages.{◌then◌, each, one, optional, skipping}
 use Rattle.wc_model.specs.Marks.{ClosingBracket, Identifier, IsNamed, IsSymbol, IsWord, LineEnd, Mark, Symbol, is_line_end, is_line_end_symbol}
 use Rattle.wc_model.specs.Names.{Name, name_of}
 use Rattle.wc_model.specs.Positions.{Opening, Position, at_line, setting_in}
@@ -38,12 +38,24 @@ pub record InSection (us : List ProgramUnit) (unit : ProgramUnit) (section : Sec
   pub begins : (units us then head (record unit { declarations = earlier }) then line_ends then identifier (section_word section)) front
   pub goes : (ds : List Declaration) (more : List Mark) → skipping is_line_end (declared_rest section place ds) more → skipping is_line_end (declarations_of section (done ++ ds)) (inside ++ more)
 
+-- an opening line behind its bracket: what goes on from there is its operand and its end
+pub record PartOpened (setting : Setting) (begun : Begun) (operator : Operator) (line : LineState) (tokens : List Mark) : Type 0 where
+  pub front : List Mark
+  pub behind : List Mark
+  pub whole : tokens ≡ front ++ behind
+  pub begins : (label_in setting begun.label then bracket begun.line operator) front
+  pub goes : (form : LineForm) (more : List Mark) → rest_of line form more → (x : Option Term) × (optional operand x then symbol LineEnd) (behind ++ more)
+
 -- a part of a line: what stands before and behind its operator, where a fault may be met next
 abbrev pub Exact : Setting → LineState → List Mark → Type 0
 Exact setting Start tokens = ⊥
 Exact setting (Worded label) tokens = (setting ≡ InBody) × one (IsWord label) tokens
 Exact setting (Labelled label) tokens = (setting ≡ InBody) × label_in InBody (Some label) tokens
 Exact setting (Operated begun operating) tokens = (label_in setting begun.label then one (IsOn begun.line (λ mark. operation_of mark.symbol ≡ Some (Operates operating)))) tokens
+Exact setting (Bracketed begun operator) tokens = PartOpened setting begun operator (Bracketed begun operator) tokens
+Exact setting (BracketedWith begun operator x) tokens = PartOpened setting begun operator (BracketedWith begun operator x) tokens
+Exact setting (Named begun (OfOpening operator) name) tokens = PartOpened setting begun operator (Named begun (OfOpening operator) name) tokens
+Exact setting (Pointed begun (OfOpening operator) name) tokens = PartOpened setting begun operator (Pointed begun (OfOpening operator) name) tokens
 Exact setting _ tokens = Unit {0}
 
 -- on a line that has begun: the tokens before it, and those of it

@@ -196,9 +196,8 @@ told_on (Declaring us unit section place) tokens symbol line colon h = section_k
 told_on (AtLine p) tokens LineEnd line colon h = end_kept p tokens line h
 told_on (AtLine p) tokens symbol line colon h = first_kept p p.openings tokens symbol line colon refl h
 told_on (OnLine p state) tokens symbol line colon h =
-    line_kept p state tokens (mark_on symbol line) (line_move (setting_in p.openings) state symbol line colon) h
-      (move_allowed (setting_in p.openings) state symbol line colon (λ e. subst (λ s. Exact (setting_in p.openings) s h.part) e h.exact))
-      (λ part e. exact_move (setting_in p.openings) state symbol line colon part e)
+    let a = move_allowed (setting_in p.openings) state symbol line colon (λ e. subst (λ s. Exact (setting_in p.openings) s h.part) e h.exact) in
+    line_kept p state tokens (mark_on symbol line) (line_move (setting_in p.openings) state symbol line colon) h a (λ part e. exact_move (setting_in p.openings) state symbol line colon part a e)
 told_on (Closed p) tokens LineEnd line colon h = closed_kept p tokens line h
 told_on _ tokens symbol line colon h = tt
 
