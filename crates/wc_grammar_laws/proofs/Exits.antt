@@ -1,10 +1,11 @@
 -- From each place of the walk some further tokens lead to the end of a text.
 use Rattle.std.proofs.Common.{◌≡◌, ◌≢◌, ℕ, Bool, true, false, List, [], ◌∷◌, ◌++◌, Option, Some, None, refl, ap, subst, append_assoc, append-nil, if◌then◌else◌, ◌∙◌, sym, inl, inr}
 use Rattle.std.specs.List.{AllByRecursion}
+use Rattle.std.specs.Prelude.{◌⊎◌}
 use Rattle.wc_grammar_laws.proofs.LineMoves.{LineForm, LabelAlone, Instructs, Opens, Begun, Listed, OfStep, OfOpening, OfArgument, InList, AtFirst, AtNext, AtAssign, AtValue, AtEnd, LineState, Start, Worded, Labelled, Operated, Jumped, Called, Instanced, Listing, Bracketed, Named, Pointed, Stepped, BracketedWith, Ended}
 use Rattle.wc_grammar_laws.proofs.LineRests.{rest_of}
 use Rattle.wc_grammar_laws.proofs.LineSound.{mark_on}
-use Rattle.wc_grammar_laws.proofs.Moves.{InDeclaration, Undeclared, BehindNames, BehindComma, BehindColon, BehindType, BehindAssign, BehindValue, State, Outside, Unnamed, Declaring, AtLine, OnLine, Closed, behind_closing, behind_line, behind_unit, body_start, colon_next, is_colon, has_content, lines_and, move, named_unit, start_move, on_line, unit_with, walk, section_or_line, section_begun, with_declaration}
+use Rattle.wc_grammar_laws.proofs.Moves.{InDeclaration, Undeclared, BehindNames, BehindComma, BehindColon, BehindType, BehindAssign, BehindValue, State, Outside, Unnamed, Declaring, AtLine, OnLine, Closed, behind_closing, behind_line, behind_unit, body_start, colon_next, is_colon, has_content, lines_and, move, named_unit, start_move, on_line, open_in, open_on, unit_with, walk, section_or_line, section_begun, with_declaration}
 use Rattle.wc_grammar_laws.proofs.WalkedLines.{on_line_walked, walk_on, walk_then}
 use Rattle.wc_grammar_laws.proofs.Words.{step_of}
 use Rattle.wc_model.proofs.Languages.{next, pass, regroup}
@@ -28,68 +29,77 @@ sign symbol = mark_on symbol 0
 abbrev truth : Term
 truth = Constant (BoolValue true)
 
+-- an opening line behind its bracket
+abbrev pub IsOpening : LineState → Type 0
+IsOpening (Bracketed begun operator) = Unit {0}
+IsOpening (BracketedWith begun operator x) = Unit {0}
+IsOpening (Named begun (OfOpening operator) name) = Unit {0}
+IsOpening (Pointed begun (OfOpening operator) name) = Unit {0}
+IsOpening _ = ⊥
+
+-- no parenthesis opens
+abbrev pub NoOpens : LineForm → Type 0
+NoOpens (Opens label line operator x) = ⊥
+NoOpens _ = Unit {0}
+
 -- what completes a line that has begun: a form and its tokens
 pub record Completed (state : LineState) : Type 0 where
   pub form : LineForm
   pub more : List Mark
   pub rest : rest_of state form more
+  pub sort : IsOpening state ⊎ (NoOpens form × ((p : Position) → open_on p state ≡ open_in p.unit p.openings))
 
 -- a name, and what completes a call's list behind it
 list_completed : (begun : Begun) (call : Listed) (item : InList) → Completed (Listing begun call item)
-list_completed begun call AtFirst = record { form = Instructs begun.label begun.line (Call call.condition call.instance (call.arguments ++ [])); more = sign ClosingBracket ∷ sign LineEnd ∷ []; rest = ([], refl, record { front = []; rest = sign ClosingBracket ∷ sign LineEnd ∷ []; whole = refl; begins = refl; goes_on = next refl refl }) }
+list_completed begun call AtFirst = record { sort = inr (tt, λ p. refl); form = Instructs begun.label begun.line (Call call.condition call.instance (call.arguments ++ [])); more = sign ClosingBracket ∷ sign LineEnd ∷ []; rest = ([], refl, record { front = []; rest = sign ClosingBracket ∷ sign LineEnd ∷ []; whole = refl; begins = refl; goes_on = next refl refl }) }
 list_completed begun call AtNext =
     let a : Assignment = record { input = 97 ∷ []; value = truth } in
-    record {
-      form = Instructs begun.label begun.line (Call call.condition call.instance (call.arguments ++ a ∷ []));
+    record { sort = inr (tt, λ p. refl); form = Instructs begun.label begun.line (Call call.condition call.instance (call.arguments ++ a ∷ []));
       more = sign (Identifier (97 ∷ [])) ∷ sign Assign ∷ sign (Truth true) ∷ sign ClosingBracket ∷ sign LineEnd ∷ [];
       rest = (a ∷ [], refl, record { front = sign (Identifier (97 ∷ [])) ∷ sign Assign ∷ sign (Truth true) ∷ []; rest = sign ClosingBracket ∷ sign LineEnd ∷ []; whole = refl;
         begins = record { front = sign (Identifier (97 ∷ [])) ∷ sign Assign ∷ sign (Truth true) ∷ []; rest = []; whole = refl; begins = next refl (next refl (inl refl)); goes_on = refl }; goes_on = next refl refl });
     }
 list_completed begun call (AtAssign input) =
     let a : Assignment = record { input = input; value = truth } in
-    record {
-      form = Instructs begun.label begun.line (Call call.condition call.instance (call.arguments ++ a ∷ []));
+    record { sort = inr (tt, λ p. refl); form = Instructs begun.label begun.line (Call call.condition call.instance (call.arguments ++ a ∷ []));
       more = sign Assign ∷ sign (Truth true) ∷ sign ClosingBracket ∷ sign LineEnd ∷ [];
       rest = (a ∷ [], refl, record { front = sign Assign ∷ sign (Truth true) ∷ []; rest = sign ClosingBracket ∷ sign LineEnd ∷ []; whole = refl; begins = (refl, next refl (next (inl refl) refl)); goes_on = next refl refl });
     }
 list_completed begun call (AtValue input) =
     let a : Assignment = record { input = input; value = truth } in
-    record {
-      form = Instructs begun.label begun.line (Call call.condition call.instance (call.arguments ++ a ∷ []));
+    record { sort = inr (tt, λ p. refl); form = Instructs begun.label begun.line (Call call.condition call.instance (call.arguments ++ a ∷ []));
       more = sign (Truth true) ∷ sign ClosingBracket ∷ sign LineEnd ∷ [];
       rest = (a ∷ [], refl, record { front = sign (Truth true) ∷ []; rest = sign ClosingBracket ∷ sign LineEnd ∷ []; whole = refl; begins = (refl, next (inl refl) refl); goes_on = next refl refl });
     }
-list_completed begun call AtEnd = record { form = Instructs begun.label begun.line (Call call.condition call.instance (call.arguments ++ [])); more = sign ClosingBracket ∷ sign LineEnd ∷ []; rest = ([], refl, record { front = []; rest = sign ClosingBracket ∷ sign LineEnd ∷ []; whole = refl; begins = refl; goes_on = next refl refl }) }
+list_completed begun call AtEnd = record { sort = inr (tt, λ p. refl); form = Instructs begun.label begun.line (Call call.condition call.instance (call.arguments ++ [])); more = sign ClosingBracket ∷ sign LineEnd ∷ []; rest = ([], refl, record { front = []; rest = sign ClosingBracket ∷ sign LineEnd ∷ []; whole = refl; begins = refl; goes_on = next refl refl }) }
 
 -- each line that has begun may be completed; where no parenthesis opens, to an instruction or a label
-pub completed : (state : LineState) → state ≢ Start → Completed state
-completed Start n = absurd (n refl)
-completed (Worded label) n = record { form = LabelAlone label; more = sign Colon ∷ sign LineEnd ∷ []; rest = next refl (refl, refl) }
-completed (Labelled label) n = record { form = LabelAlone label; more = sign LineEnd ∷ []; rest = (refl, refl) }
-completed (Operated begun operating) n = record { form = Instructs begun.label begun.line (step_of operating truth); more = sign (Truth true) ∷ sign LineEnd ∷ []; rest = inl (truth, refl, next (inl refl) refl) }
-completed (Jumped begun condition) n = record { form = Instructs begun.label begun.line (Jump condition (97 ∷ [])); more = sign (Identifier (97 ∷ [])) ∷ sign LineEnd ∷ []; rest = (97 ∷ [], refl, next refl refl) }
-completed (Called begun condition) n =
-    record { form = Instructs begun.label begun.line (Call condition (97 ∷ []) []); more = sign (Identifier (97 ∷ [])) ∷ sign LineEnd ∷ []; rest = (97 ∷ [], [], refl, next refl (pass (inl refl) refl)) }
-completed (Instanced begun condition instance) n = record { form = Instructs begun.label begun.line (Call condition instance []); more = sign LineEnd ∷ []; rest = ([], refl, pass (inl refl) refl) }
-completed (Listing begun call item) n = list_completed begun call item
-completed (Bracketed begun operator) n = record { form = Opens begun.label begun.line operator None; more = sign LineEnd ∷ []; rest = (None, refl, pass refl refl) }
-completed (Named begun (OfStep operating) name) n = record { form = Instructs begun.label begun.line (step_of operating (Variable name)); more = sign LineEnd ∷ []; rest = (Variable name, refl, pass (refl, refl) refl) }
-completed (Named begun (OfOpening operator) name) n = record { form = Opens begun.label begun.line operator (Some (Variable name)); more = sign LineEnd ∷ []; rest = (Variable name, refl, pass (refl, refl) refl) }
-completed (Named begun (OfArgument call input) name) n = record {
-    form = Instructs begun.label begun.line (Call call.condition call.instance (call.arguments ++ record { input = input; value = Variable name } ∷ []));
+pub completed : (state : LineState) → state ≢ Start → ((form : LineForm) → state ≢ Ended form) → Completed state
+completed Start n m = absurd (n refl)
+completed (Worded label) n m = record { sort = inr (tt, λ p. refl); form = LabelAlone label; more = sign Colon ∷ sign LineEnd ∷ []; rest = next refl (refl, refl) }
+completed (Labelled label) n m = record { sort = inr (tt, λ p. refl); form = LabelAlone label; more = sign LineEnd ∷ []; rest = (refl, refl) }
+completed (Operated begun operating) n m = record { sort = inr (tt, λ p. refl); form = Instructs begun.label begun.line (step_of operating truth); more = sign (Truth true) ∷ sign LineEnd ∷ []; rest = inl (truth, refl, next (inl refl) refl) }
+completed (Jumped begun condition) n m = record { sort = inr (tt, λ p. refl); form = Instructs begun.label begun.line (Jump condition (97 ∷ [])); more = sign (Identifier (97 ∷ [])) ∷ sign LineEnd ∷ []; rest = (97 ∷ [], refl, next refl refl) }
+completed (Called begun condition) n m =
+    record { sort = inr (tt, λ p. refl); form = Instructs begun.label begun.line (Call condition (97 ∷ []) []); more = sign (Identifier (97 ∷ [])) ∷ sign LineEnd ∷ []; rest = (97 ∷ [], [], refl, next refl (pass (inl refl) refl)) }
+completed (Instanced begun condition instance) n m = record { sort = inr (tt, λ p. refl); form = Instructs begun.label begun.line (Call condition instance []); more = sign LineEnd ∷ []; rest = ([], refl, pass (inl refl) refl) }
+completed (Listing begun call item) n m = list_completed begun call item
+completed (Bracketed begun operator) n m = record { sort = inl tt; form = Opens begun.label begun.line operator None; more = sign LineEnd ∷ []; rest = (None, refl, pass refl refl) }
+completed (Named begun (OfStep operating) name) n m = record { sort = inr (tt, λ p. refl); form = Instructs begun.label begun.line (step_of operating (Variable name)); more = sign LineEnd ∷ []; rest = (Variable name, refl, pass (refl, refl) refl) }
+completed (Named begun (OfOpening operator) name) n m = record { sort = inl tt; form = Opens begun.label begun.line operator (Some (Variable name)); more = sign LineEnd ∷ []; rest = (Variable name, refl, pass (refl, refl) refl) }
+completed (Named begun (OfArgument call input) name) n m = record { sort = inr (tt, λ p. refl); form = Instructs begun.label begun.line (Call call.condition call.instance (call.arguments ++ record { input = input; value = Variable name } ∷ []));
     more = sign ClosingBracket ∷ sign LineEnd ∷ [];
     rest = (Variable name, [], refl, record { front = []; rest = sign ClosingBracket ∷ sign LineEnd ∷ []; whole = refl; begins = pass (refl, refl) refl; goes_on = next refl refl });
 }
-completed (Pointed begun (OfStep operating) name) n = record { form = Instructs begun.label begun.line (step_of operating (Field name (97 ∷ []))); more = sign (Identifier (97 ∷ [])) ∷ sign LineEnd ∷ []; rest = (Field name (97 ∷ []), refl, record { front = sign (Identifier (97 ∷ [])) ∷ []; rest = sign LineEnd ∷ []; whole = refl; begins = (refl, refl); goes_on = refl }) }
-completed (Pointed begun (OfOpening operator) name) n = record { form = Opens begun.label begun.line operator (Some (Field name (97 ∷ []))); more = sign (Identifier (97 ∷ [])) ∷ sign LineEnd ∷ []; rest = (Field name (97 ∷ []), refl, record { front = sign (Identifier (97 ∷ [])) ∷ []; rest = sign LineEnd ∷ []; whole = refl; begins = (refl, refl); goes_on = refl }) }
-completed (Pointed begun (OfArgument call input) name) n = record {
-    form = Instructs begun.label begun.line (Call call.condition call.instance (call.arguments ++ record { input = input; value = Field name (97 ∷ []) } ∷ []));
+completed (Pointed begun (OfStep operating) name) n m = record { sort = inr (tt, λ p. refl); form = Instructs begun.label begun.line (step_of operating (Field name (97 ∷ []))); more = sign (Identifier (97 ∷ [])) ∷ sign LineEnd ∷ []; rest = (Field name (97 ∷ []), refl, record { front = sign (Identifier (97 ∷ [])) ∷ []; rest = sign LineEnd ∷ []; whole = refl; begins = (refl, refl); goes_on = refl }) }
+completed (Pointed begun (OfOpening operator) name) n m = record { sort = inl tt; form = Opens begun.label begun.line operator (Some (Field name (97 ∷ []))); more = sign (Identifier (97 ∷ [])) ∷ sign LineEnd ∷ []; rest = (Field name (97 ∷ []), refl, record { front = sign (Identifier (97 ∷ [])) ∷ []; rest = sign LineEnd ∷ []; whole = refl; begins = (refl, refl); goes_on = refl }) }
+completed (Pointed begun (OfArgument call input) name) n m = record { sort = inr (tt, λ p. refl); form = Instructs begun.label begun.line (Call call.condition call.instance (call.arguments ++ record { input = input; value = Field name (97 ∷ []) } ∷ []));
     more = sign (Identifier (97 ∷ [])) ∷ sign ClosingBracket ∷ sign LineEnd ∷ [];
     rest = (Field name (97 ∷ []), [], refl, record { front = sign (Identifier (97 ∷ [])) ∷ []; rest = sign ClosingBracket ∷ sign LineEnd ∷ []; whole = refl; begins = record { front = sign (Identifier (97 ∷ [])) ∷ []; rest = []; whole = refl; begins = (refl, refl); goes_on = refl }; goes_on = next refl refl });
 }
-completed (Stepped begun step) n = record { form = Instructs begun.label begun.line step; more = sign LineEnd ∷ []; rest = (refl, refl) }
-completed (BracketedWith begun operator x) n = record { form = Opens begun.label begun.line operator (Some x); more = sign LineEnd ∷ []; rest = (refl, refl) }
-completed (Ended form) n = record { form = form; more = []; rest = (refl, refl) }
+completed (Stepped begun step) n m = record { sort = inr (tt, λ p. refl); form = Instructs begun.label begun.line step; more = sign LineEnd ∷ []; rest = (refl, refl) }
+completed (BracketedWith begun operator x) n m = record { sort = inl tt; form = Opens begun.label begun.line operator (Some x); more = sign LineEnd ∷ []; rest = (refl, refl) }
+completed (Ended form) n m = absurd (m form refl)
 
 -- From a state some further tokens lead to the start of a line with no parenthesis open, in the same unit.
 pub record Exits (state : State) (before : List ProgramUnit) (unit : ProgramUnit) : Type 0 where
@@ -246,7 +256,7 @@ on_line_is p _ n = refl
 -- a line that has begun
 pub exits_on : (p : Position) (line : LineState) → line ≢ Start → ((form : LineForm) → line ≢ Ended form) → Exits (OnLine p line) p.before p.unit
 exits_on p line n m =
-    let c = completed line n in
+    let c = completed line n m in
     exits_walk (OnLine p line) (AtLine (behind_line p c.form)) p.before p.unit c.more (λ colon. subst (λ s. walk s c.more colon ≡ Some (AtLine (behind_line p c.form))) (on_line_is p line m) (on_line_walked p line c.form c.more colon c.rest))
       (subst (λ u. Exits (AtLine (behind_line p c.form)) p.before u) (line_unit p c.form) (subst (λ b. Exits (AtLine (behind_line p c.form)) b (behind_line p c.form).unit) (line_before p c.form) (exits_line (behind_line p c.form))))
 

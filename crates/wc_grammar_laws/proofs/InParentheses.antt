@@ -5,7 +5,7 @@ use Rattle.wc_grammar_laws.proofs.Judged.{operator_walked, same_end}
 use Rattle.wc_grammar_laws.proofs.LineMoves.{LineForm, Instructs, Opens, Begun, Bracketed, Operated}
 use Rattle.wc_grammar_laws.proofs.LineRests.{line_of}
 use Rattle.wc_grammar_laws.proofs.Moves.{State, AtLine, OnLine, Closed, at_first, behind_closing, behind_line, colon_next, is_colon, move, open_in, walk}
-use Rattle.wc_grammar_laws.proofs.Stops.{EndsInParentheses, IsOpening, inside_begins, line_stays, on_line_ends, opening_ends, opening_stays}
+use Rattle.wc_grammar_laws.proofs.Stops.{EndsInParentheses, inside_begins, line_stays, on_line_ends, opening_ends, opening_stays}
 use Rattle.wc_grammar_laws.proofs.WalkedLines.{closing_walked, line_walked, lines_walked, parts_walked, walk_on, walk_then, with_lines}
 use Rattle.wc_grammar_laws.proofs.WalkedUnits.{at_line_walked, plain}
 use Rattle.wc_grammar_laws.proofs.Words.{Applies}

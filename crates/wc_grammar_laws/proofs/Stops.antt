@@ -2,6 +2,7 @@
 use Rattle.std.proofs.Common.{◌≡◌, ◌≢◌, ℕ, Bool, true, false, List, [], ◌∷◌, ◌++◌, Option, Some, None, refl, ap, subst, append_assoc, append-nil, if◌then◌else◌, ◌∙◌, sym, inl, inr}
 use Rattle.std.specs.Prelude.{◌⊎◌, Ok, Err}
 use Rattle.wc_grammar_laws.proofs.Appending.{append_last, with_nothing}
+use Rattle.wc_grammar_laws.proofs.Exits.{IsOpening}
 use Rattle.wc_grammar_laws.proofs.LineComplete.{Leads, move_led}
 use Rattle.wc_grammar_laws.proofs.LineMoves.{at_bracketed, at_field, at_operand, name_or_literal, LineForm, LabelAlone, Instructs, Opens, Begun, OfStep, OfOpening, OfArgument, LineState, Start, Worded, Labelled, Operated, Jumped, Called, Instanced, Listing, Bracketed, Named, Pointed, Stepped, BracketedWith, Ended, at_start_in, line_move}
 use Rattle.wc_grammar_laws.proofs.LineRests.{line_of, rest_of}
@@ -79,14 +80,6 @@ on_line_ends p o outer (BracketedWith begun operator x) e last_line = (begun.lin
 on_line_ends p o outer (Named begun (OfOpening operator) name) e last_line = (begun.line, refl)
 on_line_ends p o outer (Pointed begun (OfOpening operator) name) e last_line = (begun.line, refl)
 on_line_ends p o outer state e last_line = (o.line, ap (λ os. Err (open_in p.unit os)) e)
-
--- an opening line behind its bracket
-abbrev pub IsOpening : LineState → Type 0
-IsOpening (Bracketed begun operator) = Unit {0}
-IsOpening (BracketedWith begun operator x) = Unit {0}
-IsOpening (Named begun (OfOpening operator) name) = Unit {0}
-IsOpening (Pointed begun (OfOpening operator) name) = Unit {0}
-IsOpening _ = ⊥
 
 pub opening_ends : (p : Position) (state : LineState) → IsOpening state → EndsInParentheses (OnLine p state)
 opening_ends p (Bracketed begun operator) h last_line = (begun.line, refl)
