@@ -64,19 +64,19 @@ alone_line : (p : Position) (ts : List Mark) → (head p.unit then openings_of p
 alone_line p ts h = pass no_units h
 
 -- the split at each state in a unit
-split_line : (p : Position) (tokens : List Mark) → at_line p tokens → Split tokens p.unit.line
+pub split_line : (p : Position) (tokens : List Mark) → at_line p tokens → Split tokens p.unit.line
 split_line p tokens h =
     subst (λ ts. Split ts p.unit.line) (append-nil tokens)
       (split p.before p.unit.line (unit_word p.unit.kind) _ _ tokens [] (AtLine (alone p)) p.unit h (λ ts k. ungroup k) (λ ts k. subst (at_line (alone p)) (sym (append-nil ts)) (alone_line p ts k)) refl (exits_line (alone p)))
 
-split_on : (p : Position) (line : LineState) (tokens : List Mark) → IsOpen line → InLine p line tokens → Split tokens p.unit.line
+pub split_on : (p : Position) (line : LineState) (tokens : List Mark) → IsOpen line → InLine p line tokens → Split tokens p.unit.line
 split_on p line tokens o h =
     subst (λ ts. Split ts p.unit.line) (sym h.whole)
       (split p.before p.unit.line (unit_word p.unit.kind) _ _ h.front h.part (OnLine (alone p) line) p.unit h.begins (λ ts k. ungroup k)
         (λ ts k. record { front = ts; part = h.part; whole = refl; begins = alone_line p ts k; goes = h.goes; exact = h.exact }) refl
         (exits_on (alone p) line (λ e. subst (λ l. Exact (setting_in p.openings) l h.part) e h.exact) (open_is line o)))
 
-split_closed : (p : Position) (tokens : List Mark) → BehindClosing p tokens → Split tokens p.unit.line
+pub split_closed : (p : Position) (tokens : List Mark) → BehindClosing p tokens → Split tokens p.unit.line
 split_closed p tokens h =
     subst (λ ts. Split ts p.unit.line) (sym h.whole)
       (subst (Split (h.front ++ h.last)) (ap (λ q. q.unit.line) (sym h.position))
@@ -84,14 +84,14 @@ split_closed p tokens h =
           (λ ts k. record { inside = alone h.inside; o = h.o; outer = h.outer; close = h.close; front = ts; last = h.last; whole = refl; begins = alone_line h.inside ts k; opened = h.opened; content = h.content; closing = h.closing; position = ap alone h.position })
           (ap (λ q. q.unit.line) h.position) (exits_closed (alone p))))
 
-split_section : (us : List ProgramUnit) (unit : ProgramUnit) (section : Section) (place : InDeclaration) (tokens : List Mark) → InSection us unit section place tokens → Split tokens unit.line
+pub split_section : (us : List ProgramUnit) (unit : ProgramUnit) (section : Section) (place : InDeclaration) (tokens : List Mark) → InSection us unit section place tokens → Split tokens unit.line
 split_section us unit section place tokens h =
     let x = section_exits [] unit section place in
     subst (λ ts. Split ts unit.line) (sym h.whole)
       (split us unit.line (unit_word unit.kind) _ _ h.front h.inside (Declaring [] unit section place) x.unit' h.begins (λ ts k. ungroup k)
         (λ ts k. record { earlier = h.earlier; done = h.done; parts = h.parts; front = ts; inside = h.inside; whole = refl; begins = pass no_units k; goes = h.goes }) x.line x.exits)
 
-split_unnamed : (us : List ProgramUnit) (kind : UnitKind) (line : ℕ) (tokens : List Mark) → (units us then one (IsOn line (IsNamed (unit_word kind)))) tokens → Split tokens line
+pub split_unnamed : (us : List ProgramUnit) (kind : UnitKind) (line : ℕ) (tokens : List Mark) → (units us then one (IsOn line (IsNamed (unit_word kind)))) tokens → Split tokens line
 split_unnamed us kind line tokens h =
     subst (λ ts. Split ts line) (append-nil tokens)
       (split us line (unit_word kind) (λ ts. ts ≡ []) _ tokens [] (Unnamed [] kind line) _ h (λ ts k. record { front = ts; rest = []; whole = sym (append-nil ts); begins = k; goes_on = refl })

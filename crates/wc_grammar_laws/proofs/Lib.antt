@@ -23,3 +23,4 @@ pub mod Orders
 pub mod Stops
 pub mod InParentheses
 pub mod InUnit
+pub mod AtEnds
