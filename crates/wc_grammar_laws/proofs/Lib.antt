@@ -24,3 +24,4 @@ pub mod Stops
 pub mod InParentheses
 pub mod InUnit
 pub mod AtEnds
+pub mod Bounds
