@@ -25,3 +25,4 @@ pub mod InParentheses
 pub mod InUnit
 pub mod AtEnds
 pub mod Bounds
+pub mod LineBounds
