@@ -58,7 +58,7 @@ met_last : (test : Bool) (fault : ReadingFault) (line : ℕ) → test ≡ true �
 met_last true fault line e = record { judged = record { fault = fault; line = line }; is = refl; lower = omega arith }
 met_last false fault line e = absurd (cc)
 
-at_most : (a b : ℕ) → a ≤ b → nat_le a b ≡ true
+pub at_most : (a b : ℕ) → a ≤ b → nat_le a b ≡ true
 at_most a b h = grind (arith, nat_tests, h)
 
 -- an identifier is no colon

@@ -26,3 +26,5 @@ pub mod InUnit
 pub mod AtEnds
 pub mod Bounds
 pub mod LineBounds
+pub mod WithinOn
+pub mod WithinBack

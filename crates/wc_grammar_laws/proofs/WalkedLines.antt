@@ -81,7 +81,7 @@ on_line_walked p state form (mark ∷ marks) colon r =
     ] (move_led (setting_in p.openings) state form mark.symbol mark.line (colon_next marks colon) marks r)
 
 -- no operator's word ends a unit or begins a section
-ends_no_unit : (kind : UnitKind) (operation : Operation) → (same (operation_word operation) (end_word kind) ≡ false) × (found section_words (operation_word operation) ≡ None)
+pub ends_no_unit : (kind : UnitKind) (operation : Operation) → (same (operation_word operation) (end_word kind) ≡ false) × (found section_words (operation_word operation) ≡ None)
 ends_no_unit FunctionBlock (Operates (Loads false)) = (refl, refl)
 ends_no_unit FunctionBlock (Operates (Loads true)) = (refl, refl)
 ends_no_unit FunctionBlock (Operates (Stores Result)) = (refl, refl)
