@@ -28,3 +28,4 @@ pub mod Bounds
 pub mod LineBounds
 pub mod WithinOn
 pub mod WithinBack
+pub mod Readings

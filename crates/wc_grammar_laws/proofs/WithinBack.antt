@@ -216,3 +216,112 @@ body_was_good p (Identifier bytes) line false e = word_was_good p bytes line (sa
 body_was_good p (Identifier bytes) line true e = λ g. ((less_within p 0 0 g.0, g.1), inl (colon_passes p (Identifier bytes) line))
 body_was_good p symbol line false e = start_was_good p symbol line (operation_of symbol) refl
 body_was_good p symbol line true e = operator_colon p symbol line (operation_of symbol)
+
+content_true : (p : Position) (o : Opening) (outer : List Opening) (line : ℕ) (colon : Bool) (b : Bool) → has_content o.operand p.done ≡ b → p.openings ≡ o ∷ outer
+    → WasGood (AtLine p) (judge_closing p (o ∷ outer) line) colon (if b then Some (Closed (behind_closing p o outer line)) else None)
+content_true p o outer line colon false c e = tt
+content_true p o outer line colon true c e = λ g.
+    let k = closed_was_within p o outer line e g.0 in
+    ((less_within p 1 0 k, g.1), inl (neither_met _ _ (fails (not (has_content o.operand p.done)) EmptyParentheses line (ap not c)) (fails (is_full p) TooMany line (has_line p 0 k))))
+
+-- an operator's name is no END word
+operator_no_end : (symbol : Symbol) (kind : UnitKind) (operation : Operation) → operation_of symbol ≡ Some operation → has_name symbol (end_word kind) ≡ false
+operator_no_end (Identifier bytes) kind operation e = ap (λ n. same n (end_word kind)) (found_operation (name_of bytes) operation e) ∙ (ends_no_unit kind operation).0
+operator_no_end Ampersand kind operation e = refl
+operator_no_end AmpersandN kind operation e = refl
+operator_no_end _ kind operation e = refl
+
+no_identifier_colon : (b : Bool) → (b && false) ≡ false
+no_identifier_colon true = refl
+no_identifier_colon false = refl
+
+-- inside parentheses an operator that is no jump, call or return
+simple_passes : (p : Position) (o : Opening) (outer : List Opening) (symbol : Symbol) (line : ℕ) (operation : Operation) → operation_of symbol ≡ Some operation → is_transfer operation ≡ false → is_full p ≡ false → judge_line p (o ∷ outer) symbol line false ≡ None
+simple_passes p o outer symbol line operation e t f =
+    neither_met _ _ (fails (begins_transfer (operation_of symbol)) NotAllowedInParentheses line (ap begins_transfer e ∙ t))
+      (neither_met _ _ (fails (is_identifier symbol && false) NotAllowedInParentheses line (no_identifier_colon (is_identifier symbol)))
+        (neither_met _ _ (fails (has_name symbol (end_word p.unit.kind)) ParenthesisNotPaired o.line (operator_no_end symbol p.unit.kind operation e)) (operator_passes p symbol line false f)))
+
+simple_was_good : (p : Position) (o : Opening) (outer : List Opening) (symbol : Symbol) (line : ℕ) (colon : Bool) (operation : Option Operation) → operation_of symbol ≡ operation
+    → WasGood (AtLine p) (judge_line p (o ∷ outer) symbol line colon) colon (begun_line p (simple_operator line operation))
+simple_was_good p o outer symbol line colon None e = tt
+simple_was_good p o outer symbol line colon (Some operation) e = by_transfer (is_transfer operation) refl colon
+  where
+    by_transfer : (b : Bool) → is_transfer operation ≡ b → (colon : Bool) → WasGood (AtLine p) (judge_line p (o ∷ outer) symbol line colon) colon (begun_line p (if b then None else Some (behind_operator None line operation)))
+    by_transfer true t colon = tt
+    by_transfer false t false =
+        line_was_good p (AtLine p) (judge_line p (o ∷ outer) symbol line false) false 1 0 (Some (behind_operator None line operation)) (count_operator None line operation) (λ k b. (less_within p 1 0 k, b))
+          (λ state s k. inl (simple_passes p o outer symbol line operation e t (has_line p 0 k)))
+    by_transfer false t true =
+        line_was_good p (AtLine p) (judge_line p (o ∷ outer) symbol line true) true 1 0 (Some (behind_operator None line operation)) (count_operator None line operation) (λ k b. (less_within p 1 0 k, b))
+          (λ state s k. inr (refl, rejects state s))
+      where
+        rejects : (state : LineState) → Some (behind_operator None line operation) ≡ Some state → RejectsColon (Some (on_line p state))
+        rejects state s = subst (λ l. RejectsColon (begun_line p l)) s (subst (λ b. RejectsColon (begun_line p (if b then None else Some (behind_operator None line operation)))) t (simple_rejects p line (Some operation)))
+
+inside_was_good : (p : Position) (o : Opening) (outer : List Opening) (symbol : Symbol) (line : ℕ) (colon : Bool) → p.openings ≡ o ∷ outer → WasGood (AtLine p) (judge (AtLine p) symbol line colon) colon (inside_move p o outer symbol line)
+inside_was_good p o outer ClosingBracket line colon e =
+    subst (λ os. WasGood (AtLine p) (judge_closing p os line) colon (inside_move p o outer ClosingBracket line)) (sym e) (content_true p o outer line colon (has_content o.operand p.done) refl e)
+inside_was_good p o outer symbol line colon e =
+    subst (λ os. WasGood (AtLine p) (judge_line p os symbol line colon) colon (inside_move p o outer symbol line)) (sym e) (simple_was_good p o outer symbol line colon (operation_of symbol) refl)
+
+first_token_was_good : (p : Position) (openings : List Opening) (symbol : Symbol) (line : ℕ) (colon : Bool) → p.openings ≡ openings → WasGood (AtLine p) (judge (AtLine p) symbol line colon) colon (start_move p openings symbol line colon)
+first_token_was_good p [] ClosingBracket line false e = tt
+first_token_was_good p [] ClosingBracket line true e = tt
+first_token_was_good p [] symbol line colon e = subst (λ os. WasGood (AtLine p) (judge_line p os symbol line colon) colon (body_move p symbol line colon)) (sym e) (body_was_good p symbol line colon e)
+first_token_was_good p (o ∷ outer) symbol line colon e = inside_was_good p o outer symbol line colon e
+
+line_end_passes : (p : Position) (openings : List Opening) (line : ℕ) (colon : Bool) → judge_line p openings LineEnd line colon ≡ None
+line_end_passes p [] line colon = refl
+line_end_passes p (o ∷ outer) line colon = refl
+
+-- behind a label
+labelled_was_good : (p : Position) (label : Word) (symbol : Symbol) (line : ℕ) (colon : Bool) (operation : Option Operation) → operation_of symbol ≡ operation
+    → WasGood (OnLine p (Labelled label)) (met_if (is_some (operation_of symbol) && is_full p) TooMany line) colon (begun_line p (at_labelled label symbol line))
+labelled_was_good p label symbol line colon (Some operation) e =
+    subst (λ n. WasGood (OnLine p (Labelled label)) (met_if (is_some (operation_of symbol) && is_full p) TooMany line) colon (begun_line p n)) (sym (labelled_operator label symbol line operation e))
+      (line_was_good p (OnLine p (Labelled label)) _ colon 1 0 (Some (behind_operator (Some label) line operation)) (count_operator (Some label) line operation) (λ k b. (less_within p 1 0 k, b))
+        (λ state s k. inl (fails (is_some (operation_of symbol) && is_full p) TooMany line (last_fails (is_some (operation_of symbol)) (is_full p) (has_line p 0 k)))))
+labelled_was_good p label LineEnd line colon None e =
+    line_was_good p (OnLine p (Labelled label)) _ colon 0 0 (Some (Ended (LabelAlone label))) (refl, refl) (λ k b. (less_within p 0 0 k, b)) (λ state s k. inl refl)
+labelled_was_good p label symbol line colon None e = subst (λ o. WasGood (OnLine p (Labelled label)) (met_if (is_some (operation_of symbol) && is_full p) TooMany line) colon (begun_line p (at_operator (Some label) line o))) (sym e) tt
+
+-- behind an operator with an operand
+operated_was_good : (p : Position) (begun : Begun) (operating : Operating) (symbol : Symbol) (line : ℕ) (colon : Bool)
+    → WasGood (OnLine p (Operated begun operating)) (judge_on_line p (Operated begun operating) symbol line) colon (begun_line p (at_operated begun operating symbol line))
+operated_was_good p begun (Applies operator) OpeningBracket line colon =
+    line_was_good p (OnLine p (Operated begun (Applies operator))) _ colon 1 1 (Some (Bracketed begun operator)) (refl, refl) (λ k b. ((k.0, k.1, k.2, omega (arith, k.3)), b))
+      (λ state s k. inl (fails (nat_le most_depth (length p.openings)) TooDeep begun.line (above most_depth (length p.openings) (omega (arith, k.3)))))
+operated_was_good p begun (Loads negated) OpeningBracket line colon = tt
+operated_was_good p begun (Stores storing) OpeningBracket line colon = tt
+operated_was_good p begun operating symbol line colon =
+    line_was_good p (OnLine p (Operated begun operating)) _ colon 1 0 (at_operated begun operating symbol line) (operated_counts begun operating symbol line (λ e. cc)) (λ k b. (k, b)) (λ state s k. inl (no_bracket operating))
+  where
+    no_bracket : (operating : Operating) → judge_on_line p (Operated begun operating) symbol line ≡ None
+    no_bracket (Loads negated) = refl
+    no_bracket (Stores storing) = refl
+    no_bracket (Applies operator) = refl
+
+steady_was_good : (p : Position) (state : LineState) (symbol : Symbol) (line : ℕ) (colon : Bool) → IsSteady state → judge_on_line p state symbol line ≡ None
+    → WasGood (OnLine p state) (judge_on_line p state symbol line) colon (begun_line p (line_move (setting_in p.openings) state symbol line colon))
+steady_was_good p state symbol line colon s e =
+    line_was_good p (OnLine p state) _ colon (counted state) (opened state) (line_move (setting_in p.openings) state symbol line colon) (steady (setting_in p.openings) state symbol line colon s) (λ k b. (k, b)) (λ next n k. inl e)
+
+on_line_was_good : (p : Position) (state : LineState) (symbol : Symbol) (line : ℕ) (colon : Bool) → state ≢ Start
+    → WasGood (OnLine p state) (judge_on_line p state symbol line) colon (begun_line p (line_move (setting_in p.openings) state symbol line colon))
+on_line_was_good p Start symbol line colon n = absurd (n refl)
+on_line_was_good p (Labelled label) symbol line colon n = labelled_was_good p label symbol line colon (operation_of symbol) refl
+on_line_was_good p (Operated begun operating) symbol line colon n = operated_was_good p begun operating symbol line colon
+on_line_was_good p state symbol line colon n = steady_was_good p state symbol line colon tt refl
+
+-- What is good behind a token was good before it, and no fault was judged, or no text goes on.
+pub was_good : (state : State) (symbol : Symbol) (line : ℕ) (colon : Bool) → HasBegun state → WasGood state (judge state symbol line colon) colon (move state symbol line colon)
+was_good (Outside us) LineEnd line colon b = λ g. (g, inl refl)
+was_good (Outside us) (Identifier bytes) line colon b = unit_was_good us bytes line colon (found unit_kinds (name_of bytes))
+was_good (Unnamed us kind first) (Identifier bytes) line colon b = λ g. ((g.0.0, g.1), inl refl)
+was_good (Declaring us unit section place) symbol line colon b = section_was_good us unit section place symbol line colon
+was_good (AtLine p) LineEnd line colon b = λ g. (g, inl (line_end_passes p p.openings line colon))
+was_good (AtLine p) symbol line colon b = first_token_was_good p p.openings symbol line colon refl
+was_good (OnLine p state) symbol line colon b = on_line_was_good p state symbol line colon b
+was_good (Closed p) LineEnd line colon b = λ g. (g, inl refl)
+was_good _ symbol line colon b = tt
