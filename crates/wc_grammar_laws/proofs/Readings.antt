@@ -13,9 +13,9 @@ use Rattle.wc_grammar_laws.proofs.Moves.{State, Outside, Unnamed, Declaring, AtL
 use Rattle.wc_grammar_laws.proofs.Orders.{Ordered, all_blocks, front, ordered_on}
 use Rattle.wc_grammar_laws.proofs.Told.{Exact, Keeps, Told}
 use Rattle.wc_grammar_laws.proofs.ToldOn.{told_behind, told_first, told_on}
-use Rattle.wc_grammar_laws.proofs.WalkedLines.{next_of_both, walk_on}
-use Rattle.wc_grammar_laws.proofs.WalkedUnits.{units_walked}
-use Rattle.wc_grammar_laws.proofs.WithinBack.{Good, InOrder, Passes, was_good}
+use Rattle.wc_grammar_laws.proofs.WalkedLines.{next_of_both, walk_on, walk_then}
+use Rattle.wc_grammar_laws.proofs.WalkedUnits.{colon_is, units_walked}
+use Rattle.wc_grammar_laws.proofs.WithinBack.{Good, no_program, InOrder, Passes, was_good}
 use Rattle.wc_grammar_laws.proofs.WithinOn.{GoesWithin, HasBegun, RejectsColon, within_on}
 use Rattle.wc_model.proofs.Spelling.{same}
 use Rattle.wc_model.specs.Grammar.{IsFront, IsProgramLast, Setting, Spells, units}
@@ -144,3 +144,205 @@ pub record Come (state : State) (before left : List Mark) : Type 0 where
   pub told : Told state before
   pub ordered : Ordered state
   pub free : IsFaultFree before left
+
+-- the fault that is judged at a token is the first
+judged_first : (state : State) (before : List Mark) (mark : Mark) (marks : List Mark) (last_line : ℕ) (met : Met) → Come state before (mark ∷ marks) → judge state mark.symbol mark.line (colon_next marks false) ≡ Some met
+    → IsFirstFault (before ++ mark ∷ marks) last_line met.fault met.line
+judged_first state before mark marks last_line met c e = record {
+  before = before; left = mark ∷ marks; whole = refl; is_front = front state before c.told c.ordered; fault_free = c.free;
+  met = subst (IsThere before mark marks) e (there state before mark.symbol mark.line marks c.told);
+  lowest = λ other place h. lower other place h;
+}
+  where
+    by_judged : (other : ReadingFault) → Judged (judge state mark.symbol mark.line (colon_next marks false)) other → rank_of met.fault ≤ rank_of other
+    by_judged other j = let same : Some met ≡ Some j.judged = sym e ∙ j.is in let k : met ≡ j.judged = cc in subst (λ m. rank_of m.fault ≤ rank_of other) (sym k) j.lower
+    ranks : (fault : ReadingFault) → rank_of fault ≤ 209
+    ranks UnexpectedToken = omega arith
+    ranks UnitNotClosed = omega arith
+    ranks NotOneProgramLast = omega arith
+    ranks EmptyParentheses = omega arith
+    ranks NotAllowedInParentheses = omega arith
+    ranks ParenthesisNotPaired = omega arith
+    ranks TooDeep = omega arith
+    ranks TooMany = omega arith
+    lower : (other : ReadingFault) (place : ℕ) → IsMet other before (mark ∷ marks) last_line place → rank_of met.fault ≤ rank_of other
+    lower UnexpectedToken place h = ranks met.fault
+    lower UnitNotClosed place h = absurd h
+    lower NotOneProgramLast place h = by_judged NotOneProgramLast (judged NotOneProgramLast before mark marks place state c.reached (λ f. let k = ap rank_of f in omega (arith, k)) h)
+    lower EmptyParentheses place h = by_judged EmptyParentheses (judged EmptyParentheses before mark marks place state c.reached (λ f. let k = ap rank_of f in omega (arith, k)) h)
+    lower NotAllowedInParentheses place h = by_judged NotAllowedInParentheses (judged NotAllowedInParentheses before mark marks place state c.reached (λ f. let k = ap rank_of f in omega (arith, k)) h)
+    lower ParenthesisNotPaired place h = by_judged ParenthesisNotPaired (judged ParenthesisNotPaired before mark marks place state c.reached (λ f. let k = ap rank_of f in omega (arith, k)) h)
+    lower TooDeep place h = by_judged TooDeep (judged TooDeep before mark marks place state c.reached (λ f. let k = ap rank_of f in omega (arith, k)) h)
+    lower TooMany place h = by_judged TooMany (judged TooMany before mark marks place state c.reached (λ f. let k = ap rank_of f in omega (arith, k)) h)
+
+-- where none is judged, no fault but an unexpected token is met
+none_met : (state : State) (before : List Mark) (mark : Mark) (marks : List Mark) → Come state before (mark ∷ marks) → judge state mark.symbol mark.line (colon_next marks false) ≡ None
+    → (fault : ReadingFault) (line : ℕ) → fault ≢ UnexpectedToken → ¬ (MetAtToken fault before mark marks line)
+none_met state before mark marks c e fault line n h = let j = judged fault before mark marks line state c.reached n h in let k : None ≡ Some j.judged = sym e ∙ j.is in cc
+
+-- a token that is not taken is the first fault
+unexpected_first : (state : State) (before : List Mark) (mark : Mark) (marks : List Mark) (last_line : ℕ) → Come state before (mark ∷ marks) → judge state mark.symbol mark.line (colon_next marks false) ≡ None → move state mark.symbol mark.line (colon_next marks false) ≡ None
+    → IsFirstFault (before ++ mark ∷ marks) last_line UnexpectedToken mark.line
+unexpected_first state before mark marks last_line c e m = record {
+  before = before; left = mark ∷ marks; whole = refl; is_front = front state before c.told c.ordered; fault_free = c.free;
+  met = (no_front state before mark (colon_next marks false) c.reached (has_begun state before c.told) m, refl);
+  lowest = λ other place h. lower other place h;
+}
+  where
+    lower : (other : ReadingFault) (place : ℕ) → IsMet other before (mark ∷ marks) last_line place → rank_of UnexpectedToken ≤ rank_of other
+    lower UnexpectedToken place h = omega arith
+    lower UnitNotClosed place h = absurd h
+    lower NotOneProgramLast place h = absurd (none_met state before mark marks c e NotOneProgramLast place (λ f. let k = ap rank_of f in omega (arith, k)) h)
+    lower EmptyParentheses place h = absurd (none_met state before mark marks c e EmptyParentheses place (λ f. let k = ap rank_of f in omega (arith, k)) h)
+    lower NotAllowedInParentheses place h = absurd (none_met state before mark marks c e NotAllowedInParentheses place (λ f. let k = ap rank_of f in omega (arith, k)) h)
+    lower ParenthesisNotPaired place h = absurd (none_met state before mark marks c e ParenthesisNotPaired place (λ f. let k = ap rank_of f in omega (arith, k)) h)
+    lower TooDeep place h = absurd (none_met state before mark marks c e TooDeep place (λ f. let k = ap rank_of f in omega (arith, k)) h)
+    lower TooMany place h = absurd (none_met state before mark marks c e TooMany place (λ f. let k = ap rank_of f in omega (arith, k)) h)
+
+abbrev OrderedNext : Option State → Type 0
+OrderedNext None = Unit {0}
+OrderedNext (Some next) = Ordered next
+
+-- one token more, at which no fault is judged
+come_on : (state next : State) (before : List Mark) (mark : Mark) (marks : List Mark) → Come state before (mark ∷ marks) → judge state mark.symbol mark.line (colon_next marks false) ≡ None → move state mark.symbol mark.line (colon_next marks false) ≡ Some next
+    → Come next (before ++ mark ∷ []) marks
+come_on state next before mark marks c e m =
+    let t : Told next (before ++ mark ∷ []) = subst (Keeps before mark) m (told_on state before mark.symbol mark.line (colon_next marks false) c.told) in
+    let o : Ordered next = subst OrderedNext m (ordered_on state mark.symbol mark.line (colon_next marks false) c.ordered e) in
+    record {
+      reached = walk_then at_first state before (mark ∷ []) (colon_next marks false) (Some next) c.reached (ap (λ o. walk_on o [] (colon_next marks false)) m);
+      told = t;
+      ordered = o;
+      free = free_on before mark marks c.free (λ fault line h. none fault line h);
+    }
+  where
+    expected : (fault : ReadingFault) → (fault ≡ UnexpectedToken) ⊎ (fault ≢ UnexpectedToken)
+    expected UnexpectedToken = inl refl
+    expected UnitNotClosed = inr (λ f. let k = ap rank_of f in omega (arith, k))
+    expected NotOneProgramLast = inr (λ f. let k = ap rank_of f in omega (arith, k))
+    expected EmptyParentheses = inr (λ f. let k = ap rank_of f in omega (arith, k))
+    expected NotAllowedInParentheses = inr (λ f. let k = ap rank_of f in omega (arith, k))
+    expected ParenthesisNotPaired = inr (λ f. let k = ap rank_of f in omega (arith, k))
+    expected TooDeep = inr (λ f. let k = ap rank_of f in omega (arith, k))
+    expected TooMany = inr (λ f. let k = ap rank_of f in omega (arith, k))
+    taken : (line : ℕ) → ¬ (MetAtToken UnexpectedToken before mark marks line)
+    taken line h = h.0 (front next (before ++ mark ∷ []) (subst (Keeps before mark) m (told_on state before mark.symbol mark.line (colon_next marks false) c.told)) (subst OrderedNext m (ordered_on state mark.symbol mark.line (colon_next marks false) c.ordered e)))
+    none : (fault : ReadingFault) (line : ℕ) → ¬ (MetAtToken fault before mark marks line)
+    none fault line h = elim (expected fault) [
+      | inl f ↦ taken line (subst (λ x. MetAtToken x before mark marks line) f h)
+      | inr n ↦ none_met state before mark marks c e fault line n h
+    ]
+
+-- what the walk comes to at a token
+abbrev outcome : State → Mark → List Mark → ℕ → Option Met → Option State → Result Text Met
+outcome state mark marks last_line met next = elim met as (λ _. Result Text Met) [
+  | Some met ↦ Err met
+  | None ↦ elim next as (λ _. Result Text Met) [
+    | Some next ↦ reading next marks last_line
+    | None ↦ Err (record { fault = UnexpectedToken; line = mark.line })
+  ]
+]
+
+first_at : (tokens : List Mark) (last_line : ℕ) (a b : Met) → (reading' : Result Text Met) → reading' ≡ Err a → reading' ≡ Err b → IsFirstFault tokens last_line a.fault a.line → IsFirstFault tokens last_line b.fault b.line
+first_at tokens last_line a b r e f h = let same = same_error a b (sym e ∙ f) in subst (λ m. IsFirstFault tokens last_line m.fault m.line) same h
+  where
+    met_in : Result Text Met → Met
+    met_in (Ok text) = a
+    met_in (Err met) = met
+    told : Met → Result Text Met
+    told met = Err met
+    same_error : (a b : Met) → told a ≡ told b → a ≡ b
+    same_error a b e = ap met_in e
+
+-- what the walk tells is the first fault of the tokens
+pub read_fault : (state : State) (before left : List Mark) (last_line : ℕ) (met : Met) → Come state before left → reading state left last_line ≡ Err met → IsFirstFault (before ++ left) last_line met.fault met.line
+read_fault state before [] last_line met c e =
+    let k = at_end_met state before last_line met c.told c.ordered c.reached e in
+    record { before = before; left = []; whole = refl; is_front = front state before c.told c.ordered; fault_free = c.free; met = k.met_here; lowest = k.lowest }
+read_fault state before (mark ∷ marks) last_line met c e =
+    elim (judge state mark.symbol mark.line (colon_next marks false)) as (λ j. judge state mark.symbol mark.line (colon_next marks false) ≡ j
+        → outcome state mark marks last_line j (move state mark.symbol mark.line (colon_next marks false)) ≡ Err met → IsFirstFault (before ++ mark ∷ marks) last_line met.fault met.line) [
+      | Some found ↦ λ j e. first_at (before ++ mark ∷ marks) last_line found met (Err found) refl e (judged_first state before mark marks last_line found c j)
+      | None ↦ λ j e.
+          elim (move state mark.symbol mark.line (colon_next marks false)) as (λ m. move state mark.symbol mark.line (colon_next marks false) ≡ m
+              → outcome state mark marks last_line None m ≡ Err met → IsFirstFault (before ++ mark ∷ marks) last_line met.fault met.line) [
+            | Some next ↦ λ m e. subst (λ ts. IsFirstFault ts last_line met.fault met.line) (append_assoc before (mark ∷ []) marks) (read_fault next (before ++ mark ∷ []) marks last_line met (come_on state next before mark marks c j m) e)
+            | None ↦ λ m e. first_at (before ++ mark ∷ marks) last_line (record { fault = UnexpectedToken; line = mark.line }) met _ refl e (unexpected_first state before mark marks last_line c j m)
+          ] refl e
+    ] refl e
+
+-- the text that the walk reads is spelled
+text_order : (text : List ProgramUnit) → has_program text ≡ true → AreBlocks text ⊎ IsProgramLast text → IsProgramLast text
+text_order text p (inr h) = h
+text_order text p (inl h) = let n = no_program text h in let k : true ≡ false = sym p ∙ n in absurd (cc)
+
+-- whole units, with a program or without
+abbrev whole : List ProgramUnit → ℕ → Bool → Result Text Met
+whole us last_line b = if b then Ok us else Err (record { fault = NotOneProgramLast; line = last_line })
+
+-- what the walk is at where its text ends
+record IsEnded (state : State) (text : Text) : Type 0 where
+  pub is : state ≡ Outside text
+  pub program : has_program text ≡ true
+
+ended_at : (state : State) (last_line : ℕ) (text : Text) → at_end state last_line ≡ Ok text → IsEnded state text
+ended_at (Outside us) last_line text e = by_program (has_program us) refl e
+  where
+    by_program : (b : Bool) → has_program us ≡ b → whole us last_line b ≡ Ok text → IsEnded (Outside us) text
+    by_program true p e = let k : us ≡ text = cc in record { is = ap Outside k; program = subst (λ t. has_program t ≡ true) k p }
+    by_program false p e = absurd (cc)
+ended_at (Unnamed us kind line) last_line text e = absurd (cc)
+ended_at (Declaring us unit section place) last_line text e = absurd (cc)
+ended_at (AtLine p) last_line text e = absurd (cc)
+ended_at (OnLine p state) last_line text e = absurd (cc)
+ended_at (Closed p) last_line text e = absurd (cc)
+
+-- what the walk reads
+pub record WasRead (before left : List Mark) (text : Text) : Type 0 where
+  pub spelled : Spells (before ++ left) text
+  pub within : IsWithinLimits text
+
+-- a colon is refused where none goes on
+colon_refused : (next : State) (marks : List Mark) (last_line : ℕ) (text : Text) → colon_next marks false ≡ true → RejectsColon (Some next) → reading next marks last_line ≡ Ok text → ⊥
+colon_refused next [] last_line text e r k = absurd (cc)
+colon_refused next (mark ∷ marks) last_line text e r k =
+    let s = colon_is mark.symbol e in
+    let j = (r mark.line (colon_next marks false)) in
+    let m : outcome next mark marks last_line None None ≡ Ok text =
+      subst (λ m. outcome next mark marks last_line None m ≡ Ok text) (ap (λ y. move next y mark.line (colon_next marks false)) s ∙ j.0)
+        (subst (λ q. outcome next mark marks last_line q (move next mark.symbol mark.line (colon_next marks false)) ≡ Ok text) (ap (λ y. judge next y mark.line (colon_next marks false)) s ∙ j.1) k) in
+    cc
+
+within_text : (text : Text) → Within (Outside text) → IsWithinLimits text
+within_text text h = record { units = h.0; bodies = h.1 }
+
+pub read_text : (state : State) (before left : List Mark) (last_line : ℕ) (text : Text) → Told state before → Ordered state → Within state → reading state left last_line ≡ Ok text → WasRead before left text
+read_text state before [] last_line text t o w e =
+    let k = ended_at state last_line text e in
+    record {
+      spelled = record {
+        spelled = subst (λ ts. units text ts) (sym (append-nil before)) (subst (λ s. Told s before) k.is t);
+        order = text_order text k.program (subst Ordered k.is o);
+      };
+      within = within_text text (subst Within k.is w);
+    }
+read_text state before (mark ∷ marks) last_line text t o w e =
+    elim (judge state mark.symbol mark.line (colon_next marks false)) as (λ j. judge state mark.symbol mark.line (colon_next marks false) ≡ j
+        → outcome state mark marks last_line j (move state mark.symbol mark.line (colon_next marks false)) ≡ Ok text → WasRead before (mark ∷ marks) text) [
+      | Some found ↦ λ j e. absurd (cc)
+      | None ↦ λ j e.
+          elim (move state mark.symbol mark.line (colon_next marks false)) as (λ m. move state mark.symbol mark.line (colon_next marks false) ≡ m
+              → outcome state mark marks last_line None m ≡ Ok text → WasRead before (mark ∷ marks) text) [
+            | Some next ↦ λ m e.
+                let t' : Told next (before ++ mark ∷ []) = subst (Keeps before mark) m (told_on state before mark.symbol mark.line (colon_next marks false) t) in
+                let o' : Ordered next = subst OrderedNext m (ordered_on state mark.symbol mark.line (colon_next marks false) o j) in
+                let g : GoesWithin (colon_next marks false) (Some next) = subst (GoesWithin (colon_next marks false)) m (within_on state mark.symbol mark.line (colon_next marks false) (has_begun state before t) w j) in
+                elim g [
+                  | inl w' ↦
+                      let r = read_text next (before ++ mark ∷ []) marks last_line text t' o' w' e in
+                      record { spelled = subst (λ ts. Spells ts text) (append_assoc before (mark ∷ []) marks) r.spelled; within = r.within }
+                  | inr r ↦ absurd (colon_refused next marks last_line text r.0 r.1 e)
+                ]
+            | None ↦ λ m e. absurd (cc)
+          ] refl e
+    ] refl e

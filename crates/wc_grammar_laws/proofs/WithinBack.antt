@@ -62,7 +62,8 @@ neither_met a b e f = ap (λ x. met_or x b) e ∙ f
 above : (a b : ℕ) → suc b ≤ a → nat_le a b ≡ false
 above a b h = grind (arith, nat_tests, h)
 
-no_program : (us : List ProgramUnit) → AreBlocks us → has_program us ≡ false
+-- blocks have no program among them
+pub no_program : (us : List ProgramUnit) → AreBlocks us → has_program us ≡ false
 no_program [] h = refl
 no_program (unit ∷ us) h = ap (λ k. is_program k || has_program us) h.0 ∙ no_program us h.1
 
