@@ -15,7 +15,7 @@ use Rattle.wc_grammar_laws.proofs.Told.{Exact, Keeps, Told}
 use Rattle.wc_grammar_laws.proofs.ToldOn.{told_behind, told_first, told_on}
 use Rattle.wc_grammar_laws.proofs.WalkedLines.{next_of_both, walk_on, walk_then}
 use Rattle.wc_grammar_laws.proofs.WalkedUnits.{colon_is, units_walked}
-use Rattle.wc_grammar_laws.proofs.WithinBack.{Good, no_program, InOrder, Passes, was_good}
+use Rattle.wc_grammar_laws.proofs.WithinBack.{Good, InOrder, Passes, WasGood, no_program, was_good}
 use Rattle.wc_grammar_laws.proofs.WithinOn.{GoesWithin, HasBegun, RejectsColon, within_on}
 use Rattle.wc_model.proofs.Spelling.{same}
 use Rattle.wc_model.specs.Grammar.{IsFront, IsProgramLast, Setting, Spells, units}
@@ -346,3 +346,63 @@ read_text state before (mark ∷ marks) last_line text t o w e =
             | None ↦ λ m e. absurd (cc)
           ] refl e
     ] refl e
+
+-- no walk goes on with a colon that is refused
+colon_ends : (next : State) (marks : List Mark) (end : State) → colon_next marks false ≡ true → RejectsColon (Some next) → walk next marks false ≡ Some end → ⊥
+colon_ends next [] end e r k = absurd (cc)
+colon_ends next (mark ∷ marks) end e r k =
+    let s = colon_is mark.symbol e in
+    let m : walk_on None marks false ≡ Some end = subst (λ m. walk_on m marks false ≡ Some end) (ap (λ y. move next y mark.line (colon_next marks false)) s ∙ (r mark.line (colon_next marks false)).0) k in
+    cc
+
+-- what the walk reads from here, and that the limits and the order hold
+record IsComplete (state : State) (left : List Mark) (last_line : ℕ) (text : Text) : Type 0 where
+  pub good : Good state
+  pub read : reading state left last_line ≡ Ok text
+
+-- what is walked to a whole text within the limits is read
+read_all : (state : State) (before left : List Mark) (last_line : ℕ) (text : Text) → Told state before → Good (Outside text) → has_program text ≡ true → walk state left false ≡ Some (Outside text) → IsComplete state left last_line text
+read_all state before [] last_line text t g p e =
+    let k : Outside text ≡ state = cc in
+    subst (λ s. IsComplete s [] last_line text) k (record { good = g; read = ap (whole text last_line) p })
+read_all state before (mark ∷ marks) last_line text t g p e =
+    elim (move state mark.symbol mark.line (colon_next marks false)) as (λ m. move state mark.symbol mark.line (colon_next marks false) ≡ m → walk_on m marks false ≡ Some (Outside text) → IsComplete state (mark ∷ marks) last_line text) [
+      | None ↦ λ m e. absurd (cc)
+      | Some next ↦ λ m e.
+          let t' : Told next (before ++ mark ∷ []) = subst (Keeps before mark) m (told_on state before mark.symbol mark.line (colon_next marks false) t) in
+          let c = read_all next (before ++ mark ∷ []) marks last_line text t' g p e in
+          let w = (subst (WasGood state (judge state mark.symbol mark.line (colon_next marks false)) (colon_next marks false)) m (was_good state mark.symbol mark.line (colon_next marks false) (has_begun state before t))) c.good in
+          elim w.1 [
+            | inl j ↦ record { good = w.0; read = ap (λ q. outcome state mark marks last_line q (move state mark.symbol mark.line (colon_next marks false))) j ∙ ap (outcome state mark marks last_line None) m ∙ c.read }
+            | inr r ↦ absurd (colon_ends next marks (Outside text) r.0 r.1 e)
+          ]
+    ] refl e
+
+program_in : (text : List ProgramUnit) → IsProgramLast text → has_program text ≡ true
+program_in [] h = absurd h
+program_in (last ∷ []) h = ap (λ k. is_program k || false) h
+program_in (first ∷ second ∷ more) h = ap (λ k. is_program k || has_program (second ∷ more)) h.0 ∙ program_in (second ∷ more) h.1
+
+-- The tokens of a text within the limits are read as that text.
+pub spelled_is_read : (tokens : List Mark) (last_line : ℕ) (text : Text) → Spells tokens text → IsWithinLimits text → reading at_first tokens last_line ≡ Ok text
+spelled_is_read tokens last_line text s w =
+    (read_all at_first [] tokens last_line text told_first ((w.units, w.bodies), inr s.order) (program_in text s.order) (units_walked text tokens false refl s.spelled)).read
+
+first_come : (tokens : List Mark) → Come at_first [] tokens
+first_come tokens = record { reached = refl; told = told_first; ordered = inl tt; free = λ seen mark more line e fault h. nothing_before seen mark more e }
+  where
+    nothing_before : (seen : List Mark) (mark : Mark) (more : List Mark) → [] ≡ seen ++ mark ∷ more → ⊥
+    nothing_before [] mark more e = cc
+    nothing_before (x ∷ seen) mark more e = cc
+
+-- What is read is spelled by the tokens, within the limits.
+pub read_is_spelled : (tokens : List Mark) (last_line : ℕ) (text : Text) → reading at_first tokens last_line ≡ Ok text → Spells tokens text × IsWithinLimits text
+read_is_spelled tokens last_line text e = let r = read_text at_first [] tokens last_line text told_first (inl tt) (omega arith, tt) e in (r.spelled, r.within)
+
+-- What is refused is the first fault of the tokens.
+pub refused_is_first : (tokens : List Mark) (last_line : ℕ) (met : Met) → reading at_first tokens last_line ≡ Err met → IsFirstFault tokens last_line met.fault met.line
+refused_is_first tokens last_line met e = read_fault at_first [] tokens last_line met (first_come tokens) e
+
+-- And no text within the limits is spelled by them.
+pub refused_spells_nothing : (tokens : List Mark) (last_line : ℕ) (met : Met) (text : Text) → reading at_first tokens last_line ≡ Err met → Spells tokens text → IsWithinLimits text → ⊥
+refused_spells_nothing tokens last_line met text e s w = let k : Ok text ≡ Err met = sym (spelled_is_read tokens last_line text s w) ∙ e in cc
