@@ -1,15 +1,14 @@
 -- Tokens that are put behind others: lines behind lines, a line behind a position, and the end of a parenthesis.
-use Rattle.std.proofs.Common.{◌≡◌, ℕ, List, [], ◌∷◌, ◌++◌, Option, Some, None, refl, ap, subst, append_assoc, append-nil, ◌∙◌, sym}
+use Rattle.std.proofs.Common.{◌≡◌, ℕ, List, [], ◌∷◌, ◌++◌, Option, ap, subst, append_assoc, append-nil, ◌∙◌, sym}
 use Rattle.wc_grammar_laws.proofs.LineMoves.{LineForm, LabelAlone, Instructs, Opens}
 use Rattle.wc_grammar_laws.proofs.LineRests.{line_of}
 use Rattle.wc_grammar_laws.proofs.Moves.{behind_line, behind_closing, lines_and}
-use Rattle.wc_model.proofs.Languages.{joined, pass, regroup, ungroup, before, after}
-use Rattle.wc_model.specs.Grammar.{Setting, InParentheses, HasContent, IsOn, head, label_in, line_ends, lines, opening, symbol, units}
+use Rattle.wc_model.proofs.Languages.{joined, pass, ungroup, after}
+use Rattle.wc_model.specs.Grammar.{Setting, InParentheses, HasContent, IsOn, label_in, line_ends, lines, opening, symbol}
 use Rattle.wc_model.specs.Languages.{◌then◌, one}
 use Rattle.wc_model.specs.Marks.{Mark, ClosingBracket, LineEnd, IsSymbol}
 use Rattle.wc_model.specs.Positions.{Opening, Position, at_line, openings_of, setting_in}
-use Rattle.wc_model.specs.Tree.{Step, Word, Term, Lines, End, Alone, Plain, Nested}
-use Rattle.wc_model.specs.declared.operator.Operator.{Operator}
+use Rattle.wc_model.specs.Tree.{Step, Word, Lines, End, Alone, Plain, Nested}
 
 -- what is put behind a sequence is put behind its last part
 pub append_last : {T : Type 0} {first second second' : List T → Type 0} {tokens : List T} (more : List T) → ((rest : List T) → second rest → second' (rest ++ more)) → (first then second) tokens → (first then second') (tokens ++ more)
@@ -76,7 +75,7 @@ closed_lines : (setting : Setting) (o : Opening) (inside : Lines) (close : ℕ) 
     → lines InParentheses inside c → one (IsOn close (IsSymbol ClosingBracket)) d → symbol LineEnd e → lines setting (lines_and o.before (Nested o.label o.line o.operator o.operand inside close End)) (a ++ (b ++ (c ++ (d ++ e))))
 closed_lines setting o inside close a b c d e ha hb content hc hd he =
     lines_behind setting o.before (Nested o.label o.line o.operator o.operand inside close End) a _ ha
-      (content, pass tt (ungroup (joined b (c ++ (d ++ e)) hb (joined c (d ++ e) hc (joined d e hd (with_nothing line_ends tt he))))))
+    (content, pass tt (ungroup (joined b (c ++ (d ++ e)) hb (joined c (d ++ e) hc (joined d e hd (with_nothing line_ends tt he))))))
 
 -- the position behind a parenthesis
 pub position_behind_closing : (p : Position) (o : Opening) (outer : List Opening) (close : ℕ) (a d e : List Mark) → p.openings ≡ o ∷ outer → HasContent o.operand p.done → at_line p a

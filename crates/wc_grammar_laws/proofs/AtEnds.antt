@@ -1,31 +1,29 @@
 -- Which fault is met at the text's end.
-use Rattle.std.proofs.Common.{◌≡◌, ◌≢◌, ◌≤◌, ℕ, Bool, true, false, List, [], ◌∷◌, ◌++◌, Option, Some, None, refl, ap, subst, append_assoc, append-nil, if◌then◌else◌, ◌∙◌, sym, inl, inr, arith, ◌⊎◌}
+use Rattle.std.proofs.Common.{◌≡◌, ◌≤◌, ℕ, Bool, true, false, List, [], ◌∷◌, ◌++◌, Some, None, refl, ap, subst, append-nil, if◌then◌else◌, ◌∙◌, sym, inl, inr, arith, ◌⊎◌}
 use Rattle.std.specs.Prelude.{Ok, Err, Result}
-use Rattle.std.specs.List.{AllByRecursion}
 use Rattle.wc_grammar_laws.proofs.Appending.{append_last}
-use Rattle.wc_grammar_laws.proofs.Exits.{AreBlocks, Completed, IsOpening, NoOpens, completed}
+use Rattle.wc_grammar_laws.proofs.Exits.{Completed, IsOpening, NoOpens, completed}
 use Rattle.wc_grammar_laws.proofs.InParentheses.{inside_is_told}
 use Rattle.wc_grammar_laws.proofs.InUnit.{Split, split_closed, split_line, split_on, split_section, split_unnamed, stops_in_unit}
 use Rattle.wc_grammar_laws.proofs.Judged.{same_end}
-use Rattle.wc_grammar_laws.proofs.LineMoves.{LineForm, LabelAlone, Instructs, Opens, Begun, OfStep, OfOpening, OfArgument, LineState, Start, Worded, Labelled, Operated, Jumped, Called, Instanced, Listing, Bracketed, Named, Pointed, Stepped, BracketedWith, Ended}
+use Rattle.wc_grammar_laws.proofs.LineMoves.{LineForm, LabelAlone, Instructs, Opens, Begun, OfStep, OfOpening, OfArgument, LineState, Bracketed, Named, Pointed, BracketedWith}
 use Rattle.wc_grammar_laws.proofs.LineRests.{line_of, rest_of}
 use Rattle.wc_grammar_laws.proofs.LineSound.{mark_on}
-use Rattle.wc_grammar_laws.proofs.Moves.{State, Outside, Unnamed, Declaring, AtLine, OnLine, Closed, Met, at_end, at_first, behind_closing, has_program, open_in, open_on, walk}
+use Rattle.wc_grammar_laws.proofs.Moves.{State, Outside, Unnamed, Declaring, AtLine, OnLine, Closed, Met, at_end, at_first, has_program, open_in, open_on, walk}
 use Rattle.wc_grammar_laws.proofs.Orders.{IsOpen, Ordered, all_blocks, open_is}
-use Rattle.wc_grammar_laws.proofs.Stops.{EndsInParentheses, opening_ends}
-use Rattle.wc_grammar_laws.proofs.Told.{BehindClosing, Exact, InLine, InSection, PartOpened, Told}
+use Rattle.wc_grammar_laws.proofs.Stops.{opening_ends}
+use Rattle.wc_grammar_laws.proofs.Told.{BehindClosing, Exact, InLine, PartOpened, Told}
 use Rattle.wc_grammar_laws.proofs.WalkedLines.{not_complete}
 use Rattle.wc_grammar_laws.proofs.WalkedUnits.{units_walked}
-use Rattle.wc_model.proofs.Languages.{after, joined, next, pass, ungroup}
-use Rattle.wc_model.specs.Grammar.{HasContent, InBody, InParentheses, IsOn, MayStand, bracket, head, instruction, label_in, lines, opening, operand, symbol, units}
+use Rattle.wc_model.proofs.Languages.{joined, next, pass, ungroup}
+use Rattle.wc_model.specs.Grammar.{InParentheses, IsOn, bracket, head, label_in, lines, operand, symbol, units}
 use Rattle.wc_model.specs.Keywords.{not_word}
 use Rattle.wc_model.specs.Languages.{◌then◌, ◌or◌, begun, one, optional, unfinished}
 use Rattle.wc_model.specs.Marks.{ClosingBracket, Identifier, IsSymbol, LineEnd, Mark}
-use Rattle.wc_model.specs.Positions.{Opening, Position, StopsInParentheses, StopsInUnit, at_line, closed, cut_short, cut_short_inside, opening_cut_short, openings_of, part_of_line, setting_in}
-use Rattle.wc_model.specs.ReadingFaults.{IsMet, MetAtEnd, NotOneProgramLast, ParenthesisNotPaired, ReadingFault, UnitNotClosed, UnexpectedToken, EmptyParentheses, NotAllowedInParentheses, TooDeep, TooMany, rank_of}
-use Rattle.wc_model.specs.Tree.{Text, End, Lines, Negate, ProgramUnit, Step, Term, Word}
+use Rattle.wc_model.specs.Positions.{Opening, Position, StopsInParentheses, StopsInUnit, at_line, cut_short, cut_short_inside, opening_cut_short, openings_of, part_of_line, setting_in}
+use Rattle.wc_model.specs.ReadingFaults.{MetAtEnd, NotOneProgramLast, ParenthesisNotPaired, ReadingFault, UnitNotClosed, rank_of}
+use Rattle.wc_model.specs.Tree.{Text, End, Negate, ProgramUnit}
 use Rattle.wc_model.specs.declared.operator.Operator.{Operator}
-use Rattle.wc_model.specs.declared.source.UnitKind.TheVariants.{FunctionBlock}
 
 -- tokens stop in parentheses whose opening stands on this line
 abbrev StopsOn : List Mark → ℕ → Type 0
@@ -54,7 +52,7 @@ plain_inside : (p : Position) (o : Opening) (outer : List Opening) (state : Line
 plain_inside p o outer state tokens form [] e h i n r = absurd (not_complete state form (open_is state i) r)
 plain_inside p o outer state tokens form (first ∷ more) e h i n r =
     subst (λ ts. StopsOn ts o.line) (sym h.whole)
-      (inside_with p o outer h.front h.part e h.begins (inl (cut_of form h.part first more n (subst (λ os. line_of (setting_in os) form (h.part ++ first ∷ more)) e (h.goes form (first ∷ more) r)))))
+    (inside_with p o outer h.front h.part e h.begins (inl (cut_of form h.part first more n (subst (λ os. line_of (setting_in os) form (h.part ++ first ∷ more)) e (h.goes form (first ∷ more) r)))))
 
 -- an opening line
 opening_with : (p : Position) (start : Begun) (operator : Operator) (state : LineState) (tokens : List Mark) (form : LineForm) (more : List Mark) (h : InLine p state tokens) → PartOpened (setting_in p.openings) start operator state h.part → IsOpen state → rest_of state form more
@@ -66,10 +64,18 @@ opening_with p start operator state tokens form (first ∷ more) h k i r =
     let u : unfinished (optional operand g.0 then symbol LineEnd) k.behind = (first, more, g.1) in
     let part = k.front ++ k.behind in
     let b : (label_in (setting_in p.openings) start.label then bracket start.line operator then unfinished (optional operand g.0 then symbol LineEnd)) part = ungroup (joined k.front k.behind k.begins u) in
-    let whole : tokens ≡ h.front ++ part = h.whole ∙ ap (λ ts. h.front ++ ts) k.whole in
-    (o, (p.before, p.unit, p.openings, End,
-      subst (units p.before then head p.unit then (opening_cut_short p.openings o or cut_short_inside (o ∷ p.openings) End)) (sym whole)
-        (append_last part (λ ts l. append_last part (λ vs m. inl (append_last part (λ ws n. joined ws part n b) m)) l) h.begins)), refl)
+    let whole : tokens ≡ h.front ++ part = h.whole ∙ ap (λ ts. h.front ++ ts) k.whole in (
+      o,
+      (
+        p.before,
+        p.unit,
+        p.openings,
+        End,
+        subst (units p.before then head p.unit then (opening_cut_short p.openings o or cut_short_inside (o ∷ p.openings) End)) (sym whole)
+            (append_last part (λ ts l. append_last part (λ vs m. inl (append_last part (λ ws n. joined ws part n b) m)) l) h.begins),
+      ),
+      refl,
+    )
 
 abbrev told : Met → Result Text Met
 told met = Err met
@@ -112,20 +118,29 @@ on_line_inside p state tokens line last_line h i e = by_sort (completed state (�
 -- behind a `)` inside
 closed_inside : (p : Position) (o : Opening) (outer : List Opening) (tokens : List Mark) → p.openings ≡ o ∷ outer → BehindClosing p tokens → StopsOn tokens o.line
 closed_inside p o outer tokens e h =
-    let outer_is : h.outer ≡ o ∷ outer = ap (λ q. q.openings) (sym h.position) ∙ e in
-    (o, (h.inside.before, h.inside.unit, outer, h.o.before,
-      subst (units h.inside.before then head h.inside.unit then (opening_cut_short outer o or cut_short_inside (o ∷ outer) h.o.before)) (sym h.whole)
-        (append_last h.last (λ ts l. append_last h.last (λ vs m. inr (behind vs (subst (λ os. (openings_of os then lines (setting_in os) h.inside.done) vs) (h.opened ∙ ap (λ os. h.o ∷ os) outer_is) m))) l) h.begins)), refl)
+    let outer_is : h.outer ≡ o ∷ outer = ap (λ q. q.openings) (sym h.position) ∙ e in (
+      o,
+      (
+        h.inside.before,
+        h.inside.unit,
+        outer,
+        h.o.before,
+        subst (units h.inside.before then head h.inside.unit then (opening_cut_short outer o or cut_short_inside (o ∷ outer) h.o.before)) (sym h.whole)
+            (append_last h.last (λ ts l. append_last h.last (λ vs m. inr (behind vs (subst (λ os. (openings_of os then lines (setting_in os) h.inside.done) vs) (h.opened ∙ ap (λ os. h.o ∷ os) outer_is) m))) l) h.begins),
+      ),
+      refl,
+    )
   where
     last_bracket : (tokens : List Mark) → one (IsOn h.close (IsSymbol ClosingBracket)) tokens → symbol ClosingBracket tokens
     last_bracket [] k = k
     last_bracket (mark ∷ []) k = k.0
     last_bracket (x ∷ y ∷ more) k = k
+
     behind : (vs : List Mark) → (openings_of (h.o ∷ o ∷ outer) then lines InParentheses h.inside.done) vs → cut_short_inside (o ∷ outer) h.o.before (vs ++ h.last)
     behind vs m =
         let k = ungroup m in
         append_last h.last (λ ws n.
-          append_last h.last (λ xs w. inr (h.o.label, h.o.line, h.close, h.o.operator, h.o.operand, h.inside.done, (h.content, append_last h.last (λ ys u. append_last h.last (λ zs v. joined zs h.last v (last_bracket h.last h.closing)) u) (ungroup w)))) (ungroup n)) k
+        append_last h.last (λ xs w. inr (h.o.label, h.o.line, h.close, h.o.operator, h.o.operand, h.inside.done, (h.content, append_last h.last (λ ys u. append_last h.last (λ zs v. joined zs h.last v (last_bracket h.last h.closing)) u) (ungroup w)))) (ungroup n)) k
 
 -- whole units, with a program or without
 abbrev outcome : List ProgramUnit → ℕ → Bool → Result Text Met
@@ -177,6 +192,7 @@ open_line p state line last_line i part x e = by_sort (completed state (λ s. su
         let l = opening_ends p state o last_line in
         let m = ap (λ m. rank_of m.fault) (same_met (record { fault = UnitNotClosed; line = line }) (record { fault = ParenthesisNotPaired; line = l.0 }) (sym e ∙ l.1)) in
         omega (arith, m)
+
     by_sort : Completed state → p.unit.line ≡ line
     by_sort c = elim c.sort [
       | inl o ↦ absurd (opening_fault p state o e)

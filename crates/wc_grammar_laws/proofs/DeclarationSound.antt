@@ -1,20 +1,19 @@
 -- Behind each token that the walk takes in a section, what completes the section from there completes it from before the token too.
 use Rattle.std.proofs.Common.{◌≡◌, ◌≢◌, ℕ, Bool, true, false, List, [], ◌∷◌, ◌++◌, Option, Some, None, refl, ap, subst, append_assoc, append-nil, if◌then◌else◌, ◌∙◌, sym, inl, inr}
-use Rattle.wc_grammar_laws.proofs.DeclarationRests.{declarations_of, from_end, from_initial, from_type, more_names, from_names, declared_rest}
+use Rattle.wc_grammar_laws.proofs.DeclarationRests.{declarations_of, from_end, from_type, declared_rest}
 use Rattle.wc_grammar_laws.proofs.LineSound.{mark_on}
-use Rattle.wc_grammar_laws.proofs.Moves.{InDeclaration, Undeclared, BehindNames, BehindComma, BehindColon, BehindType, BehindAssign, BehindValue, State, Outside, Unnamed, AtLine, OnLine, Closed, Declaring, at_first_name, at_value, body_start, declaration_move, with_declaration}
+use Rattle.wc_grammar_laws.proofs.Moves.{InDeclaration, Undeclared, BehindNames, BehindComma, BehindColon, BehindType, BehindAssign, BehindValue, State, AtLine, Declaring, at_value, body_start, declaration_move}
 use Rattle.wc_grammar_laws.proofs.WalkedDeclarations.{unit_and}
 use Rattle.wc_grammar_laws.proofs.WordLaws.{same_is, truth_found}
 use Rattle.wc_grammar_laws.proofs.Words.{found, literal_of, truth_value, truths}
-use Rattle.wc_model.proofs.Languages.{next, pass, regroup, after, before}
+use Rattle.wc_model.proofs.Languages.{next, pass, regroup, after}
 use Rattle.wc_model.proofs.Spelling.{same}
-use Rattle.wc_model.specs.Grammar.{declaration, declared_names, identifier, initial_value, symbol, IsLiteral, IsOn}
+use Rattle.wc_model.specs.Grammar.{declared_names, identifier, initial_value, symbol, IsLiteral}
 use Rattle.wc_model.specs.Keywords.{end_var}
-use Rattle.wc_model.specs.Languages.{◌then◌, one, optional}
-use Rattle.wc_model.specs.Marks.{Symbol, Identifier, Whole, Duration, Truth, Comma, Colon, Semicolon, Assign, LineEnd, Mark, IsWord}
+use Rattle.wc_model.specs.Languages.{◌then◌, optional}
+use Rattle.wc_model.specs.Marks.{Symbol, Identifier, Whole, Duration, Truth, Comma, Colon, Semicolon, Assign, LineEnd, Mark}
 use Rattle.wc_model.specs.Names.{name_of}
 use Rattle.wc_model.specs.Tree.{Word, Declaration, ProgramUnit}
-use Rattle.wc_model.specs.declared.source.Initial.{Initial}
 use Rattle.wc_model.specs.declared.source.Section.{Section}
 use Rattle.wc_model.specs.declared.value.Value.{Value}
 use Rattle.wc_model.specs.declared.value.Value.TheVariants.{Bool as BoolValue, Dint, Time}
@@ -48,10 +47,13 @@ first_goes : (section : Section) (bytes : List ℕ) (line : ℕ) → name_of byt
 first_goes section bytes line n [] tokens h = absurd h
 first_goes section bytes line n (d ∷ more) tokens h =
     from_first section d more _ h.1 (subst (λ names. (declared_names names then symbol Colon then from_type section d more) (mark_on (Identifier bytes) line ∷ tokens)) (sym h.2)
-      (record {
-        front = mark_on (Identifier bytes) line ∷ h.3.front; rest = h.3.rest; whole = ap (λ ts. mark_on (Identifier bytes) line ∷ ts) h.3.whole;
-        begins = (n, next (refl, refl) h.3.begins); goes_on = h.3.goes_on;
-      }))
+    (record {
+      front = mark_on (Identifier bytes) line ∷ h.3.front;
+      rest = h.3.rest;
+      whole = ap (λ ts. mark_on (Identifier bytes) line ∷ ts) h.3.whole;
+      begins = (n, next (refl, refl) h.3.begins);
+      goes_on = h.3.goes_on;
+    }))
 
 first_allowed : (units : List ProgramUnit) (unit : ProgramUnit) (section : Section) (bytes : List ℕ) (line : ℕ) (b : Bool) → same (name_of bytes) end_var ≡ b
     → SectionAllows units unit section Undeclared (mark_on (Identifier bytes) line) (Some (if b then AtLine (body_start units unit) else Declaring units unit section (BehindNames (record { line = line; name = name_of bytes } ∷ []))))
@@ -89,9 +91,12 @@ type_goes section names bytes line (d ∷ more) tokens h = (h.0, h.1, next (ap (
 assign_goes : (section : Section) (names : List Word) (type_name : Word) (line : ℕ) (ds : List Declaration) (tokens : List Mark)
     → declared_rest section (BehindAssign names type_name) ds tokens → declared_rest section (BehindType names type_name) ds (mark_on Assign line ∷ tokens)
 assign_goes section names type_name line [] tokens h = absurd h
-assign_goes section names type_name line (d ∷ more) tokens h =
-    (ap (λ x. x.section) h.1, ap (λ x. x.names) h.1, ap (λ x. x.type_name) h.1,
-     subst (λ i. (optional initial_value i then from_end section more) (mark_on Assign line ∷ tokens)) (sym (ap (λ x. x.initial) h.1)) (regroup (next refl h.2)))
+assign_goes section names type_name line (d ∷ more) tokens h = (
+  ap (λ x. x.section) h.1,
+  ap (λ x. x.names) h.1,
+  ap (λ x. x.type_name) h.1,
+  subst (λ i. (optional initial_value i then from_end section more) (mark_on Assign line ∷ tokens)) (sym (ap (λ x. x.initial) h.1)) (regroup (next refl h.2)),
+)
 
 -- a token that is a literal
 is_literal : (symbol : Symbol) (line : ℕ) (value : Value) → literal_of symbol ≡ Some value → IsLiteral value (mark_on symbol line)

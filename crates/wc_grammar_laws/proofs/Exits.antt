@@ -1,5 +1,5 @@
 -- From each place of the walk some further tokens lead to the end of a text.
-use Rattle.std.proofs.Common.{◌≡◌, ◌≢◌, ℕ, Bool, true, false, List, [], ◌∷◌, ◌++◌, Option, Some, None, refl, ap, subst, append_assoc, append-nil, if◌then◌else◌, ◌∙◌, sym, inl, inr}
+use Rattle.std.proofs.Common.{◌≡◌, ◌≢◌, ℕ, Bool, true, false, List, [], ◌∷◌, ◌++◌, Option, Some, None, refl, ap, subst, if◌then◌else◌, ◌∙◌, inl, inr}
 use Rattle.std.specs.List.{AllByRecursion}
 use Rattle.std.specs.Prelude.{◌⊎◌}
 use Rattle.wc_grammar_laws.proofs.LineMoves.{LineForm, LabelAlone, Instructs, Opens, Begun, Listed, OfStep, OfOpening, OfArgument, InList, AtFirst, AtNext, AtAssign, AtValue, AtEnd, LineState, Start, Worded, Labelled, Operated, Jumped, Called, Instanced, Listing, Bracketed, Named, Pointed, Stepped, BracketedWith, Ended}
@@ -8,14 +8,14 @@ use Rattle.wc_grammar_laws.proofs.LineSound.{mark_on}
 use Rattle.wc_grammar_laws.proofs.Moves.{InDeclaration, Undeclared, BehindNames, BehindComma, BehindColon, BehindType, BehindAssign, BehindValue, State, Outside, Unnamed, Declaring, AtLine, OnLine, Closed, behind_closing, behind_line, behind_unit, body_start, colon_next, is_colon, has_content, lines_and, move, named_unit, start_move, on_line, open_in, open_on, unit_with, walk, section_or_line, section_begun, with_declaration}
 use Rattle.wc_grammar_laws.proofs.WalkedLines.{on_line_walked, walk_on, walk_then}
 use Rattle.wc_grammar_laws.proofs.Words.{step_of}
-use Rattle.wc_model.proofs.Languages.{next, pass, regroup}
+use Rattle.wc_model.proofs.Languages.{next, pass}
 use Rattle.wc_model.proofs.Spelling.{same}
 use Rattle.wc_model.specs.Grammar.{IsProgramLast}
 use Rattle.wc_model.specs.Keywords.{end_var, end_word, not_word, unit_word}
-use Rattle.wc_model.specs.Marks.{Symbol, Identifier, Whole, Truth, Colon, Comma, Semicolon, Assign, Point, LineEnd, ClosingBracket, OpeningBracket, Mark}
+use Rattle.wc_model.specs.Marks.{Symbol, Identifier, Truth, Colon, Semicolon, Assign, LineEnd, ClosingBracket, Mark}
 use Rattle.wc_model.specs.Names.{name_of}
-use Rattle.wc_model.specs.Positions.{Opening, Position, setting_in}
-use Rattle.wc_model.specs.Tree.{Word, Term, Constant, Variable, Field, Assignment, Step, Negate, Jump, Call, Lines, End, Alone, Plain, Nested, Declaration, ProgramUnit}
+use Rattle.wc_model.specs.Positions.{Opening, Position}
+use Rattle.wc_model.specs.Tree.{Word, Term, Constant, Variable, Field, Assignment, Step, Negate, Jump, Call, Lines, End, Alone, Plain, Nested, ProgramUnit}
 use Rattle.wc_model.specs.declared.source.Section.{Section}
 use Rattle.wc_model.specs.declared.source.UnitKind.{UnitKind}
 use Rattle.wc_model.specs.declared.source.UnitKind.TheVariants.{FunctionBlock, Program}
@@ -54,20 +54,35 @@ list_completed : (begun : Begun) (call : Listed) (item : InList) → Completed (
 list_completed begun call AtFirst = record { sort = inr (tt, λ p. refl); form = Instructs begun.label begun.line (Call call.condition call.instance (call.arguments ++ [])); more = sign ClosingBracket ∷ sign LineEnd ∷ []; rest = ([], refl, record { front = []; rest = sign ClosingBracket ∷ sign LineEnd ∷ []; whole = refl; begins = refl; goes_on = next refl refl }) }
 list_completed begun call AtNext =
     let a : Assignment = record { input = 97 ∷ []; value = truth } in
-    record { sort = inr (tt, λ p. refl); form = Instructs begun.label begun.line (Call call.condition call.instance (call.arguments ++ a ∷ []));
+    record {
+      sort = inr (tt, λ p. refl);
+      form = Instructs begun.label begun.line (Call call.condition call.instance (call.arguments ++ a ∷ []));
       more = sign (Identifier (97 ∷ [])) ∷ sign Assign ∷ sign (Truth true) ∷ sign ClosingBracket ∷ sign LineEnd ∷ [];
-      rest = (a ∷ [], refl, record { front = sign (Identifier (97 ∷ [])) ∷ sign Assign ∷ sign (Truth true) ∷ []; rest = sign ClosingBracket ∷ sign LineEnd ∷ []; whole = refl;
-        begins = record { front = sign (Identifier (97 ∷ [])) ∷ sign Assign ∷ sign (Truth true) ∷ []; rest = []; whole = refl; begins = next refl (next refl (inl refl)); goes_on = refl }; goes_on = next refl refl });
+      rest = (
+        a ∷ [],
+        refl,
+        record {
+          front = sign (Identifier (97 ∷ [])) ∷ sign Assign ∷ sign (Truth true) ∷ [];
+          rest = sign ClosingBracket ∷ sign LineEnd ∷ [];
+          whole = refl;
+          begins = record { front = sign (Identifier (97 ∷ [])) ∷ sign Assign ∷ sign (Truth true) ∷ []; rest = []; whole = refl; begins = next refl (next refl (inl refl)); goes_on = refl };
+          goes_on = next refl refl;
+        },
+      );
     }
 list_completed begun call (AtAssign input) =
     let a : Assignment = record { input = input; value = truth } in
-    record { sort = inr (tt, λ p. refl); form = Instructs begun.label begun.line (Call call.condition call.instance (call.arguments ++ a ∷ []));
+    record {
+      sort = inr (tt, λ p. refl);
+      form = Instructs begun.label begun.line (Call call.condition call.instance (call.arguments ++ a ∷ []));
       more = sign Assign ∷ sign (Truth true) ∷ sign ClosingBracket ∷ sign LineEnd ∷ [];
       rest = (a ∷ [], refl, record { front = sign Assign ∷ sign (Truth true) ∷ []; rest = sign ClosingBracket ∷ sign LineEnd ∷ []; whole = refl; begins = (refl, next refl (next (inl refl) refl)); goes_on = next refl refl });
     }
 list_completed begun call (AtValue input) =
     let a : Assignment = record { input = input; value = truth } in
-    record { sort = inr (tt, λ p. refl); form = Instructs begun.label begun.line (Call call.condition call.instance (call.arguments ++ a ∷ []));
+    record {
+      sort = inr (tt, λ p. refl);
+      form = Instructs begun.label begun.line (Call call.condition call.instance (call.arguments ++ a ∷ []));
       more = sign (Truth true) ∷ sign ClosingBracket ∷ sign LineEnd ∷ [];
       rest = (a ∷ [], refl, record { front = sign (Truth true) ∷ []; rest = sign ClosingBracket ∷ sign LineEnd ∷ []; whole = refl; begins = (refl, next (inl refl) refl); goes_on = next refl refl });
     }
@@ -87,15 +102,19 @@ completed (Listing begun call item) n m = list_completed begun call item
 completed (Bracketed begun operator) n m = record { sort = inl tt; form = Opens begun.label begun.line operator None; more = sign LineEnd ∷ []; rest = (None, refl, pass refl refl) }
 completed (Named begun (OfStep operating) name) n m = record { sort = inr (tt, λ p. refl); form = Instructs begun.label begun.line (step_of operating (Variable name)); more = sign LineEnd ∷ []; rest = (Variable name, refl, pass (refl, refl) refl) }
 completed (Named begun (OfOpening operator) name) n m = record { sort = inl tt; form = Opens begun.label begun.line operator (Some (Variable name)); more = sign LineEnd ∷ []; rest = (Variable name, refl, pass (refl, refl) refl) }
-completed (Named begun (OfArgument call input) name) n m = record { sort = inr (tt, λ p. refl); form = Instructs begun.label begun.line (Call call.condition call.instance (call.arguments ++ record { input = input; value = Variable name } ∷ []));
-    more = sign ClosingBracket ∷ sign LineEnd ∷ [];
-    rest = (Variable name, [], refl, record { front = []; rest = sign ClosingBracket ∷ sign LineEnd ∷ []; whole = refl; begins = pass (refl, refl) refl; goes_on = next refl refl });
+completed (Named begun (OfArgument call input) name) n m = record {
+  sort = inr (tt, λ p. refl);
+  form = Instructs begun.label begun.line (Call call.condition call.instance (call.arguments ++ record { input = input; value = Variable name } ∷ []));
+  more = sign ClosingBracket ∷ sign LineEnd ∷ [];
+  rest = (Variable name, [], refl, record { front = []; rest = sign ClosingBracket ∷ sign LineEnd ∷ []; whole = refl; begins = pass (refl, refl) refl; goes_on = next refl refl });
 }
 completed (Pointed begun (OfStep operating) name) n m = record { sort = inr (tt, λ p. refl); form = Instructs begun.label begun.line (step_of operating (Field name (97 ∷ []))); more = sign (Identifier (97 ∷ [])) ∷ sign LineEnd ∷ []; rest = (Field name (97 ∷ []), refl, record { front = sign (Identifier (97 ∷ [])) ∷ []; rest = sign LineEnd ∷ []; whole = refl; begins = (refl, refl); goes_on = refl }) }
 completed (Pointed begun (OfOpening operator) name) n m = record { sort = inl tt; form = Opens begun.label begun.line operator (Some (Field name (97 ∷ []))); more = sign (Identifier (97 ∷ [])) ∷ sign LineEnd ∷ []; rest = (Field name (97 ∷ []), refl, record { front = sign (Identifier (97 ∷ [])) ∷ []; rest = sign LineEnd ∷ []; whole = refl; begins = (refl, refl); goes_on = refl }) }
-completed (Pointed begun (OfArgument call input) name) n m = record { sort = inr (tt, λ p. refl); form = Instructs begun.label begun.line (Call call.condition call.instance (call.arguments ++ record { input = input; value = Field name (97 ∷ []) } ∷ []));
-    more = sign (Identifier (97 ∷ [])) ∷ sign ClosingBracket ∷ sign LineEnd ∷ [];
-    rest = (Field name (97 ∷ []), [], refl, record { front = sign (Identifier (97 ∷ [])) ∷ []; rest = sign ClosingBracket ∷ sign LineEnd ∷ []; whole = refl; begins = record { front = sign (Identifier (97 ∷ [])) ∷ []; rest = []; whole = refl; begins = (refl, refl); goes_on = refl }; goes_on = next refl refl });
+completed (Pointed begun (OfArgument call input) name) n m = record {
+  sort = inr (tt, λ p. refl);
+  form = Instructs begun.label begun.line (Call call.condition call.instance (call.arguments ++ record { input = input; value = Field name (97 ∷ []) } ∷ []));
+  more = sign (Identifier (97 ∷ [])) ∷ sign ClosingBracket ∷ sign LineEnd ∷ [];
+  rest = (Field name (97 ∷ []), [], refl, record { front = sign (Identifier (97 ∷ [])) ∷ []; rest = sign ClosingBracket ∷ sign LineEnd ∷ []; whole = refl; begins = record { front = sign (Identifier (97 ∷ [])) ∷ []; rest = []; whole = refl; begins = (refl, refl); goes_on = refl }; goes_on = next refl refl });
 }
 completed (Stepped begun step) n m = record { sort = inr (tt, λ p. refl); form = Instructs begun.label begun.line step; more = sign LineEnd ∷ []; rest = (refl, refl) }
 completed (BracketedWith begun operator x) n m = record { sort = inl tt; form = Opens begun.label begun.line operator (Some x); more = sign LineEnd ∷ []; rest = (refl, refl) }
@@ -114,7 +133,8 @@ exits_body p e = record { more = []; done = p.done; leads = λ i. Some (AtLine (
 -- one more token, whether a colon follows it or not
 exits_by : (state next : State) (before : List ProgramUnit) (unit : ProgramUnit) (symbol : Symbol) → ((colon : Bool) → move state symbol 0 colon ≡ Some next) → Exits next before unit → Exits state before unit
 exits_by state next before unit symbol e h = record {
-  more = sign symbol ∷ h.more; done = h.done;
+  more = sign symbol ∷ h.more;
+  done = h.done;
   leads = ap (λ o. walk_on o h.more false) (e (colon_next h.more false)) ∙ h.leads;
 }
 
@@ -131,15 +151,17 @@ exits_open : (openings : List Opening) (p : Position) → p.openings ≡ opening
 exits_open [] p e = exits_body p e
 exits_open (o ∷ outer) p e =
     exits_by (AtLine p) (OnLine p (Stepped not_begun Negate)) p.before p.unit (Identifier not_word) (λ c. ap (λ os. start_move p os (Identifier not_word) 0 c) e)
-      (exits_by (OnLine p (Stepped not_begun Negate)) (AtLine q) p.before p.unit LineEnd (λ c. refl)
-        (exits_by (AtLine q) (Closed r) p.before p.unit ClosingBracket
-          (λ c. ap (λ os. start_move q os ClosingBracket 0 c) e ∙ ap (λ b. if b then Some (Closed r) else None) (holds_more o.operand p.done None 0 Negate))
-          (exits_by (Closed r) (AtLine r) p.before p.unit LineEnd (λ c. refl) (exits_open outer r refl))))
+    (exits_by (OnLine p (Stepped not_begun Negate)) (AtLine q) p.before p.unit LineEnd (λ c. refl)
+    (exits_by (AtLine q) (Closed r) p.before p.unit ClosingBracket
+    (λ c. ap (λ os. start_move q os ClosingBracket 0 c) e ∙ ap (λ b. if b then Some (Closed r) else None) (holds_more o.operand p.done None 0 Negate))
+    (exits_by (Closed r) (AtLine r) p.before p.unit LineEnd (λ c. refl) (exits_open outer r refl))))
   where
     not_begun : Begun
     not_begun = record { label = None; line = 0 }
+
     q : Position
     q = behind_line p (Instructs None 0 Negate)
+
     r : Position
     r = behind_closing q o outer 0
 
@@ -174,7 +196,10 @@ pub record Finishes (state : State) : Type 0 where
 
 finishes_by : (state next : State) (symbol : Symbol) → is_colon symbol ≡ false → move state symbol 0 false ≡ Some next → Finishes next → Finishes state
 finishes_by state next symbol n e h = record {
-  more = sign symbol ∷ h.more; text = h.text; plain = n; order = h.order;
+  more = sign symbol ∷ h.more;
+  text = h.text;
+  plain = n;
+  order = h.order;
   leads = ap (λ c. walk_on (move state symbol 0 c) h.more false) h.plain ∙ ap (λ o. walk_on o h.more false) e ∙ h.leads;
 }
 
@@ -186,9 +211,9 @@ last_program = record { kind = Program; line = 0; name = record { line = 0; name
 pub finishes_blocks : (us : List ProgramUnit) → AreBlocks us → Finishes (Outside us)
 finishes_blocks us h =
     finishes_by (Outside us) (Unnamed us Program 0) (Identifier (unit_word Program)) refl refl
-      (finishes_by (Unnamed us Program 0) (AtLine (body_start us last_program)) (Identifier (97 ∷ [])) refl refl
-        (finishes_by (AtLine (body_start us last_program)) (Outside (us ++ last_program ∷ [])) (Identifier (end_word Program)) refl refl
-          (record { more = []; text = us ++ last_program ∷ []; plain = refl; leads = refl; order = program_last us last_program h refl })))
+    (finishes_by (Unnamed us Program 0) (AtLine (body_start us last_program)) (Identifier (97 ∷ [])) refl refl
+    (finishes_by (AtLine (body_start us last_program)) (Outside (us ++ last_program ∷ [])) (Identifier (end_word Program)) refl refl
+    (record { more = []; text = us ++ last_program ∷ []; plain = refl; leads = refl; order = program_last us last_program h refl })))
 
 -- and whole units with one at their end
 pub finishes_text : (us : List ProgramUnit) → IsProgramLast us → Finishes (Outside us)
@@ -226,7 +251,8 @@ finishing_exit state before unit h x =
     let p : Position = record (body_start before unit) { done = x.done } in
     let f = finishes_line p refl h in
     record {
-      more = x.more ++ f.more; text = f.text;
+      more = x.more ++ f.more;
+      text = f.text;
       leads = walk_then state (AtLine p) x.more f.more false _ (ap (walk state x.more) f.plain ∙ x.leads) f.leads;
       order = f.order;
     }
@@ -234,7 +260,8 @@ finishing_exit state before unit h x =
 -- a state that leads to one that exits
 exits_walk : (state next : State) (before : List ProgramUnit) (unit : ProgramUnit) (tokens : List Mark) → ((colon : Bool) → walk state tokens colon ≡ Some next) → Exits next before unit → Exits state before unit
 exits_walk state next before unit tokens e h = record {
-  more = tokens ++ h.more; done = h.done;
+  more = tokens ++ h.more;
+  done = h.done;
   leads = walk_then state next tokens h.more false _ (e (colon_next h.more false)) h.leads;
 }
 
@@ -258,7 +285,7 @@ pub exits_on : (p : Position) (line : LineState) → line ≢ Start → ((form :
 exits_on p line n m =
     let c = completed line n m in
     exits_walk (OnLine p line) (AtLine (behind_line p c.form)) p.before p.unit c.more (λ colon. subst (λ s. walk s c.more colon ≡ Some (AtLine (behind_line p c.form))) (on_line_is p line m) (on_line_walked p line c.form c.more colon c.rest))
-      (subst (λ u. Exits (AtLine (behind_line p c.form)) p.before u) (line_unit p c.form) (subst (λ b. Exits (AtLine (behind_line p c.form)) b (behind_line p c.form).unit) (line_before p c.form) (exits_line (behind_line p c.form))))
+    (subst (λ u. Exits (AtLine (behind_line p c.form)) p.before u) (line_unit p c.form) (subst (λ b. Exits (AtLine (behind_line p c.form)) b (behind_line p c.form).unit) (line_before p c.form) (exits_line (behind_line p c.form))))
 
 -- behind a unit's first word
 pub exits_unnamed : (us : List ProgramUnit) (kind : UnitKind) (line : ℕ) → Exits (Unnamed us kind line) us (named_unit kind line 0 (97 ∷ []))
@@ -280,7 +307,7 @@ section_ended us unit section = record { unit' = unit; line = refl; exits = exit
 from_colon : (us : List ProgramUnit) (unit : ProgramUnit) (section : Section) (names : List Word) → SectionExits us unit section (BehindColon names)
 from_colon us unit section names =
     section_by us unit unit section _ (BehindType names (record { line = 0; name = 97 ∷ [] })) (Identifier (97 ∷ [])) refl (λ c. refl)
-      (section_by us unit (with_declaration unit section names (record { line = 0; name = 97 ∷ [] }) None) section _ Undeclared Semicolon refl (λ c. refl) (section_ended us _ section))
+    (section_by us unit (with_declaration unit section names (record { line = 0; name = 97 ∷ [] }) None) section _ Undeclared Semicolon refl (λ c. refl) (section_ended us _ section))
 
 pub section_exits : (us : List ProgramUnit) (unit : ProgramUnit) (section : Section) (place : InDeclaration) → SectionExits us unit section place
 section_exits us unit section Undeclared = section_ended us unit section
@@ -288,11 +315,11 @@ section_exits us unit section (BehindValue names type_name initial) =
     section_by us unit (with_declaration unit section names type_name (Some initial)) section _ Undeclared Semicolon refl (λ c. refl) (section_ended us _ section)
 section_exits us unit section (BehindAssign names type_name) =
     section_by us unit unit section _ (BehindValue names type_name (record { value = BoolValue true; line = 0 })) (Truth true) refl (λ c. refl)
-      (section_by us unit (with_declaration unit section names type_name (Some (record { value = BoolValue true; line = 0 }))) section _ Undeclared Semicolon refl (λ c. refl) (section_ended us _ section))
+    (section_by us unit (with_declaration unit section names type_name (Some (record { value = BoolValue true; line = 0 }))) section _ Undeclared Semicolon refl (λ c. refl) (section_ended us _ section))
 section_exits us unit section (BehindType names type_name) =
     section_by us unit (with_declaration unit section names type_name None) section _ Undeclared Semicolon refl (λ c. refl) (section_ended us _ section)
 section_exits us unit section (BehindColon names) = from_colon us unit section names
 section_exits us unit section (BehindNames names) = section_by us unit unit section _ (BehindColon names) Colon refl (λ c. refl) (from_colon us unit section names)
 section_exits us unit section (BehindComma names) =
     section_by us unit unit section _ (BehindNames (names ++ record { line = 0; name = 97 ∷ [] } ∷ [])) (Identifier (97 ∷ [])) refl (λ c. refl)
-      (section_by us unit unit section _ (BehindColon (names ++ record { line = 0; name = 97 ∷ [] } ∷ [])) Colon refl (λ c. refl) (from_colon us unit section _))
+    (section_by us unit unit section _ (BehindColon (names ++ record { line = 0; name = 97 ∷ [] } ∷ [])) Colon refl (λ c. refl) (from_colon us unit section _))

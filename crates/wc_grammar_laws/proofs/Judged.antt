@@ -1,32 +1,31 @@
 -- Each fault that is met at a token is judged there, or one of lower rank.
-use Rattle.std.proofs.Common.{◌≡◌, ◌≢◌, ◌≤◌, ℕ, Bool, true, false, List, [], ◌∷◌, ◌++◌, length, Option, Some, None, refl, ap, subst, append_assoc, append-nil, if◌then◌else◌, ◌∙◌, sym, inl, inr, arith, not}
+use Rattle.std.proofs.Common.{◌≡◌, ◌≢◌, ◌≤◌, ℕ, Bool, true, false, List, [], ◌∷◌, ◌++◌, length, Option, Some, None, refl, ap, subst, append-nil, if◌then◌else◌, ◌∙◌, sym, inl, inr, arith, not}
 use Rattle.std.proofs.lemmas.Bool.Decides.{nat_tests}
 use Rattle.std.proofs.lemmas.List.Folds.{list_any-from_Any}
 use Rattle.std.specs.Prelude.{◌⊎◌, ◌&&◌, Any, nat_le, is_some}
-use Rattle.std.specs.List.{list_any}
 use Rattle.wc_grammar_laws.proofs.LineComplete.{Leads, labelled_operator, named, word_is}
-use Rattle.wc_grammar_laws.proofs.LineMoves.{Begun, Opens, LineState, Labelled, Operated, Worded, behind_operator, operator_or_label}
+use Rattle.wc_grammar_laws.proofs.LineMoves.{Opens, Labelled, Operated, Worded}
 use Rattle.wc_grammar_laws.proofs.LineSound.{mark_on}
 use Rattle.wc_grammar_laws.proofs.LineStart.{taken}
-use Rattle.wc_grammar_laws.proofs.Moves.{State, Outside, AtLine, OnLine, at_first, begins_transfer, begun_line, body_move, colon_next, has_content, has_name, has_program, is_colon, is_full, is_identifier, is_program, judge, judge_closing, judge_line, judge_on_line, judge_operator, judge_unit, Met, met_if, met_or, move, on_line, start_move, walk}
+use Rattle.wc_grammar_laws.proofs.Moves.{State, Outside, AtLine, OnLine, at_first, begins_transfer, begun_line, colon_next, has_content, has_name, has_program, is_colon, is_full, is_identifier, is_program, judge, judge_closing, judge_line, judge_operator, judge_unit, Met, met_if, met_or, move, start_move, walk}
 use Rattle.wc_grammar_laws.proofs.WalkedLines.{begins, walk_on, walk_then}
 use Rattle.wc_grammar_laws.proofs.WalkedUnits.{at_line_walked, plain, units_walked, unit_found}
-use Rattle.wc_grammar_laws.proofs.WordLaws.{is_same, named_operation, operator_is, step_begins, operation_in}
+use Rattle.wc_grammar_laws.proofs.WordLaws.{is_same, operator_is, step_begins, operation_in}
 use Rattle.wc_grammar_laws.proofs.Words.{Applies, Operation, Operates, found, is_transfer, operation_of, unit_kinds}
 use Rattle.wc_model.proofs.Languages.{both_empty, next, next_is, pass}
 use Rattle.wc_model.proofs.Spelling.{same}
-use Rattle.wc_model.specs.Grammar.{HasContent, InBody, InParentheses, IsOn, IsOperator, IsOperatorOf, IsTransfer, label_in, units}
+use Rattle.wc_model.specs.Grammar.{HasContent, InBody, IsOn, IsOperator, IsTransfer, label_in, units}
 use Rattle.wc_model.specs.Keywords.{end_word, unit_word}
 use Rattle.wc_model.specs.Languages.{◌then◌, one}
 use Rattle.wc_model.specs.Limits.{lines_before, most_depth, most_lines, most_units}
-use Rattle.wc_model.specs.Marks.{ClosingBracket, Colon, Identifier, LineEnd, IsNamed, IsSymbol, IsWord, Mark, OpeningBracket, Symbol, name_in}
+use Rattle.wc_model.specs.Marks.{ClosingBracket, Colon, Identifier, LineEnd, IsNamed, IsSymbol, Mark, OpeningBracket, Symbol, name_in}
 use Rattle.wc_model.specs.Names.{Name, name_of}
 use Rattle.wc_model.specs.Positions.{Opening, Position, at_instruction, at_line, setting_in}
-use Rattle.wc_model.specs.ReadingFaults.{BeginsInstruction, BeginsTransferOrLabel, BeginsUnit, ColonFollows, EmptyParentheses, IsIdentifier, IsInnermost, MetAtToken, NotAllowedInParentheses, NotOneProgramLast, ParenthesisNotPaired, ReadingFault, TooDeep, TooMany, UnexpectedToken, UnitNotClosed, rank_of}
+use Rattle.wc_model.specs.ReadingFaults.{BeginsInstruction, BeginsTransferOrLabel, BeginsUnit, ColonFollows, EmptyParentheses, IsInnermost, MetAtToken, NotAllowedInParentheses, NotOneProgramLast, ParenthesisNotPaired, ReadingFault, TooDeep, TooMany, UnexpectedToken, UnitNotClosed, rank_of}
 use Rattle.wc_model.specs.Tree.{Call, Jump, Lines, End, Alone, Plain, Nested, ProgramUnit, Return, Step, Term, Word, Load, Store, Apply, Negate}
 use Rattle.wc_model.specs.declared.operator.Operator.{Operator}
 use Rattle.wc_model.specs.declared.source.UnitKind.{UnitKind}
-use Rattle.wc_model.specs.declared.source.UnitKind.TheVariants.{FunctionBlock, Program}
+use Rattle.wc_model.specs.declared.source.UnitKind.TheVariants.{Program}
 
 -- a fault is judged, or one of lower rank
 pub record Judged (met : Option Met) (fault : ReadingFault) : Type 0 where
@@ -73,9 +72,9 @@ unit_judged fault before symbol line colon state whole kind w h e j =
     let n = unit_word_no_colon symbol (unit_word kind) e in
     let s : state ≡ Outside whole = same_end before false state (Outside whole) (subst (λ c. walk at_first before c ≡ Some state) n w) (units_walked whole before false refl h) in
     named symbol (unit_word kind) e (λ bytes y m.
-      subst (λ s. Judged (judge s symbol line colon) fault) (sym s)
-        (subst (λ y. Judged (judge (Outside whole) y line colon) fault) (sym y)
-          (subst (λ o. Judged (judge_unit whole line o) fault) (sym (ap (found unit_kinds) m ∙ unit_found kind)) j)))
+    subst (λ s. Judged (judge s symbol line colon) fault) (sym s)
+    (subst (λ y. Judged (judge (Outside whole) y line colon) fault) (sym y)
+    (subst (λ o. Judged (judge_unit whole line o) fault) (sym (ap (found unit_kinds) m ∙ unit_found kind)) j)))
 
 -- at the start of a line
 line_judged : (fault : ReadingFault) (p : Position) (before : List Mark) (symbol : Symbol) (line : ℕ) (colon : Bool) (state : State) → walk at_first before (is_colon symbol) ≡ Some state → at_line p before
@@ -140,8 +139,8 @@ follows_not (mark ∷ marks) n = no_colon_here mark.symbol n
 inside_judged : (q : Position) (o : Opening) (outer : List Opening) (symbol : Symbol) (line : ℕ) (colon : Bool) → Judged (judge_operator q symbol line colon) TooMany → Judged (judge_line q (o ∷ outer) symbol line colon) TooMany
 inside_judged q o outer symbol line colon j =
     first_met (begins_transfer (operation_of symbol)) NotAllowedInParentheses TooMany line _ (omega arith)
-      (first_met (is_identifier symbol && colon) NotAllowedInParentheses TooMany line _ (omega arith)
-        (first_met (has_name symbol (end_word q.unit.kind)) ParenthesisNotPaired TooMany o.line _ (omega arith) j))
+    (first_met (is_identifier symbol && colon) NotAllowedInParentheses TooMany line _ (omega arith)
+    (first_met (has_name symbol (end_word q.unit.kind)) ParenthesisNotPaired TooMany o.line _ (omega arith) j))
 
 any_line_judged : (q : Position) (openings : List Opening) (symbol : Symbol) (line : ℕ) (colon : Bool) → Judged (judge_operator q symbol line colon) TooMany → Judged (judge_line q openings symbol line colon) TooMany
 any_line_judged q [] symbol line colon j = j
@@ -160,8 +159,8 @@ end_judged : (q : Position) (openings : List Opening) (symbol : Symbol) (line : 
 end_judged q [] symbol line colon innermost outer e h = absurd (cc)
 end_judged q (o ∷ os) symbol line colon innermost outer e h =
     first_met (begins_transfer (operation_of symbol)) NotAllowedInParentheses ParenthesisNotPaired line _ (omega arith)
-      (first_met (is_identifier symbol && colon) NotAllowedInParentheses ParenthesisNotPaired line _ (omega arith)
-        (met_here (has_name symbol (end_word q.unit.kind)) ParenthesisNotPaired o.line _ h))
+    (first_met (is_identifier symbol && colon) NotAllowedInParentheses ParenthesisNotPaired line _ (omega arith)
+    (met_here (has_name symbol (end_word q.unit.kind)) ParenthesisNotPaired o.line _ h))
 
 named_has : (symbol : Symbol) (name : Name) → name_in symbol ≡ Some name → has_name symbol name ≡ true
 named_has (Identifier bytes) name e = let n : name_of bytes ≡ name = cc in ap (λ m. same m name) n ∙ is_same name
@@ -180,11 +179,11 @@ label_walked p label (mark ∷ second ∷ third ∷ more) colon e h = absurd (ne
 label_walked p label (mark ∷ second ∷ []) colon e h =
     let k = next_is h in
     named mark.symbol label.name k.0.0 (λ bytes y n.
-      ap (λ s. walk_on (move (AtLine p) mark.symbol mark.line (is_colon s)) (second ∷ []) colon) k.1
-      ∙ ap (λ s. walk_on (move (AtLine p) s mark.line true) (second ∷ []) colon) y
-      ∙ ap (λ os. walk_on (start_move p os (Identifier bytes) mark.line true) (second ∷ []) colon) e
-      ∙ ap (λ w. walk_on (move (OnLine p (Worded w)) second.symbol second.line colon) [] colon) (word_is label mark.line (name_of bytes) k.0.1 n)
-      ∙ ap (λ s. walk_on (move (OnLine p (Worded label)) s second.line colon) [] colon) k.1)
+    ap (λ s. walk_on (move (AtLine p) mark.symbol mark.line (is_colon s)) (second ∷ []) colon) k.1
+    ∙ ap (λ s. walk_on (move (AtLine p) s mark.line true) (second ∷ []) colon) y
+    ∙ ap (λ os. walk_on (start_move p os (Identifier bytes) mark.line true) (second ∷ []) colon) e
+    ∙ ap (λ w. walk_on (move (OnLine p (Worded w)) second.symbol second.line colon) [] colon) (word_is label mark.line (name_of bytes) k.0.1 n)
+    ∙ ap (λ s. walk_on (move (OnLine p (Worded label)) s second.line colon) [] colon) k.1)
 
 -- tokens that stop behind a line's label lead there
 labelled_walked : (p : Position) (label : Word) (tokens : List Mark) (colon : Bool) → at_instruction p (Some label) tokens → walk at_first tokens colon ≡ Some (OnLine (plain p) (Labelled label))
@@ -193,8 +192,8 @@ labelled_walked p label tokens colon h = by_openings p.openings refl h.goes_on
     by_openings : (openings : List Opening) → p.openings ≡ openings → label_in (setting_in p.openings) (Some label) h.rest → walk at_first tokens colon ≡ Some (OnLine (plain p) (Labelled label))
     by_openings [] e k =
         subst (λ ts. walk at_first ts colon ≡ Some (OnLine (plain p) (Labelled label))) (sym h.whole)
-          (walk_then at_first (AtLine (plain p)) h.front h.rest colon _ (at_line_walked p h.front (colon_next h.rest colon) h.begins)
-            (label_walked (plain p) label h.rest colon e (subst (λ os. label_in (setting_in os) (Some label) h.rest) e k)))
+        (walk_then at_first (AtLine (plain p)) h.front h.rest colon _ (at_line_walked p h.front (colon_next h.rest colon) h.begins)
+        (label_walked (plain p) label h.rest colon e (subst (λ os. label_in (setting_in os) (Some label) h.rest) e k)))
     by_openings (o ∷ outer) e k = absurd (subst (λ os. label_in (setting_in os) (Some label) h.rest) e k)
 
 -- an operator that may open a parenthesis, with no label before it
@@ -203,7 +202,7 @@ operator_moves p operator mark h =
     let e = operator_is operator mark h in
     let t = taken (setting_in p.openings) mark.symbol mark.line (Operates (Applies operator)) false e refl (λ s. refl) in
     begins p p.openings mark.symbol mark.line (Opens None mark.line operator None) (mark_on OpeningBracket 0 ∷ mark_on LineEnd 0 ∷ []) false refl
-      (subst (λ o. Leads o (Opens None mark.line operator None) (mark_on OpeningBracket 0 ∷ mark_on LineEnd 0 ∷ [])) (sym t) (inr (operator, None, refl, refl, next refl (pass refl refl))))
+    (subst (λ o. Leads o (Opens None mark.line operator None) (mark_on OpeningBracket 0 ∷ mark_on LineEnd 0 ∷ [])) (sym t) (inr (operator, None, refl, refl, next refl (pass refl refl))))
     ∙ ap (begun_line p) t
 
 labelled_moves : (p : Position) (label : Word) (operator : Operator) (mark : Mark) (colon : Bool) → IsOperator operator mark
@@ -223,13 +222,13 @@ pub operator_walked : (p : Position) (label : Option Word) (line : ℕ) (operato
     → walk at_first tokens false ≡ Some (OnLine (plain p) (Operated (record { label = label; line = line }) (Applies operator)))
 operator_walked p None line operator tokens h =
     subst (λ ts. walk at_first ts false ≡ Some (OnLine (plain p) (Operated (record { label = None; line = line }) (Applies operator)))) (sym h.whole)
-      (walk_then at_first (AtLine (plain p)) h.front h.rest false _
-        (at_line_walked p h.front (colon_next h.rest false) (subst (at_line p) (sym (append-nil h.begins.front) ∙ ap (λ ts. h.begins.front ++ ts) (sym h.begins.goes_on) ∙ sym h.begins.whole) h.begins.begins))
-        (one_walked (AtLine (plain p)) (plain p) None line operator h.rest h.goes_on (λ mark k. operator_moves (plain p) operator mark k)))
+    (walk_then at_first (AtLine (plain p)) h.front h.rest false _
+    (at_line_walked p h.front (colon_next h.rest false) (subst (at_line p) (sym (append-nil h.begins.front) ∙ ap (λ ts. h.begins.front ++ ts) (sym h.begins.goes_on) ∙ sym h.begins.whole) h.begins.begins))
+    (one_walked (AtLine (plain p)) (plain p) None line operator h.rest h.goes_on (λ mark k. operator_moves (plain p) operator mark k)))
 operator_walked p (Some label) line operator tokens h =
     subst (λ ts. walk at_first ts false ≡ Some (OnLine (plain p) (Operated (record { label = Some label; line = line }) (Applies operator)))) (sym h.whole)
-      (walk_then at_first (OnLine (plain p) (Labelled label)) h.front h.rest false _ (labelled_walked p label h.front (colon_next h.rest false) h.begins)
-        (one_walked (OnLine (plain p) (Labelled label)) (plain p) (Some label) line operator h.rest h.goes_on (λ mark k. labelled_moves (plain p) label operator mark false k)))
+    (walk_then at_first (OnLine (plain p) (Labelled label)) h.front h.rest false _ (labelled_walked p label h.front (colon_next h.rest false) h.begins)
+    (one_walked (OnLine (plain p) (Labelled label)) (plain p) (Some label) line operator h.rest h.goes_on (λ mark k. labelled_moves (plain p) label operator mark false k)))
 
 -- an operator where a unit has as many lines as it may
 operator_judged : (q : Position) (symbol : Symbol) (line : ℕ) (colon : Bool) (operation : Operation) → operation_of symbol ≡ Some operation → colon ≡ false → is_full q ≡ true → Judged (judge_operator q symbol line colon) TooMany
@@ -242,12 +241,12 @@ instruction_judged p None before mark behind state w h full b =
     let e = step_begins b.0.0 mark b.0.1 in
     let here : at_line p before = subst (at_line p) (sym (append-nil h.front) ∙ ap (λ ts. h.front ++ ts) (sym h.goes_on) ∙ sym h.whole) h.begins in
     line_judged TooMany p before mark.symbol mark.line (colon_next behind false) state w here
-      (as_line TooMany (plain p) mark.symbol mark.line (colon_next behind false) (operator_no_closing mark.symbol (operation_in b.0.0) e)
-        (any_line_judged (plain p) p.openings mark.symbol mark.line (colon_next behind false) (operator_judged (plain p) mark.symbol mark.line (colon_next behind false) (operation_in b.0.0) e (follows_not behind (b.1 refl)) (at_most most_lines (lines_before p) full))))
+    (as_line TooMany (plain p) mark.symbol mark.line (colon_next behind false) (operator_no_closing mark.symbol (operation_in b.0.0) e)
+    (any_line_judged (plain p) p.openings mark.symbol mark.line (colon_next behind false) (operator_judged (plain p) mark.symbol mark.line (colon_next behind false) (operation_in b.0.0) e (follows_not behind (b.1 refl)) (at_most most_lines (lines_before p) full))))
 instruction_judged p (Some label) before mark behind state w h full b =
     let e = step_begins b.0.0 mark b.0.1 in
     subst (λ s. Judged (judge s mark.symbol mark.line (colon_next behind false)) TooMany) (sym (same_end before (is_colon mark.symbol) state (OnLine (plain p) (Labelled label)) w (labelled_walked p label before (is_colon mark.symbol) h)))
-      (met_last (is_some (operation_of mark.symbol) && is_full (plain p)) TooMany mark.line (ap (λ o. is_some o && is_full (plain p)) e ∙ at_most most_lines (lines_before p) full))
+    (met_last (is_some (operation_of mark.symbol) && is_full (plain p)) TooMany mark.line (ap (λ o. is_some o && is_full (plain p)) e ∙ at_most most_lines (lines_before p) full))
 
 -- Each fault that is met at a token, other than that it is unexpected, is judged there, or one of lower rank.
 pub judged : (fault : ReadingFault) (before : List Mark) (mark : Mark) (behind : List Mark) (line : ℕ) (state : State) → walk at_first before (is_colon mark.symbol) ≡ Some state → fault ≢ UnexpectedToken → MetAtToken fault before mark behind line
@@ -258,14 +257,15 @@ judged NotOneProgramLast before mark behind line state w n h =
     unit_judged NotOneProgramLast before mark.symbol mark.line (colon_next behind false) state h.0 h.3.0 w h.1 h.3.1 (met_here (has_program h.0) NotOneProgramLast mark.line _ (program_found h.0 h.2))
 judged EmptyParentheses before mark behind line state w n h =
     closing_judged EmptyParentheses h.0 before mark.symbol mark.line (colon_next behind false) state w h.1 h.5
-      (subst (λ os. Judged (judge_closing (plain h.0) os mark.line) EmptyParentheses) (sym h.3.1) (met_here (not (has_content h.2.operand h.0.done)) EmptyParentheses mark.line _ (no_content h.2.operand h.0.done h.4)))
+    (subst (λ os. Judged (judge_closing (plain h.0) os mark.line) EmptyParentheses) (sym h.3.1) (met_here (not (has_content h.2.operand h.0.done)) EmptyParentheses mark.line _ (no_content h.2.operand h.0.done h.4)))
 judged NotAllowedInParentheses before mark behind line state w n h =
     line_judged NotAllowedInParentheses h.0 before mark.symbol mark.line (colon_next behind false) state w h.1
-      (as_line NotAllowedInParentheses (plain h.0) mark.symbol mark.line (colon_next behind false) (no_closing h.3) (transfer_judged (plain h.0) h.0.openings mark.symbol mark.line (colon_next behind false) h.2 (begins_so h.3)))
+    (as_line NotAllowedInParentheses (plain h.0) mark.symbol mark.line (colon_next behind false) (no_closing h.3) (transfer_judged (plain h.0) h.0.openings mark.symbol mark.line (colon_next behind false) h.2 (begins_so h.3)))
   where
     no_closing : BeginsTransferOrLabel mark behind → mark.symbol ≢ ClosingBracket
     no_closing (inl b) = operator_no_closing mark.symbol (operation_in b.0) (step_begins b.0 mark b.2)
     no_closing (inr b) = name_no_closing mark.symbol b.0.0 b.0.1
+
     begins_so : BeginsTransferOrLabel mark behind → (begins_transfer (operation_of mark.symbol) ≡ true) ⊎ ((is_identifier mark.symbol && colon_next behind false) ≡ true)
     begins_so (inl b) = inl (ap begins_transfer (step_begins b.0 mark b.2) ∙ transfer_is b.0 b.1)
     begins_so (inr b) = inr (ap (λ i. i && colon_next behind false) (identifier_is mark.symbol b.0.0 b.0.1) ∙ follows behind b.1)
@@ -276,14 +276,14 @@ judged ParenthesisNotPaired before mark behind line state w n h = by_form h.2
     by_form (inl k) = closing_judged ParenthesisNotPaired h.0 before mark.symbol mark.line (colon_next behind false) state w h.1 k.1 (subst (λ os. Judged (judge_closing (plain h.0) os mark.line) ParenthesisNotPaired) (sym k.0) (met_last true ParenthesisNotPaired mark.line refl))
     by_form (inr k) =
         line_judged ParenthesisNotPaired h.0 before mark.symbol mark.line (colon_next behind false) state w h.1
-          (as_line ParenthesisNotPaired (plain h.0) mark.symbol mark.line (colon_next behind false) (name_no_closing mark.symbol _ k.2)
-            (end_judged (plain h.0) (h.0).openings mark.symbol mark.line (colon_next behind false) k.0 k.1.0 k.1.1 (named_has mark.symbol _ k.2)))
+        (as_line ParenthesisNotPaired (plain h.0) mark.symbol mark.line (colon_next behind false) (name_no_closing mark.symbol _ k.2)
+        (end_judged (plain h.0) (h.0).openings mark.symbol mark.line (colon_next behind false) k.0 k.1.0 k.1.1 (named_has mark.symbol _ k.2)))
 judged TooDeep before mark behind line state w n h =
     let c : is_colon mark.symbol ≡ false = ap is_colon h.5 in
     let s = same_end before false state _ (subst (λ c. walk at_first before c ≡ Some state) c w) (operator_walked h.0 h.1 line h.2 before h.3) in
     subst (λ s. Judged (judge s mark.symbol mark.line (colon_next behind false)) TooDeep) (sym s)
-      (subst (λ y. Judged (judge (OnLine (plain h.0) (Operated (record { label = h.1; line = line }) (Applies h.2))) y mark.line (colon_next behind false)) TooDeep) (sym h.5)
-        (met_last (nat_le most_depth (length (h.0).openings)) TooDeep line (at_most most_depth (length (h.0).openings) h.4)))
+    (subst (λ y. Judged (judge (OnLine (plain h.0) (Operated (record { label = h.1; line = line }) (Applies h.2))) y mark.line (colon_next behind false)) TooDeep) (sym h.5)
+    (met_last (nat_le most_depth (length (h.0).openings)) TooDeep line (at_most most_depth (length (h.0).openings) h.4)))
 judged TooMany before mark behind line state w n h = by_form h.0
   where
     by_form : (((whole : List ProgramUnit) × units whole before × (most_units ≤ length whole) × BeginsUnit mark)
@@ -292,6 +292,6 @@ judged TooMany before mark behind line state w n h = by_form h.0
         → Judged (judge state mark.symbol mark.line (colon_next behind false)) TooMany
     by_form (inl k) =
         unit_judged TooMany before mark.symbol mark.line (colon_next behind false) state k.0 k.3.0 w k.1 k.3.1
-          (first_met (has_program k.0) NotOneProgramLast TooMany mark.line _ (omega arith) (met_last (nat_le most_units (length k.0)) TooMany mark.line (at_most most_units (length k.0) k.2)))
+        (first_met (has_program k.0) NotOneProgramLast TooMany mark.line _ (omega arith) (met_last (nat_le most_units (length k.0)) TooMany mark.line (at_most most_units (length k.0) k.2)))
     by_form (inr (inl k)) = instruction_judged k.0 k.1 before mark behind state w k.2 k.3 k.4
     by_form (inr (inr k)) = closing_judged TooMany k.0 before mark.symbol mark.line (colon_next behind false) state w k.1 k.4 (full_judged (plain k.0) (k.0).openings mark.line k.2 (at_most most_lines (lines_before k.0) k.3))

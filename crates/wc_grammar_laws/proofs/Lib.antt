@@ -29,3 +29,4 @@ pub mod LineBounds
 pub mod WithinOn
 pub mod WithinBack
 pub mod Readings
+pub mod FaultLaws

@@ -1,17 +1,14 @@
 -- What a line counts and opens changes at its operator and at its bracket alone.
-use Rattle.std.proofs.Common.{◌≡◌, ◌≢◌, ◌≤◌, ◌+◌, ℕ, zero, suc, Bool, true, false, List, [], ◌∷◌, length, Option, Some, None, refl, ap, subst, if◌then◌else◌, ◌∙◌, sym, inl, inr, arith, ◌⊎◌, not}
-use Rattle.std.proofs.lemmas.Bool.Decides.{nat_tests}
-use Rattle.std.specs.Prelude.{◌&&◌, is_some, nat_le}
-use Rattle.wc_grammar_laws.proofs.Bounds.{Within, PositionWithin, counted, counted_form, ended_was_within, ended_within, opened, opened_form}
-use Rattle.wc_grammar_laws.proofs.LineMoves.{LineForm, Begun, Listed, InList, AtFirst, AtNext, AtAssign, AtValue, AtEnd, OperandOf, OfStep, OfOpening, OfArgument, LineState, Start, Worded, Labelled, Operated, Jumped, Called, Instanced, Listing, Bracketed, Named, Pointed, Stepped, BracketedWith, Ended, at_bracketed, at_field, at_labelled, at_list, at_operand, at_operated, at_operator, at_start, at_start_in, behind_name, behind_operand, behind_operator, line_move, name_or_literal, operator_or_label, simple_operator}
-use Rattle.wc_grammar_laws.proofs.Moves.{State, AtLine, OnLine, begun_line, is_full, judge_on_line, Met, met_if, on_line}
+use Rattle.std.proofs.Common.{◌≡◌, ◌≢◌, ℕ, Bool, true, false, List, Option, Some, None, refl, ap, subst, if◌then◌else◌, sym, inl, inr, arith, ◌⊎◌}
+use Rattle.std.specs.Prelude.{is_some}
+use Rattle.wc_grammar_laws.proofs.Bounds.{Within, PositionWithin, counted, ended_was_within, ended_within, opened}
+use Rattle.wc_grammar_laws.proofs.LineMoves.{Begun, Listed, InList, AtFirst, AtNext, AtAssign, AtValue, AtEnd, OperandOf, OfStep, OfOpening, OfArgument, LineState, Start, Worded, Labelled, Operated, Jumped, Called, Instanced, Listing, Bracketed, Named, Pointed, Stepped, BracketedWith, Ended, at_bracketed, at_field, at_labelled, at_list, at_operand, at_operated, at_operator, at_start, behind_name, behind_operand, behind_operator, line_move, name_or_literal, operator_or_label, simple_operator}
+use Rattle.wc_grammar_laws.proofs.Moves.{State, begun_line}
 use Rattle.wc_grammar_laws.proofs.Words.{Operating, Loads, Stores, Applies, Operation, Operates, Negates, Jumps, Calls, Returns, found, is_transfer, operation_of, operations, truths}
-use Rattle.wc_model.specs.Grammar.{Setting, InBody, InParentheses}
-use Rattle.wc_model.specs.Limits.{lines_before, most_depth, most_lines}
-use Rattle.wc_model.specs.Marks.{Symbol, Identifier, Whole, Duration, Truth, Direct, Ampersand, AmpersandN, OpeningBracket, ClosingBracket, Comma, Colon, Point, Assign, LineEnd}
+use Rattle.wc_model.specs.Grammar.{Setting}
+use Rattle.wc_model.specs.Marks.{Symbol, Identifier, Whole, Duration, Truth, Direct, OpeningBracket, ClosingBracket, Comma, Colon, Point, Assign, LineEnd}
 use Rattle.wc_model.specs.Names.{Name, name_of}
-use Rattle.wc_model.specs.Positions.{Position, setting_in}
-use Rattle.wc_model.specs.ReadingFaults.{TooDeep, TooMany}
+use Rattle.wc_model.specs.Positions.{Position}
 use Rattle.wc_model.specs.Tree.{Term, Word}
 use Rattle.wc_model.specs.declared.operator.Operator.{Operator}
 

@@ -1,18 +1,18 @@
 -- What completes a line is taken by the walk, token by token.
-use Rattle.std.proofs.Common.{◌≡◌, ◌≢◌, ℕ, Bool, true, false, List, [], ◌∷◌, ◌++◌, Option, Some, None, refl, ap, subst, if◌then◌else◌, append_assoc, append-nil, ◌∙◌, sym, inl, inr}
+use Rattle.std.proofs.Common.{◌≡◌, ◌≢◌, ℕ, Bool, false, List, [], ◌∷◌, Option, Some, None, refl, ap, subst, if◌then◌else◌, append_assoc, append-nil, ◌∙◌, sym, inl, inr}
 use Rattle.std.specs.Prelude.{◌⊎◌, not, filter}
-use Rattle.wc_grammar_laws.proofs.LineMoves.{LineForm, LabelAlone, Instructs, Opens, Begun, Listed, OperandOf, OfStep, OfOpening, OfArgument, InList, AtFirst, AtNext, AtAssign, AtValue, AtEnd, LineState, Start, Worded, Labelled, Operated, Jumped, Called, Instanced, Listing, Bracketed, Named, Pointed, Stepped, BracketedWith, Ended, with_argument, behind_operand, name_or_literal, at_operand, behind_operator, at_operator, operator_or_label, at_start, simple_operator, at_start_in, at_labelled, at_operated, at_list, at_bracketed, behind_name, at_field, line_move}
-use Rattle.wc_grammar_laws.proofs.LineRests.{line_of, behind_its_name, behind_its_point, more_arguments, list_rest, list_end, call_form, operand_rest, labelled_rest, rest_of}
+use Rattle.wc_grammar_laws.proofs.LineMoves.{LineForm, LabelAlone, Instructs, Opens, Begun, Listed, OperandOf, OfStep, OfOpening, OfArgument, InList, AtFirst, AtNext, AtAssign, AtValue, AtEnd, LineState, Start, Worded, Labelled, Operated, Jumped, Called, Instanced, Listing, Bracketed, Named, Pointed, Stepped, BracketedWith, Ended, with_argument, behind_operand, name_or_literal, at_operand, behind_operator, at_operator, at_labelled, at_operated, at_list, at_bracketed, at_field, line_move}
+use Rattle.wc_grammar_laws.proofs.LineRests.{behind_its_name, behind_its_point, more_arguments, list_rest, list_end, call_form, operand_rest, labelled_rest, rest_of}
 use Rattle.wc_grammar_laws.proofs.LineSound.{mark_on}
 use Rattle.wc_grammar_laws.proofs.Skipping.{behind, skip_next_is, skip_over_is}
-use Rattle.wc_grammar_laws.proofs.WordLaws.{truth_found, step_begins, operator_is, operation_in, operation_in_step, truth_is_found, no_truth, named_operation, operation_found}
-use Rattle.wc_grammar_laws.proofs.Words.{Operating, Loads, Stores, Applies, Operation, Operates, Negates, Jumps, Calls, Returns, found, is_transfer, operation_of, operations, step_of, truths}
-use Rattle.wc_model.proofs.Languages.{next_is, passed, both_empty, given_are, given_first, regroup, ungroup, before, after, pass}
+use Rattle.wc_grammar_laws.proofs.WordLaws.{step_begins, operator_is, operation_in, truth_is_found, no_truth}
+use Rattle.wc_grammar_laws.proofs.Words.{Operating, Loads, Stores, Applies, Operation, Operates, found, operation_of, step_of, truths}
+use Rattle.wc_model.proofs.Languages.{next_is, passed, both_empty, given_are, given_first, ungroup, pass}
 use Rattle.wc_model.specs.Grammar as grammar
 use Rattle.wc_model.specs.Grammar.{operand, argument, call_list, bracketed, instruction, opening, operands_of, IsLiteral, IsOn, IsOperatorOf, Setting, InBody, InParentheses, MayStand, label_in}
 use Rattle.wc_model.specs.Keywords.{truth_word}
-use Rattle.wc_model.specs.Languages.{Language, ◌then◌, empty, one, optional, separated, skipping}
-use Rattle.wc_model.specs.Marks.{Symbol, Identifier, Whole, Duration, Truth, Direct, Ampersand, AmpersandN, OpeningBracket, ClosingBracket, Comma, Colon, Semicolon, Point, Assign, Arrow, LineEnd, Mark, is_line_end, is_line_end_symbol, name_in, address_in}
+use Rattle.wc_model.specs.Languages.{◌then◌, empty, optional, separated, skipping}
+use Rattle.wc_model.specs.Marks.{Symbol, Identifier, Direct, OpeningBracket, ClosingBracket, Comma, Colon, Point, Assign, LineEnd, Mark, is_line_end, is_line_end_symbol, name_in, address_in}
 use Rattle.wc_model.specs.Names.{Name, name_of}
 use Rattle.wc_model.specs.Tree.{Word, Term, Constant, Address, Variable, Field, Assignment, Step, Load, Store, Apply, Negate, Jump, Call, Return}
 use Rattle.wc_model.specs.declared.operator.Condition.{Condition}
@@ -44,7 +44,7 @@ literal_first : (value : Value) (symbol : Symbol) (line : ℕ) → IsLiteral val
 literal_first (BoolValue value) symbol line (inl e) = subst (λ s. LeadsTo s line (λ begun place. behind_operand begun place (Constant (BoolValue value)))) (sym e) (λ begun place. refl)
 literal_first (BoolValue value) symbol line (inr e) =
     named symbol (truth_word value) e (λ bytes s n. subst (λ s. LeadsTo s line (λ begun place. behind_operand begun place (Constant (BoolValue value)))) (sym s)
-      (λ begun place. ap (λ truth. Some (name_or_literal begun place (name_of bytes) truth)) (ap (found truths) n ∙ truth_is_found value)))
+    (λ begun place. ap (λ truth. Some (name_or_literal begun place (name_of bytes) truth)) (ap (found truths) n ∙ truth_is_found value)))
 literal_first (Dint number) symbol line e = subst (λ s. LeadsTo s line (λ begun place. behind_operand begun place (Constant (Dint number)))) (sym e) (λ begun place. refl)
 literal_first (Time number) symbol line e = subst (λ s. LeadsTo s line (λ begun place. behind_operand begun place (Constant (Time number)))) (sym e) (λ begun place. refl)
 
@@ -124,9 +124,9 @@ kept_value_led : (begun : Begun) (call : Listed) (input : Name) (first : Assignm
     → Leads (at_operand begun (OfArgument call input) symbol line) form tokens
 kept_value_led begun call input first others form symbol line tokens e same k =
     operand_led begun (OfArgument call input) first.value form symbol line (more_arguments others) _ tokens
-      (λ left. (others, is ∙ one_argument begun call input first.value others, record { front = k.front; rest = k.rest; whole = k.whole; begins = left; goes_on = k.goes_on }))
-      (λ name left. (first.value, others, is, record { front = k.front; rest = k.rest; whole = k.whole; begins = left; goes_on = k.goes_on }))
-      (operand_first first.value symbol line (more_arguments others) _ k.begins)
+    (λ left. (others, is ∙ one_argument begun call input first.value others, record { front = k.front; rest = k.rest; whole = k.whole; begins = left; goes_on = k.goes_on }))
+    (λ name left. (first.value, others, is, record { front = k.front; rest = k.rest; whole = k.whole; begins = left; goes_on = k.goes_on }))
+    (operand_first first.value symbol line (more_arguments others) _ k.begins)
   where
     is : form ≡ call_form begun call (record { input = input; value = first.value } ∷ others)
     is = e ∙ ap (λ a. call_form begun call (a ∷ others)) (argument_is input first same)
@@ -167,7 +167,7 @@ closed_list : (begun : Begun) (call : Listed) (item : InList) (form : LineForm) 
 closed_list begun call item form symbol line tokens here e h =
     let k = next_is h in
     by_symbol (λ s. at_list begun call item s line) symbol ClosingBracket form tokens k.0
-      (subst (λ o. Leads o form tokens) (sym here) (e ∙ ap (λ arguments. Instructs begun.label begun.line (Call call.condition call.instance arguments)) (append-nil call.arguments), k.1))
+    (subst (λ o. Leads o form tokens) (sym here) (e ∙ ap (λ arguments. Instructs begun.label begun.line (Call call.condition call.instance arguments)) (append-nil call.arguments), k.1))
 
 -- an argument begins
 argument_led : (begun : Begun) (call : Listed) (item : InList) (first : Assignment) (others : List Assignment) (form : LineForm) (symbol : Symbol) (line : ℕ) (tokens : List Mark)
@@ -177,11 +177,18 @@ argument_led : (begun : Begun) (call : Listed) (item : InList) (first : Assignme
     → Leads (at_list begun call item symbol line) form tokens
 argument_led begun call item first others form symbol line tokens here e k =
     named symbol first.input (next_is (ungroup k.begins)).0 (λ bytes s n.
-      by_symbol (λ s. at_list begun call item s line) symbol (Identifier bytes) form tokens s
-        (subst (λ o. Leads o form tokens) (sym (here bytes))
-          (first ∷ others, e, record { front = k.front; rest = k.rest; whole = k.whole;
-            begins = first_argument_led bytes line first others _ (subst (λ s. separated (grammar.symbol Comma) argument (first ∷ others) (mark_on s line ∷ filter (λ token. not (is_line_end token)) k.front)) s k.begins);
-            goes_on = k.goes_on })))
+    by_symbol (λ s. at_list begun call item s line) symbol (Identifier bytes) form tokens s
+    (subst (λ o. Leads o form tokens) (sym (here bytes)) (
+      first ∷ others,
+      e,
+      record {
+        front = k.front;
+        rest = k.rest;
+        whole = k.whole;
+        begins = first_argument_led bytes line first others _ (subst (λ s. separated (grammar.symbol Comma) argument (first ∷ others) (mark_on s line ∷ filter (λ token. not (is_line_end token)) k.front)) s k.begins);
+        goes_on = k.goes_on;
+      },
+    )))
 
 first_led : (begun : Begun) (call : Listed) (form : LineForm) (symbol : Symbol) (line : ℕ) (tokens : List Mark) (more : List Assignment) → form ≡ call_form begun call more
     → (list_rest AtFirst more [] × list_end (mark_on symbol line ∷ tokens)) ⊎ (skipping is_line_end (behind (mark_on symbol line) (list_rest AtFirst more)) then list_end) tokens
@@ -208,7 +215,7 @@ assign_led begun call input form symbol line tokens (first ∷ others) e (inl k)
 assign_led begun call input form symbol line tokens (first ∷ others) e (inr k) =
     let n = next_is k.begins.1 in
     by_symbol (λ s. at_list begun call (AtAssign input) s line) symbol Assign form tokens n.0
-      (first ∷ others, e, record { front = k.front; rest = k.rest; whole = k.whole; begins = (k.begins.0, n.1); goes_on = k.goes_on })
+    (first ∷ others, e, record { front = k.front; rest = k.rest; whole = k.whole; begins = (k.begins.0, n.1); goes_on = k.goes_on })
 
 end_led : (begun : Begun) (call : Listed) (form : LineForm) (symbol : Symbol) (line : ℕ) (tokens : List Mark) (more : List Assignment) → form ≡ call_form begun call more
     → (list_rest AtEnd more [] × list_end (mark_on symbol line ∷ tokens)) ⊎ (skipping is_line_end (behind (mark_on symbol line) (list_rest AtEnd more)) then list_end) tokens
@@ -219,7 +226,7 @@ end_led begun call form symbol line tokens (first ∷ others) e (inl k) = absurd
 end_led begun call form symbol line tokens (first ∷ others) e (inr k) =
     let n = next_is (ungroup k.begins) in
     by_symbol (λ s. at_list begun call AtEnd s line) symbol Comma form tokens n.0
-      (first ∷ others, e, record { front = k.front; rest = k.rest; whole = k.whole; begins = n.1; goes_on = k.goes_on })
+    (first ∷ others, e, record { front = k.front; rest = k.rest; whole = k.whole; begins = n.1; goes_on = k.goes_on })
 
 -- a region of a list behind a line end
 over_led : (language : List Mark → Type 0) (line : ℕ) (tokens : List Mark) → (skipping is_line_end language then list_end) (mark_on LineEnd line ∷ tokens) → (skipping is_line_end language then list_end) tokens
@@ -249,7 +256,7 @@ name_led begun place make name (Variable other) form symbol line tokens setting 
     let g = given_are h in
     let k = end_is symbol line tokens (passed g.1) in
     by_symbol (λ s. line_move setting (Named begun place name) s line colon) symbol LineEnd form tokens k.0
-      (subst (λ o. Leads o form tokens) (sym here) (e ∙ ap (λ n. make (Variable n)) (sym g.0), k.1))
+    (subst (λ o. Leads o form tokens) (sym here) (e ∙ ap (λ n. make (Variable n)) (sym g.0), k.1))
 name_led begun place make name (Field instance field) form symbol line tokens setting colon here there e h =
     let g = given_are h in
     let k = next_is (ungroup g.1) in
@@ -259,7 +266,7 @@ name_led begun place make name (Field instance field) form symbol line tokens se
 name_argument_led : (begun : Begun) (call : Listed) (input name : Name) (x : Term) (more : List Assignment) (form : LineForm) (symbol : Symbol) (line : ℕ) (tokens : List Mark) (setting : Setting) (colon : Bool)
     → form ≡ call_form begun call (record { input = input; value = x } ∷ more)
     → ((behind_its_name name x then more_arguments more) [] × list_end (mark_on symbol line ∷ tokens))
-      ⊎ (skipping is_line_end (behind (mark_on symbol line) (behind_its_name name x then more_arguments more)) then list_end) tokens
+    ⊎ (skipping is_line_end (behind (mark_on symbol line) (behind_its_name name x then more_arguments more)) then list_end) tokens
     → Leads (line_move setting (Named begun (OfArgument call input) name) symbol line colon) form tokens
 name_argument_led begun call input name (Constant value) more form symbol line tokens setting colon e (inl k) = absurd (k.0.begins)
 name_argument_led begun call input name (Address word) more form symbol line tokens setting colon e (inl k) = absurd (k.0.begins)
@@ -269,21 +276,23 @@ name_argument_led begun call input name (Variable other) [] form symbol line tok
     let n = next_is k.1 in
     let same = (both_empty k.0).0.0 in
     by_symbol (λ s. line_move setting (Named begun (OfArgument call input) name) s line colon) symbol ClosingBracket form tokens n.0
-      (e ∙ ap (λ n. call_form begun call (record { input = input; value = Variable n } ∷ [])) (sym same), n.1)
+    (e ∙ ap (λ n. call_form begun call (record { input = input; value = Variable n } ∷ [])) (sym same), n.1)
 name_argument_led begun call input name (Constant value) more form symbol line tokens setting colon e (inr k) = absurd (k.begins.begins)
 name_argument_led begun call input name (Address word) more form symbol line tokens setting colon e (inr k) = absurd (k.begins.begins)
 name_argument_led begun call input name (Variable other) [] form symbol line tokens setting colon e (inr k) = let f = passed (given_are k.begins).1 in absurd (cc)
 name_argument_led begun call input name (Variable other) (first ∷ others) form symbol line tokens setting colon e (inr k) =
     let g = given_are k.begins in
     let n = next_is (ungroup (passed g.1)) in
-    by_symbol (λ s. line_move setting (Named begun (OfArgument call input) name) s line colon) symbol Comma form tokens n.0
-      (first ∷ others, e ∙ ap (λ n. call_form begun call (record { input = input; value = Variable n } ∷ first ∷ others)) (sym g.0) ∙ one_argument begun call input (Variable name) (first ∷ others),
-       record { front = k.front; rest = k.rest; whole = k.whole; begins = n.1; goes_on = k.goes_on })
+    by_symbol (λ s. line_move setting (Named begun (OfArgument call input) name) s line colon) symbol Comma form tokens n.0 (
+      first ∷ others,
+      e ∙ ap (λ n. call_form begun call (record { input = input; value = Variable n } ∷ first ∷ others)) (sym g.0) ∙ one_argument begun call input (Variable name) (first ∷ others),
+      record { front = k.front; rest = k.rest; whole = k.whole; begins = n.1; goes_on = k.goes_on },
+    )
 name_argument_led begun call input name (Field instance field) more form symbol line tokens setting colon e (inr k) =
     let g = given_are k.begins in
     let n = next_is (ungroup g.1) in
     by_symbol (λ s. line_move setting (Named begun (OfArgument call input) name) s line colon) symbol Point form tokens n.0
-      (Field instance field, more, e, record { front = k.front; rest = k.rest; whole = k.whole; begins = given_first g.0 n.1; goes_on = k.goes_on })
+    (Field instance field, more, e, record { front = k.front; rest = k.rest; whole = k.whole; begins = given_first g.0 n.1; goes_on = k.goes_on })
 
 named_led : (begun : Begun) (place : OperandOf) (name : Name) (form : LineForm) (symbol : Symbol) (line : ℕ) (tokens : List Mark) (setting : Setting) (colon : Bool)
     → rest_of (Named begun place name) form (mark_on symbol line ∷ tokens) → Leads (line_move setting (Named begun place name) symbol line colon) form tokens
@@ -306,7 +315,7 @@ point_led begun place name (Field instance field) form symbol line second kept t
     let g = given_are h in
     let k = next_is g.1 in
     named symbol field k.0 (λ bytes s n. by_symbol (λ s. at_field begun place name s) symbol (Identifier bytes) form tokens s
-      (subst (λ x. rest_of (behind_operand begun place x) form tokens) (field_is instance name field (name_of bytes) g.0 n) (f k.1)))
+    (subst (λ x. rest_of (behind_operand begun place x) form tokens) (field_is instance name field (name_of bytes) g.0 n) (f k.1)))
   where
     field_is : (instance name field other : Name) → name ≡ instance → other ≡ field → Field instance field ≡ Field name other
     field_is instance name field other a b = λ i. Field (sym a i) (sym b i)
@@ -340,10 +349,12 @@ instanced_led begun condition instance arguments form symbol line tokens setting
     listed arguments e h =
         let k = next_is (ungroup h) in
         by_symbol (λ s. line_move setting (Instanced begun condition instance) s line colon) symbol OpeningBracket form tokens k.0 (arguments, e, ungroup k.1)
+
     bare : form ≡ Instructs begun.label begun.line (Call condition instance []) → grammar.symbol LineEnd (mark_on symbol line ∷ tokens)
         → Leads (line_move setting (Instanced begun condition instance) symbol line colon) form tokens
     bare e h = let k = end_is symbol line tokens h in
         by_symbol (λ s. line_move setting (Instanced begun condition instance) s line colon) symbol LineEnd form tokens k.0 (e, k.1)
+
     by_arguments : (arguments : List Assignment) → form ≡ Instructs begun.label begun.line (Call condition instance arguments) → (call_list arguments then grammar.symbol LineEnd) (mark_on symbol line ∷ tokens)
         → Leads (line_move setting (Instanced begun condition instance) symbol line colon) form tokens
     by_arguments [] e h = elim h.begins [
@@ -389,12 +400,12 @@ labelled_led label (LabelAlone other) symbol line tokens h =
 labelled_led label (Instructs other at step) symbol line tokens h =
     let k = step_parts at step symbol line tokens h.1 in
     subst (λ o. Leads o (Instructs other at step) tokens) (sym (labelled_operator label symbol line (operation_in step) k.0))
-      (subst (λ l. rest_of (behind_operator (Some label) line (operation_in step)) (Instructs l at step) tokens) (sym h.0)
-        (subst (λ n. rest_of (behind_operator (Some label) line (operation_in step)) (Instructs (Some label) n step) tokens) k.1 (behind_step (Some label) line step tokens k.2)))
+    (subst (λ l. rest_of (behind_operator (Some label) line (operation_in step)) (Instructs l at step) tokens) (sym h.0)
+    (subst (λ n. rest_of (behind_operator (Some label) line (operation_in step)) (Instructs (Some label) n step) tokens) k.1 (behind_step (Some label) line step tokens k.2)))
 labelled_led label (Opens other at operator x) symbol line tokens h =
     let k = opening_parts at operator x symbol line tokens h.1 in
     subst (λ o. Leads o (Opens other at operator x) tokens) (sym (labelled_operator label symbol line (Operates (Applies operator)) k.0))
-      (inr (operator, x, refl, (λ i. Opens (h.0 i) (sym k.1 i) operator x), k.2))
+    (inr (operator, x, refl, (λ i. Opens (h.0 i) (sym k.1 i) operator x), k.2))
 
 -- behind an operator that takes an operand
 operated_led : (begun : Begun) (operating : Operating) (form : LineForm) (symbol : Symbol) (line : ℕ) (tokens : List Mark) → rest_of (Operated begun operating) form (mark_on symbol line ∷ tokens)
@@ -406,6 +417,7 @@ operated_led begun operating form symbol line tokens (inl r) = subst (λ o. Lead
     no_bracket (Loads negated) symbol n = refl
     no_bracket (Stores storing) symbol n = refl
     no_bracket (Applies operator) symbol n = refl
+
     first_is : (begun : Begun) (operating : Operating) (form : LineForm) (symbol : Symbol) (line : ℕ) (tokens : List Mark) → operand_rest begun (OfStep operating) operand form (mark_on symbol line ∷ tokens) → symbol ≢ OpeningBracket
     first_is begun operating form symbol line tokens r e =
         let l = step_operand_led begun operating form symbol line tokens r in
@@ -413,7 +425,7 @@ operated_led begun operating form symbol line tokens (inl r) = subst (λ o. Lead
 operated_led begun operating form symbol line tokens (inr r) =
     let k = next_is r.4 in
     subst (λ o. Leads (at_operated begun o symbol line) form tokens) (sym r.2)
-      (by_symbol (λ s. at_operated begun (Applies r.0) s line) symbol OpeningBracket form tokens k.0 (r.1, r.3, k.1))
+    (by_symbol (λ s. at_operated begun (Applies r.0) s line) symbol OpeningBracket form tokens k.0 (r.1, r.3, k.1))
 
 -- behind an operator's bracket
 bracketed_led : (begun : Begun) (operator : Operator) (x : Option Term) (form : LineForm) (symbol : Symbol) (line : ℕ) (tokens : List Mark) → form ≡ Opens begun.label begun.line operator x
@@ -426,6 +438,7 @@ bracketed_led begun operator (Some x) form symbol line tokens e h =
   where
     l : Leads (at_operand begun (OfOpening operator) symbol line) form tokens
     l = opening_operand_led begun operator x form symbol line tokens e h
+
     no_line_end : (symbol : Symbol) → Leads (at_operand begun (OfOpening operator) symbol line) form tokens → at_bracketed begun operator symbol line ≡ at_operand begun (OfOpening operator) symbol line
     no_line_end LineEnd l = absurd l
     no_line_end symbol l = refl
@@ -441,11 +454,11 @@ move_led setting (Operated begun operating) form symbol line colon tokens r = op
 move_led setting (Jumped begun condition) form symbol line colon tokens r =
     let k = next_is r.2 in
     named symbol r.0 k.0 (λ bytes s n. by_symbol (λ s. line_move setting (Jumped begun condition) s line colon) symbol (Identifier bytes) form tokens s
-      (r.1 ∙ ap (λ n. Instructs begun.label begun.line (Jump condition n)) (sym n), k.1))
+    (r.1 ∙ ap (λ n. Instructs begun.label begun.line (Jump condition n)) (sym n), k.1))
 move_led setting (Called begun condition) form symbol line colon tokens r =
     let k = next_is r.3 in
     named symbol r.0 k.0 (λ bytes s n. by_symbol (λ s. line_move setting (Called begun condition) s line colon) symbol (Identifier bytes) form tokens s
-      (r.1, r.2 ∙ ap (λ n. Instructs begun.label begun.line (Call condition n r.1)) (sym n), k.1))
+    (r.1, r.2 ∙ ap (λ n. Instructs begun.label begun.line (Call condition n r.1)) (sym n), k.1))
 move_led setting (Instanced begun condition instance) form symbol line colon tokens r = instanced_led begun condition instance r.0 form symbol line tokens setting colon r.1 r.2
 move_led setting (Listing begun call item) form symbol line colon tokens r = list_led begun call item form symbol line tokens r
 move_led setting (Bracketed begun operator) form symbol line colon tokens r = bracketed_led begun operator r.0 form symbol line tokens r.1 r.2

@@ -1,15 +1,15 @@
 -- Behind each token that the walk takes on a line, what completes the line from there completes it from before the token too.
-use Rattle.std.proofs.Common.{◌≡◌, ◌≢◌, ℕ, Bool, true, false, List, [], ◌∷◌, ◌++◌, Option, Some, None, refl, ap, subst, if◌then◌else◌, append_assoc, append-nil, ◌∙◌, sym, inl, inr}
-use Rattle.wc_grammar_laws.proofs.LineMoves.{LineForm, LabelAlone, Instructs, Opens, Begun, Listed, OperandOf, OfStep, OfOpening, OfArgument, InList, AtFirst, AtNext, AtAssign, AtValue, AtEnd, LineState, Start, Worded, Labelled, Operated, Jumped, Called, Instanced, Listing, Bracketed, Named, Pointed, Stepped, BracketedWith, Ended, with_argument, behind_operand, name_or_literal, at_operand, behind_operator, at_operator, operator_or_label, at_start, simple_operator, at_start_in, at_labelled, at_operated, at_list, at_bracketed, behind_name, at_field, line_move}
-use Rattle.wc_grammar_laws.proofs.LineRests.{line_of, behind_its_name, behind_its_point, more_arguments, list_rest, list_end, call_form, operand_rest, labelled_rest, rest_of}
-use Rattle.wc_grammar_laws.proofs.Skipping.{behind, skip_next, skip_over, skip_none}
+use Rattle.std.proofs.Common.{◌≡◌, ◌≢◌, ℕ, Bool, true, false, List, [], ◌∷◌, Option, Some, None, refl, ap, subst, if◌then◌else◌, append_assoc, append-nil, ◌∙◌, sym, inl, inr}
+use Rattle.wc_grammar_laws.proofs.LineMoves.{LineForm, LabelAlone, Instructs, Opens, Begun, Listed, OperandOf, OfStep, OfOpening, OfArgument, InList, AtFirst, AtNext, AtAssign, AtValue, AtEnd, LineState, Start, Worded, Labelled, Operated, Jumped, Called, Instanced, Listing, Bracketed, Named, Pointed, Stepped, BracketedWith, with_argument, behind_operand, name_or_literal, at_operand, behind_operator, at_operator, operator_or_label, at_start, simple_operator, at_start_in, at_labelled, at_operated, at_list, at_bracketed, behind_name, at_field, line_move}
+use Rattle.wc_grammar_laws.proofs.LineRests.{line_of, behind_its_name, behind_its_point, more_arguments, list_rest, call_form, operand_rest, labelled_rest, rest_of}
+use Rattle.wc_grammar_laws.proofs.Skipping.{skip_next, skip_over, skip_none}
 use Rattle.wc_grammar_laws.proofs.Words.{Operating, Loads, Stores, Applies, Operation, Operates, Negates, Jumps, Calls, Returns, found, is_transfer, operation_of, operations, step_of, truths}
 use Rattle.wc_grammar_laws.proofs.WordLaws.{truth_found, not_truth, is_operator, is_operator_of, operation_in, operation_in_step}
-use Rattle.wc_model.proofs.Languages.{joined, next, pass, regroup, ungroup, before, after}
+use Rattle.wc_model.proofs.Languages.{joined, next, pass, regroup, before, after}
 use Rattle.wc_model.specs.Grammar as grammar
 use Rattle.wc_model.specs.Grammar.{operand, argument, call_list, bracketed, instruction, opening, operands_of, IsLiteral, IsOn, IsOperatorOf, Setting, InBody, InParentheses, MayStand, label_in}
-use Rattle.wc_model.specs.Languages.{Language, ◌then◌, optional, separated, skipping}
-use Rattle.wc_model.specs.Marks.{Symbol, Identifier, Whole, Duration, Truth, Direct, Ampersand, AmpersandN, OpeningBracket, ClosingBracket, Comma, Colon, Semicolon, Point, Assign, Arrow, LineEnd, Mark, is_line_end}
+use Rattle.wc_model.specs.Languages.{Language, ◌then◌, optional, separated}
+use Rattle.wc_model.specs.Marks.{Symbol, Identifier, Whole, Duration, Truth, Direct, Ampersand, AmpersandN, OpeningBracket, ClosingBracket, Comma, Colon, Point, Assign, LineEnd, Mark, is_line_end}
 use Rattle.wc_model.specs.Names.{Name, name_of}
 use Rattle.wc_model.specs.Tree.{Word, Term, Constant, Address, Variable, Field, Assignment, Step, Negate, Jump, Call, Return}
 use Rattle.wc_model.specs.declared.operator.Condition.{Condition}
@@ -36,9 +36,12 @@ pub whole_operand : (begun : Begun) (place : OperandOf) (left : Term → List Ma
     → (form : LineForm) (tokens : List Mark) → rest_of (behind_operand begun place x) form tokens → operand_rest begun place left form (mark ∷ tokens)
 whole_operand begun (OfStep operating) left x mark kept here form tokens r = (x, r.0, joined (mark ∷ []) tokens here r.1)
 whole_operand begun (OfOpening operator) left x mark kept here form tokens r = (x, r.0, joined (mark ∷ []) tokens here r.1)
-whole_operand begun (OfArgument call input) left x mark kept here form tokens r =
-    (x, r.0, r.1 ∙ one_argument begun call input x r.0,
-     skip_next is_line_end (left x then more_arguments r.0) kept (before (λ ts k. joined (mark ∷ []) _ here k) r.2))
+whole_operand begun (OfArgument call input) left x mark kept here form tokens r = (
+  x,
+  r.0,
+  r.1 ∙ one_argument begun call input x r.0,
+  skip_next is_line_end (left x then more_arguments r.0) kept (before (λ ts k. joined (mark ∷ []) _ here k) r.2),
+)
 
 -- a token of an operand that is not its last
 pub part_of_operand : (begun : Begun) (place : OperandOf) (left left' : Term → List Mark → Type 0) (mark : Mark) → is_line_end mark ≡ false
@@ -48,10 +51,13 @@ part_of_operand begun (OfStep operating) left left' mark kept f form tokens r =
     (r.0, r.1, record { front = mark ∷ r.2.front; rest = r.2.rest; whole = ap (λ ts. mark ∷ ts) r.2.whole; begins = f r.0 r.2.front r.2.begins; goes_on = r.2.goes_on })
 part_of_operand begun (OfOpening operator) left left' mark kept f form tokens r =
     (r.0, r.1, record { front = mark ∷ r.2.front; rest = r.2.rest; whole = ap (λ ts. mark ∷ ts) r.2.whole; begins = f r.0 r.2.front r.2.begins; goes_on = r.2.goes_on })
-part_of_operand begun (OfArgument call input) left left' mark kept f form tokens r =
-    (r.0, r.1, r.2,
-     skip_next is_line_end (left r.0 then more_arguments r.1) kept
-       (before (λ ts k. record { front = mark ∷ k.front; rest = k.rest; whole = ap (λ us. mark ∷ us) k.whole; begins = f r.0 k.front k.begins; goes_on = k.goes_on }) r.3))
+part_of_operand begun (OfArgument call input) left left' mark kept f form tokens r = (
+  r.0,
+  r.1,
+  r.2,
+  skip_next is_line_end (left r.0 then more_arguments r.1) kept
+      (before (λ ts k. record { front = mark ∷ k.front; rest = k.rest; whole = ap (λ us. mark ∷ us) k.whole; begins = f r.0 k.front k.begins; goes_on = k.goes_on }) r.3),
+)
 
 -- a mark on a line
 abbrev pub mark_on : Symbol → ℕ → Mark
@@ -105,6 +111,7 @@ stands_simple InParentheses = λ h. h
 -- an operator's bracket, and the end of a line
 abbrev symbol_of_bracket : Language Mark
 symbol_of_bracket = grammar.symbol OpeningBracket
+
 abbrev end_of_line : Language Mark
 end_of_line = grammar.symbol LineEnd
 
@@ -136,7 +143,7 @@ operator_allowed : (setting : Setting) (label : Option Word) (line : ℕ) (Rest 
     → Allows Rest (mark_on symbol line) (Some (behind_operator label line operation))
 operator_allowed setting label line Rest symbol (Operates operating) e may step_line open_line form tokens (inl r) =
     rw r.1 (step_line (step_of operating r.0) tokens (operand_stands setting operating r.0)
-      (begins_line setting label line (step_of operating r.0) symbol end_of_line tokens (e ∙ ap (λ o. Some o) (sym (operation_in_step operating r.0))) (before (λ ts k. operands_are operating r.0 ts k) r.2)))
+    (begins_line setting label line (step_of operating r.0) symbol end_of_line tokens (e ∙ ap (λ o. Some o) (sym (operation_in_step operating r.0))) (before (λ ts k. operands_are operating r.0 ts k) r.2)))
 operator_allowed setting label line Rest symbol (Operates operating) e may step_line open_line form tokens (inr r) =
     rw r.3 (open_line r.0 r.1 tokens (begins_opening line r.0 r.1 symbol tokens (e ∙ ap (λ o. Some (Operates o)) r.2) r.4))
 operator_allowed setting label line Rest symbol Negates e may step_line open_line form tokens r =
@@ -240,9 +247,11 @@ argument_allowed begun call item bytes line f form tokens r =
 -- the list's end
 closing_allowed : (begun : Begun) (call : Listed) (item : InList) (line : ℕ) → list_rest item [] []
     → AllowsFrom (Listing begun call item) (mark_on ClosingBracket line) (Some (Stepped begun (Call call.condition call.instance call.arguments)))
-closing_allowed begun call item line none form tokens r =
-    ([], r.0 ∙ ap (λ arguments. Instructs begun.label begun.line (Call call.condition call.instance arguments)) (sym (append-nil call.arguments)),
-     skip_none is_line_end (list_rest item []) none (next refl r.1))
+closing_allowed begun call item line none form tokens r = (
+  [],
+  r.0 ∙ ap (λ arguments. Instructs begun.label begun.line (Call call.condition call.instance arguments)) (sym (append-nil call.arguments)),
+  skip_none is_line_end (list_rest item []) none (next refl r.1),
+)
 
 assign_allowed : (begun : Begun) (call : Listed) (input : Name) (line : ℕ)
     → AllowsFrom (Listing begun call (AtAssign input)) (mark_on Assign line) (Some (Listing begun call (AtValue input)))
@@ -263,8 +272,8 @@ value_allowed : (begun : Begun) (call : Listed) (input : Name) (symbol : Symbol)
     → AllowsFrom (Listing begun call (AtValue input)) (mark_on symbol line) (at_operand begun (OfArgument call input) symbol line)
 value_allowed begun call input symbol line =
     allows_more (λ m form tokens. operand_rest begun (OfArgument call input) operand form (m ∷ tokens)) (λ m form tokens. rest_of (Listing begun call (AtValue input)) form (m ∷ tokens)) (mark_on symbol line) _
-      (λ form tokens r. (record { input = input; value = r.0 } ∷ r.1, r.2, before (λ ts k. (refl, k)) r.3))
-      (operand_allowed begun (OfArgument call input) symbol line)
+    (λ form tokens r. (record { input = input; value = r.0 } ∷ r.1, r.2, before (λ ts k. (refl, k)) r.3))
+    (operand_allowed begun (OfArgument call input) symbol line)
 
 list_allowed : (begun : Begun) (call : Listed) (item : InList) (symbol : Symbol) (line : ℕ) → AllowsFrom (Listing begun call item) (mark_on symbol line) (at_list begun call item symbol line)
 list_allowed begun call item LineEnd line = λ form tokens r. (r.0, r.1, skip_over is_line_end (list_rest item r.0) refl r.2)
@@ -295,9 +304,12 @@ name_behind : (begun : Begun) (place : OperandOf) (name : Name) (symbol : Symbol
 name_behind begun (OfStep operating) name LineEnd line = λ form tokens r. (Variable name, r.0, pass (refl, refl) (line_end line tokens r.1))
 name_behind begun (OfOpening operator) name LineEnd line = λ form tokens r. (Variable name, r.0, pass (refl, refl) (line_end line tokens r.1))
 name_behind begun (OfArgument call input) name LineEnd line = λ form tokens r. (r.0, r.1, r.2, skip_over is_line_end (behind_its_name name r.0 then more_arguments r.1) refl r.3)
-name_behind begun (OfArgument call input) name Comma line = λ form tokens r.
-    (Variable name, r.0, r.1 ∙ one_argument begun call input (Variable name) r.0,
-     skip_next is_line_end (behind_its_name name (Variable name) then more_arguments r.0) refl (before (λ ts k. named_argument name line r.0 _ k) r.2))
+name_behind begun (OfArgument call input) name Comma line = λ form tokens r. (
+  Variable name,
+  r.0,
+  r.1 ∙ one_argument begun call input (Variable name) r.0,
+  skip_next is_line_end (behind_its_name name (Variable name) then more_arguments r.0) refl (before (λ ts k. named_argument name line r.0 _ k) r.2),
+)
 name_behind begun (OfArgument call input) name ClosingBracket line = λ form tokens r.
     (Variable name, [], r.0, skip_none is_line_end (behind_its_name name (Variable name) then more_arguments []) (pass (refl, refl) refl) (next refl r.1))
 name_behind begun place name _ line = tt

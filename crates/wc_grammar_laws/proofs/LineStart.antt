@@ -1,7 +1,7 @@
 -- The first token of a line is taken by the walk.
-use Rattle.std.proofs.Common.{◌≡◌, ◌≢◌, ℕ, Bool, true, false, List, [], ◌∷◌, ◌++◌, Option, Some, None, refl, ap, subst, if◌then◌else◌, ◌∙◌, sym, inl, inr}
-use Rattle.wc_grammar_laws.proofs.LineComplete.{Leads, by_symbol, end_is, behind_step, step_parts, opening_parts}
-use Rattle.wc_grammar_laws.proofs.LineMoves.{LineForm, LabelAlone, Instructs, Opens, LineState, Worded, at_operator, behind_operator, operator_or_label, at_start, simple_operator, at_start_in}
+use Rattle.std.proofs.Common.{◌≡◌, ℕ, Bool, false, List, [], ◌∷◌, Some, None, refl, ap, subst, if◌then◌else◌, ◌∙◌, sym, inl, inr}
+use Rattle.wc_grammar_laws.proofs.LineComplete.{Leads, end_is, behind_step, step_parts, opening_parts}
+use Rattle.wc_grammar_laws.proofs.LineMoves.{LineForm, LabelAlone, Instructs, Opens, Worded, at_operator, behind_operator, operator_or_label, at_start, simple_operator, at_start_in}
 use Rattle.wc_grammar_laws.proofs.LineRests.{line_of, labelled_rest, rest_of}
 use Rattle.wc_grammar_laws.proofs.LineSound.{mark_on}
 use Rattle.wc_grammar_laws.proofs.Moves.{is_colon, colon_next}
@@ -10,11 +10,10 @@ use Rattle.wc_grammar_laws.proofs.Words.{Applies, Operation, Operates, is_transf
 use Rattle.wc_model.proofs.Languages.{next_is, passed, both_empty, given_are, ungroup, after}
 use Rattle.wc_model.specs.Grammar as grammar
 use Rattle.wc_model.specs.Grammar.{operand, call_list, instruction, operands_of, IsLiteral, Setting, InBody, InParentheses, MayStand}
-use Rattle.wc_model.specs.Languages.{Language, ◌then◌, optional}
+use Rattle.wc_model.specs.Languages.{◌then◌}
 use Rattle.wc_model.specs.Marks.{Symbol, Identifier, Colon, LineEnd, OpeningBracket, Mark, IsWord, name_in, address_in, Ampersand, AmpersandN}
 use Rattle.wc_model.specs.Names.{Name, name_of}
 use Rattle.wc_model.specs.Tree.{Word, Term, Constant, Address, Variable, Field, Step, Load, Store, Apply, Negate, Jump, Call, Return}
-use Rattle.wc_model.specs.declared.operator.Operator.{Operator}
 use Rattle.wc_model.specs.declared.value.Value.{Value}
 use Rattle.wc_model.specs.declared.value.Value.TheVariants.{Bool as BoolValue, Dint, Time}
 
@@ -105,7 +104,7 @@ label_word label form symbol line [] colon e h = absurd ((both_empty h).0)
 label_word label form (Identifier bytes) line (mark ∷ marks) colon e h =
     let k = next_is h in
     subst (λ s. Leads (at_start (Identifier bytes) line (is_colon s)) form (mark ∷ marks)) (sym k.0)
-      (subst (λ w. rest_of (Worded w) form (mark ∷ marks)) (sym (word_is bytes line label (e.0) e.1)) h)
+    (subst (λ w. rest_of (Worded w) form (mark ∷ marks)) (sym (word_is bytes line label (e.0) e.1)) h)
   where
     word_is : (bytes : List ℕ) (line : ℕ) (label : Word) → Some (name_of bytes) ≡ Some label.name → line ≡ label.line → record { line = line; name = name_of bytes } ≡ label
     word_is bytes line label a b = let n : name_of bytes ≡ label.name = cc in λ i. record { line = b i; name = n i }
@@ -125,8 +124,8 @@ start_led InParentheses (Opens (Some label) at operator x) symbol line tokens co
 start_led setting (Instructs None at step) symbol line tokens colon h =
     let k = step_parts at step symbol line tokens (passed h.1) in
     subst (λ o. Leads o (Instructs None at step) tokens) (sym (taken setting symbol line (operation_in step) (colon_next tokens colon) k.0 (step_no_colon step tokens colon k.2) (λ e. no_transfer step (subst (λ s. MayStand s step) e h.0))))
-      (subst (λ n. rest_of (behind_operator None line (operation_in step)) (Instructs None n step) tokens) k.1 (behind_step None line step tokens k.2))
+    (subst (λ n. rest_of (behind_operator None line (operation_in step)) (Instructs None n step) tokens) k.1 (behind_step None line step tokens k.2))
 start_led setting (Opens None at operator x) symbol line tokens colon h =
     let k = opening_parts at operator x symbol line tokens (passed h) in
     subst (λ o. Leads o (Opens None at operator x) tokens) (sym (taken setting symbol line (Operates (Applies operator)) (colon_next tokens colon) k.0 (bracket_no_colon _ tokens colon k.2) (λ e. refl)))
-      (inr (operator, x, refl, ap (λ n. Opens None n operator x) (sym k.1), k.2))
+    (inr (operator, x, refl, ap (λ n. Opens None n operator x) (sym k.1), k.2))

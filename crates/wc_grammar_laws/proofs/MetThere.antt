@@ -1,27 +1,26 @@
 -- Each fault that is judged at a token is met there.
-use Rattle.std.proofs.Common.{◌≡◌, ◌≢◌, ◌≤◌, ℕ, Bool, true, false, List, [], ◌∷◌, ◌++◌, length, Option, Some, None, refl, ap, subst, append_assoc, append-nil, if◌then◌else◌, ◌∙◌, sym, inl, inr, arith, not}
+use Rattle.std.proofs.Common.{◌≡◌, ◌≢◌, ◌≤◌, ℕ, Bool, true, false, List, [], ◌∷◌, ◌++◌, length, Option, Some, None, refl, ap, subst, append_assoc, if◌then◌else◌, ◌∙◌, sym, inl, inr, arith, not}
 use Rattle.std.proofs.lemmas.Bool.Decides.{nat_tests}
 use Rattle.std.proofs.lemmas.List.Folds.{Any-from_list_any}
-use Rattle.std.specs.Prelude.{◌⊎◌, ◌&&◌, Any, nat_le, is_some}
+use Rattle.std.specs.Prelude.{◌&&◌, Any, nat_le, is_some}
 use Rattle.wc_grammar_laws.proofs.Appending.{with_nothing}
 use Rattle.wc_grammar_laws.proofs.ExactLines.{one_operator}
-use Rattle.wc_grammar_laws.proofs.LineMoves.{Begun, LineState, Start, Worded, Labelled, Operated, Jumped, Called, Instanced, Listing, Bracketed, Named, Pointed, Stepped, BracketedWith, Ended}
+use Rattle.wc_grammar_laws.proofs.LineMoves.{Begun, LineState, Labelled, Operated}
 use Rattle.wc_grammar_laws.proofs.LineSound.{mark_on}
-use Rattle.wc_grammar_laws.proofs.Moves.{State, Outside, Unnamed, Declaring, AtLine, OnLine, Closed, begins_transfer, colon_next, has_content, has_name, has_program, is_colon, is_full, is_identifier, is_program, judge, judge_closing, judge_line, judge_on_line, judge_operator, judge_unit, Met, met_if, met_or}
+use Rattle.wc_grammar_laws.proofs.Moves.{State, Outside, AtLine, OnLine, begins_transfer, colon_next, has_content, has_name, has_program, is_colon, is_full, is_identifier, is_program, judge, judge_closing, judge_line, judge_on_line, judge_operator, judge_unit, Met, met_if, met_or}
 use Rattle.wc_grammar_laws.proofs.Told.{InLine, Told}
 use Rattle.wc_grammar_laws.proofs.WalkedUnits.{colon_is}
-use Rattle.wc_grammar_laws.proofs.WordLaws.{found_unit_kind, is_operator, is_operator_of, operation_in, same_is}
-use Rattle.wc_grammar_laws.proofs.Words.{Operating, Loads, Stores, Applies, Operation, Operates, Negates, Jumps, Calls, Returns, found, is_transfer, operation_of, unit_kinds}
+use Rattle.wc_grammar_laws.proofs.WordLaws.{found_unit_kind, is_operator_of, operation_in, same_is}
+use Rattle.wc_grammar_laws.proofs.Words.{Loads, Stores, Applies, Operation, Operates, Negates, Jumps, Calls, Returns, found, is_transfer, operation_of, unit_kinds}
 use Rattle.wc_model.proofs.Languages.{before, joined}
-use Rattle.wc_model.proofs.Spelling.{same}
-use Rattle.wc_model.specs.Grammar.{HasContent, InBody, IsOn, IsOperator, IsOperatorOf, IsTransfer, label_in, units}
+use Rattle.wc_model.specs.Grammar.{HasContent, IsOn, IsOperator, IsOperatorOf, IsTransfer, label_in, units}
 use Rattle.wc_model.specs.Keywords.{end_word, unit_word}
 use Rattle.wc_model.specs.Languages.{◌then◌, one}
 use Rattle.wc_model.specs.Limits.{lines_before, most_depth, most_lines, most_units}
-use Rattle.wc_model.specs.Marks.{ClosingBracket, Colon, Identifier, IsNamed, LineEnd, Mark, OpeningBracket, Symbol, name_in}
+use Rattle.wc_model.specs.Marks.{ClosingBracket, Identifier, IsNamed, Mark, OpeningBracket, Symbol, name_in}
 use Rattle.wc_model.specs.Names.{Name, name_of}
-use Rattle.wc_model.specs.Positions.{Opening, Position, at_instruction, at_line, setting_in}
-use Rattle.wc_model.specs.ReadingFaults.{BeginsInstruction, ColonFollows, EmptyParentheses, MetAtToken, NotAllowedInParentheses, NotOneProgramLast, ParenthesisNotPaired, ReadingFault, TooDeep, TooMany}
+use Rattle.wc_model.specs.Positions.{Opening, Position, at_instruction, at_line}
+use Rattle.wc_model.specs.ReadingFaults.{ColonFollows, EmptyParentheses, MetAtToken, NotAllowedInParentheses, NotOneProgramLast, ParenthesisNotPaired, ReadingFault, TooDeep, TooMany}
 use Rattle.wc_model.specs.Tree.{Call, Constant, End, Jump, Lines, Alone, Plain, Nested, Load, Negate, ProgramUnit, Return, Step, Store, Apply, Term, Word}
 use Rattle.wc_model.specs.declared.operator.Operator.{Operator}
 use Rattle.wc_model.specs.declared.source.UnitKind.{UnitKind}
@@ -68,8 +67,8 @@ unit_there : (us : List ProgramUnit) (before behind : List Mark) (bytes : List �
 unit_there us before behind bytes line None e h = tt
 unit_there us before behind bytes line (Some kind) e h =
     there_or before (mark_on (Identifier bytes) line) behind _ _
-      (there_if before (mark_on (Identifier bytes) line) behind (has_program us) NotOneProgramLast line (λ t. (us, h, some_program us t, begins, refl)))
-      (there_if before (mark_on (Identifier bytes) line) behind (nat_le most_units (length us)) TooMany line (λ t. (inl (us, h, reaches most_units (length us) t, begins), refl)))
+    (there_if before (mark_on (Identifier bytes) line) behind (has_program us) NotOneProgramLast line (λ t. (us, h, some_program us t, begins, refl)))
+    (there_if before (mark_on (Identifier bytes) line) behind (nat_le most_units (length us)) TooMany line (λ t. (inl (us, h, reaches most_units (length us) t, begins), refl)))
   where
     begins : (kind : UnitKind) × IsNamed (unit_word kind) (mark_on (Identifier bytes) line)
     begins = (kind, ap (λ n. Some n) (found_unit_kind (name_of bytes) kind e))
@@ -119,9 +118,9 @@ no_colon_here p before h = with_nothing _ refl h
 operator_there : (p : Position) (before : List Mark) (mark : Mark) (behind : List Mark) → at_line p before → IsThere before mark behind (judge_operator p mark.symbol mark.line (colon_next behind false))
 operator_there p before mark behind h =
     there_if before mark behind (is_some (operation_of mark.symbol) && not (colon_next behind false) && is_full p) TooMany mark.line (λ t.
-      let a = both_hold (is_some (operation_of mark.symbol) && not (colon_next behind false)) (is_full p) t in
-      let b = both_hold (is_some (operation_of mark.symbol)) (not (colon_next behind false)) a.0 in
-      (inr (inl (p, None, no_colon_here p before h, reaches most_lines (lines_before p) a.1, (begins_any mark b.0, λ e. follows_no behind (not_holds (colon_next behind false) b.1)))), refl))
+    let a = both_hold (is_some (operation_of mark.symbol) && not (colon_next behind false)) (is_full p) t in
+    let b = both_hold (is_some (operation_of mark.symbol)) (not (colon_next behind false)) a.0 in
+    (inr (inl (p, None, no_colon_here p before h, reaches most_lines (lines_before p) a.1, (begins_any mark b.0, λ e. follows_no behind (not_holds (colon_next behind false) b.1)))), refl))
 
 transfer_for : (operation : Operation) → is_transfer operation ≡ true → IsTransfer (step_for operation)
 transfer_for (Operates operating) e = absurd (cc)
@@ -147,13 +146,13 @@ line_there : (p : Position) (openings : List Opening) (before : List Mark) (mark
 line_there p [] before mark behind e h = operator_there p before mark behind h
 line_there p (o ∷ outer) before mark behind e h =
     there_or before mark behind _ _
-      (there_if before mark behind (begins_transfer (operation_of mark.symbol)) NotAllowedInParentheses mark.line (λ t. (p, h, some, inl (transfer_begins mark (operation_of mark.symbol) refl t), refl)))
-      (there_or before mark behind _ _
-        (there_if before mark behind (is_identifier mark.symbol && colon_next behind false) NotAllowedInParentheses mark.line (λ t.
-          let b = both_hold (is_identifier mark.symbol) (colon_next behind false) t in (p, h, some, inr (identifier_named mark.symbol b.0, follows_so behind b.1), refl)))
-        (there_or before mark behind _ _
-          (there_if before mark behind (has_name mark.symbol (end_word p.unit.kind)) ParenthesisNotPaired o.line (λ t. (p, h, inr (o, (outer, e), has_is_named mark.symbol (end_word p.unit.kind) t, refl))))
-          (operator_there p before mark behind h)))
+    (there_if before mark behind (begins_transfer (operation_of mark.symbol)) NotAllowedInParentheses mark.line (λ t. (p, h, some, inl (transfer_begins mark (operation_of mark.symbol) refl t), refl)))
+    (there_or before mark behind _ _
+    (there_if before mark behind (is_identifier mark.symbol && colon_next behind false) NotAllowedInParentheses mark.line (λ t.
+    let b = both_hold (is_identifier mark.symbol) (colon_next behind false) t in (p, h, some, inr (identifier_named mark.symbol b.0, follows_so behind b.1), refl)))
+    (there_or before mark behind _ _
+    (there_if before mark behind (has_name mark.symbol (end_word p.unit.kind)) ParenthesisNotPaired o.line (λ t. (p, h, inr (o, (outer, e), has_is_named mark.symbol (end_word p.unit.kind) t, refl))))
+    (operator_there p before mark behind h)))
   where
     some : p.openings ≢ []
     some n = let k : o ∷ outer ≡ [] = sym e ∙ n in cc
@@ -170,8 +169,8 @@ closing_there : (p : Position) (openings : List Opening) (before behind : List M
 closing_there p [] before behind line e h = (p, h, inl (e, refl, refl))
 closing_there p (o ∷ outer) before behind line e h =
     there_or before (mark_on ClosingBracket line) behind _ _
-      (there_if before (mark_on ClosingBracket line) behind (not (has_content o.operand p.done)) EmptyParentheses line (λ t. (p, h, o, (outer, e), holds_nothing o.operand p.done t, refl, refl)))
-      (there_if before (mark_on ClosingBracket line) behind (is_full p) TooMany line (λ t. (inr (inr (p, h, some, reaches most_lines (lines_before p) t, refl)), refl)))
+    (there_if before (mark_on ClosingBracket line) behind (not (has_content o.operand p.done)) EmptyParentheses line (λ t. (p, h, o, (outer, e), holds_nothing o.operand p.done t, refl, refl)))
+    (there_if before (mark_on ClosingBracket line) behind (is_full p) TooMany line (λ t. (inr (inr (p, h, some, reaches most_lines (lines_before p) t, refl)), refl)))
   where
     some : p.openings ≢ []
     some n = let k : o ∷ outer ≡ [] = sym e ∙ n in cc
@@ -180,8 +179,8 @@ closing_there p (o ∷ outer) before behind line e h =
 labelled_there : (p : Position) (label : Word) (before : List Mark) (mark : Mark) (behind : List Mark) → InLine p (Labelled label) before → IsThere before mark behind (met_if (is_some (operation_of mark.symbol) && is_full p) TooMany mark.line)
 labelled_there p label before mark behind h =
     there_if before mark behind (is_some (operation_of mark.symbol) && is_full p) TooMany mark.line (λ t.
-      let b = both_hold (is_some (operation_of mark.symbol)) (is_full p) t in
-      (inr (inl (p, Some label, here, reaches most_lines (lines_before p) b.1, (begins_any mark b.0, λ e. absurd (cc)))), refl))
+    let b = both_hold (is_some (operation_of mark.symbol)) (is_full p) t in
+    (inr (inl (p, Some label, here, reaches most_lines (lines_before p) b.1, (begins_any mark b.0, λ e. absurd (cc)))), refl))
   where
     here : at_instruction p (Some label) before
     here = subst (at_instruction p (Some label)) (sym h.whole) (joined h.front h.part h.begins (subst (λ s. label_in s (Some label) h.part) (sym h.exact.0) h.exact.1))
@@ -194,9 +193,9 @@ bracket_there p begun operator before behind line h =
   where
     here : (at_instruction p begun.label then one (IsOn begun.line (IsOperator operator))) before
     here = subst (at_instruction p begun.label then one (IsOn begun.line (IsOperator operator))) (sym h.whole)
-      (subst (at_instruction p begun.label then one (IsOn begun.line (IsOperator operator))) (ap (λ ts. h.front ++ ts) (sym h.exact.whole))
+        (subst (at_instruction p begun.label then one (IsOn begun.line (IsOperator operator))) (ap (λ ts. h.front ++ ts) (sym h.exact.whole))
         (subst (at_instruction p begun.label then one (IsOn begun.line (IsOperator operator))) (append_assoc h.front h.exact.front h.exact.rest)
-          (joined (h.front ++ h.exact.front) h.exact.rest (joined h.front h.exact.front h.begins h.exact.begins) (one_operator begun.line operator h.exact.rest h.exact.goes_on))))
+        (joined (h.front ++ h.exact.front) h.exact.rest (joined h.front h.exact.front h.begins h.exact.begins) (one_operator begun.line operator h.exact.rest h.exact.goes_on))))
 
 on_line_there : (p : Position) (state : LineState) (before : List Mark) (symbol : Symbol) (line : ℕ) (behind : List Mark) → InLine p state before → IsThere before (mark_on symbol line) behind (judge_on_line p state symbol line)
 on_line_there p (Labelled label) before symbol line behind h = labelled_there p label before (mark_on symbol line) behind h

@@ -1,12 +1,12 @@
 -- A program stands last; so the tokens up to each place of the walk are a front of a text.
-use Rattle.std.proofs.Common.{◌≡◌, ◌≢◌, ℕ, Bool, true, false, List, [], ◌∷◌, ◌++◌, length, Option, Some, None, refl, ap, subst, append-nil, if◌then◌else◌, ◌∙◌, sym, inl, inr}
+use Rattle.std.proofs.Common.{◌≡◌, ◌≢◌, ℕ, Bool, true, false, List, [], ◌∷◌, length, Option, Some, None, refl, subst, if◌then◌else◌, inl, inr}
 use Rattle.std.specs.Prelude.{◌⊎◌, option_map, ◌||◌, nat_le}
 use Rattle.wc_grammar_laws.proofs.Exits.{AreBlocks, Finishing, blocks_and, exits_closed, exits_line, exits_on, exits_unnamed, finishes_blocks, finishes_text, finishing_exit, program_last, section_exits}
-use Rattle.wc_grammar_laws.proofs.LineMoves.{LineForm, LabelAlone, Instructs, Opens, LineState, Start, Worded, Labelled, Operated, Jumped, Called, Instanced, Listing, Bracketed, Named, Pointed, Stepped, BracketedWith, Ended, at_start, at_start_in, line_move}
-use Rattle.wc_grammar_laws.proofs.Moves.{State, Outside, Unnamed, Declaring, AtLine, OnLine, Closed, InDeclaration, Undeclared, BehindNames, BehindComma, BehindColon, BehindType, BehindAssign, BehindValue, Met, at_first, at_first_name, at_value, begun_line, behind_closing, behind_line, behind_unit, body_move, body_start, closing_move, colon_next, declaration_move, has_content, has_program, inside_move, is_program, judge, judge_unit, met_if, met_or, move, on_line, section_begun, section_or_line, start_move, unit_with, walk, word_move}
+use Rattle.wc_grammar_laws.proofs.LineMoves.{LineForm, LabelAlone, Instructs, Opens, LineState, Start, Ended, line_move}
+use Rattle.wc_grammar_laws.proofs.Moves.{State, Outside, Unnamed, Declaring, AtLine, OnLine, Closed, InDeclaration, Undeclared, BehindNames, BehindComma, BehindColon, BehindType, BehindAssign, BehindValue, Met, at_value, begun_line, behind_closing, behind_line, behind_unit, body_move, body_start, declaration_move, has_content, has_program, is_program, judge, judge_unit, met_if, met_or, move, section_begun, section_or_line, start_move, unit_with}
 use Rattle.wc_grammar_laws.proofs.Told.{Exact, Told}
 use Rattle.wc_grammar_laws.proofs.ToldOn.{told_behind}
-use Rattle.wc_grammar_laws.proofs.Words.{found, literal_of, section_words, unit_kinds}
+use Rattle.wc_grammar_laws.proofs.Words.{found, literal_of, unit_kinds}
 use Rattle.wc_model.proofs.Spelling.{same}
 use Rattle.wc_model.specs.Grammar.{InBody, InParentheses, IsFront, IsProgramLast}
 use Rattle.wc_model.specs.Keywords.{end_var, end_word}
@@ -15,7 +15,7 @@ use Rattle.wc_model.specs.Names.{name_of}
 use Rattle.wc_model.specs.Positions.{Opening, Position, setting_in}
 use Rattle.wc_model.specs.ReadingFaults.{NotOneProgramLast, TooMany}
 use Rattle.wc_model.specs.Limits.{most_units}
-use Rattle.wc_model.specs.Tree.{End, Alone, Plain, Nested, Lines, ProgramUnit, Word}
+use Rattle.wc_model.specs.Tree.{ProgramUnit, Word}
 use Rattle.wc_model.specs.declared.source.Section.{Section}
 use Rattle.wc_model.specs.declared.source.UnitKind.{UnitKind}
 use Rattle.wc_model.specs.declared.source.UnitKind.TheVariants.{FunctionBlock, Program}
@@ -128,7 +128,6 @@ ordered_on (AtLine p) symbol line colon h e = start_ordered p p.openings symbol 
 ordered_on (OnLine p state) symbol line colon h e = begun_ordered p (line_move (setting_in p.openings) state symbol line colon) h.0
 ordered_on (Closed p) LineEnd line colon h e = h
 ordered_on _ symbol line colon h e = tt
-
 
 -- what has not ended is no end
 pub open_is : (line : LineState) → IsOpen line → (form : LineForm) → line ≢ Ended form

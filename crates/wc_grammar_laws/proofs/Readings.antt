@@ -1,41 +1,37 @@
 -- The walk reads just the texts that are spelled within the limits, and tells the first fault of all other tokens.
-use Rattle.std.proofs.Common.{◌≡◌, ◌≢◌, ◌≤◌, ◌+◌, ℕ, zero, suc, Bool, true, false, List, [], ◌∷◌, ◌++◌, length, Option, Some, None, refl, ap, subst, append_assoc, append-nil, if◌then◌else◌, ◌∙◌, sym, inl, inr, arith, ◌⊎◌}
-use Rattle.std.specs.List.{AllByRecursion}
+use Rattle.std.proofs.Common.{◌≡◌, ◌≢◌, ◌≤◌, ℕ, Bool, true, false, List, [], ◌∷◌, ◌++◌, Option, Some, None, refl, ap, subst, append_assoc, append-nil, if◌then◌else◌, ◌∙◌, sym, inl, inr, arith, ◌⊎◌}
 use Rattle.std.specs.Prelude.{Ok, Err, Result, ◌||◌}
-use Rattle.wc_grammar_laws.proofs.AtEnds.{MetLast, at_end_met}
+use Rattle.wc_grammar_laws.proofs.AtEnds.{at_end_met}
 use Rattle.wc_grammar_laws.proofs.Bounds.{Within}
 use Rattle.wc_grammar_laws.proofs.Exits.{AreBlocks}
 use Rattle.wc_grammar_laws.proofs.Judged.{Judged, judged, same_end}
-use Rattle.wc_grammar_laws.proofs.LineMoves.{LineState, Start, Worded, Labelled, Operated, Jumped, Called, Instanced, Listing, Bracketed, Named, Pointed, Stepped, BracketedWith, Ended, at_start, line_move, operator_or_label}
-use Rattle.wc_grammar_laws.proofs.LineSound.{mark_on}
+use Rattle.wc_grammar_laws.proofs.LineMoves.{LineState, Start, Worded, Labelled, Operated, Jumped, Called, Instanced, Listing, Bracketed, Named, Pointed, Stepped, BracketedWith, line_move}
 use Rattle.wc_grammar_laws.proofs.MetThere.{IsThere, there}
-use Rattle.wc_grammar_laws.proofs.Moves.{State, Outside, Unnamed, Declaring, AtLine, OnLine, Closed, Met, at_end, at_first, begun_line, body_move, colon_next, has_program, is_colon, is_program, judge, move, open_in, open_on, reading, start_move, walk, word_move, section_or_line, section_begun, behind_unit}
-use Rattle.wc_grammar_laws.proofs.Orders.{Ordered, all_blocks, front, ordered_on}
+use Rattle.wc_grammar_laws.proofs.Moves.{State, Outside, Unnamed, Declaring, AtLine, OnLine, Closed, Met, at_end, at_first, begun_line, body_move, colon_next, has_program, is_colon, is_program, judge, move, reading, start_move, walk, section_or_line, section_begun, behind_unit}
+use Rattle.wc_grammar_laws.proofs.Orders.{Ordered, front, ordered_on}
 use Rattle.wc_grammar_laws.proofs.Told.{Exact, Keeps, Told}
-use Rattle.wc_grammar_laws.proofs.ToldOn.{told_behind, told_first, told_on}
+use Rattle.wc_grammar_laws.proofs.ToldOn.{told_first, told_on}
 use Rattle.wc_grammar_laws.proofs.WalkedLines.{next_of_both, walk_on, walk_then}
 use Rattle.wc_grammar_laws.proofs.WalkedUnits.{colon_is, units_walked}
-use Rattle.wc_grammar_laws.proofs.WithinBack.{Good, InOrder, Passes, WasGood, no_program, was_good}
+use Rattle.wc_grammar_laws.proofs.WithinBack.{Good, WasGood, no_program, was_good}
 use Rattle.wc_grammar_laws.proofs.WithinOn.{GoesWithin, HasBegun, RejectsColon, within_on}
 use Rattle.wc_model.proofs.Spelling.{same}
 use Rattle.wc_model.specs.Grammar.{IsFront, IsProgramLast, Setting, Spells, units}
 use Rattle.wc_model.specs.Keywords.{end_word}
-use Rattle.wc_model.specs.Limits.{IsBodyWithinLimits, IsWithinLimits}
+use Rattle.wc_model.specs.Limits.{IsWithinLimits}
 use Rattle.wc_model.specs.Marks.{Colon, Identifier, LineEnd, OpeningBracket, Point, Mark, Symbol}
 use Rattle.wc_model.specs.Names.{name_of}
 use Rattle.wc_model.specs.Positions.{Opening, Position, setting_in}
 use Rattle.wc_model.specs.ReadingFaults.{EmptyParentheses, IsFaultFree, IsFirstFault, IsMet, MetAtToken, NotAllowedInParentheses, NotOneProgramLast, ParenthesisNotPaired, ReadingFault, TooDeep, TooMany, UnexpectedToken, UnitNotClosed, rank_of}
 use Rattle.wc_model.specs.Tree.{ProgramUnit, Text}
 use Rattle.wc_model.specs.declared.source.Section.{Section}
-use Rattle.wc_model.specs.declared.source.UnitKind.{UnitKind}
-use Rattle.wc_model.specs.declared.source.UnitKind.TheVariants.{FunctionBlock, Program}
 
 -- where a walk goes over two parts, it stops between them
-walk_parts : (state end : State) (front rest : List Mark) (colon : Bool) → walk state (front ++ rest) colon ≡ Some end → (middle : State) × (walk state front (colon_next rest colon) ≡ Some middle) × (walk middle rest colon ≡ Some end)
+pub walk_parts : (state end : State) (front rest : List Mark) (colon : Bool) → walk state (front ++ rest) colon ≡ Some end → (middle : State) × (walk state front (colon_next rest colon) ≡ Some middle) × (walk middle rest colon ≡ Some end)
 walk_parts state end [] rest colon e = (state, refl, e)
 walk_parts state end (mark ∷ front) rest colon e =
     elim (move state mark.symbol mark.line (colon_next front (colon_next rest colon))) as (λ o. walk_on o (front ++ rest) colon ≡ Some end
-        → (middle : State) × (walk_on o front (colon_next rest colon) ≡ Some middle) × (walk middle rest colon ≡ Some end)) [
+    → (middle : State) × (walk_on o front (colon_next rest colon) ≡ Some middle) × (walk middle rest colon ≡ Some end)) [
       | None ↦ λ e. absurd (cc)
       | Some next ↦ λ e. walk_parts next end front rest colon e
     ] (sym (ap (λ c. walk_on (move state mark.symbol mark.line c) (front ++ rest) colon) (next_of_both front rest colon)) ∙ e)
@@ -149,13 +145,18 @@ pub record Come (state : State) (before left : List Mark) : Type 0 where
 judged_first : (state : State) (before : List Mark) (mark : Mark) (marks : List Mark) (last_line : ℕ) (met : Met) → Come state before (mark ∷ marks) → judge state mark.symbol mark.line (colon_next marks false) ≡ Some met
     → IsFirstFault (before ++ mark ∷ marks) last_line met.fault met.line
 judged_first state before mark marks last_line met c e = record {
-  before = before; left = mark ∷ marks; whole = refl; is_front = front state before c.told c.ordered; fault_free = c.free;
+  before = before;
+  left = mark ∷ marks;
+  whole = refl;
+  is_front = front state before c.told c.ordered;
+  fault_free = c.free;
   met = subst (IsThere before mark marks) e (there state before mark.symbol mark.line marks c.told);
   lowest = λ other place h. lower other place h;
 }
   where
     by_judged : (other : ReadingFault) → Judged (judge state mark.symbol mark.line (colon_next marks false)) other → rank_of met.fault ≤ rank_of other
     by_judged other j = let same : Some met ≡ Some j.judged = sym e ∙ j.is in let k : met ≡ j.judged = cc in subst (λ m. rank_of m.fault ≤ rank_of other) (sym k) j.lower
+
     ranks : (fault : ReadingFault) → rank_of fault ≤ 209
     ranks UnexpectedToken = omega arith
     ranks UnitNotClosed = omega arith
@@ -165,6 +166,7 @@ judged_first state before mark marks last_line met c e = record {
     ranks ParenthesisNotPaired = omega arith
     ranks TooDeep = omega arith
     ranks TooMany = omega arith
+
     lower : (other : ReadingFault) (place : ℕ) → IsMet other before (mark ∷ marks) last_line place → rank_of met.fault ≤ rank_of other
     lower UnexpectedToken place h = ranks met.fault
     lower UnitNotClosed place h = absurd h
@@ -184,7 +186,11 @@ none_met state before mark marks c e fault line n h = let j = judged fault befor
 unexpected_first : (state : State) (before : List Mark) (mark : Mark) (marks : List Mark) (last_line : ℕ) → Come state before (mark ∷ marks) → judge state mark.symbol mark.line (colon_next marks false) ≡ None → move state mark.symbol mark.line (colon_next marks false) ≡ None
     → IsFirstFault (before ++ mark ∷ marks) last_line UnexpectedToken mark.line
 unexpected_first state before mark marks last_line c e m = record {
-  before = before; left = mark ∷ marks; whole = refl; is_front = front state before c.told c.ordered; fault_free = c.free;
+  before = before;
+  left = mark ∷ marks;
+  whole = refl;
+  is_front = front state before c.told c.ordered;
+  fault_free = c.free;
   met = (no_front state before mark (colon_next marks false) c.reached (has_begun state before c.told) m, refl);
   lowest = λ other place h. lower other place h;
 }
@@ -225,8 +231,10 @@ come_on state next before mark marks c e m =
     expected ParenthesisNotPaired = inr (λ f. let k = ap rank_of f in omega (arith, k))
     expected TooDeep = inr (λ f. let k = ap rank_of f in omega (arith, k))
     expected TooMany = inr (λ f. let k = ap rank_of f in omega (arith, k))
+
     taken : (line : ℕ) → ¬ (MetAtToken UnexpectedToken before mark marks line)
     taken line h = h.0 (front next (before ++ mark ∷ []) (subst (Keeps before mark) m (told_on state before mark.symbol mark.line (colon_next marks false) c.told)) (subst OrderedNext m (ordered_on state mark.symbol mark.line (colon_next marks false) c.ordered e)))
+
     none : (fault : ReadingFault) (line : ℕ) → ¬ (MetAtToken fault before mark marks line)
     none fault line h = elim (expected fault) [
       | inl f ↦ taken line (subst (λ x. MetAtToken x before mark marks line) f h)
@@ -234,7 +242,7 @@ come_on state next before mark marks c e m =
     ]
 
 -- what the walk comes to at a token
-abbrev outcome : State → Mark → List Mark → ℕ → Option Met → Option State → Result Text Met
+abbrev pub outcome : State → Mark → List Mark → ℕ → Option Met → Option State → Result Text Met
 outcome state mark marks last_line met next = elim met as (λ _. Result Text Met) [
   | Some met ↦ Err met
   | None ↦ elim next as (λ _. Result Text Met) [
@@ -249,8 +257,10 @@ first_at tokens last_line a b r e f h = let same = same_error a b (sym e ∙ f) 
     met_in : Result Text Met → Met
     met_in (Ok text) = a
     met_in (Err met) = met
+
     told : Met → Result Text Met
     told met = Err met
+
     same_error : (a b : Met) → told a ≡ told b → a ≡ b
     same_error a b e = ap met_in e
 
@@ -261,11 +271,11 @@ read_fault state before [] last_line met c e =
     record { before = before; left = []; whole = refl; is_front = front state before c.told c.ordered; fault_free = c.free; met = k.met_here; lowest = k.lowest }
 read_fault state before (mark ∷ marks) last_line met c e =
     elim (judge state mark.symbol mark.line (colon_next marks false)) as (λ j. judge state mark.symbol mark.line (colon_next marks false) ≡ j
-        → outcome state mark marks last_line j (move state mark.symbol mark.line (colon_next marks false)) ≡ Err met → IsFirstFault (before ++ mark ∷ marks) last_line met.fault met.line) [
+    → outcome state mark marks last_line j (move state mark.symbol mark.line (colon_next marks false)) ≡ Err met → IsFirstFault (before ++ mark ∷ marks) last_line met.fault met.line) [
       | Some found ↦ λ j e. first_at (before ++ mark ∷ marks) last_line found met (Err found) refl e (judged_first state before mark marks last_line found c j)
       | None ↦ λ j e.
           elim (move state mark.symbol mark.line (colon_next marks false)) as (λ m. move state mark.symbol mark.line (colon_next marks false) ≡ m
-              → outcome state mark marks last_line None m ≡ Err met → IsFirstFault (before ++ mark ∷ marks) last_line met.fault met.line) [
+          → outcome state mark marks last_line None m ≡ Err met → IsFirstFault (before ++ mark ∷ marks) last_line met.fault met.line) [
             | Some next ↦ λ m e. subst (λ ts. IsFirstFault ts last_line met.fault met.line) (append_assoc before (mark ∷ []) marks) (read_fault next (before ++ mark ∷ []) marks last_line met (come_on state next before mark marks c j m) e)
             | None ↦ λ m e. first_at (before ++ mark ∷ marks) last_line (record { fault = UnexpectedToken; line = mark.line }) met _ refl e (unexpected_first state before mark marks last_line c j m)
           ] refl e
@@ -281,11 +291,12 @@ abbrev whole : List ProgramUnit → ℕ → Bool → Result Text Met
 whole us last_line b = if b then Ok us else Err (record { fault = NotOneProgramLast; line = last_line })
 
 -- what the walk is at where its text ends
-record IsEnded (state : State) (text : Text) : Type 0 where
+pub record IsEnded (state : State) (text : Text) : Type 0 where
   pub is : state ≡ Outside text
   pub program : has_program text ≡ true
 
-ended_at : (state : State) (last_line : ℕ) (text : Text) → at_end state last_line ≡ Ok text → IsEnded state text
+-- where the text of the walk ends
+pub ended_at : (state : State) (last_line : ℕ) (text : Text) → at_end state last_line ≡ Ok text → IsEnded state text
 ended_at (Outside us) last_line text e = by_program (has_program us) refl e
   where
     by_program : (b : Bool) → has_program us ≡ b → whole us last_line b ≡ Ok text → IsEnded (Outside us) text
@@ -309,8 +320,8 @@ colon_refused next (mark ∷ marks) last_line text e r k =
     let s = colon_is mark.symbol e in
     let j = (r mark.line (colon_next marks false)) in
     let m : outcome next mark marks last_line None None ≡ Ok text =
-      subst (λ m. outcome next mark marks last_line None m ≡ Ok text) (ap (λ y. move next y mark.line (colon_next marks false)) s ∙ j.0)
-        (subst (λ q. outcome next mark marks last_line q (move next mark.symbol mark.line (colon_next marks false)) ≡ Ok text) (ap (λ y. judge next y mark.line (colon_next marks false)) s ∙ j.1) k) in
+    subst (λ m. outcome next mark marks last_line None m ≡ Ok text) (ap (λ y. move next y mark.line (colon_next marks false)) s ∙ j.0)
+    (subst (λ q. outcome next mark marks last_line q (move next mark.symbol mark.line (colon_next marks false)) ≡ Ok text) (ap (λ y. judge next y mark.line (colon_next marks false)) s ∙ j.1) k) in
     cc
 
 within_text : (text : Text) → Within (Outside text) → IsWithinLimits text
@@ -328,11 +339,11 @@ read_text state before [] last_line text t o w e =
     }
 read_text state before (mark ∷ marks) last_line text t o w e =
     elim (judge state mark.symbol mark.line (colon_next marks false)) as (λ j. judge state mark.symbol mark.line (colon_next marks false) ≡ j
-        → outcome state mark marks last_line j (move state mark.symbol mark.line (colon_next marks false)) ≡ Ok text → WasRead before (mark ∷ marks) text) [
+    → outcome state mark marks last_line j (move state mark.symbol mark.line (colon_next marks false)) ≡ Ok text → WasRead before (mark ∷ marks) text) [
       | Some found ↦ λ j e. absurd (cc)
       | None ↦ λ j e.
           elim (move state mark.symbol mark.line (colon_next marks false)) as (λ m. move state mark.symbol mark.line (colon_next marks false) ≡ m
-              → outcome state mark marks last_line None m ≡ Ok text → WasRead before (mark ∷ marks) text) [
+          → outcome state mark marks last_line None m ≡ Ok text → WasRead before (mark ∷ marks) text) [
             | Some next ↦ λ m e.
                 let t' : Told next (before ++ mark ∷ []) = subst (Keeps before mark) m (told_on state before mark.symbol mark.line (colon_next marks false) t) in
                 let o' : Ordered next = subst OrderedNext m (ordered_on state mark.symbol mark.line (colon_next marks false) o j) in
@@ -356,12 +367,12 @@ colon_ends next (mark ∷ marks) end e r k =
     cc
 
 -- what the walk reads from here, and that the limits and the order hold
-record IsComplete (state : State) (left : List Mark) (last_line : ℕ) (text : Text) : Type 0 where
+pub record IsComplete (state : State) (left : List Mark) (last_line : ℕ) (text : Text) : Type 0 where
   pub good : Good state
   pub read : reading state left last_line ≡ Ok text
 
 -- what is walked to a whole text within the limits is read
-read_all : (state : State) (before left : List Mark) (last_line : ℕ) (text : Text) → Told state before → Good (Outside text) → has_program text ≡ true → walk state left false ≡ Some (Outside text) → IsComplete state left last_line text
+pub read_all : (state : State) (before left : List Mark) (last_line : ℕ) (text : Text) → Told state before → Good (Outside text) → has_program text ≡ true → walk state left false ≡ Some (Outside text) → IsComplete state left last_line text
 read_all state before [] last_line text t g p e =
     let k : Outside text ≡ state = cc in
     subst (λ s. IsComplete s [] last_line text) k (record { good = g; read = ap (whole text last_line) p })
@@ -378,7 +389,8 @@ read_all state before (mark ∷ marks) last_line text t g p e =
           ]
     ] refl e
 
-program_in : (text : List ProgramUnit) → IsProgramLast text → has_program text ≡ true
+-- a program that is last is found
+pub program_in : (text : List ProgramUnit) → IsProgramLast text → has_program text ≡ true
 program_in [] h = absurd h
 program_in (last ∷ []) h = ap (λ k. is_program k || false) h
 program_in (first ∷ second ∷ more) h = ap (λ k. is_program k || has_program (second ∷ more)) h.0 ∙ program_in (second ∷ more) h.1

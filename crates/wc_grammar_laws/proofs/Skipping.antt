@@ -1,6 +1,6 @@
 -- Regions in which tokens are passed over, token by token.
-use Rattle.std.proofs.Common.{◌≡◌, Bool, true, false, List, [], ◌∷◌, ◌++◌, refl, ap, ◌∙◌, inl, inr}
-use Rattle.std.specs.Prelude.{◌⊎◌, not, filter, cond}
+use Rattle.std.proofs.Common.{◌≡◌, Bool, true, false, List, [], ◌∷◌, ◌++◌, refl, ap, inl, inr}
+use Rattle.std.specs.Prelude.{◌⊎◌, not, filter}
 use Rattle.wc_model.specs.Languages.{Language, ◌then◌, skipping}
 
 -- what a language goes on with behind a token
@@ -21,7 +21,9 @@ passed_over is_skipped token tokens h = rw h refl
 pub skip_next : {T : Type 0} (is_skipped : T → Bool) (language : List T → Type 0) {second : List T → Type 0} {token : T} {tokens : List T} → is_skipped token ≡ false
     → (skipping is_skipped (behind token language) then second) tokens → (skipping is_skipped language then second) (token ∷ tokens)
 skip_next is_skipped language {token = token} kept_here h = record {
-  front = token ∷ h.front; rest = h.rest; whole = ap (λ ts. token ∷ ts) h.whole;
+  front = token ∷ h.front;
+  rest = h.rest;
+  whole = ap (λ ts. token ∷ ts) h.whole;
   begins = rw (kept is_skipped token h.front kept_here) h.begins;
   goes_on = h.goes_on;
 }
@@ -30,7 +32,9 @@ skip_next is_skipped language {token = token} kept_here h = record {
 pub skip_over : {T : Type 0} (is_skipped : T → Bool) (language : List T → Type 0) {second : List T → Type 0} {token : T} {tokens : List T} → is_skipped token ≡ true
     → (skipping is_skipped language then second) tokens → (skipping is_skipped language then second) (token ∷ tokens)
 skip_over is_skipped language {token = token} skipped h = record {
-  front = token ∷ h.front; rest = h.rest; whole = ap (λ ts. token ∷ ts) h.whole;
+  front = token ∷ h.front;
+  rest = h.rest;
+  whole = ap (λ ts. token ∷ ts) h.whole;
   begins = rw (passed_over is_skipped token h.front skipped) h.begins;
   goes_on = h.goes_on;
 }

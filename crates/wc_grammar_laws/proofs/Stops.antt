@@ -1,24 +1,21 @@
 -- Where the text's end is met in a unit, or in parentheses.
-use Rattle.std.proofs.Common.{◌≡◌, ◌≢◌, ℕ, Bool, true, false, List, [], ◌∷◌, ◌++◌, Option, Some, None, refl, ap, subst, append_assoc, append-nil, if◌then◌else◌, ◌∙◌, sym, inl, inr}
-use Rattle.std.specs.Prelude.{◌⊎◌, Ok, Err}
-use Rattle.wc_grammar_laws.proofs.Appending.{append_last, with_nothing}
+use Rattle.std.proofs.Common.{◌≡◌, ◌≢◌, ℕ, Bool, false, List, [], ◌∷◌, ◌++◌, Option, Some, None, refl, ap, subst, ◌∙◌, sym}
+use Rattle.std.specs.Prelude.{Err}
 use Rattle.wc_grammar_laws.proofs.Exits.{IsOpening}
 use Rattle.wc_grammar_laws.proofs.LineComplete.{Leads, move_led}
-use Rattle.wc_grammar_laws.proofs.LineMoves.{at_bracketed, at_field, at_operand, name_or_literal, LineForm, LabelAlone, Instructs, Opens, Begun, OfStep, OfOpening, OfArgument, LineState, Start, Worded, Labelled, Operated, Jumped, Called, Instanced, Listing, Bracketed, Named, Pointed, Stepped, BracketedWith, Ended, at_start_in, line_move}
+use Rattle.wc_grammar_laws.proofs.LineMoves.{at_bracketed, at_field, at_operand, name_or_literal, LineForm, Begun, OfStep, OfOpening, OfArgument, LineState, Bracketed, Named, Pointed, BracketedWith, Ended, at_start_in, line_move}
 use Rattle.wc_grammar_laws.proofs.LineRests.{line_of, rest_of}
 use Rattle.wc_grammar_laws.proofs.LineStart.{start_led}
-use Rattle.wc_grammar_laws.proofs.Moves.{State, Outside, Unnamed, Declaring, AtLine, OnLine, Closed, at_first, begun_line, at_end, behind_closing, behind_line, colon_next, move, on_line, open_in, start_move, walk}
+use Rattle.wc_grammar_laws.proofs.Moves.{State, AtLine, OnLine, begun_line, at_end, colon_next, move, on_line, open_in, start_move}
 use Rattle.wc_grammar_laws.proofs.Orders.{IsOpen}
-use Rattle.wc_grammar_laws.proofs.Told.{BehindClosing, Exact, InLine, InSection, Told}
-use Rattle.wc_grammar_laws.proofs.WalkedLines.{begins, not_complete, walk_on, walk_then}
-use Rattle.wc_grammar_laws.proofs.WalkedUnits.{at_line_walked, plain}
+use Rattle.wc_grammar_laws.proofs.WalkedLines.{begins, walk_on}
 use Rattle.wc_grammar_laws.proofs.Words.{found, truths}
-use Rattle.wc_model.specs.Grammar.{InBody, InParentheses, Setting, head, units}
+use Rattle.wc_model.specs.Grammar.{Setting}
 use Rattle.wc_model.specs.Marks.{Direct, Duration, Identifier, LineEnd, Mark, Point, Symbol, Truth, Whole}
 use Rattle.wc_model.specs.Names.{Name, name_of}
-use Rattle.wc_model.specs.Positions.{Opening, Position, at_line, setting_in}
+use Rattle.wc_model.specs.Positions.{Opening, Position, setting_in}
 use Rattle.wc_model.specs.ReadingFaults.{ParenthesisNotPaired}
-use Rattle.wc_model.specs.Tree.{Lines, ProgramUnit, Term}
+use Rattle.wc_model.specs.Tree.{Term}
 use Rattle.wc_model.specs.declared.operator.Operator.{Operator}
 
 -- where a front of a line that has begun stays on it
@@ -51,10 +48,10 @@ pub line_stays : (p : Position) (form : LineForm) (mark : Mark) (front : List Ma
     → line_of (setting_in p.openings) form (mark ∷ front ++ next ∷ more) → StaysOn p form (next ∷ more) (mark ∷ front) colon (Some (AtLine p))
 line_stays p form mark front next more colon e h =
     let go : StaysOn p form (next ∷ more) front colon (begun_line p (at_start_in (setting_in p.openings) mark.symbol mark.line (colon_next (front ++ next ∷ more) false))) =
-      elim (at_start_in (setting_in p.openings) mark.symbol mark.line (colon_next (front ++ next ∷ more) false)) as (λ l. Leads l form (front ++ next ∷ more) → StaysOn p form (next ∷ more) front colon (begun_line p l)) [
-        | None ↦ λ h. absurd h
-        | Some state' ↦ λ h. still_on p form front next more colon (λ s o r. stays_on p s form front next more colon o r) state' h
-      ] (start_led (setting_in p.openings) form mark.symbol mark.line (front ++ next ∷ more) false h) in
+    elim (at_start_in (setting_in p.openings) mark.symbol mark.line (colon_next (front ++ next ∷ more) false)) as (λ l. Leads l form (front ++ next ∷ more) → StaysOn p form (next ∷ more) front colon (begun_line p l)) [
+      | None ↦ λ h. absurd h
+      | Some state' ↦ λ h. still_on p form front next more colon (λ s o r. stays_on p s form front next more colon o r) state' h
+    ] (start_led (setting_in p.openings) form mark.symbol mark.line (front ++ next ∷ more) false h) in
     (go.0, ap (λ o. walk_on o front colon) e ∙ go.1, go.2, go.3)
 
 -- inside parentheses it makes no difference whether a colon follows
@@ -66,6 +63,7 @@ inside_begins p o outer form mark marks colon e h =
   where
     same_start : (symbol : Symbol) → start_move p (o ∷ outer) symbol mark.line colon ≡ start_move p (o ∷ outer) symbol mark.line (colon_next marks false)
     same_start symbol = refl
+
     same_move : (symbol : Symbol) → move (AtLine p) symbol mark.line colon ≡ move (AtLine p) symbol mark.line (colon_next marks false)
     same_move LineEnd = refl
     same_move symbol = subst (λ os. start_move p os symbol mark.line colon ≡ start_move p os symbol mark.line (colon_next marks false)) (sym e) refl

@@ -1,28 +1,22 @@
 -- What the walk's state tells of the tokens that led to it.
-use Rattle.std.proofs.Common.{◌≡◌, ◌≢◌, ℕ, Bool, true, false, List, [], ◌∷◌, ◌++◌, Option, Some, None, refl, ap, subst, append_assoc, append-nil, if◌then◌else◌, ◌∙◌, sym, inl, inr}
+use Rattle.std.proofs.Common.{◌≡◌, ℕ, List, [], ◌∷◌, ◌++◌, Option, Some, None, refl, ap, subst, append_assoc, append-nil, if◌then◌else◌, ◌∙◌, sym}
 use Rattle.std.specs.Prelude.{flat_map, option_map}
-use Rattle.std.proofs.lemmas.List.Elements.{filter-append}
-use Rattle.wc_grammar_laws.proofs.Appending.{append_last, position_behind_line, position_behind_closing, with_nothing}
+use Rattle.wc_grammar_laws.proofs.Appending.{append_last, with_nothing}
 use Rattle.wc_grammar_laws.proofs.DeclarationRests.{declarations_of, declared_rest}
-use Rattle.wc_grammar_laws.proofs.DeclarationSound.{DeclarationAllows, SectionAllows, section_allowed}
-use Rattle.wc_grammar_laws.proofs.LineMoves.{LineForm, Begun, OfStep, OfOpening, OfArgument, LineState, Start, Worded, Labelled, Operated, Jumped, Called, Instanced, Listing, Bracketed, Named, Pointed, Stepped, BracketedWith, Ended, at_start_in, line_move}
+use Rattle.wc_grammar_laws.proofs.LineMoves.{LineForm, Begun, OfOpening, LineState, Start, Worded, Labelled, Operated, Bracketed, Named, Pointed, BracketedWith}
 use Rattle.wc_grammar_laws.proofs.LineRests.{line_of, rest_of}
-use Rattle.wc_grammar_laws.proofs.LineSound.{Allows, mark_on, move_allowed, start_move_allowed}
-use Rattle.wc_grammar_laws.proofs.Moves.{InDeclaration, Undeclared, State, Outside, Unnamed, Declaring, AtLine, OnLine, Closed, at_first, begun_line, behind_closing, behind_line, behind_unit, body_move, body_start, colon_next, declaration_move, has_content, inside_move, move, named_unit, on_line, section_begun, section_or_line, start_move, unit_with, walk, word_move}
-use Rattle.wc_grammar_laws.proofs.Skipping.{kept, passed_over}
-use Rattle.wc_grammar_laws.proofs.WalkedLines.{walk_on}
-use Rattle.wc_grammar_laws.proofs.WalkedDeclarations.{unit_and}
-use Rattle.wc_grammar_laws.proofs.WordLaws.{found_section, found_unit_kind, same_is}
-use Rattle.wc_grammar_laws.proofs.Words.{Applies, Operates, found, operation_of, section_words, unit_kinds}
-use Rattle.wc_model.proofs.Languages.{joined, pass, regroup, ungroup, before, after}
-use Rattle.wc_model.proofs.Spelling.{same}
-use Rattle.wc_model.specs.Grammar.{Group, HasContent, InBody, InParentheses, IsNameOf, IsOn, Setting, bracket, head, identifier, label_in, line_ends, lines, operand, section_of, sections, symbol, unit_of, units}
-use Rattle.wc_model.specs.Keywords.{end_var, end_word, section_word, unit_word}
+use Rattle.wc_grammar_laws.proofs.LineSound.{mark_on}
+use Rattle.wc_grammar_laws.proofs.Moves.{InDeclaration, Undeclared, State, Outside, Unnamed, Declaring, AtLine, OnLine, Closed, behind_closing, body_start, named_unit}
+use Rattle.wc_grammar_laws.proofs.WordLaws.{found_unit_kind}
+use Rattle.wc_grammar_laws.proofs.Words.{Operates, found, operation_of, unit_kinds}
+use Rattle.wc_model.proofs.Languages.{joined, pass, ungroup, after}
+use Rattle.wc_model.specs.Grammar.{Group, HasContent, InBody, IsOn, Setting, bracket, head, identifier, label_in, line_ends, operand, section_of, sections, symbol, units}
+use Rattle.wc_model.specs.Keywords.{end_var, section_word, unit_word}
 use Rattle.wc_model.specs.Languages.{◌then◌, each, one, optional, skipping}
-use Rattle.wc_model.specs.Marks.{ClosingBracket, Identifier, IsNamed, IsSymbol, IsWord, LineEnd, Mark, Symbol, is_line_end, is_line_end_symbol}
-use Rattle.wc_model.specs.Names.{Name, name_of}
+use Rattle.wc_model.specs.Marks.{ClosingBracket, Identifier, IsNamed, IsSymbol, IsWord, LineEnd, Mark, is_line_end}
+use Rattle.wc_model.specs.Names.{name_of}
 use Rattle.wc_model.specs.Positions.{Opening, Position, at_line, setting_in}
-use Rattle.wc_model.specs.Tree.{Declaration, End, Lines, ProgramUnit, Word, Term}
+use Rattle.wc_model.specs.Tree.{Declaration, ProgramUnit, Term}
 use Rattle.wc_model.specs.declared.operator.Operator.{Operator}
 use Rattle.wc_model.specs.declared.source.Section.{Section}
 use Rattle.wc_model.specs.declared.source.UnitKind.{UnitKind}
@@ -134,10 +128,11 @@ one_more_section earlier group a b ha hb = (ha.0 ++ group ∷ [], ap (λ ds. ds 
 pub section_done : (us : List ProgramUnit) (unit : ProgramUnit) (section : Section) (tokens : List Mark) (mark : Mark) → InSection us unit section Undeclared tokens → identifier end_var (mark ∷ []) → at_line (body_start us unit) (tokens ++ mark ∷ [])
 section_done us unit section tokens mark h e =
     subst (at_line (body_start us unit)) (sym (ap (λ ts. ts ++ mark ∷ []) h.whole ∙ append_assoc h.front h.inside (mark ∷ [])))
-      (start_of_body us unit _ (append_last (h.inside ++ mark ∷ []) (λ rest k. headed_by rest k) h.begins))
+    (start_of_body us unit _ (append_last (h.inside ++ mark ∷ []) (λ rest k. headed_by rest k) h.begins))
   where
     inside : (skipping is_line_end (declarations_of section h.done) then identifier end_var) (h.inside ++ mark ∷ [])
     inside = joined h.inside (mark ∷ []) (subst (λ ts. skipping is_line_end (declarations_of section h.done) ts) (append-nil h.inside) (subst (λ ds. skipping is_line_end (declarations_of section ds) (h.inside ++ [])) (append-nil h.done) (h.goes [] [] refl))) e
+
     headed_by : (rest : List Mark) → (head (record unit { declarations = h.earlier }) then line_ends then identifier (section_word section)) rest → head unit (rest ++ (h.inside ++ mark ∷ []))
     headed_by rest k =
         let u = after (λ ts l. ungroup l) (ungroup k) in
@@ -148,5 +143,5 @@ section_done us unit section tokens mark h e =
             let group : Group = record { section = section; declarations = h.done } in
             let b : (line_ends then section_of group) (m.rest ++ (h.inside ++ mark ∷ [])) = append_last (h.inside ++ mark ∷ []) (λ ws n. joined ws (h.inside ++ mark ∷ []) n inside) m.goes_on in
             subst (λ ts. sections unit.declarations (ts ++ (h.inside ++ mark ∷ []))) (sym m.whole)
-              (subst (sections unit.declarations) (sym (append_assoc m.front m.rest (h.inside ++ mark ∷ [])))
-                (subst (λ ds. sections ds (m.front ++ (m.rest ++ (h.inside ++ mark ∷ [])))) (sym h.parts) (one_more_section h.earlier group m.front _ m.begins b)))
+            (subst (sections unit.declarations) (sym (append_assoc m.front m.rest (h.inside ++ mark ∷ [])))
+            (subst (λ ds. sections ds (m.front ++ (m.rest ++ (h.inside ++ mark ∷ [])))) (sym h.parts) (one_more_section h.earlier group m.front _ m.begins b)))

@@ -1,29 +1,27 @@
 -- Each token that the walk takes keeps what its state tells; so the state behind any tokens tells of them.
-use Rattle.std.proofs.Common.{◌≡◌, ◌≢◌, ℕ, Bool, true, false, List, [], ◌∷◌, ◌++◌, Option, Some, None, refl, ap, subst, append_assoc, append-nil, if◌then◌else◌, ◌∙◌, sym}
-use Rattle.std.specs.Prelude.{filter, not}
+use Rattle.std.proofs.Common.{◌≡◌, ℕ, Bool, true, false, List, [], ◌∷◌, ◌++◌, Option, Some, None, refl, ap, subst, append_assoc, append-nil, if◌then◌else◌, ◌∙◌, sym}
 use Rattle.wc_grammar_laws.proofs.Appending.{append_last, position_behind_closing, position_behind_line, with_nothing}
 use Rattle.wc_grammar_laws.proofs.DeclarationRests.{declarations_of, declared_rest}
 use Rattle.wc_grammar_laws.proofs.DeclarationSound.{DeclarationAllows, SectionAllows, section_allowed}
 use Rattle.wc_grammar_laws.proofs.ExactLines.{ExactNext, exact_at_start, exact_move}
-use Rattle.wc_grammar_laws.proofs.LineMoves.{LineForm, LineState, Start, Worded, Labelled, Operated, Jumped, Called, Instanced, Listing, Bracketed, Named, Pointed, Stepped, BracketedWith, Ended, at_start_in, line_move}
-use Rattle.wc_grammar_laws.proofs.LineRests.{line_of, rest_of}
+use Rattle.wc_grammar_laws.proofs.LineMoves.{LineState, Start, Ended, line_move}
+use Rattle.wc_grammar_laws.proofs.LineRests.{line_of}
 use Rattle.wc_grammar_laws.proofs.LineSound.{Allows, AllowsFrom, FromStart, mark_on, move_allowed, start_move_allowed}
-use Rattle.wc_grammar_laws.proofs.Moves.{InDeclaration, Undeclared, State, Outside, Unnamed, Declaring, AtLine, OnLine, Closed, at_first, begun_line, behind_closing, behind_line, behind_unit, body_move, body_start, closing_move, colon_next, declaration_move, has_content, inside_move, move, on_line, section_begun, section_or_line, start_move, unit_with, walk, word_move}
-use Rattle.wc_grammar_laws.proofs.Skipping.{kept, passed_over}
+use Rattle.wc_grammar_laws.proofs.Moves.{InDeclaration, State, Outside, Unnamed, Declaring, AtLine, OnLine, Closed, at_first, begun_line, behind_closing, behind_line, behind_unit, body_move, colon_next, declaration_move, has_content, inside_move, move, section_begun, section_or_line, start_move, unit_with, walk}
+use Rattle.wc_grammar_laws.proofs.Skipping.{kept}
 use Rattle.wc_grammar_laws.proofs.Told.{BehindClosing, Exact, InLine, InSection, Keeps, Told, name_kept, outside_end, section_done, unit_kept}
-use Rattle.wc_grammar_laws.proofs.WalkedDeclarations.{line_end_is, unit_and}
 use Rattle.wc_grammar_laws.proofs.WalkedLines.{walk_on}
 use Rattle.wc_grammar_laws.proofs.WordLaws.{found_section, same_is}
-use Rattle.wc_grammar_laws.proofs.Words.{found, section_words, unit_kinds}
+use Rattle.wc_grammar_laws.proofs.Words.{found, unit_kinds}
 use Rattle.wc_model.proofs.Languages.{joined, pass, passed, ungroup}
 use Rattle.wc_model.proofs.Spelling.{same}
-use Rattle.wc_model.specs.Grammar.{HasContent, InBody, InParentheses, IsOn, Setting, head, identifier, line_ends, lines, unit_of, units}
-use Rattle.wc_model.specs.Keywords.{end_word, section_word}
-use Rattle.wc_model.specs.Languages.{◌then◌, each, one, skipping}
+use Rattle.wc_model.specs.Grammar.{HasContent, InBody, InParentheses, Setting, identifier, line_ends, lines, unit_of, units}
+use Rattle.wc_model.specs.Keywords.{end_word}
+use Rattle.wc_model.specs.Languages.{◌then◌, each, skipping}
 use Rattle.wc_model.specs.Marks.{ClosingBracket, Identifier, LineEnd, Mark, Symbol, is_line_end, is_line_end_symbol}
-use Rattle.wc_model.specs.Names.{Name, name_of}
+use Rattle.wc_model.specs.Names.{name_of}
 use Rattle.wc_model.specs.Positions.{Opening, Position, at_line, openings_of, setting_in}
-use Rattle.wc_model.specs.Tree.{Alone, Declaration, End, Lines, Nested, Plain, ProgramUnit, Term}
+use Rattle.wc_model.specs.Tree.{Alone, End, Lines, Nested, Plain, ProgramUnit, Term}
 use Rattle.wc_model.specs.declared.source.Section.{Section}
 
 -- the tokens of a front and a part, and one more
@@ -34,7 +32,11 @@ one_more tokens front part mark e = ap (λ ts. ts ++ mark ∷ []) e ∙ append_a
 section_end_kept : (us : List ProgramUnit) (unit : ProgramUnit) (section : Section) (place : InDeclaration) (tokens : List Mark) (line : ℕ) → InSection us unit section place tokens
     → InSection us unit section place (tokens ++ mark_on LineEnd line ∷ [])
 section_end_kept us unit section place tokens line h = record {
-  earlier = h.earlier; done = h.done; parts = h.parts; front = h.front; inside = h.inside ++ mark_on LineEnd line ∷ [];
+  earlier = h.earlier;
+  done = h.done;
+  parts = h.parts;
+  front = h.front;
+  inside = h.inside ++ mark_on LineEnd line ∷ [];
   whole = one_more tokens h.front h.inside _ h.whole;
   begins = h.begins;
   goes = λ ds more k. subst (λ ts. skipping is_line_end (declarations_of section (h.done ++ ds)) ts) (sym (append_assoc h.inside (mark_on LineEnd line ∷ []) more)) (h.goes ds (mark_on LineEnd line ∷ more) k);
@@ -45,13 +47,17 @@ section_on : (us : List ProgramUnit) (unit : ProgramUnit) (section : Section) (p
     → InSection us unit section place tokens → DeclarationAllows unit section place mark unit' place' → InSection us unit' section place' (tokens ++ mark ∷ [])
 section_on us unit section place place' tokens mark unit' n h a =
     subst (λ u. InSection us u section place' (tokens ++ mark ∷ [])) (sym a.unit_is) (record {
-      earlier = h.earlier; done = h.done ++ a.closed; parts = ap (λ ds. ds ++ a.closed) h.parts ∙ append_assoc h.earlier h.done a.closed; front = h.front; inside = h.inside ++ mark ∷ [];
+      earlier = h.earlier;
+      done = h.done ++ a.closed;
+      parts = ap (λ ds. ds ++ a.closed) h.parts ∙ append_assoc h.earlier h.done a.closed;
+      front = h.front;
+      inside = h.inside ++ mark ∷ [];
       whole = one_more tokens h.front h.inside _ h.whole;
       begins = h.begins;
       goes = λ ds more k.
-        let l : skipping is_line_end (declared_rest section place (a.closed ++ ds)) (mark ∷ more) = subst (declared_rest section place (a.closed ++ ds)) (sym (kept is_line_end mark more n)) (a.goes ds _ k) in
-        let m = h.goes (a.closed ++ ds) (mark ∷ more) l in
-        subst (λ ts. skipping is_line_end (declarations_of section ((h.done ++ a.closed) ++ ds)) ts) (sym (append_assoc h.inside (mark ∷ []) more))
+          let l : skipping is_line_end (declared_rest section place (a.closed ++ ds)) (mark ∷ more) = subst (declared_rest section place (a.closed ++ ds)) (sym (kept is_line_end mark more n)) (a.goes ds _ k) in
+          let m = h.goes (a.closed ++ ds) (mark ∷ more) l in
+          subst (λ ts. skipping is_line_end (declarations_of section ((h.done ++ a.closed) ++ ds)) ts) (sym (append_assoc h.inside (mark ∷ []) more))
           (subst (λ ds. skipping is_line_end (declarations_of section ds) (h.inside ++ mark ∷ more)) (sym (append_assoc h.done a.closed ds)) m);
     })
 
@@ -86,9 +92,12 @@ line_kept : (p : Position) (state : LineState) (tokens : List Mark) (mark : Mark
 line_kept p state tokens mark None h a e = tt
 line_kept p state tokens mark (Some (Ended form)) h a e =
     subst (at_line (behind_line p form)) (sym (one_more tokens h.front h.part mark h.whole))
-      (position_behind_line p form h.front (h.part ++ mark ∷ []) h.begins (h.goes form (mark ∷ []) (a form [] (refl, refl))))
+    (position_behind_line p form h.front (h.part ++ mark ∷ []) h.begins (h.goes form (mark ∷ []) (a form [] (refl, refl))))
 line_kept p state tokens mark (Some line) h a e = record {
-  front = h.front; part = h.part ++ mark ∷ []; whole = one_more tokens h.front h.part mark h.whole; begins = h.begins;
+  front = h.front;
+  part = h.part ++ mark ∷ [];
+  whole = one_more tokens h.front h.part mark h.whole;
+  begins = h.begins;
   goes = λ form more r. subst (line_of (setting_in p.openings) form) (sym (append_assoc h.part (mark ∷ []) more)) (h.goes form (mark ∷ more) (a form more r));
   exact = e h.part h.exact;
 }
@@ -99,9 +108,11 @@ end_kept p tokens line h = append_last last (λ ts k. append_last last (λ us l.
   where
     last : List Mark
     last = mark_on LineEnd line ∷ []
+
     ends : (a : List Mark) → line_ends a → line_ends (a ++ mark_on LineEnd line ∷ [])
     ends [] h = (refl, tt)
     ends (mark ∷ marks) h = (h.0, ends marks h.1)
+
     lines_end : (setting : Setting) (ls : Lines) (a : List Mark) → lines setting ls a → lines setting ls (a ++ mark_on LineEnd line ∷ [])
     lines_end setting End a h = ends a h
     lines_end setting (Alone label rest) a h = append_last (mark_on LineEnd line ∷ []) (λ ts k. append_last (mark_on LineEnd line ∷ []) (λ us l. append_last (mark_on LineEnd line ∷ []) (λ vs m. lines_end setting rest vs m) l) k) h
@@ -130,15 +141,20 @@ start_kept : (setting : Setting) (p : Position) (tokens : List Mark) (symbol : S
     → Keeps tokens (mark_on symbol line) (begun_line p (line_move setting Start symbol line colon))
 start_kept setting p tokens symbol line colon e h =
     line_begun p tokens (mark_on symbol line) (line_move setting Start symbol line colon) h
-      (subst (λ t. Allows (FromStart t) (mark_on symbol line) (line_move setting Start symbol line colon)) (sym e) (start_move_allowed setting symbol line colon))
-      (subst (λ t. ExactNext t (mark_on symbol line ∷ []) (line_move setting Start symbol line colon)) (sym e) (exact_at_start setting symbol line colon))
+    (subst (λ t. Allows (FromStart t) (mark_on symbol line) (line_move setting Start symbol line colon)) (sym e) (start_move_allowed setting symbol line colon))
+    (subst (λ t. ExactNext t (mark_on symbol line ∷ []) (line_move setting Start symbol line colon)) (sym e) (exact_at_start setting symbol line colon))
 
 -- the first word of a section
 section_starts : (p : Position) (done : Lines) (tokens : List Mark) (bytes : List ℕ) (line : ℕ) (section : Option Section) → p.openings ≡ [] → p.done ≡ done → section_begun done (name_of bytes) ≡ section → at_line p tokens
     → Keeps tokens (mark_on (Identifier bytes) line) (section_or_line p bytes line section)
 section_starts p done tokens bytes line None e d s h = start_kept InBody p tokens (Identifier bytes) line false (ap setting_in e) h
 section_starts p End tokens bytes line (Some section) e d s h = record {
-  earlier = p.unit.declarations; done = []; parts = sym (append-nil p.unit.declarations); front = tokens ++ last; inside = []; whole = sym (append-nil (tokens ++ last));
+  earlier = p.unit.declarations;
+  done = [];
+  parts = sym (append-nil p.unit.declarations);
+  front = tokens ++ last;
+  inside = [];
+  whole = sym (append-nil (tokens ++ last));
   begins = append_last last (λ ts k. append_last last (λ us l. joined us last (passed (subst (λ ls. (openings_of [] then lines InBody ls) us) d (subst (λ os. (openings_of os then lines (setting_in os) p.done) us) e l))) (ap (λ n. Some n) (found_section (name_of bytes) section s))) k) h;
   goes = λ ds more k. k;
 }
@@ -170,7 +186,18 @@ closing_kept : (p : Position) (o : Opening) (outer : List Opening) (tokens : Lis
     → Keeps tokens (mark_on ClosingBracket line) (if b then Some (Closed (behind_closing p o outer line)) else None)
 closing_kept p o outer tokens line false c e h = tt
 closing_kept p o outer tokens line true c e h = record {
-  inside = p; o = o; outer = outer; close = line; front = tokens; last = mark_on ClosingBracket line ∷ []; whole = refl; begins = h; opened = e; content = has_content_is o.operand p.done c; closing = (refl, refl); position = refl;
+  inside = p;
+  o = o;
+  outer = outer;
+  close = line;
+  front = tokens;
+  last = mark_on ClosingBracket line ∷ [];
+  whole = refl;
+  begins = h;
+  opened = e;
+  content = has_content_is o.operand p.done c;
+  closing = (refl, refl);
+  position = refl;
 }
 
 inside_kept : (p : Position) (o : Opening) (outer : List Opening) (tokens : List Mark) (symbol : Symbol) (line : ℕ) → p.openings ≡ o ∷ outer → at_line p tokens → Keeps tokens (mark_on symbol line) (inside_move p o outer symbol line)
@@ -184,8 +211,8 @@ first_kept p (o ∷ outer) tokens symbol line colon e h = inside_kept p o outer 
 closed_kept : (p : Position) (tokens : List Mark) (line : ℕ) → BehindClosing p tokens → at_line p (tokens ++ mark_on LineEnd line ∷ [])
 closed_kept p tokens line h =
     subst (λ q. at_line q (tokens ++ mark_on LineEnd line ∷ [])) (sym h.position)
-      (subst (at_line (behind_closing h.inside h.o h.outer h.close)) (sym (one_more tokens h.front h.last _ h.whole))
-        (position_behind_closing h.inside h.o h.outer h.close h.front h.last (mark_on LineEnd line ∷ []) h.opened h.content h.begins h.closing refl))
+    (subst (at_line (behind_closing h.inside h.o h.outer h.close)) (sym (one_more tokens h.front h.last _ h.whole))
+    (position_behind_closing h.inside h.o h.outer h.close h.front h.last (mark_on LineEnd line ∷ []) h.opened h.content h.begins h.closing refl))
 
 -- one more token
 pub told_on : (state : State) (tokens : List Mark) (symbol : Symbol) (line : ℕ) (colon : Bool) → Told state tokens → Keeps tokens (mark_on symbol line) (move state symbol line colon)

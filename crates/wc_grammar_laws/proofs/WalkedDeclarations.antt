@@ -1,22 +1,21 @@
 -- Declarations are walked.
 use Rattle.std.proofs.Common.{◌≡◌, ◌≢◌, ℕ, Bool, true, false, List, [], ◌∷◌, ◌++◌, Option, Some, None, refl, ap, subst, append_assoc, append-nil, if◌then◌else◌, ◌∙◌, sym, inl, inr}
-use Rattle.std.specs.Prelude.{◌⊎◌}
-use Rattle.wc_grammar_laws.proofs.DeclarationRests.{declarations_of, from_end, from_initial, from_type, more_names, from_names, declared_rest}
+use Rattle.wc_grammar_laws.proofs.DeclarationRests.{declarations_of, from_end, from_type, from_names, declared_rest}
 use Rattle.wc_grammar_laws.proofs.LineComplete.{named, word_is}
 use Rattle.wc_grammar_laws.proofs.LineSound.{mark_on}
-use Rattle.wc_grammar_laws.proofs.Moves.{InDeclaration, Undeclared, BehindNames, BehindComma, BehindColon, BehindType, BehindAssign, BehindValue, State, AtLine, Declaring, body_start, at_first_name, at_value, colon_next, declaration_move, with_declaration, walk, move}
+use Rattle.wc_grammar_laws.proofs.Moves.{InDeclaration, Undeclared, BehindNames, BehindComma, BehindColon, BehindType, BehindAssign, BehindValue, State, AtLine, Declaring, body_start, at_value, declaration_move, with_declaration, walk}
 use Rattle.wc_grammar_laws.proofs.Skipping.{kept, passed_over}
 use Rattle.wc_grammar_laws.proofs.WalkedLines.{walk_on}
 use Rattle.wc_grammar_laws.proofs.WordLaws.{told_apart, truth_is_found}
 use Rattle.wc_grammar_laws.proofs.Words.{found, literal_of, truth_value, truths}
-use Rattle.wc_model.proofs.Languages.{next_is, passed, both_empty, given_are, regroup, ungroup, before, after}
-use Rattle.wc_model.proofs.Spelling.{same, differ}
+use Rattle.wc_model.proofs.Languages.{next_is, passed, both_empty, given_are, ungroup, after}
+use Rattle.wc_model.proofs.Spelling.{same}
 use Rattle.wc_model.specs.Grammar as grammar
 use Rattle.wc_model.specs.Grammar.{declaration, declared_names, initial_value, IsLiteral, IsOn}
 use Rattle.wc_model.specs.Keywords.{end_var, truth_word}
-use Rattle.wc_model.specs.Languages.{◌then◌, one, optional, skipping}
-use Rattle.wc_model.specs.Marks.{Symbol, Identifier, Comma, Colon, Semicolon, Assign, LineEnd, Mark, IsWord, is_line_end, is_line_end_symbol, name_in}
-use Rattle.wc_model.specs.Names.{Name, name_of}
+use Rattle.wc_model.specs.Languages.{◌then◌, optional, skipping}
+use Rattle.wc_model.specs.Marks.{Symbol, Colon, LineEnd, Mark, is_line_end, is_line_end_symbol}
+use Rattle.wc_model.specs.Names.{name_of}
 use Rattle.wc_model.specs.Tree.{Word, Declaration, ProgramUnit}
 use Rattle.wc_model.specs.declared.source.Initial.{Initial}
 use Rattle.wc_model.specs.declared.source.Section.{Section}
@@ -55,8 +54,8 @@ first_led units unit section d more (first ∷ others) symbol line tokens s e h 
       place = BehindNames (first ∷ []);
       left = d ∷ more;
       moved = ap (λ y. declaration_move units unit section Undeclared y line) y
-        ∙ ap (λ b. Some (if b then AtLine (body_start units unit) else Declaring units unit section (BehindNames (record { line = line; name = name_of bytes } ∷ [])))) (ordinary bytes first n g.0)
-        ∙ ap (λ w. Some (Declaring units unit section (BehindNames (w ∷ [])))) (word_is first line (name_of bytes) k.0.1 n);
+          ∙ ap (λ b. Some (if b then AtLine (body_start units unit) else Declaring units unit section (BehindNames (record { line = line; name = name_of bytes } ∷ [])))) (ordinary bytes first n g.0)
+          ∙ ap (λ w. Some (Declaring units unit section (BehindNames (w ∷ [])))) (word_is first line (name_of bytes) k.0.1 n);
       same = refl;
       rest = (others, s, e, k.1);
     })
@@ -90,7 +89,9 @@ type_led : (units : List ProgramUnit) (unit : ProgramUnit) (section : Section) (
 type_led units unit section d more names type_name None symbol line tokens s e t i h =
     let k = next_is (passed h) in
     record {
-      unit' = with_declaration unit section names type_name None; place = Undeclared; left = more;
+      unit' = with_declaration unit section names type_name None;
+      place = Undeclared;
+      left = more;
       moved = ap (λ y. declaration_move units unit section (BehindType names type_name) y line) k.0;
       same = more_declarations unit d _ more (declaration_is d section names type_name None s e t i);
       rest = k.1;
@@ -98,7 +99,9 @@ type_led units unit section d more names type_name None symbol line tokens s e t
 type_led units unit section d more names type_name (Some initial) symbol line tokens s e t i h =
     let k = next_is (ungroup h) in
     record {
-      unit' = unit; place = BehindAssign names type_name; left = d ∷ more;
+      unit' = unit;
+      place = BehindAssign names type_name;
+      left = d ∷ more;
       moved = ap (λ y. declaration_move units unit section (BehindType names type_name) y line) k.0;
       same = refl;
       rest = (initial, sym (declaration_is d section names type_name (Some initial) s e t i), k.1);
@@ -127,7 +130,9 @@ declared_led units unit section (BehindComma names) [] symbol line tokens h = ab
 declared_led units unit section (BehindComma names) (d ∷ more) symbol line tokens h =
     let k = next_is h.4 in
     named symbol h.0.name k.0.0 (λ bytes y n. record {
-      unit' = unit; place = BehindNames (names ++ h.0 ∷ []); left = d ∷ more;
+      unit' = unit;
+      place = BehindNames (names ++ h.0 ∷ []);
+      left = d ∷ more;
       moved = ap (λ y. declaration_move units unit section (BehindComma names) y line) y ∙ ap (λ w. Some (Declaring units unit section (BehindNames (names ++ w ∷ [])))) (word_is h.0 line (name_of bytes) k.0.1 n);
       same = refl;
       rest = (h.1, h.2, h.3 ∙ sym (append_assoc names (h.0 ∷ []) h.1), k.1);
@@ -136,7 +141,9 @@ declared_led units unit section (BehindColon names) [] symbol line tokens h = ab
 declared_led units unit section (BehindColon names) (d ∷ more) symbol line tokens h =
     let k = next_is h.2 in
     named symbol d.type_name.name k.0.0 (λ bytes y n. record {
-      unit' = unit; place = BehindType names d.type_name; left = d ∷ more;
+      unit' = unit;
+      place = BehindType names d.type_name;
+      left = d ∷ more;
       moved = ap (λ y. declaration_move units unit section (BehindColon names) y line) y ∙ ap (λ w. Some (Declaring units unit section (BehindType names w))) (word_is d.type_name line (name_of bytes) k.0.1 n);
       same = refl;
       rest = (h.0, h.1, refl, k.1);
@@ -147,9 +154,11 @@ declared_led units unit section (BehindAssign names type_name) [] symbol line to
 declared_led units unit section (BehindAssign names type_name) (d ∷ more) symbol line tokens h =
     let k = next_is h.2 in
     record {
-      unit' = unit; place = BehindValue names type_name h.0; left = d ∷ more;
+      unit' = unit;
+      place = BehindValue names type_name h.0;
+      left = d ∷ more;
       moved = literal_taken units unit section names type_name symbol line h.0.value (literal_is h.0.value (mark_on symbol line) k.0.0)
-        ∙ (λ i. Some (Declaring units unit section (BehindValue names type_name (record { value = h.0.value; line = k.0.1 i }))));
+          ∙ (λ i. Some (Declaring units unit section (BehindValue names type_name (record { value = h.0.value; line = k.0.1 i }))));
       same = refl;
       rest = (h.1, k.1);
     }
@@ -157,7 +166,9 @@ declared_led units unit section (BehindValue names type_name initial) [] symbol 
 declared_led units unit section (BehindValue names type_name initial) (d ∷ more) symbol line tokens h =
     let k = next_is h.1 in
     record {
-      unit' = with_declaration unit section names type_name (Some initial); place = Undeclared; left = more;
+      unit' = with_declaration unit section names type_name (Some initial);
+      place = Undeclared;
+      left = more;
       moved = ap (λ y. declaration_move units unit section (BehindValue names type_name initial) y line) k.0;
       same = more_declarations unit d _ more (sym h.0);
       rest = k.1;

@@ -1,11 +1,10 @@
 -- The lines of a body are walked.
 use Rattle.std.proofs.Common.{◌≡◌, ◌≢◌, ℕ, Bool, true, false, List, [], ◌∷◌, ◌++◌, Option, Some, None, refl, ap, subst, if◌then◌else◌, ◌∙◌, sym, inl, inr}
-use Rattle.std.specs.Prelude.{cond, ◌⊎◌}
-use Rattle.wc_grammar_laws.proofs.LineComplete.{Leads, end_is, move_led}
-use Rattle.wc_grammar_laws.proofs.LineMoves.{LineForm, LabelAlone, Instructs, Opens, Begun, Listed, OperandOf, OfStep, OfOpening, OfArgument, InList, AtFirst, AtNext, AtAssign, AtValue, AtEnd, LineState, Start, Worded, Labelled, Operated, Jumped, Called, Instanced, Listing, Bracketed, Named, Pointed, Stepped, BracketedWith, Ended, at_start, at_start_in, line_move, operator_or_label}
-use Rattle.wc_grammar_laws.proofs.LineRests.{line_of, labelled_rest, rest_of, behind_its_name, behind_its_point, list_rest, operand_rest}
-use Rattle.wc_grammar_laws.proofs.LineStart.{start_led, no_colon}
-use Rattle.wc_grammar_laws.proofs.Moves.{State, AtLine, OnLine, Closed, behind_line, behind_closing, begun_line, body_move, colon_next, is_colon, lines_and, has_content, move, on_line, behind_unit, section_begun, start_move, section_or_line, walk, word_move}
+use Rattle.wc_grammar_laws.proofs.LineComplete.{Leads, move_led}
+use Rattle.wc_grammar_laws.proofs.LineMoves.{LineForm, LabelAlone, Instructs, Opens, OfStep, OfOpening, OfArgument, LineState, Start, Worded, Labelled, Operated, Jumped, Called, Instanced, Listing, Bracketed, Named, Pointed, Stepped, BracketedWith, Ended, at_start, at_start_in, line_move, operator_or_label}
+use Rattle.wc_grammar_laws.proofs.LineRests.{line_of, rest_of}
+use Rattle.wc_grammar_laws.proofs.LineStart.{start_led}
+use Rattle.wc_grammar_laws.proofs.Moves.{State, AtLine, Closed, behind_line, behind_closing, begun_line, body_move, colon_next, is_colon, lines_and, has_content, move, on_line, behind_unit, section_begun, start_move, section_or_line, walk, word_move}
 use Rattle.wc_grammar_laws.proofs.WordLaws.{found_operation}
 use Rattle.wc_grammar_laws.proofs.Words.{Loads, Stores, Applies, Operation, Operates, Negates, Jumps, Calls, Returns, found, operations, operation_word, section_words}
 use Rattle.wc_model.proofs.Languages.{next_is, both_empty, regroup, after, given_first}
@@ -14,22 +13,19 @@ use Rattle.wc_model.specs.Grammar as grammar
 use Rattle.wc_model.specs.Grammar.{IsOn, Setting, InBody, InParentheses, HasContent, lines, line_ends, label_in, opening, instruction}
 use Rattle.wc_model.specs.Keywords.{end_word}
 use Rattle.wc_model.specs.Languages.{◌then◌, one}
-use Rattle.wc_model.specs.Marks.{Symbol, Identifier, Colon, LineEnd, ClosingBracket, Mark, IsSymbol}
+use Rattle.wc_model.specs.Marks.{Symbol, Identifier, LineEnd, ClosingBracket, Mark, IsSymbol}
 use Rattle.wc_model.specs.Names.{Name, name_of}
 use Rattle.wc_model.specs.Positions.{Opening, Position, setting_in}
-use Rattle.wc_model.specs.Tree.{Word, Term, Lines, End, Alone, Plain, Nested}
+use Rattle.wc_model.specs.Tree.{Term, Lines, End, Alone, Plain, Nested}
 use Rattle.wc_model.specs.declared.operator.Condition.TheVariants.{Always, IfTrue, IfFalse}
-use Rattle.wc_model.specs.declared.operator.Operator.{Operator}
 use Rattle.wc_model.specs.declared.operator.Operator.TheVariants.{And, Andn, Or, Orn, Xor, Xorn, Add, Sub, Mul, Div, Mod, Gt, Ge, Eq, Ne, Le, Lt}
 use Rattle.wc_model.specs.declared.operator.Storing.TheVariants.{Result, Negation, Set, Reset}
-use Rattle.wc_model.specs.declared.source.Section.{Section}
 use Rattle.wc_model.specs.declared.source.UnitKind.{UnitKind}
 use Rattle.wc_model.specs.declared.source.UnitKind.TheVariants.{FunctionBlock, Program}
 
 -- behind a first move
 abbrev pub walk_on : Option State → List Mark → Bool → Option State
 walk_on next tokens colon = elim next as (λ _. Option State) [ None ↦ None | Some state ↦ walk state tokens colon ]
-
 
 -- whether a colon follows a front, where it follows the whole
 pub next_of_both : (front rest : List Mark) (colon : Bool) → colon_next (front ++ rest) colon ≡ colon_next front (colon_next rest colon)
@@ -268,35 +264,38 @@ pub lines_walked : (ls : Lines) (p : Position) (tokens : List Mark) (colon : Boo
 lines_walked End p tokens colon h = line_ends_walked p tokens colon h ∙ (λ i. Some (AtLine (record p { done = sym (lines_and_end p.done) i })))
 lines_walked (Alone label rest) p tokens colon h =
     parts_walked line_ends (line_of (setting_in p.openings) (LabelAlone label) then lines (setting_in p.openings) rest) (AtLine p) (AtLine p) tokens colon _ (after (λ ts k. regroup k) h)
-      (λ front c l. line_ends_walked p front c l)
-      (λ more k. parts_walked (line_of (setting_in p.openings) (LabelAlone label)) (lines (setting_in p.openings) rest) (AtLine p) (AtLine (behind_line p (LabelAlone label))) more colon _ k
-        (λ front c l. line_walked p (LabelAlone label) front c l)
-        (λ others l. lines_walked rest (behind_line p (LabelAlone label)) others colon l ∙ ap (λ q. Some (AtLine q)) (with_more p (Alone label End) rest)))
+    (λ front c l. line_ends_walked p front c l)
+    (λ more k. parts_walked (line_of (setting_in p.openings) (LabelAlone label)) (lines (setting_in p.openings) rest) (AtLine p) (AtLine (behind_line p (LabelAlone label))) more colon _ k
+    (λ front c l. line_walked p (LabelAlone label) front c l)
+    (λ others l. lines_walked rest (behind_line p (LabelAlone label)) others colon l ∙ ap (λ q. Some (AtLine q)) (with_more p (Alone label End) rest)))
 lines_walked (Plain label line step rest) p tokens colon h =
     parts_walked line_ends (line_of (setting_in p.openings) (Instructs label line step) then lines (setting_in p.openings) rest) (AtLine p) (AtLine p) tokens colon _
-      (after (λ ts k. given_first h.0 (regroup (after (λ us l. regroup l) k))) h.1)
-      (λ front c l. line_ends_walked p front c l)
-      (λ more k. parts_walked (line_of (setting_in p.openings) (Instructs label line step)) (lines (setting_in p.openings) rest) (AtLine p) (AtLine (behind_line p (Instructs label line step))) more colon _ k
-        (λ front c l. line_walked p (Instructs label line step) front c l)
-        (λ others l. lines_walked rest (behind_line p (Instructs label line step)) others colon l ∙ ap (λ q. Some (AtLine q)) (with_more p (Plain label line step End) rest)))
+    (after (λ ts k. given_first h.0 (regroup (after (λ us l. regroup l) k))) h.1)
+    (λ front c l. line_ends_walked p front c l)
+    (λ more k. parts_walked (line_of (setting_in p.openings) (Instructs label line step)) (lines (setting_in p.openings) rest) (AtLine p) (AtLine (behind_line p (Instructs label line step))) more colon _ k
+    (λ front c l. line_walked p (Instructs label line step) front c l)
+    (λ others l. lines_walked rest (behind_line p (Instructs label line step)) others colon l ∙ ap (λ q. Some (AtLine q)) (with_more p (Plain label line step End) rest)))
 lines_walked (Nested label line operator x inside close rest) p tokens colon h =
     parts_walked line_ends (line_of (setting_in p.openings) (Opens label line operator x) then tail) (AtLine p) (AtLine p) tokens colon _ (after (λ ts k. regroup k) h.1)
-      (λ front c l. line_ends_walked p front c l)
-      (λ more k. parts_walked (line_of (setting_in p.openings) (Opens label line operator x)) tail (AtLine p) (AtLine (behind_line p (Opens label line operator x))) more colon _ k
-        (λ front c l. line_walked p (Opens label line operator x) front c l)
-        (λ others l. parts_walked (lines InParentheses inside) (one (IsOn close (IsSymbol ClosingBracket)) then grammar.symbol LineEnd then lines (setting_in p.openings) rest) (AtLine (behind_line p (Opens label line operator x))) (AtLine q) others colon _ l
-          (λ front c m. lines_walked inside (behind_line p (Opens label line operator x)) front c m)
-          (λ others' m. parts_walked (one (IsOn close (IsSymbol ClosingBracket))) (grammar.symbol LineEnd then lines (setting_in p.openings) rest) (AtLine q) (Closed r) others' colon _ m
-            (λ front c n. closing_walked q o p.openings close front c refl h.0 n)
-            (λ others'' n. parts_walked (grammar.symbol LineEnd) (lines (setting_in p.openings) rest) (Closed r) (AtLine r) others'' colon _ n
-              (λ front c w. end_walked r front c w)
-              (λ last w. lines_walked rest r last colon w ∙ ap (λ q. Some (AtLine q)) (with_more p (Nested label line operator x inside close End) rest))))))
+    (λ front c l. line_ends_walked p front c l)
+    (λ more k. parts_walked (line_of (setting_in p.openings) (Opens label line operator x)) tail (AtLine p) (AtLine (behind_line p (Opens label line operator x))) more colon _ k
+    (λ front c l. line_walked p (Opens label line operator x) front c l)
+    (λ others l. parts_walked (lines InParentheses inside) (one (IsOn close (IsSymbol ClosingBracket)) then grammar.symbol LineEnd then lines (setting_in p.openings) rest) (AtLine (behind_line p (Opens label line operator x))) (AtLine q) others colon _ l
+    (λ front c m. lines_walked inside (behind_line p (Opens label line operator x)) front c m)
+    (λ others' m. parts_walked (one (IsOn close (IsSymbol ClosingBracket))) (grammar.symbol LineEnd then lines (setting_in p.openings) rest) (AtLine q) (Closed r) others' colon _ m
+    (λ front c n. closing_walked q o p.openings close front c refl h.0 n)
+    (λ others'' n. parts_walked (grammar.symbol LineEnd) (lines (setting_in p.openings) rest) (Closed r) (AtLine r) others'' colon _ n
+    (λ front c w. end_walked r front c w)
+    (λ last w. lines_walked rest r last colon w ∙ ap (λ q. Some (AtLine q)) (with_more p (Nested label line operator x inside close End) rest))))))
   where
     tail : List Mark → Type 0
     tail = lines InParentheses inside then one (IsOn close (IsSymbol ClosingBracket)) then grammar.symbol LineEnd then lines (setting_in p.openings) rest
+
     o : Opening
     o = record { before = p.done; label = label; line = line; operator = operator; operand = x }
+
     q : Position
     q = with_lines (behind_line p (Opens label line operator x)) inside
+
     r : Position
     r = behind_closing q o p.openings close

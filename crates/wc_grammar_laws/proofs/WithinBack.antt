@@ -1,26 +1,26 @@
 -- Where the limits and the order hold behind a token, they held before it, and no fault was judged at it.
-use Rattle.std.proofs.Common.{◌≡◌, ◌≢◌, ◌≤◌, ◌+◌, ℕ, zero, suc, Bool, true, false, List, [], ◌∷◌, ◌++◌, length, Option, Some, None, refl, ap, subst, append-nil, if◌then◌else◌, ◌∙◌, sym, inl, inr, arith, ◌⊎◌, not}
+use Rattle.std.proofs.Common.{◌≡◌, ◌≢◌, ◌≤◌, ℕ, suc, Bool, true, false, List, [], ◌∷◌, ◌++◌, length, Option, Some, None, refl, ap, subst, if◌then◌else◌, ◌∙◌, sym, inl, inr, arith, ◌⊎◌, not}
 use Rattle.std.proofs.lemmas.Bool.Decides.{nat_tests}
 use Rattle.std.proofs.lemmas.List.{length-append}
-use Rattle.std.specs.List.{AllByRecursion, list_any}
+use Rattle.std.specs.List.{AllByRecursion}
 use Rattle.std.specs.Prelude.{◌&&◌, ◌||◌, is_some, nat_le, option_map}
-use Rattle.wc_grammar_laws.proofs.Bounds.{HasRoom, IsDeepEnough, PositionWithin, Within, closed_was_within, counted, opened}
+use Rattle.wc_grammar_laws.proofs.Bounds.{IsDeepEnough, PositionWithin, Within, closed_was_within, counted, opened}
 use Rattle.wc_grammar_laws.proofs.Exits.{AreBlocks}
-use Rattle.wc_grammar_laws.proofs.LineBounds.{Counts, CountsOnce, Fits, IsSteady, WithinNext, count_operator, fitted, fitted_by, labelled_once, operated_counts, steady}
+use Rattle.wc_grammar_laws.proofs.LineBounds.{Counts, IsSteady, count_operator, fitted, fitted_by, operated_counts, steady}
 use Rattle.wc_grammar_laws.proofs.LineComplete.{labelled_operator}
-use Rattle.wc_grammar_laws.proofs.LineMoves.{LineForm, LabelAlone, Instructs, Opens, operator_or_label, Begun, LineState, Start, Worded, Labelled, Operated, Jumped, Called, Instanced, Listing, Bracketed, Named, Pointed, Stepped, BracketedWith, Ended, at_labelled, at_operated, at_operator, at_start, at_start_in, behind_operator, line_move, simple_operator}
-use Rattle.wc_grammar_laws.proofs.LineStart.{operator_taken, simple_taken}
-use Rattle.wc_grammar_laws.proofs.Moves.{InDeclaration, Undeclared, BehindNames, BehindComma, BehindColon, BehindType, BehindAssign, BehindValue, State, Outside, Unnamed, Declaring, AtLine, OnLine, Closed, Met, at_value, begins_transfer, begun_line, behind_closing, behind_line, behind_unit, body_move, body_start, declaration_move, has_content, has_name, has_program, inside_move, is_full, is_identifier, is_program, judge, judge_closing, judge_line, judge_on_line, judge_operator, judge_unit, met_if, met_or, move, on_line, section_begun, section_or_line, start_move, unit_with, word_move}
+use Rattle.wc_grammar_laws.proofs.LineMoves.{LineForm, LabelAlone, Instructs, Opens, operator_or_label, Begun, LineState, Start, Labelled, Operated, Bracketed, Ended, at_labelled, at_operated, at_operator, at_start, behind_operator, line_move, simple_operator}
+use Rattle.wc_grammar_laws.proofs.LineStart.{operator_taken}
+use Rattle.wc_grammar_laws.proofs.Moves.{InDeclaration, Undeclared, BehindNames, BehindComma, BehindColon, BehindType, BehindAssign, BehindValue, State, Outside, Unnamed, Declaring, AtLine, OnLine, Closed, Met, at_value, begins_transfer, begun_line, behind_closing, behind_line, behind_unit, body_move, body_start, declaration_move, has_content, has_name, has_program, inside_move, is_full, is_identifier, is_program, judge, judge_closing, judge_line, judge_on_line, judge_operator, judge_unit, met_if, met_or, move, on_line, section_begun, section_or_line, start_move, unit_with}
 use Rattle.wc_grammar_laws.proofs.WalkedLines.{ends_no_unit}
-use Rattle.wc_grammar_laws.proofs.WithinOn.{HasBegun, RejectsColon, at_operator_rejects, simple_rejects}
+use Rattle.wc_grammar_laws.proofs.WithinOn.{HasBegun, RejectsColon, simple_rejects}
 use Rattle.wc_grammar_laws.proofs.WordLaws.{found_operation, found_section, same_is}
-use Rattle.wc_grammar_laws.proofs.Words.{Applies, Operating, Loads, Stores, Operation, Operates, found, is_transfer, literal_of, operation_of, operation_word, operations, section_words, unit_kinds}
+use Rattle.wc_grammar_laws.proofs.Words.{Applies, Operating, Loads, Stores, Operation, found, is_transfer, literal_of, operation_of, operations, unit_kinds}
 use Rattle.wc_model.proofs.Spelling.{same}
-use Rattle.wc_model.specs.Grammar.{InBody, InParentheses, IsProgramLast}
+use Rattle.wc_model.specs.Grammar.{IsProgramLast}
 use Rattle.wc_model.specs.Keywords.{end_var, end_word, section_word}
 use Rattle.wc_model.specs.Limits.{IsBodyWithinLimits, depth, line_count, lines_before, lines_opened, most_depth, most_lines, most_units}
 use Rattle.wc_model.specs.Marks.{Symbol, Ampersand, AmpersandN, Identifier, ClosingBracket, OpeningBracket, Colon, Comma, Semicolon, Assign, LineEnd}
-use Rattle.wc_model.specs.Names.{Name, name_of}
+use Rattle.wc_model.specs.Names.{name_of}
 use Rattle.wc_model.specs.Positions.{Opening, Position, setting_in}
 use Rattle.wc_model.specs.ReadingFaults.{NotAllowedInParentheses, NotOneProgramLast, ReadingFault, TooDeep, TooMany, EmptyParentheses, ParenthesisNotPaired}
 use Rattle.wc_model.specs.Tree.{Alone, End, Lines, Nested, Plain, ProgramUnit, Word}
@@ -143,7 +143,8 @@ start_was_good p symbol line None e = by_symbol symbol e
   where
     word_good : (word : Word) (bytes : List ℕ) → found operations (name_of bytes) ≡ None → WasGood (AtLine p) (judge_operator p (Identifier bytes) line false) false (begun_line p (Some (operator_or_label word (found operations (name_of bytes)))))
     word_good word bytes e = subst (λ o. WasGood (AtLine p) (judge_operator p (Identifier bytes) line false) false (begun_line p (Some (operator_or_label word o)))) (sym e)
-      (λ good. ((less_within p 0 0 good.0, good.1), inl (no_operator_passes p (Identifier bytes) line false e)))
+        (λ good. ((less_within p 0 0 good.0, good.1), inl (no_operator_passes p (Identifier bytes) line false e)))
+
     by_symbol : (symbol : Symbol) → operation_of symbol ≡ None → WasGood (AtLine p) (judge_operator p symbol line false) false (begun_line p (at_start symbol line false))
     by_symbol (Identifier bytes) e = word_good (record { line = line; name = name_of bytes }) bytes e
     by_symbol Ampersand e = absurd (cc)
@@ -151,7 +152,7 @@ start_was_good p symbol line None e = by_symbol symbol e
     by_symbol _ e = tt
 start_was_good p symbol line (Some operation) e =
     subst (λ n. WasGood (AtLine p) (judge_operator p symbol line false) false (begun_line p n)) (sym (operator_taken symbol line operation false e refl))
-      (line_was_good p (AtLine p) (judge_operator p symbol line false) false 1 0 (Some (behind_operator None line operation)) (count_operator None line operation) (λ k b. (less_within p 1 0 k, b)) (λ state s k. inl (operator_passes p symbol line false (has_line p 0 k))))
+    (line_was_good p (AtLine p) (judge_operator p symbol line false) false 1 0 (Some (behind_operator None line operation)) (count_operator None line operation) (λ k b. (less_within p 1 0 k, b)) (λ state s k. inl (operator_passes p symbol line false (has_line p 0 k))))
 
 -- no operator ends a unit
 end_no_operator : (kind : UnitKind) → found operations (end_word kind) ≡ None
@@ -194,9 +195,10 @@ section_start_was_good p done bytes line None e d s = start_was_good p (Identifi
 section_start_was_good p End bytes line (Some section) e d s = λ g.
     let l = ap lines_opened e in
     let n = ap line_count d in
-    let o = ap length e in
-    (((g.0, omega (arith, l, n), subst (λ os. IsDeepEnough os p.done) (sym e) (omega (arith, ap depth d)), omega (arith, o)), g.1),
-     inl (no_operator_passes p (Identifier bytes) line false (ap (found operations) (found_section (name_of bytes) section s) ∙ section_no_operator section)))
+    let o = ap length e in (
+      ((g.0, omega (arith, l, n), subst (λ os. IsDeepEnough os p.done) (sym e) (omega (arith, ap depth d)), omega (arith, o)), g.1),
+      inl (no_operator_passes p (Identifier bytes) line false (ap (found operations) (found_section (name_of bytes) section s) ∙ section_no_operator section)),
+    )
 section_start_was_good p (Alone label rest) bytes line (Some section) e d s = absurd (cc)
 section_start_was_good p (Plain label n step rest) bytes line (Some section) e d s = absurd (cc)
 section_start_was_good p (Nested label n operator x inside close rest) bytes line (Some section) e d s = absurd (cc)
@@ -240,8 +242,8 @@ no_identifier_colon false = refl
 simple_passes : (p : Position) (o : Opening) (outer : List Opening) (symbol : Symbol) (line : ℕ) (operation : Operation) → operation_of symbol ≡ Some operation → is_transfer operation ≡ false → is_full p ≡ false → judge_line p (o ∷ outer) symbol line false ≡ None
 simple_passes p o outer symbol line operation e t f =
     neither_met _ _ (fails (begins_transfer (operation_of symbol)) NotAllowedInParentheses line (ap begins_transfer e ∙ t))
-      (neither_met _ _ (fails (is_identifier symbol && false) NotAllowedInParentheses line (no_identifier_colon (is_identifier symbol)))
-        (neither_met _ _ (fails (has_name symbol (end_word p.unit.kind)) ParenthesisNotPaired o.line (operator_no_end symbol p.unit.kind operation e)) (operator_passes p symbol line false f)))
+    (neither_met _ _ (fails (is_identifier symbol && false) NotAllowedInParentheses line (no_identifier_colon (is_identifier symbol)))
+    (neither_met _ _ (fails (has_name symbol (end_word p.unit.kind)) ParenthesisNotPaired o.line (operator_no_end symbol p.unit.kind operation e)) (operator_passes p symbol line false f)))
 
 simple_was_good : (p : Position) (o : Opening) (outer : List Opening) (symbol : Symbol) (line : ℕ) (colon : Bool) (operation : Option Operation) → operation_of symbol ≡ operation
     → WasGood (AtLine p) (judge_line p (o ∷ outer) symbol line colon) colon (begun_line p (simple_operator line operation))
@@ -252,10 +254,10 @@ simple_was_good p o outer symbol line colon (Some operation) e = by_transfer (is
     by_transfer true t colon = tt
     by_transfer false t false =
         line_was_good p (AtLine p) (judge_line p (o ∷ outer) symbol line false) false 1 0 (Some (behind_operator None line operation)) (count_operator None line operation) (λ k b. (less_within p 1 0 k, b))
-          (λ state s k. inl (simple_passes p o outer symbol line operation e t (has_line p 0 k)))
+        (λ state s k. inl (simple_passes p o outer symbol line operation e t (has_line p 0 k)))
     by_transfer false t true =
         line_was_good p (AtLine p) (judge_line p (o ∷ outer) symbol line true) true 1 0 (Some (behind_operator None line operation)) (count_operator None line operation) (λ k b. (less_within p 1 0 k, b))
-          (λ state s k. inr (refl, rejects state s))
+        (λ state s k. inr (refl, rejects state s))
       where
         rejects : (state : LineState) → Some (behind_operator None line operation) ≡ Some state → RejectsColon (Some (on_line p state))
         rejects state s = subst (λ l. RejectsColon (begun_line p l)) s (subst (λ b. RejectsColon (begun_line p (if b then None else Some (behind_operator None line operation)))) t (simple_rejects p line (Some operation)))
@@ -281,8 +283,8 @@ labelled_was_good : (p : Position) (label : Word) (symbol : Symbol) (line : ℕ)
     → WasGood (OnLine p (Labelled label)) (met_if (is_some (operation_of symbol) && is_full p) TooMany line) colon (begun_line p (at_labelled label symbol line))
 labelled_was_good p label symbol line colon (Some operation) e =
     subst (λ n. WasGood (OnLine p (Labelled label)) (met_if (is_some (operation_of symbol) && is_full p) TooMany line) colon (begun_line p n)) (sym (labelled_operator label symbol line operation e))
-      (line_was_good p (OnLine p (Labelled label)) _ colon 1 0 (Some (behind_operator (Some label) line operation)) (count_operator (Some label) line operation) (λ k b. (less_within p 1 0 k, b))
-        (λ state s k. inl (fails (is_some (operation_of symbol) && is_full p) TooMany line (last_fails (is_some (operation_of symbol)) (is_full p) (has_line p 0 k)))))
+    (line_was_good p (OnLine p (Labelled label)) _ colon 1 0 (Some (behind_operator (Some label) line operation)) (count_operator (Some label) line operation) (λ k b. (less_within p 1 0 k, b))
+    (λ state s k. inl (fails (is_some (operation_of symbol) && is_full p) TooMany line (last_fails (is_some (operation_of symbol)) (is_full p) (has_line p 0 k)))))
 labelled_was_good p label LineEnd line colon None e =
     line_was_good p (OnLine p (Labelled label)) _ colon 0 0 (Some (Ended (LabelAlone label))) (refl, refl) (λ k b. (less_within p 0 0 k, b)) (λ state s k. inl refl)
 labelled_was_good p label symbol line colon None e = subst (λ o. WasGood (OnLine p (Labelled label)) (met_if (is_some (operation_of symbol) && is_full p) TooMany line) colon (begun_line p (at_operator (Some label) line o))) (sym e) tt
@@ -292,7 +294,7 @@ operated_was_good : (p : Position) (begun : Begun) (operating : Operating) (symb
     → WasGood (OnLine p (Operated begun operating)) (judge_on_line p (Operated begun operating) symbol line) colon (begun_line p (at_operated begun operating symbol line))
 operated_was_good p begun (Applies operator) OpeningBracket line colon =
     line_was_good p (OnLine p (Operated begun (Applies operator))) _ colon 1 1 (Some (Bracketed begun operator)) (refl, refl) (λ k b. ((k.0, k.1, k.2, omega (arith, k.3)), b))
-      (λ state s k. inl (fails (nat_le most_depth (length p.openings)) TooDeep begun.line (above most_depth (length p.openings) (omega (arith, k.3)))))
+    (λ state s k. inl (fails (nat_le most_depth (length p.openings)) TooDeep begun.line (above most_depth (length p.openings) (omega (arith, k.3)))))
 operated_was_good p begun (Loads negated) OpeningBracket line colon = tt
 operated_was_good p begun (Stores storing) OpeningBracket line colon = tt
 operated_was_good p begun operating symbol line colon =

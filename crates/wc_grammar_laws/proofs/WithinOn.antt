@@ -1,23 +1,22 @@
 -- The limits hold along the walk where no fault is judged.
-use Rattle.std.proofs.Common.{◌≡◌, ◌≢◌, ◌≤◌, ◌+◌, ℕ, zero, suc, Bool, true, false, List, [], ◌∷◌, ◌++◌, length, Option, Some, None, refl, ap, subst, append-nil, if◌then◌else◌, ◌∙◌, sym, inl, inr, arith, ◌⊎◌, not}
+use Rattle.std.proofs.Common.{◌≡◌, ◌≢◌, ◌≤◌, ℕ, suc, Bool, true, false, List, [], ◌∷◌, ◌++◌, length, Option, Some, None, refl, ap, subst, if◌then◌else◌, ◌∙◌, sym, inl, inr, arith, ◌⊎◌, not}
 use Rattle.std.proofs.lemmas.Bool.Decides.{nat_tests}
 use Rattle.std.proofs.lemmas.List.{length-append}
 use Rattle.std.specs.List.{AllByRecursion}
 use Rattle.std.specs.Prelude.{◌&&◌, is_some, nat_le, option_map}
-use Rattle.wc_grammar_laws.proofs.Bounds.{HasRoom, IsDeepEnough, PositionWithin, Within, closed_within, counted, opened}
-use Rattle.wc_grammar_laws.proofs.LineBounds.{CountsOnce, Fits, IsSteady, WithinNext, count_operator, fits_by, fits_on, labelled_once, operated_counts, simple_once, start_once, steady}
-use Rattle.wc_grammar_laws.proofs.LineMoves.{Begun, LineState, Start, Worded, Labelled, Operated, Jumped, Called, Instanced, Listing, Bracketed, Named, Pointed, Stepped, BracketedWith, Ended, at_labelled, at_operated, at_operator, at_start, at_start_in, behind_operator, line_move, simple_operator}
-use Rattle.wc_grammar_laws.proofs.Moves.{InDeclaration, Undeclared, BehindNames, BehindComma, BehindColon, BehindType, BehindAssign, BehindValue, State, Outside, Unnamed, Declaring, AtLine, OnLine, Closed, Met, at_value, begins_transfer, begun_line, behind_closing, behind_unit, body_move, body_start, declaration_move, has_content, has_name, has_program, inside_move, is_full, is_identifier, judge, judge_closing, judge_line, judge_on_line, judge_operator, judge_unit, met_if, met_or, move, named_unit, section_begun, section_or_line, start_move, unit_with, word_move}
+use Rattle.wc_grammar_laws.proofs.Bounds.{HasRoom, IsDeepEnough, Within, closed_within, counted, opened}
+use Rattle.wc_grammar_laws.proofs.LineBounds.{CountsOnce, Fits, IsSteady, WithinNext, fits_by, fits_on, labelled_once, operated_counts, simple_once, start_once, steady}
+use Rattle.wc_grammar_laws.proofs.LineMoves.{Begun, LineState, Start, Worded, Labelled, Operated, at_labelled, at_operated, at_operator, at_start, behind_operator, line_move, simple_operator}
+use Rattle.wc_grammar_laws.proofs.Moves.{InDeclaration, Undeclared, BehindNames, BehindComma, BehindColon, BehindType, BehindAssign, BehindValue, State, Outside, Unnamed, Declaring, AtLine, OnLine, Closed, Met, at_value, begins_transfer, begun_line, behind_closing, behind_unit, body_move, body_start, declaration_move, has_content, has_name, has_program, inside_move, is_full, is_identifier, judge, judge_closing, judge_line, judge_on_line, judge_operator, judge_unit, met_if, met_or, move, named_unit, section_begun, section_or_line, start_move, unit_with}
 use Rattle.wc_grammar_laws.proofs.Words.{Applies, Operating, Loads, Stores, Operation, Operates, Negates, Jumps, Calls, Returns, found, is_transfer, literal_of, operation_of, unit_kinds}
 use Rattle.wc_model.proofs.Spelling.{same}
-use Rattle.wc_model.specs.Grammar.{InBody, InParentheses}
 use Rattle.wc_model.specs.Keywords.{end_var, end_word}
-use Rattle.wc_model.specs.Limits.{IsBodyWithinLimits, depth, line_count, lines_before, lines_opened, most_depth, most_lines, most_units}
-use Rattle.wc_model.specs.Marks.{Symbol, Ampersand, AmpersandN, Identifier, ClosingBracket, OpeningBracket, Colon, Comma, Semicolon, Assign, LineEnd}
+use Rattle.wc_model.specs.Limits.{IsBodyWithinLimits, lines_before, lines_opened, most_depth, most_lines, most_units}
+use Rattle.wc_model.specs.Marks.{Symbol, Identifier, ClosingBracket, OpeningBracket, Colon, Comma, Semicolon, Assign, LineEnd}
 use Rattle.wc_model.specs.Names.{name_of}
 use Rattle.wc_model.specs.Positions.{Opening, Position, setting_in}
 use Rattle.wc_model.specs.ReadingFaults.{NotAllowedInParentheses, NotOneProgramLast, ReadingFault, TooDeep, TooMany, EmptyParentheses, ParenthesisNotPaired}
-use Rattle.wc_model.specs.Tree.{End, Lines, ProgramUnit, Word}
+use Rattle.wc_model.specs.Tree.{ProgramUnit, Word}
 use Rattle.wc_model.specs.declared.source.Section.{Section}
 use Rattle.wc_model.specs.declared.source.UnitKind.{UnitKind}
 use Rattle.wc_model.specs.declared.value.Value.{Value}
@@ -171,7 +170,7 @@ first_token_within p (o ∷ outer) symbol line colon e j h = inside_within p o o
 labelled_within : (p : Position) (label : Word) (symbol : Symbol) (line : ℕ) → met_if (is_some (operation_of symbol) && is_full p) TooMany line ≡ None → Within (OnLine p (Labelled label)) → WithinNext (begun_line p (at_labelled label symbol line))
 labelled_within p label symbol line j h =
     once_within p symbol line (at_labelled label symbol line) (labelled_once label symbol line) h
-      (λ s. sym (ap (λ b. b && is_full p) s) ∙ test_fails (is_some (operation_of symbol) && is_full p) TooMany line j)
+    (λ s. sym (ap (λ b. b && is_full p) s) ∙ test_fails (is_some (operation_of symbol) && is_full p) TooMany line j)
 
 -- behind an operator with an operand
 operated_within : (p : Position) (begun : Begun) (operating : Operating) (symbol : Symbol) (line : ℕ) → judge_on_line p (Operated begun operating) symbol line ≡ None → Within (OnLine p (Operated begun operating)) → WithinNext (begun_line p (at_operated begun operating symbol line))

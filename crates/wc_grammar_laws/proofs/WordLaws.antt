@@ -1,7 +1,7 @@
 -- What the tables of words say: a word stands for one thing, and is found.
-use Rattle.std.proofs.Common.{◌≡◌, ℕ, Bool, true, false, List, [], ◌∷◌, map, Option, Some, None, refl, ap, subst, ◌∙◌, sym, inl, inr, arith}
+use Rattle.std.proofs.Common.{◌≡◌, ℕ, Bool, true, false, List, [], ◌∷◌, map, Some, None, refl, ap, subst, ◌∙◌, inl, inr, arith}
 use Rattle.std.proofs.lemmas.Bool.Decides.{nat_tests}
-use Rattle.std.specs.Prelude.{◌≢◌, ◌⊎◌, if◌then◌else◌, ◌&&◌, eqb}
+use Rattle.std.specs.Prelude.{◌≢◌, if◌then◌else◌, ◌&&◌, eqb}
 use Rattle.std.specs.List.{AllByRecursion}
 use Rattle.wc_grammar_laws.proofs.Words.{found, Operating, Loads, Stores, Applies, Operation, Operates, Negates, Jumps, Calls, Returns, operation_word, all_operations, operations, worded, step_of, operation_of, unit_kinds, section_words, truths}
 use Rattle.wc_model.proofs.Spelling.{same}
@@ -203,4 +203,3 @@ step_begins Negate mark h = named_operation mark.symbol Negates h
 step_begins (Jump condition label) mark h = named_operation mark.symbol (Jumps condition) h
 step_begins (Call condition instance arguments) mark h = named_operation mark.symbol (Calls condition) h
 step_begins (Return condition) mark h = named_operation mark.symbol (Returns condition) h
-

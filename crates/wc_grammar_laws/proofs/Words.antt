@@ -1,5 +1,5 @@
 -- What a word of the language stands for.
-use Rattle.std.specs.Prelude.{ℕ, Bool, true, false, List, [], ◌∷◌, map, Option, Some, None, if◌then◌else◌}
+use Rattle.std.specs.Prelude.{Bool, true, false, List, [], ◌∷◌, map, Option, Some, None, if◌then◌else◌}
 use Rattle.wc_model.proofs.Spelling.{same}
 use Rattle.wc_model.specs.Keywords.{unit_word, section_word, truth_word, load_word, store_word, operator_word, not_word, jump_word, call_word, return_word}
 use Rattle.wc_model.specs.Marks.{Symbol, Identifier, Whole, Duration, Truth, Ampersand, AmpersandN}
