@@ -1,7 +1,7 @@
 -- A walk over the tokens of a whole text, token by token: where they stop, which fault is met at the next, and what they spell.
-use Rattle.std.specs.Prelude.{ℕ, ◌+◌, nat_le, Bool, true, false, not, ◌&&◌, List, [], ◌∷◌, ◌++◌, length, Option, Some, None, option_map, is_some, Result, Ok, Err, if◌then◌else◌}
+use Rattle.std.specs.Prelude.{ℕ, nat_le, Bool, true, false, not, ◌&&◌, List, [], ◌∷◌, ◌++◌, length, Option, Some, None, option_map, is_some, Result, Ok, Err, if◌then◌else◌}
 use Rattle.std.specs.List.{list_any}
-use Rattle.wc_grammar_laws.proofs.LineMoves.{LineForm, LabelAlone, Instructs, Opens, Begun, OperandOf, OfStep, OfOpening, OfArgument, LineState, Start, Labelled, Operated, Bracketed, BracketedWith, Named, Pointed, Ended, line_move}
+use Rattle.wc_grammar_laws.proofs.LineMoves.{LineForm, LabelAlone, Instructs, Opens, OfOpening, LineState, Start, Labelled, Operated, Bracketed, BracketedWith, Named, Pointed, Ended, line_move}
 use Rattle.wc_grammar_laws.proofs.Words.{Applies, Operation, found, is_transfer, literal_of, operation_of, section_words, unit_kinds}
 use Rattle.wc_model.proofs.Spelling.{same}
 use Rattle.wc_model.specs.Grammar.{InBody, InParentheses}
@@ -11,7 +11,7 @@ use Rattle.wc_model.specs.Marks.{Symbol, Identifier, ClosingBracket, OpeningBrac
 use Rattle.wc_model.specs.Names.{Name, name_of}
 use Rattle.wc_model.specs.Positions.{Opening, Position, setting_in}
 use Rattle.wc_model.specs.ReadingFaults.{ReadingFault, UnexpectedToken, UnitNotClosed, NotOneProgramLast, EmptyParentheses, NotAllowedInParentheses, ParenthesisNotPaired, TooDeep, TooMany}
-use Rattle.wc_model.specs.Tree.{Word, Term, Lines, End, Alone, Plain, Nested, Declaration, ProgramUnit, Text}
+use Rattle.wc_model.specs.Tree.{Word, Term, Lines, End, Alone, Plain, Nested, ProgramUnit, Text}
 use Rattle.wc_model.specs.declared.source.Initial.{Initial}
 use Rattle.wc_model.specs.declared.source.Section.{Section}
 use Rattle.wc_model.specs.declared.source.UnitKind.{UnitKind}
@@ -211,9 +211,14 @@ abbrev pub met_or : Option Met → Option Met → Option Met
 met_or None other = other
 met_or (Some met) other = Some met
 
+-- whether a unit is a program
+abbrev pub is_program : UnitKind → Bool
+is_program FunctionBlock = false
+is_program Program = true
+
 -- whether there is a program among the units
 abbrev pub has_program : List ProgramUnit → Bool
-has_program units = list_any (λ unit. elim unit.kind [ FunctionBlock ↦ false | Program ↦ true ]) units
+has_program units = list_any (λ unit. is_program unit.kind) units
 
 -- whether the unit has as many lines as it may
 abbrev pub is_full : Position → Bool

@@ -1,5 +1,5 @@
 -- What a word of the language stands for.
-use Rattle.std.specs.Prelude.{ℕ, Bool, true, false, List, [], ◌∷◌, Option, Some, None, if◌then◌else◌}
+use Rattle.std.specs.Prelude.{Bool, true, false, List, [], ◌∷◌, map, Option, Some, None, if◌then◌else◌}
 use Rattle.wc_model.proofs.Spelling.{same}
 use Rattle.wc_model.specs.Keywords.{unit_word, section_word, truth_word, load_word, store_word, operator_word, not_word, jump_word, call_word, return_word}
 use Rattle.wc_model.specs.Marks.{Symbol, Identifier, Whole, Duration, Truth, Ampersand, AmpersandN}
@@ -50,20 +50,24 @@ operation_word (Calls condition) = call_word condition
 operation_word (Returns condition) = return_word condition
 
 -- an operator under its word
-abbrev worded : Operation → Name × Operation
+abbrev pub worded : Operation → Name × Operation
 worded operation = (operation_word operation, operation)
+
+-- all operators
+abbrev pub all_operations : List Operation
+all_operations =
+    Operates (Loads false) ∷ Operates (Loads true)
+    ∷ Operates (Stores Result) ∷ Operates (Stores Negation) ∷ Operates (Stores Set) ∷ Operates (Stores Reset)
+    ∷ Operates (Applies And) ∷ Operates (Applies Andn) ∷ Operates (Applies Or) ∷ Operates (Applies Orn)
+    ∷ Operates (Applies Xor) ∷ Operates (Applies Xorn) ∷ Operates (Applies Add) ∷ Operates (Applies Sub)
+    ∷ Operates (Applies Mul) ∷ Operates (Applies Div) ∷ Operates (Applies Mod) ∷ Operates (Applies Gt)
+    ∷ Operates (Applies Ge) ∷ Operates (Applies Eq) ∷ Operates (Applies Ne) ∷ Operates (Applies Le)
+    ∷ Operates (Applies Lt) ∷ Negates ∷ Jumps Always ∷ Jumps IfTrue ∷ Jumps IfFalse
+    ∷ Calls Always ∷ Calls IfTrue ∷ Calls IfFalse ∷ Returns Always ∷ Returns IfTrue ∷ Returns IfFalse ∷ []
 
 -- all operators under their words
 abbrev pub operations : List (Name × Operation)
-operations =
-    worded (Operates (Loads false)) ∷ worded (Operates (Loads true))
-    ∷ worded (Operates (Stores Result)) ∷ worded (Operates (Stores Negation)) ∷ worded (Operates (Stores Set)) ∷ worded (Operates (Stores Reset))
-    ∷ worded (Operates (Applies And)) ∷ worded (Operates (Applies Andn)) ∷ worded (Operates (Applies Or)) ∷ worded (Operates (Applies Orn))
-    ∷ worded (Operates (Applies Xor)) ∷ worded (Operates (Applies Xorn)) ∷ worded (Operates (Applies Add)) ∷ worded (Operates (Applies Sub))
-    ∷ worded (Operates (Applies Mul)) ∷ worded (Operates (Applies Div)) ∷ worded (Operates (Applies Mod)) ∷ worded (Operates (Applies Gt))
-    ∷ worded (Operates (Applies Ge)) ∷ worded (Operates (Applies Eq)) ∷ worded (Operates (Applies Ne)) ∷ worded (Operates (Applies Le))
-    ∷ worded (Operates (Applies Lt)) ∷ worded Negates ∷ worded (Jumps Always) ∷ worded (Jumps IfTrue) ∷ worded (Jumps IfFalse)
-    ∷ worded (Calls Always) ∷ worded (Calls IfTrue) ∷ worded (Calls IfFalse) ∷ worded (Returns Always) ∷ worded (Returns IfTrue) ∷ worded (Returns IfFalse) ∷ []
+operations = map worded all_operations
 
 -- the operator that a symbol is
 abbrev pub operation_of : Symbol → Option Operation
@@ -91,7 +95,7 @@ abbrev pub truths : List (Name × Bool)
 truths = (truth_word true, true) ∷ (truth_word false, false) ∷ []
 
 -- the literal that a word is
-abbrev truth_value : Option Bool → Option Value
+abbrev pub truth_value : Option Bool → Option Value
 truth_value None = None
 truth_value (Some value) = Some (BoolValue value)
 
