@@ -8,3 +8,4 @@ mod Openings
 mod Outcomes
 mod ReadingSteps
 mod SameNames
+pub mod ReadTexts

@@ -2,10 +2,11 @@ ghost use Rattle.std.specs.Prelude.{◌≡◌, ◌+◌, ◌==◌, ◌≤◌, ◌
 ghost use Rattle.wc_grammar_laws.proofs.Moves as moves;
 ghost use Rattle.wc_grammar_laws.proofs.Moves.{at_first, colon_next};
 ghost use Rattle.wc_model.specs.Marks.{Mark};
-ghost use Rattle.wc_model.specs.Reading.{last_line, mark_of_token};
+ghost use Rattle.wc_model.specs.Reading.{IsRead, last_line, mark_of_token};
 ghost use Rattle.wc_model.specs.Tokens.{most_bytes};
+ghost use Rattle.wc_model.specs.Views.{text_of};
 ghost use Rattle.wc_lexer.specs.Views.{said_token};
-ghost use Rattle.wc_reader.specs.ReadTexts.{IsReadAs, IsRefusedAs};
+ghost use Rattle.wc_reader.specs.ReadTexts.{IsRefusedAs};
 ghost use Rattle.wc_reader.specs.TextViews.{IsPlaceCounted, said_reading};
 ghost use Rattle.wc_reader.specs.Told.{IsUnexpected, Tells, TellsFault};
 ghost use Rattle.wc_reader.specs.Words.{marks_of, symbol_in};
@@ -131,10 +132,11 @@ fn last_line(text: &[u8]) -> u32
     1 + line_feeds(text) as u32
 }
 
-/// The text as a tree, or its first fault. `Err(Refused)` has the number and line of the first fault in text order,
-/// by the list of refusals: 101 to 107 of its tokens, 201 to 208 of what they spell. `Err(Memory)` is want of memory.
+/// The text as a tree (IEC 61131-3:2003, annex B), or its first fault. `Err(Refused)` has the number and line of the
+/// first fault in text order, by the list of refusals: 101 to 107 of its tokens, 201 to 208 of what they spell; the text
+/// is then read as no tree. `Err(Memory)` is want of memory.
 pub fn read<'a>(alloc: Global, text: &'a [u8]) -> Result<Source<'a>, Fault>
-    ensures read { IfOk result (λ source. IsReadAs text.now source) }
+    ensures read { IfOk result (λ source. IsRead text.now (text_of source)) }
     ensures refused { IfErr result (λ fault. IsRefusedAs text.now fault) }
 {
     match tokens(alloc, text) {
