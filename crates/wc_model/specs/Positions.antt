@@ -4,7 +4,7 @@ use Rattle.std.specs.Prelude.{ℕ, List, [], ◌∷◌, Option}
 use Rattle.wc_model.specs.Tree.{Word, Term, Step, Lines, ProgramUnit}
 use Rattle.wc_model.specs.Marks.{Mark, ClosingBracket, LineEnd}
 use Rattle.wc_model.specs.Languages.{Language, empty, ◌then◌, ◌or◌, ◌given◌, optional, unfinished, begun}
-use Rattle.wc_model.specs.Grammar.{symbol, operand, bracket, opening, instruction, Setting, InBody, InParentheses, MayStand, label_in, HasContent, lines, head, units}
+use Rattle.wc_model.specs.Grammar.{symbol, operand, bracket, opening, instruction, Setting, InBody, InParentheses, MayStand, label_in, HasContent, lines, head, unit_of, units}
 use Rattle.wc_model.specs.declared.operator.Operator.{Operator}
 
 -- a parenthesis that is open: the lines before it in the list where it stands, and its opening line
@@ -63,12 +63,9 @@ cut_short setting tokens =
 abbrev pub part_of_line : Setting → Language Mark
 part_of_line setting = cut_short setting or closed setting
 
--- The tokens stop in a unit that is not closed, and outside an operator's parentheses: before the unit's body, or in the
--- body with none open.
+-- The tokens stop behind whole units and in a further one: some of its tokens have come, and some have not.
 abbrev pub StopsInUnit : ProgramUnit → List Mark → Type 0
-StopsInUnit unit tokens =
-    (before : List ProgramUnit) × (done : Lines)
-    × (units before then (begun (head unit) or head unit then lines InBody done then part_of_line InBody)) tokens
+StopsInUnit unit tokens = (before : List ProgramUnit) × (units before then begun (unit_of unit)) tokens
 
 -- a body's tokens that stop on an opening line, behind its bracket
 abbrev pub opening_cut_short : List Opening → Opening → Language Mark

@@ -91,8 +91,11 @@ MetAtToken UnitNotClosed before mark behind line = ⊥
 
 -- The fault is met at the text's end, behind `before`.
 abbrev pub MetAtEnd : ReadingFault → (before : List Mark) → (last_line line : ℕ) → Type 0
--- in a unit, outside an operator's parentheses: the line of the unit's first word is told
-MetAtEnd UnitNotClosed before last_line line = (unit : ProgramUnit) × StopsInUnit unit before × (line ≡ unit.line)
+-- In a unit, outside an operator's parentheses: the line of the unit's first word is told. An END word at the text's end
+-- closes its unit, although it could begin a label.
+MetAtEnd UnitNotClosed before last_line line =
+    (unit : ProgramUnit) × StopsInUnit unit before × ¬ ((innermost : Opening) × StopsInParentheses innermost before)
+    × ¬ ((whole : List ProgramUnit) × units whole before) × (line ≡ unit.line)
 -- with no program
 MetAtEnd NotOneProgramLast before last_line line =
     (whole : List ProgramUnit) × units whole before × AllByRecursion (λ unit. unit.kind ≡ FunctionBlock) whole × (line ≡ last_line)

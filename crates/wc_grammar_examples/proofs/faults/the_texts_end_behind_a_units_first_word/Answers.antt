@@ -1,9 +1,9 @@
-use Rattle.std.proofs.Common.{refl, inl}
-use Rattle.std.specs.Prelude.{[], codes}
-use Rattle.wc_model.specs.Tree.{End}
-use Rattle.wc_model.proofs.Languages.{next, pass, regroup}
-use Rattle.wc_grammar_examples.specs.Texts.{ident, program_of}
+use Rattle.std.proofs.Common.{refl, [], ◌∷◌}
+use Rattle.std.specs.Prelude.{codes}
 use Rattle.wc_grammar_examples.proofs.faults.the_texts_end_behind_a_units_first_word.Goals as goal
+use Rattle.wc_grammar_examples.specs.Texts.{ident}
+use Rattle.wc_grammar_laws.proofs.FaultLaws.{met_at_end}
+use Rattle.wc_model.specs.ReadingFaults.{UnitNotClosed}
 
 pub returns : goal.returns
-returns c = (program_of End, ([], End, regroup (pass refl (pass tt (inl ((λ e. cc), (ident (codes "P") 1, [], next (refl, refl) (next (refl, refl, refl) ([], refl, refl)))))))), refl)
+returns c = met_at_end (ident (codes "PROGRAM") 1 ∷ []) 1 (record { fault = UnitNotClosed; line = 1 }) _ refl tt refl

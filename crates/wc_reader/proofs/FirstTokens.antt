@@ -1,0 +1,49 @@
+-- The first token of a line, where it is none of those that a case apart is for.
+use Rattle.std.proofs.Common.{◌≡◌, ℕ, Bool, false, List, refl}
+use Rattle.wc_grammar_laws.proofs.LineMoves.{Start, line_move}
+use Rattle.wc_grammar_laws.proofs.Moves.{begun_line, body_move, inside_move}
+use Rattle.wc_lexer.specs.Views.{said_shape}
+use Rattle.wc_lexer.specs.declared.shape.Shape.{Shape}
+use Rattle.wc_lexer.specs.declared.shape.Shape.TheVariants.{Identifier, Whole, Duration, Truth, Address, And, AndNot, Opening, Closing, Comma, Colon, Semicolon, Point, Assign, Arrow, LineEnd}
+use Rattle.wc_model.specs.Grammar.{InBody, InParentheses}
+use Rattle.wc_model.specs.Positions as positions
+use Rattle.wc_model.specs.Positions.{Position}
+use Rattle.wc_model.specs.Reading.{symbol_of}
+
+-- in parentheses, other than a `)`
+pub inside-other : (p : Position) (o : positions.Opening) (outer : List positions.Opening) (line : ℕ) (shape : Shape) (bytes : List ℕ) → (shape ≡ Closing → ⊥) → inside_move p o outer (symbol_of (said_shape shape) bytes) line ≡ begun_line p (line_move InParentheses Start (symbol_of (said_shape shape) bytes) line false)
+inside-other p o outer line Identifier bytes h = refl
+inside-other p o outer line (Whole value) bytes h = refl
+inside-other p o outer line (Duration value) bytes h = refl
+inside-other p o outer line (Truth value) bytes h = refl
+inside-other p o outer line Address bytes h = refl
+inside-other p o outer line And bytes h = refl
+inside-other p o outer line AndNot bytes h = refl
+inside-other p o outer line Opening bytes h = refl
+inside-other p o outer line Closing bytes h = absurd (h refl)
+inside-other p o outer line Comma bytes h = refl
+inside-other p o outer line Colon bytes h = refl
+inside-other p o outer line Semicolon bytes h = refl
+inside-other p o outer line Point bytes h = refl
+inside-other p o outer line Assign bytes h = refl
+inside-other p o outer line Arrow bytes h = refl
+inside-other p o outer line LineEnd bytes h = refl
+
+-- in a body, other than an identifier
+pub body-other : (p : Position) (line : ℕ) (colon : Bool) (shape : Shape) (bytes : List ℕ) → (shape ≡ Identifier → ⊥) → body_move p (symbol_of (said_shape shape) bytes) line colon ≡ begun_line p (line_move InBody Start (symbol_of (said_shape shape) bytes) line colon)
+body-other p line colon Identifier bytes h = absurd (h refl)
+body-other p line colon (Whole value) bytes h = refl
+body-other p line colon (Duration value) bytes h = refl
+body-other p line colon (Truth value) bytes h = refl
+body-other p line colon Address bytes h = refl
+body-other p line colon And bytes h = refl
+body-other p line colon AndNot bytes h = refl
+body-other p line colon Opening bytes h = refl
+body-other p line colon Closing bytes h = refl
+body-other p line colon Comma bytes h = refl
+body-other p line colon Colon bytes h = refl
+body-other p line colon Semicolon bytes h = refl
+body-other p line colon Point bytes h = refl
+body-other p line colon Assign bytes h = refl
+body-other p line colon Arrow bytes h = refl
+body-other p line colon LineEnd bytes h = refl

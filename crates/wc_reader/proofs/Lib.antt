@@ -1,0 +1,11 @@
+mod AnyProgram
+mod Counting
+mod FirstTokens
+mod FoundGroups
+mod LineLists
+mod MetIf
+mod Openings
+mod Outcomes
+mod ReadingSteps
+mod SameNames
+pub mod ReadTexts

@@ -1,0 +1,62 @@
+-- What the walk over a text's tokens says of the text.
+use Rattle.std.proofs.Common.{◌≡◌, ◌≤◌, ℕ, List, map, length, refl, ap, subst, ◌∙◌, sym, inl, inr, ◌⊎◌, arith}
+use Rattle.std.specs.Prelude.{Ok, Err, Result, IfOk, IfErr}
+use Rattle.wc_grammar_laws.proofs.Moves.{Met, at_first, reading}
+use Rattle.wc_grammar_laws.proofs.Readings.{read_is_spelled, refused_is_first, refused_spells_nothing}
+use Rattle.wc_lexer.specs.Refusals.{Names}
+use Rattle.wc_model.proofs.TokenLaws.{cut_has_no_fault, cut_is_unique}
+use Rattle.wc_model.specs.Grammar.{Spells}
+use Rattle.wc_model.specs.Marks.{Mark}
+use Rattle.wc_model.specs.Reading.{IsMisread, IsRead, last_line, mark_of_token}
+use Rattle.wc_model.specs.Tokens.{IsCut, IsFirstFault, Token, most_bytes}
+use Rattle.wc_model.specs.Tree.{Text}
+use Rattle.wc_model.specs.declared.fault.Fault.{Fault}
+use Rattle.wc_model.specs.declared.fault.Fault.TheVariants.{Memory, Refused}
+use Rattle.wc_reader.specs.ReadTexts.{IsRefusedAs, IsUnread}
+use Rattle.wc_model.specs.Views.{text_of}
+use Rattle.wc_model.specs.declared.source.Source.{Source}
+use Rattle.wc_reader.specs.Told.{IsMetAs, Tells, TellsFault}
+
+-- what the walk reads is what the bytes are read as
+pub read_as : (bytes : List ℕ) (tokens : List Token) (text : Text) → length bytes ≤ most_bytes → IsCut bytes tokens → reading at_first (map mark_of_token tokens) (last_line bytes) ≡ Ok text → IsRead bytes text
+read_as bytes tokens text short cut e =
+    let k = read_is_spelled (map mark_of_token tokens) (last_line bytes) text e in
+    record { short = short; tokens = tokens; cut = cut; spelled = k.0; within_limits = k.1 }
+
+-- a text whose tokens have a fault is not read
+pub not_cut : (bytes : List ℕ) (number place : ℕ) → IsFirstFault bytes number place → IsUnread bytes number place
+not_cut bytes number place h = record { first = inl h; unread = λ text r. cut_has_no_fault bytes r.tokens number place r.short r.cut h }
+
+-- nor is one in whose tokens the walk meets one
+not_spelled : (bytes : List ℕ) (tokens : List Token) (met : Met) → length bytes ≤ most_bytes → IsCut bytes tokens → reading at_first (map mark_of_token tokens) (last_line bytes) ≡ Err met → (text : Text) → ¬ (IsRead bytes text)
+not_spelled bytes tokens met short cut e text r =
+    let same = cut_is_unique bytes r.tokens tokens r.cut cut in
+    refused_spells_nothing (map mark_of_token tokens) (last_line bytes) met text e (subst (λ ts. Spells (map mark_of_token ts) text) same r.spelled) r.within_limits
+
+misread : (bytes : List ℕ) (tokens : List Token) (number place : ℕ) → length bytes ≤ most_bytes → IsCut bytes tokens → IsMetAs (reading at_first (map mark_of_token tokens) (last_line bytes)) number place → IsUnread bytes number place
+misread bytes tokens number place short cut m = record {
+  first = inr (m.met.fault, m.number_is, subst (IsMisread bytes m.met.fault) (sym m.place_is)
+    (record { short = short; tokens = tokens; cut = cut; first = refused_is_first (map mark_of_token tokens) (last_line bytes) m.met m.outcome_is }));
+  unread = not_spelled bytes tokens m.met short cut m.outcome_is;
+}
+
+-- what a fault that the walk meets says
+pub refused_as : (bytes : List ℕ) (tokens : List Token) (fault : Fault) → length bytes ≤ most_bytes → IsCut bytes tokens → TellsFault (reading at_first (map mark_of_token tokens) (last_line bytes)) fault → IsRefusedAs bytes fault
+refused_as bytes tokens Memory short cut t = tt
+refused_as bytes tokens (Refused number place) short cut t = misread bytes tokens number place short cut t
+
+-- and one of the tokens
+pub token_fault : (bytes : List ℕ) (fault : Fault) → Names bytes fault → IsRefusedAs bytes fault
+token_fault bytes Memory n = tt
+token_fault bytes (Refused number place) n = not_cut bytes number place n
+
+-- what a result of the walk says of the text it read, or refused
+pub result_read : (bytes : List ℕ) (tokens : List Token) (marks : List Mark) (last : ℕ) (result : Result Source Fault) → length bytes ≤ most_bytes → IsCut bytes tokens → marks ≡ map mark_of_token tokens → last ≡ last_line bytes → Tells (reading at_first marks last) result
+    → IfOk result (λ source. IsRead bytes (text_of source))
+result_read bytes tokens marks last (Ok source) short cut m l t = read_as bytes tokens (text_of source) short cut (subst (λ n. reading at_first (map mark_of_token tokens) n ≡ Ok (text_of source)) l (subst (λ ms. reading at_first ms last ≡ Ok (text_of source)) m t))
+result_read bytes tokens marks last (Err fault) short cut m l t = tt
+
+pub result_refused : (bytes : List ℕ) (tokens : List Token) (marks : List Mark) (last : ℕ) (result : Result Source Fault) → length bytes ≤ most_bytes → IsCut bytes tokens → marks ≡ map mark_of_token tokens → last ≡ last_line bytes → Tells (reading at_first marks last) result
+    → IfErr result (λ fault. IsRefusedAs bytes fault)
+result_refused bytes tokens marks last (Ok source) short cut m l t = tt
+result_refused bytes tokens marks last (Err fault) short cut m l t = refused_as bytes tokens fault short cut (subst (λ n. TellsFault (reading at_first (map mark_of_token tokens) n) fault) l (subst (λ ms. TellsFault (reading at_first ms last) fault) m t))

@@ -1,0 +1,31 @@
+-- What a result of the reader says.
+use Rattle.std.specs.Prelude.{◌≡◌, ℕ, Option, None, Result, Ok, Err}
+use Rattle.wc_grammar_laws.proofs.Moves.{Met, State}
+use Rattle.wc_model.specs.ReadingFaults.{number_of}
+use Rattle.wc_model.specs.Tree.{Text}
+use Rattle.wc_model.specs.Views.{text_of}
+use Rattle.wc_model.specs.declared.fault.Fault.{Fault}
+use Rattle.wc_model.specs.declared.fault.Fault.TheVariants.{Memory, Refused}
+use Rattle.wc_model.specs.declared.source.Source.{Source}
+
+-- what was met, by its number and its line
+pub record IsMetAs (outcome : Result Text Met) (number place : ℕ) : Type 0 where
+  pub met : Met
+  pub outcome_is : outcome ≡ Err met
+  pub number_is : number ≡ number_of met.fault
+  pub place_is : place ≡ met.line
+
+-- the fault is what was met; want of memory says nothing
+abbrev pub TellsFault : Result Text Met → Fault → Type 0
+TellsFault outcome Memory = Unit {0}
+TellsFault outcome (Refused number place) = IsMetAs outcome number place
+
+-- the source is the text, or the fault is what was met
+abbrev pub Tells : Result Text Met → Result Source Fault → Type 0
+Tells outcome (Ok source) = outcome ≡ Ok (text_of source)
+Tells outcome (Err fault) = TellsFault outcome fault
+
+-- the fault says that nothing stands behind a token of that line; want of memory says nothing
+abbrev pub IsUnexpected : Option State → (line : ℕ) → Fault → Type 0
+IsUnexpected next line Memory = Unit {0}
+IsUnexpected next line (Refused number place) = (next ≡ None) × (number ≡ 201) × (place ≡ line)

@@ -1,0 +1,308 @@
+ghost use Rattle.std.specs.Prelude.{◌≡◌, ◌==◌, ◌+◌, ◌∷◌, [], length, min, IfOk, MatchOption, IfSome, List, Some, map, option_map};
+ghost use Rattle.wc_grammar_laws.proofs.LineMoves as lines;
+ghost use Rattle.wc_grammar_laws.proofs.Moves as moves;
+ghost use Rattle.wc_model.specs.Positions as positions;
+ghost use Rattle.wc_model.specs.Tree as tree;
+ghost use Rattle.wc_model.specs.Tree.{Lines, ProgramUnit};
+ghost use Rattle.wc_model.specs.Views.{assignment_of, line_view, lines_view, name_in, term_of, unit_of, word_of};
+ghost use Rattle.wc_reader.specs.LineViews.{said_form, said_step};
+ghost use Rattle.wc_reader.specs.TextViews.{IsCounted, said_body, said_opening, said_openings_in};
+
+use crate::line_place::{Begun, LineForm, Listed, Step};
+use std::alloc::{AllocError, Global};
+use wc_model::{Instr, Line, Operand, Operator, Unit, Word};
+
+/// A parenthesis that is open.
+#[derive(Debug, Drop)]
+pub(crate) struct Opening<'a> {
+    /// The lines before it in the list where it stands.
+    pub before: Vec<Line<'a>, Global>,
+    /// The label and the line of its operator.
+    pub begun: Begun<'a>,
+    pub operator: Operator,
+    /// What the short form loads first.
+    pub operand: Option<Operand<'a>>,
+}
+
+/// How far a unit's body has been read: the start of a line.
+#[derive(Debug, Drop)]
+pub(crate) struct Body<'a> {
+    /// The unit, whose body is empty still.
+    pub unit: Unit<'a>,
+    /// The parentheses that are open, the innermost last.
+    pub openings: Vec<Opening<'a>, Global>,
+    /// The lines that are done in the innermost of them, or else in the body.
+    pub done: Vec<Line<'a>, Global>,
+    /// How many of the unit's lines stand before, up to 1024.
+    pub count: usize,
+}
+
+/// A body of which nothing has been read.
+pub(crate) fn body_start<'a>(alloc: Global, unit: Unit<'a>) -> Body<'a>
+    ensures start { (units : List ProgramUnit) → said_body units result ≡ moves.body_start units (unit_of unit.entry) }
+    ensures counted { IsCounted result }
+{
+    Body {
+        unit,
+        openings: Vec::new(alloc),
+        done: Vec::new(alloc),
+        count: 0,
+    }
+}
+
+/// The line of a label alone.
+fn label_line<'a>(label: Word<'a>) -> Line<'a>
+    ensures { (rest : Lines) → line_view result rest ≡ tree.Alone (word_of label.entry) rest }
+{
+    Line {
+        label: Some(label),
+        instr: None,
+    }
+}
+
+/// The line of an instruction.
+fn line_with<'a>(label: Option<Word<'a>>, instr: Instr<'a>) -> Line<'a>
+    ensures { result ≡ record { label = label.entry; instr = Some instr.entry } }
+{
+    Line {
+        label,
+        instr: Some(instr),
+    }
+}
+
+/// The line of a call.
+fn call_line<'a>(label: Option<Word<'a>>, call: Listed<'a>, line: u32) -> Line<'a>
+    ensures { (rest : Lines) → line_view result rest ≡ tree.Plain (option_map word_of label.entry) line (tree.Call call.entry.condition (name_in call.entry.instance) (map assignment_of call.entry.arguments.items)) rest }
+{
+    let Listed {
+        condition,
+        instance,
+        arguments,
+    } = call;
+    line_with(
+        label,
+        Instr::Call {
+            condition,
+            instance,
+            arguments,
+            line,
+        },
+    )
+}
+
+/// The line of an instruction.
+fn step_line<'a>(begun: Begun<'a>, step: Step<'a>) -> Line<'a>
+    ensures { (rest : Lines) → line_view result rest ≡ tree.Plain (option_map word_of begun.entry.label) begun.entry.line (said_step step.entry) rest }
+{
+    let Begun { label, line } = begun;
+    match step {
+        Step::Load(negated, operand) => line_with(
+            label,
+            Instr::Load {
+                negated,
+                operand,
+                line,
+            },
+        ),
+        Step::Store(storing, target) => line_with(
+            label,
+            Instr::Store {
+                storing,
+                target,
+                line,
+            },
+        ),
+        Step::Apply(operator, operand) => line_with(
+            label,
+            Instr::Apply {
+                operator,
+                operand,
+                line,
+            },
+        ),
+        Step::Negate => line_with(label, Instr::Not { line }),
+        Step::Jump(condition, target) => line_with(
+            label,
+            Instr::Jump {
+                condition,
+                label: target,
+                line,
+            },
+        ),
+        Step::Call(call) => call_line(label, call, line),
+        Step::Return(condition) => line_with(label, Instr::Return { condition, line }),
+    }
+}
+
+/// The line of a whole parenthesis.
+fn nested_line<'a>(
+    begun: Begun<'a>,
+    operator: Operator,
+    operand: Option<Operand<'a>>,
+    inside: Vec<Line<'a>, Global>,
+    close: u32,
+) -> Line<'a>
+    ensures { (rest : Lines) → line_view result rest ≡ tree.Nested (option_map word_of begun.entry.label) begun.entry.line operator (option_map term_of operand.entry) (lines_view inside.entry.items) close rest }
+{
+    Line {
+        label: begun.label,
+        instr: Some(Instr::Defer {
+            operator,
+            operand,
+            inside,
+            line: begun.line,
+            close,
+        }),
+    }
+}
+
+/// One line more, as far as lines are counted.
+fn one_more(count: usize) -> usize
+    ensures { result ≡ min (count + 1) 1024 }
+{
+    if count < 1024 { count + 1 } else { 1024 }
+}
+
+/// The body behind a label alone.
+fn behind_label<'a>(body: Body<'a>, label: Word<'a>) -> Result<Body<'a>, AllocError>
+    requires { IsCounted body }
+    ensures behind { IfOk result (λ next. (units : List ProgramUnit) → said_body units next ≡ moves.behind_line (said_body units body.entry) (lines.LabelAlone (word_of label.entry))) }
+    ensures counted { IfOk result (λ next. IsCounted next) }
+{
+    let mut body = body;
+    body.done.push(label_line(label))?;
+    Ok(body)
+}
+
+/// The body behind an instruction.
+fn behind_step<'a>(body: Body<'a>, begun: Begun<'a>, step: Step<'a>) -> Result<Body<'a>, AllocError>
+    requires { IsCounted body }
+    ensures behind { IfOk result (λ next. (units : List ProgramUnit) → said_body units next ≡ moves.behind_line (said_body units body.entry) (lines.Instructs (option_map word_of begun.entry.label) begun.entry.line (said_step step.entry))) }
+    ensures counted { IfOk result (λ next. IsCounted next) }
+{
+    let mut body = body;
+    body.done.push(step_line(begun, step))?;
+    body.count = one_more(body.count);
+    Ok(body)
+}
+
+/// The body behind an opening line.
+fn behind_opening<'a>(
+    alloc: Global,
+    body: Body<'a>,
+    begun: Begun<'a>,
+    operator: Operator,
+    operand: Option<Operand<'a>>,
+) -> Result<Body<'a>, AllocError>
+    requires { IsCounted body }
+    ensures behind { IfOk result (λ next. (units : List ProgramUnit) → said_body units next ≡ moves.behind_line (said_body units body.entry) (lines.Opens (option_map word_of begun.entry.label) begun.entry.line operator (option_map term_of operand.entry))) }
+    ensures counted { IfOk result (λ next. IsCounted next) }
+{
+    let Body {
+        unit,
+        mut openings,
+        done,
+        count,
+    } = body;
+    openings.push(Opening {
+        before: done,
+        begun,
+        operator,
+        operand,
+    })?;
+    Ok(Body {
+        unit,
+        openings,
+        done: Vec::new(alloc),
+        count: one_more(count),
+    })
+}
+
+/// The body behind a line.
+pub(crate) fn behind_line<'a>(
+    alloc: Global,
+    body: Body<'a>,
+    form: LineForm<'a>,
+) -> Result<Body<'a>, AllocError>
+    requires { IsCounted body }
+    ensures behind { IfOk result (λ next. (units : List ProgramUnit) → said_body units next ≡ moves.behind_line (said_body units body.entry) (said_form form.entry)) }
+    ensures counted { IfOk result (λ next. IsCounted next) }
+{
+    match form {
+        LineForm::LabelAlone(label) => behind_label(body, label),
+        LineForm::Instructs(begun, step) => behind_step(body, begun, step),
+        LineForm::Opens(begun, operator, operand) => behind_opening(
+            alloc, body, begun, operator, operand,
+        ),
+    }
+}
+
+/// The lines before a parenthesis, and then the whole parenthesis.
+fn closed<'a>(
+    opening: Opening<'a>,
+    inside: Vec<Line<'a>, Global>,
+    close: u32,
+) -> Result<Vec<Line<'a>, Global>, AllocError>
+    ensures tree { IfOk result (λ done. lines_view done.items ≡ moves.lines_and (said_opening opening.entry).before (tree.Nested (said_opening opening.entry).label (said_opening opening.entry).line (said_opening opening.entry).operator (said_opening opening.entry).operand (lines_view inside.entry.items) close tree.End)) }
+    ensures seen { IfOk result (λ done. moves.are_no_lines (lines_view done.items) ≡ (length done.items == 0)) }
+{
+    let Opening {
+        mut before,
+        begun,
+        operator,
+        operand,
+    } = opening;
+    before.push(nested_line(begun, operator, operand, inside, close))?;
+    Ok(before)
+}
+
+/// Whether a parenthesis holds something.
+pub(crate) fn has_content<'a>(opening: &Opening<'a>, done: &[Line<'a>]) -> bool
+    requires { moves.are_no_lines (lines_view done.now) ≡ (length done.now == 0) }
+    ensures { result ≡ moves.has_content (said_opening opening.now).operand (lines_view done.now) }
+{
+    match opening.operand {
+        Some(_) => true,
+        None => !done.is_empty(),
+    }
+}
+
+/// The body behind the `)` of the innermost parenthesis; none where none is open, or it holds nothing.
+pub(crate) fn behind_closing<'a>(body: Body<'a>, close: u32) -> Result<Option<Body<'a>>, AllocError>
+    requires { IsCounted body }
+    ensures behind { IfOk result (λ next. (units : List ProgramUnit) (innermost : positions.Opening) (outer : List positions.Opening) → (said_body units body.entry).openings ≡ innermost ∷ outer → option_map (λ it. moves.Closed (said_body units it)) next ≡ moves.closing_move (said_body units body.entry) innermost outer close) }
+    ensures counted { IfOk result (λ next. IfSome next (λ it. IsCounted it)) }
+{
+    let Body {
+        unit,
+        mut openings,
+        done,
+        count,
+    } = body;
+    match openings.pop() {
+        None => Ok(None),
+        Some(opening) => {
+            if has_content(&opening, &done) {
+                let done = closed(opening, done, close)?;
+                Ok(Some(Body {
+                    unit,
+                    openings,
+                    done,
+                    count: one_more(count),
+                }))
+            } else {
+                Ok(None)
+            }
+        }
+    }
+}
+
+/// The innermost of the parentheses that are open.
+pub(crate) fn innermost<'b, 'a>(openings: &'b [Opening<'a>]) -> Option<&'b Opening<'a>>
+    ensures { MatchOption result (said_openings_in [] openings.now ≡ []) (λ it. (outer : List positions.Opening) × (said_openings_in [] openings.now ≡ said_opening it.now ∷ outer)) }
+{
+    match openings.split_last() {
+        Some((last, _)) => Some(last),
+        None => None,
+    }
+}

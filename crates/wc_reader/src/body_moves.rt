@@ -1,0 +1,289 @@
+ghost use Rattle.std.specs.Prelude.{◌≡◌, ◌==◌, ◌∷◌, [], ℕ, length, Bool, IfOk, IfSome, List, map, option_map};
+ghost use Rattle.wc_grammar_laws.proofs.Moves as moves;
+ghost use Rattle.wc_model.specs.Marks as marks;
+ghost use Rattle.wc_model.specs.Names.{name_of};
+ghost use Rattle.wc_model.specs.Positions as positions;
+ghost use Rattle.wc_model.specs.Tree.{ProgramUnit};
+ghost use Rattle.wc_model.specs.Views.{lines_view, unit_of};
+ghost use Rattle.wc_reader.specs.LineViews.{said_line};
+ghost use Rattle.wc_reader.specs.TextViews.{IsCounted, IsPlaceCounted, said_body, said_place, said_reading};
+ghost use Rattle.wc_reader.specs.Words.{symbol_in};
+
+use crate::body::{Body, behind_closing, behind_line};
+use crate::declarations::{DeclarationPlace, Declaring};
+use crate::line_place::LinePlace;
+use crate::lines::{at_start, at_start_inside, line_move};
+use crate::place::{Place, Reading};
+use crate::words::{ends_unit, section, word};
+use std::alloc::{AllocError, Global};
+use wc_lexer::{Shape, Token};
+use wc_model::{Line, Section, Unit};
+
+/// On a line, or behind its end.
+fn line_place<'a>(
+    alloc: Global,
+    body: Body<'a>,
+    line: LinePlace<'a>,
+) -> Result<Place<'a>, AllocError>
+    requires { IsCounted body }
+    ensures behind { IfOk result (λ next. (units : List ProgramUnit) → said_place units next ≡ moves.on_line (said_body units body.entry) (said_line line.entry)) }
+    ensures counted { IfOk result (λ next. IsPlaceCounted next) }
+{
+    match line {
+        LinePlace::Ended(form) => {
+            let body = behind_line(alloc, body, form)?;
+            Ok(Place::AtLine(body))
+        }
+        line => Ok(Place::OnLine(body, line)),
+    }
+}
+
+/// On a line, or behind its end, where a line goes on so.
+fn on_line<'a>(
+    alloc: Global,
+    body: Body<'a>,
+    line: Option<LinePlace<'a>>,
+) -> Result<Option<Place<'a>>, AllocError>
+    requires { IsCounted body }
+    ensures behind { IfOk result (λ next. (units : List ProgramUnit) → option_map (said_place units) next ≡ moves.begun_line (said_body units body.entry) (option_map said_line line.entry)) }
+    ensures counted { IfOk result (λ next. IfSome next (λ it. IsPlaceCounted it)) }
+{
+    match line {
+        Some(line) => {
+            let place = line_place(alloc, body, line)?;
+            Ok(Some(place))
+        }
+        None => Ok(None),
+    }
+}
+
+/// The section that a word begins, where no line of the body has come.
+fn section_begun(done: &[Line], text: &[u8]) -> Option<Section>
+    requires { moves.are_no_lines (lines_view done.now) ≡ (length done.now == 0) }
+    ensures { result ≡ moves.section_begun (lines_view done.now) (name_of text.now) }
+{
+    if done.is_empty() { section(text) } else { None }
+}
+
+/// Behind the first word of a line of a body with no parenthesis open, which does not end the unit and which no colon
+/// follows.
+fn at_word<'a>(
+    alloc: Global,
+    body: Body<'a>,
+    token: Token<'a>,
+) -> Result<Option<Place<'a>>, AllocError>
+    requires counted { IsCounted body }
+    requires identifier { symbol_in token ≡ marks.Identifier token.text.now }
+    ensures behind { IfOk result (λ next. (units : List ProgramUnit) → option_map (said_place units) next ≡ moves.section_or_line (said_body units body.entry) token.entry.text.now token.entry.line (moves.section_begun (lines_view body.entry.done.items) (name_of token.entry.text.now))) }
+    ensures counted { IfOk result (λ next. IfSome next (λ it. IsPlaceCounted it)) }
+{
+    match section_begun(&body.done, token.text) {
+        Some(section) => Ok(Some(Place::Declaring(
+            body.unit,
+            section,
+            DeclarationPlace::Undeclared,
+        ))),
+        None => on_line(alloc, body, at_start(token, false)),
+    }
+}
+
+/// Behind the token after a `)`: the line's end.
+pub(crate) fn at_closed<'a>(body: Body<'a>, token: Token<'a>) -> Option<Place<'a>>
+    requires { IsCounted body }
+    ensures behind { (units : List ProgramUnit) (line : ℕ) (colon : Bool) → option_map (said_place units) result ≡ moves.move (moves.Closed (said_body units body.entry)) (symbol_in token.entry) line colon }
+    ensures counted { IfSome result (λ it. IsPlaceCounted it) }
+{
+    match token.shape {
+        Shape::LineEnd => Some(Place::AtLine(body)),
+        _ => None,
+    }
+}
+
+/// The units with one more, whose body is done.
+fn behind_unit<'a>(units: Vec<Unit<'a>, Global>, body: Body<'a>) -> Result<Reading<'a>, AllocError>
+    ensures behind { IfOk result (λ next. said_reading next ≡ moves.behind_unit (said_body (map unit_of units.entry.items) body.entry)) }
+    ensures counted { IfOk result (λ next. IsPlaceCounted next.place) }
+{
+    let mut units = units;
+    let Body { unit, done, .. } = body;
+    let Unit {
+        kind,
+        line,
+        name,
+        declarations,
+        ..
+    } = unit;
+    units.push(Unit {
+        kind,
+        line,
+        name,
+        declarations,
+        body: done,
+    })?;
+    Ok(Reading {
+        units,
+        place: Place::Outside,
+    })
+}
+
+/// The units, where the token is inside the text that they begin.
+pub(crate) fn with_units<'a>(
+    units: Vec<Unit<'a>, Global>,
+    place: Option<Place<'a>>,
+) -> Option<Reading<'a>>
+    requires { IfSome place (λ it. IsPlaceCounted it) }
+    ensures behind { option_map said_reading result ≡ option_map (said_place (map unit_of units.entry.items)) place.entry }
+    ensures counted { IfSome result (λ it. IsPlaceCounted it.place) }
+{
+    match place {
+        Some(place) => Some(Reading { units, place }),
+        None => None,
+    }
+}
+
+/// Behind the first word of a line of a body with no parenthesis open, which no colon follows: it may end the unit.
+fn at_body_word<'a>(
+    alloc: Global,
+    units: Vec<Unit<'a>, Global>,
+    body: Body<'a>,
+    token: Token<'a>,
+) -> Result<Option<Reading<'a>>, AllocError>
+    requires counted { IsCounted body }
+    requires identifier { symbol_in token ≡ marks.Identifier token.text.now }
+    ensures behind { IfOk result (λ next. option_map said_reading next ≡ moves.word_move (said_body (map unit_of units.entry.items) body.entry) token.entry.text.now token.entry.line) }
+    ensures counted { IfOk result (λ next. IfSome next (λ it. IsPlaceCounted it.place)) }
+{
+    if ends_unit(token.text, body.unit.kind) {
+        let reading = behind_unit(units, body)?;
+        Ok(Some(reading))
+    } else {
+        let place = at_word(alloc, body, token)?;
+        Ok(with_units(units, place))
+    }
+}
+
+/// Behind the first identifier of a line of a body with no parenthesis open.
+fn at_body_identifier<'a>(
+    alloc: Global,
+    units: Vec<Unit<'a>, Global>,
+    body: Body<'a>,
+    token: Token<'a>,
+    colon: bool,
+) -> Result<Option<Reading<'a>>, AllocError>
+    requires counted { IsCounted body }
+    requires identifier { symbol_in token ≡ marks.Identifier token.text.now }
+    ensures behind { IfOk result (λ next. option_map said_reading next ≡ moves.body_move (said_body (map unit_of units.entry.items) body.entry) (marks.Identifier token.entry.text.now) token.entry.line colon) }
+    ensures counted { IfOk result (λ next. IfSome next (λ it. IsPlaceCounted it.place)) }
+{
+    if colon {
+        let place = on_line(alloc, body, at_start(token, true))?;
+        Ok(with_units(units, place))
+    } else {
+        at_body_word(alloc, units, body, token)
+    }
+}
+
+/// Behind the first token of a line of a body with no parenthesis open, other than a line end.
+fn at_body_line<'a>(
+    alloc: Global,
+    units: Vec<Unit<'a>, Global>,
+    body: Body<'a>,
+    token: Token<'a>,
+    colon: bool,
+) -> Result<Option<Reading<'a>>, AllocError>
+    requires { IsCounted body }
+    ensures behind { IfOk result (λ next. option_map said_reading next ≡ moves.body_move (said_body (map unit_of units.entry.items) body.entry) (symbol_in token.entry) token.entry.line colon) }
+    ensures counted { IfOk result (λ next. IfSome next (λ it. IsPlaceCounted it.place)) }
+{
+    match token.shape {
+        Shape::Identifier => at_body_identifier(alloc, units, body, token, colon),
+        _ => {
+            let place = on_line(alloc, body, at_start(token, colon))?;
+            Ok(with_units(units, place))
+        }
+    }
+}
+
+/// Behind a `)` at the start of a line.
+fn at_closing<'a>(body: Body<'a>, line: u32) -> Result<Option<Place<'a>>, AllocError>
+    requires { IsCounted body }
+    ensures behind { IfOk result (λ next. (units : List ProgramUnit) (innermost : positions.Opening) (outer : List positions.Opening) → (said_body units body.entry).openings ≡ innermost ∷ outer → option_map (said_place units) next ≡ moves.closing_move (said_body units body.entry) innermost outer line) }
+    ensures counted { IfOk result (λ next. IfSome next (λ it. IsPlaceCounted it)) }
+{
+    match behind_closing(body, line)? {
+        Some(body) => Ok(Some(Place::Closed(body))),
+        None => Ok(None),
+    }
+}
+
+/// Behind the first token of a line in parentheses, other than a line end.
+fn at_inside_line<'a>(
+    alloc: Global,
+    body: Body<'a>,
+    token: Token<'a>,
+) -> Result<Option<Place<'a>>, AllocError>
+    requires { IsCounted body }
+    ensures behind { IfOk result (λ next. (units : List ProgramUnit) (innermost : positions.Opening) (outer : List positions.Opening) → (said_body units body.entry).openings ≡ innermost ∷ outer → option_map (said_place units) next ≡ moves.inside_move (said_body units body.entry) innermost outer (symbol_in token.entry) token.entry.line) }
+    ensures counted { IfOk result (λ next. IfSome next (λ it. IsPlaceCounted it)) }
+{
+    match token.shape {
+        Shape::Closing => at_closing(body, token.line),
+        _ => on_line(alloc, body, at_start_inside(token)),
+    }
+}
+
+/// Behind the first token of a line, other than a line end.
+fn at_line_start<'a>(
+    alloc: Global,
+    units: Vec<Unit<'a>, Global>,
+    body: Body<'a>,
+    token: Token<'a>,
+    colon: bool,
+) -> Result<Option<Reading<'a>>, AllocError>
+    requires { IsCounted body }
+    ensures behind { IfOk result (λ next. option_map said_reading next ≡ moves.start_move (said_body (map unit_of units.entry.items) body.entry) (said_body [] body.entry).openings (symbol_in token.entry) token.entry.line colon) }
+    ensures counted { IfOk result (λ next. IfSome next (λ it. IsPlaceCounted it.place)) }
+{
+    if body.openings.is_empty() {
+        at_body_line(alloc, units, body, token, colon)
+    } else {
+        let place = at_inside_line(alloc, body, token)?;
+        Ok(with_units(units, place))
+    }
+}
+
+/// Behind one more token at the start of a line.
+pub(crate) fn at_line<'a>(
+    alloc: Global,
+    units: Vec<Unit<'a>, Global>,
+    body: Body<'a>,
+    token: Token<'a>,
+    colon: bool,
+) -> Result<Option<Reading<'a>>, AllocError>
+    requires { IsCounted body }
+    ensures behind { IfOk result (λ next. option_map said_reading next ≡ moves.move (moves.AtLine (said_body (map unit_of units.entry.items) body.entry)) (symbol_in token.entry) token.entry.line colon) }
+    ensures counted { IfOk result (λ next. IfSome next (λ it. IsPlaceCounted it.place)) }
+{
+    match token.shape {
+        Shape::LineEnd => Ok(Some(Reading {
+            units,
+            place: Place::AtLine(body),
+        })),
+        _ => at_line_start(alloc, units, body, token, colon),
+    }
+}
+
+/// Behind one more token of a line that has begun.
+pub(crate) fn along_line<'a>(
+    alloc: Global,
+    body: Body<'a>,
+    line: LinePlace<'a>,
+    token: Token<'a>,
+) -> Result<Option<Place<'a>>, AllocError>
+    requires { IsCounted body }
+    ensures behind { IfOk result (λ next. (units : List ProgramUnit) (colon : Bool) → option_map (said_place units) next ≡ moves.move (moves.OnLine (said_body units body.entry) (said_line line.entry)) (symbol_in token.entry) token.entry.line colon) }
+    ensures counted { IfOk result (λ next. IfSome next (λ it. IsPlaceCounted it)) }
+{
+    let line = line_move(alloc, line, token)?;
+    on_line(alloc, body, line)
+}

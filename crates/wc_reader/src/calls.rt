@@ -1,0 +1,119 @@
+ghost use Rattle.std.specs.Prelude.{◌≡◌, ℕ, Bool, IfOk, option_map};
+ghost use Rattle.wc_grammar_laws.proofs.LineMoves as lines;
+ghost use Rattle.wc_model.specs.Grammar.{Setting};
+ghost use Rattle.wc_model.specs.Views.{name_in};
+ghost use Rattle.wc_reader.specs.LineViews.{said_begun, said_item, said_line, said_listed};
+ghost use Rattle.wc_reader.specs.Words.{symbol_in};
+
+use crate::line_place::{Begun, InList, LineForm, LinePlace, Listed, OperandOf, Step};
+use crate::operands::at_operand;
+use crate::words::word;
+use std::alloc::{AllocError, Global};
+use wc_lexer::{Shape, Token};
+use wc_model::{Condition, Word};
+
+/// Behind the token after a call's instance.
+pub(crate) fn at_instance<'a>(
+    alloc: Global,
+    begun: Begun<'a>,
+    condition: Condition,
+    instance: Word<'a>,
+    token: Token<'a>,
+) -> Option<LinePlace<'a>>
+    ensures { (setting : Setting) (line : ℕ) (colon : Bool) → option_map said_line result ≡ lines.line_move setting (lines.Instanced (said_begun begun.entry) condition (name_in instance.entry)) (symbol_in token.entry) line colon }
+{
+    let call = Listed {
+        condition,
+        instance,
+        arguments: Vec::new(alloc),
+    };
+    match token.shape {
+        Shape::LineEnd => Some(LinePlace::Ended(LineForm::Instructs(begun, Step::Call(call)))),
+        Shape::Opening => Some(LinePlace::Listing(begun, call, InList::AtFirst)),
+        _ => None,
+    }
+}
+
+/// Behind the token after the list's bracket: an input, or the list's end.
+fn at_first<'a>(begun: Begun<'a>, call: Listed<'a>, token: Token<'a>) -> Option<LinePlace<'a>>
+    ensures { (line : ℕ) → option_map said_line result ≡ lines.at_list (said_begun begun.entry) (said_listed call.entry) lines.AtFirst (symbol_in token.entry) line }
+{
+    match token.shape {
+        Shape::LineEnd => Some(LinePlace::Listing(begun, call, InList::AtFirst)),
+        Shape::Identifier => Some(LinePlace::Listing(begun, call, InList::AtAssign(word(token)))),
+        Shape::Closing => Some(LinePlace::Stepped(begun, Step::Call(call))),
+        _ => None,
+    }
+}
+
+/// Behind the token after a comma: an input.
+fn at_next<'a>(begun: Begun<'a>, call: Listed<'a>, token: Token<'a>) -> Option<LinePlace<'a>>
+    ensures { (line : ℕ) → option_map said_line result ≡ lines.at_list (said_begun begun.entry) (said_listed call.entry) lines.AtNext (symbol_in token.entry) line }
+{
+    match token.shape {
+        Shape::LineEnd => Some(LinePlace::Listing(begun, call, InList::AtNext)),
+        Shape::Identifier => Some(LinePlace::Listing(begun, call, InList::AtAssign(word(token)))),
+        _ => None,
+    }
+}
+
+/// Behind the token after an input: its `:=`.
+fn at_assign<'a>(
+    begun: Begun<'a>,
+    call: Listed<'a>,
+    input: Word<'a>,
+    token: Token<'a>,
+) -> Option<LinePlace<'a>>
+    ensures { (line : ℕ) → option_map said_line result ≡ lines.at_list (said_begun begun.entry) (said_listed call.entry) (lines.AtAssign (name_in input.entry)) (symbol_in token.entry) line }
+{
+    match token.shape {
+        Shape::LineEnd => Some(LinePlace::Listing(begun, call, InList::AtAssign(input))),
+        Shape::Assign => Some(LinePlace::Listing(begun, call, InList::AtValue(input))),
+        _ => None,
+    }
+}
+
+/// Behind the token after `:=`: a value.
+fn at_value<'a>(
+    begun: Begun<'a>,
+    call: Listed<'a>,
+    input: Word<'a>,
+    token: Token<'a>,
+) -> Result<Option<LinePlace<'a>>, AllocError>
+    ensures { IfOk result (λ next. option_map said_line next ≡ lines.at_list (said_begun begun.entry) (said_listed call.entry) (lines.AtValue (name_in input.entry)) (symbol_in token.entry) token.entry.line) }
+{
+    match token.shape {
+        Shape::LineEnd => Ok(Some(LinePlace::Listing(begun, call, InList::AtValue(input)))),
+        _ => at_operand(begun, OperandOf::OfArgument(call, input), token),
+    }
+}
+
+/// Behind the token after a whole argument: a comma, or the list's end.
+fn at_end<'a>(begun: Begun<'a>, call: Listed<'a>, token: Token<'a>) -> Option<LinePlace<'a>>
+    ensures { (line : ℕ) → option_map said_line result ≡ lines.at_list (said_begun begun.entry) (said_listed call.entry) lines.AtEnd (symbol_in token.entry) line }
+{
+    match token.shape {
+        Shape::LineEnd => Some(LinePlace::Listing(begun, call, InList::AtEnd)),
+        Shape::Comma => Some(LinePlace::Listing(begun, call, InList::AtNext)),
+        Shape::Closing => Some(LinePlace::Stepped(begun, Step::Call(call))),
+        _ => None,
+    }
+}
+
+/// Behind one more token of a call's list, whose line ends are passed over.
+pub(crate) fn at_list<'a>(
+    begun: Begun<'a>,
+    call: Listed<'a>,
+    item: InList<'a>,
+    token: Token<'a>,
+) -> Result<Option<LinePlace<'a>>, AllocError>
+    ensures { IfOk result (λ next. option_map said_line next ≡ lines.at_list (said_begun begun.entry) (said_listed call.entry) (said_item item.entry) (symbol_in token.entry) token.entry.line) }
+{
+    match item {
+        InList::AtFirst => Ok(at_first(begun, call, token)),
+        InList::AtNext => Ok(at_next(begun, call, token)),
+        InList::AtAssign(input) => Ok(at_assign(begun, call, input, token)),
+        InList::AtValue(input) => at_value(begun, call, input, token),
+        InList::AtEnd => Ok(at_end(begun, call, token)),
+    }
+}

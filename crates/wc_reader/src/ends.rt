@@ -1,0 +1,98 @@
+ghost use Rattle.std.specs.Prelude.{◌≡◌, [], List, map};
+ghost use Rattle.wc_grammar_laws.proofs.LineMoves as lines;
+ghost use Rattle.wc_grammar_laws.proofs.Moves as moves;
+ghost use Rattle.wc_model.specs.Names.{Name};
+ghost use Rattle.wc_model.specs.Tree.{ProgramUnit};
+ghost use Rattle.wc_model.specs.Views.{unit_of};
+ghost use Rattle.wc_reader.specs.LineViews.{said_begun, said_line, said_owner};
+ghost use Rattle.wc_reader.specs.TextViews.{fault_of, said_body, said_openings_in, said_reading};
+ghost use Rattle.wc_reader.specs.Told.{Tells};
+
+use crate::body::{Body, innermost};
+use crate::faults::has_program;
+use crate::line_place::{Begun, LinePlace, OperandOf};
+use crate::place::{Place, Reading};
+use std::alloc::Global;
+use wc_model::{Fault, Source, Unit};
+
+/// A parenthesis is open since that line.
+fn open_since(line: u32) -> Fault
+    ensures { result ≡ Fault.Refused 206 line }
+{
+    Fault::Refused {
+        number: 206,
+        place: line,
+    }
+}
+
+/// In a body at the text's end: the innermost parenthesis is open, or the unit.
+fn open_in(body: &Body) -> Fault
+    ensures { result ≡ fault_of (moves.open_in (unit_of body.now.unit) (said_openings_in [] body.now.openings.items)) }
+{
+    match innermost(&body.openings) {
+        Some(opening) => open_since(opening.begun.line),
+        None => Fault::Refused {
+            number: 202,
+            place: body.unit.line,
+        },
+    }
+}
+
+/// Behind a name at the text's end: its line may open a parenthesis.
+fn open_behind_name<'a>(body: &Body<'a>, begun: &Begun<'a>, owner: &OperandOf<'a>) -> Fault
+    ensures named { (units : List ProgramUnit) (name : Name) → result ≡ fault_of (moves.open_on (said_body units body.now) (lines.Named (said_begun begun.now) (said_owner owner.now) name)) }
+    ensures pointed { (units : List ProgramUnit) (name : Name) → result ≡ fault_of (moves.open_on (said_body units body.now) (lines.Pointed (said_begun begun.now) (said_owner owner.now) name)) }
+{
+    match owner {
+        OperandOf::OfOpening(_) => open_since(begun.line),
+        _ => open_in(body),
+    }
+}
+
+/// On a line at the text's end: it may open a parenthesis.
+fn open_on<'a>(body: &Body<'a>, line: &LinePlace<'a>) -> Fault
+    ensures { (units : List ProgramUnit) → result ≡ fault_of (moves.open_on (said_body units body.now) (said_line line.now)) }
+{
+    match line {
+        LinePlace::Bracketed(begun, _) => open_since(begun.line),
+        LinePlace::BracketedWith(begun, _, _) => open_since(begun.line),
+        LinePlace::Named(begun, owner, _) => open_behind_name(body, begun, owner),
+        LinePlace::Pointed(begun, owner, _) => open_behind_name(body, begun, owner),
+        _ => open_in(body),
+    }
+}
+
+/// Whole units at the text's end: one is a program, or none.
+fn whole_text<'a>(units: Vec<Unit<'a>, Global>, last_line: u32) -> Result<Source<'a>, Fault>
+    ensures { Tells (moves.at_end (moves.Outside (map unit_of units.entry.items)) last_line) result }
+{
+    if has_program(&units) {
+        Ok(Source { units })
+    } else {
+        Err(Fault::Refused {
+            number: 203,
+            place: last_line,
+        })
+    }
+}
+
+/// The text whose tokens have all been read, or what is wrong at its end.
+pub(crate) fn at_text_end<'a>(reading: Reading<'a>, last_line: u32) -> Result<Source<'a>, Fault>
+    ensures { Tells (moves.at_end (said_reading reading.entry) last_line) result }
+{
+    let Reading { units, place } = reading;
+    match place {
+        Place::Outside => whole_text(units, last_line),
+        Place::Unnamed(_kind, line) => Err(Fault::Refused {
+            number: 202,
+            place: line,
+        }),
+        Place::Declaring(unit, _section, _place) => Err(Fault::Refused {
+            number: 202,
+            place: unit.line,
+        }),
+        Place::AtLine(body) => Err(open_in(&body)),
+        Place::OnLine(body, line) => Err(open_on(&body, &line)),
+        Place::Closed(body) => Err(open_in(&body)),
+    }
+}

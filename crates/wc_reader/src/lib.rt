@@ -1,0 +1,23 @@
+//! The tree of a program text in Instruction List: its tokens are taken one after the other, so that no text makes the
+//! reader recurse.
+#![tactic(auto)]
+
+mod body;
+mod body_moves;
+mod calls;
+mod declarations;
+mod ends;
+mod faults;
+mod line_faults;
+mod line_place;
+mod lines;
+mod moves;
+mod operands;
+mod operators;
+mod place;
+#[cfg(test)]
+mod tests;
+mod text;
+mod words;
+
+pub use text::read;

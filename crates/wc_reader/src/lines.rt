@@ -1,0 +1,223 @@
+ghost use Rattle.std.specs.Prelude.{◌≡◌, ℕ, Bool, IfOk, option_map};
+ghost use Rattle.wc_grammar_laws.proofs.LineMoves as lines;
+ghost use Rattle.wc_grammar_laws.proofs.Words as words;
+ghost use Rattle.wc_model.specs.Grammar.{Setting, InBody, InParentheses};
+ghost use Rattle.wc_model.specs.Names.{name_of};
+ghost use Rattle.wc_model.specs.Views.{term_of, word_of};
+ghost use Rattle.wc_reader.specs.LineViews.{said_begun, said_line, said_step};
+ghost use Rattle.wc_reader.specs.Words.{said_operating, said_operation, symbol_in};
+
+use crate::calls::{at_instance, at_list};
+use crate::line_place::{Begun, LineForm, LinePlace, OperandOf, Step};
+use crate::operands::{at_field, at_named, at_operand};
+use crate::operators::{Operating, Operation, is_transfer, operation_named, operation_of};
+use crate::words::word;
+use std::alloc::{AllocError, Global};
+use wc_lexer::{Shape, Token};
+use wc_model::{Condition, Operand, Operator, Word};
+
+/// Behind an operator.
+fn behind_operator<'a>(label: Option<Word<'a>>, line: u32, operation: Operation) -> LinePlace<'a>
+    ensures { said_line result ≡ lines.behind_operator (option_map word_of label.entry) line (said_operation operation) }
+{
+    let begun = Begun { label, line };
+    match operation {
+        Operation::Operates(operating) => LinePlace::Operated(begun, operating),
+        Operation::Negates => LinePlace::Stepped(begun, Step::Negate),
+        Operation::Jumps(condition) => LinePlace::Jumped(begun, condition),
+        Operation::Calls(condition) => LinePlace::Called(begun, condition),
+        Operation::Returns(condition) => LinePlace::Stepped(begun, Step::Return(condition)),
+    }
+}
+
+/// Behind a token that has to be an operator.
+fn at_operator<'a>(label: Option<Word<'a>>, token: Token<'a>) -> Option<LinePlace<'a>>
+    ensures { option_map said_line result ≡ lines.at_operator (option_map word_of label.entry) token.entry.line (words.operation_of (symbol_in token.entry)) }
+{
+    match operation_of(token) {
+        Some(operation) => Some(behind_operator(label, token.line, operation)),
+        None => None,
+    }
+}
+
+/// Behind a line's first identifier that no colon follows. One that is no operator may still be a label: what is wrong
+/// is the token behind it.
+fn operator_or_label<'a>(token: Token<'a>) -> LinePlace<'a>
+    ensures { said_line result ≡ lines.operator_or_label (record { line = token.entry.line; name = name_of token.entry.text.now }) (words.found words.operations (name_of token.entry.text.now)) }
+{
+    match operation_named(token.text) {
+        Some(operation) => behind_operator(None, token.line, operation),
+        None => LinePlace::Worded(word(token)),
+    }
+}
+
+/// Behind the first token of a line of a body; `colon` says whether a colon follows it.
+pub(crate) fn at_start<'a>(token: Token<'a>, colon: bool) -> Option<LinePlace<'a>>
+    ensures { option_map said_line result ≡ lines.line_move InBody lines.Start (symbol_in token.entry) token.entry.line colon }
+{
+    match token.shape {
+        Shape::Identifier if colon => Some(LinePlace::Worded(word(token))),
+        Shape::Identifier => Some(operator_or_label(token)),
+        _ => at_operator(None, token),
+    }
+}
+
+/// Behind the first token of a line in parentheses, where no label, jump, call or return stands.
+pub(crate) fn at_start_inside<'a>(token: Token<'a>) -> Option<LinePlace<'a>>
+    ensures { (colon : Bool) → option_map said_line result ≡ lines.line_move InParentheses lines.Start (symbol_in token.entry) token.entry.line colon }
+{
+    match operation_of(token) {
+        Some(operation) => {
+            if is_transfer(operation) {
+                None
+            } else {
+                Some(behind_operator(None, token.line, operation))
+            }
+        }
+        None => None,
+    }
+}
+
+/// Behind the token after a label's colon.
+fn at_labelled<'a>(label: Word<'a>, token: Token<'a>) -> Option<LinePlace<'a>>
+    ensures { option_map said_line result ≡ lines.at_labelled (word_of label.entry) (symbol_in token.entry) token.entry.line }
+{
+    match token.shape {
+        Shape::LineEnd => Some(LinePlace::Ended(LineForm::LabelAlone(label))),
+        _ => at_operator(Some(label), token),
+    }
+}
+
+/// Behind the token after a deferrable operator, which may open a parenthesis.
+fn at_applied<'a>(
+    begun: Begun<'a>,
+    operator: Operator,
+    token: Token<'a>,
+) -> Result<Option<LinePlace<'a>>, AllocError>
+    ensures { IfOk result (λ next. option_map said_line next ≡ lines.at_operated (said_begun begun.entry) (words.Applies operator) (symbol_in token.entry) token.entry.line) }
+{
+    match token.shape {
+        Shape::Opening => Ok(Some(LinePlace::Bracketed(begun, operator))),
+        _ => at_operand(
+            begun,
+            OperandOf::OfStep(Operating::Applies(operator)),
+            token,
+        ),
+    }
+}
+
+/// Behind the token after an operator that takes an operand.
+fn at_operated<'a>(
+    begun: Begun<'a>,
+    operating: Operating,
+    token: Token<'a>,
+) -> Result<Option<LinePlace<'a>>, AllocError>
+    ensures { IfOk result (λ next. option_map said_line next ≡ lines.at_operated (said_begun begun.entry) (said_operating operating) (symbol_in token.entry) token.entry.line) }
+{
+    match operating {
+        Operating::Applies(operator) => at_applied(begun, operator, token),
+        Operating::Loads(_) | Operating::Stores(_) => at_operand(
+            begun,
+            OperandOf::OfStep(operating),
+            token,
+        ),
+    }
+}
+
+/// Behind the token after an operator's bracket.
+fn at_bracketed<'a>(
+    begun: Begun<'a>,
+    operator: Operator,
+    token: Token<'a>,
+) -> Result<Option<LinePlace<'a>>, AllocError>
+    ensures { IfOk result (λ next. option_map said_line next ≡ lines.at_bracketed (said_begun begun.entry) operator (symbol_in token.entry) token.entry.line) }
+{
+    match token.shape {
+        Shape::LineEnd => Ok(Some(LinePlace::Ended(LineForm::Opens(begun, operator, None)))),
+        _ => at_operand(begun, OperandOf::OfOpening(operator), token),
+    }
+}
+
+/// Behind the token after a jump's operator: its label.
+fn at_target<'a>(begun: Begun<'a>, condition: Condition, token: Token<'a>) -> Option<LinePlace<'a>>
+    ensures { (setting : Setting) (line : ℕ) (colon : Bool) → option_map said_line result ≡ lines.line_move setting (lines.Jumped (said_begun begun.entry) condition) (symbol_in token.entry) line colon }
+{
+    match token.shape {
+        Shape::Identifier => Some(LinePlace::Stepped(begun, Step::Jump(condition, word(token)))),
+        _ => None,
+    }
+}
+
+/// Behind the token after a call's operator: its instance.
+fn at_called<'a>(begun: Begun<'a>, condition: Condition, token: Token<'a>) -> Option<LinePlace<'a>>
+    ensures { (setting : Setting) (line : ℕ) (colon : Bool) → option_map said_line result ≡ lines.line_move setting (lines.Called (said_begun begun.entry) condition) (symbol_in token.entry) line colon }
+{
+    match token.shape {
+        Shape::Identifier => Some(LinePlace::Instanced(begun, condition, word(token))),
+        _ => None,
+    }
+}
+
+/// Behind the token after a whole instruction: the line's end.
+fn at_step_end<'a>(begun: Begun<'a>, step: Step<'a>, token: Token<'a>) -> Option<LinePlace<'a>>
+    ensures { (setting : Setting) (line : ℕ) (colon : Bool) → option_map said_line result ≡ lines.line_move setting (lines.Stepped (said_begun begun.entry) (said_step step.entry)) (symbol_in token.entry) line colon }
+{
+    match token.shape {
+        Shape::LineEnd => Some(LinePlace::Ended(LineForm::Instructs(begun, step))),
+        _ => None,
+    }
+}
+
+/// Behind the token after the operand of an opening line: the line's end.
+fn at_opening_end<'a>(
+    begun: Begun<'a>,
+    operator: Operator,
+    operand: Operand<'a>,
+    token: Token<'a>,
+) -> Option<LinePlace<'a>>
+    ensures { (setting : Setting) (line : ℕ) (colon : Bool) → option_map said_line result ≡ lines.line_move setting (lines.BracketedWith (said_begun begun.entry) operator (term_of operand.entry)) (symbol_in token.entry) line colon }
+{
+    match token.shape {
+        Shape::LineEnd => Some(LinePlace::Ended(LineForm::Opens(begun, operator, Some(operand)))),
+        _ => None,
+    }
+}
+
+/// Behind the token after a label: its colon.
+fn at_colon<'a>(label: Word<'a>, token: Token<'a>) -> Option<LinePlace<'a>>
+    ensures { (setting : Setting) (line : ℕ) (colon : Bool) → option_map said_line result ≡ lines.line_move setting (lines.Worded (word_of label.entry)) (symbol_in token.entry) line colon }
+{
+    match token.shape {
+        Shape::Colon => Some(LinePlace::Labelled(label)),
+        _ => None,
+    }
+}
+
+/// Behind one more token of a line that has begun; none where no line goes on so.
+pub(crate) fn line_move<'a>(
+    alloc: Global,
+    place: LinePlace<'a>,
+    token: Token<'a>,
+) -> Result<Option<LinePlace<'a>>, AllocError>
+    ensures { IfOk result (λ next. (setting : Setting) (colon : Bool) → option_map said_line next ≡ lines.line_move setting (said_line place.entry) (symbol_in token.entry) token.entry.line colon) }
+{
+    match place {
+        LinePlace::Worded(label) => Ok(at_colon(label, token)),
+        LinePlace::Labelled(label) => Ok(at_labelled(label, token)),
+        LinePlace::Operated(begun, operating) => at_operated(begun, operating, token),
+        LinePlace::Jumped(begun, condition) => Ok(at_target(begun, condition, token)),
+        LinePlace::Called(begun, condition) => Ok(at_called(begun, condition, token)),
+        LinePlace::Instanced(begun, condition, instance) => Ok(at_instance(
+            alloc, begun, condition, instance, token,
+        )),
+        LinePlace::Listing(begun, call, item) => at_list(begun, call, item, token),
+        LinePlace::Bracketed(begun, operator) => at_bracketed(begun, operator, token),
+        LinePlace::Named(begun, owner, name) => at_named(begun, owner, name, token),
+        LinePlace::Pointed(begun, owner, instance) => at_field(begun, owner, instance, token),
+        LinePlace::Stepped(begun, step) => Ok(at_step_end(begun, step, token)),
+        LinePlace::BracketedWith(begun, operator, operand) => Ok(at_opening_end(
+            begun, operator, operand, token,
+        )),
+        LinePlace::Ended(_form) => Ok(None),
+    }
+}

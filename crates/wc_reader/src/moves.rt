@@ -1,0 +1,121 @@
+ghost use Rattle.std.specs.Prelude.{◌≡◌, Bool, IfOk, IfSome, List, option_map};
+ghost use Rattle.wc_grammar_laws.proofs.Moves as moves;
+ghost use Rattle.wc_grammar_laws.proofs.Words.{found, unit_kinds};
+ghost use Rattle.wc_model.specs.Names.{name_of};
+ghost use Rattle.wc_model.specs.Tree.{ProgramUnit};
+ghost use Rattle.wc_model.specs.Views.{unit_of};
+ghost use Rattle.wc_reader.specs.TextViews.{IsPlaceCounted, said_declaration, said_place, said_reading, said_section};
+ghost use Rattle.wc_reader.specs.Words.{symbol_in};
+
+use crate::body::body_start;
+use crate::body_moves::{along_line, at_closed, at_line, with_units};
+use crate::declarations::{DeclarationPlace, Declaring, declaration_move};
+use crate::place::{Place, Reading};
+use crate::words::{section, unit_kind, word};
+use std::alloc::{AllocError, Global};
+use wc_lexer::{Shape, Token};
+use wc_model::{Section, Unit, UnitKind};
+
+/// Behind a unit's first word, where the token is one.
+fn at_first_word<'a>(token: Token<'a>) -> Option<Place<'a>>
+    ensures behind { (units : List ProgramUnit) → option_map (said_place units) result ≡ option_map (λ kind. moves.Unnamed units kind token.entry.line) (found unit_kinds (name_of token.entry.text.now)) }
+    ensures counted { IfSome result (λ it. IsPlaceCounted it) }
+{
+    match unit_kind(token.text) {
+        Some(kind) => Some(Place::Unnamed(kind, token.line)),
+        None => None,
+    }
+}
+
+/// Behind a token between units.
+fn outside<'a>(token: Token<'a>) -> Option<Place<'a>>
+    ensures behind { (units : List ProgramUnit) (colon : Bool) → option_map (said_place units) result ≡ moves.move (moves.Outside units) (symbol_in token.entry) token.entry.line colon }
+    ensures counted { IfSome result (λ it. IsPlaceCounted it) }
+{
+    match token.shape {
+        Shape::LineEnd => Some(Place::Outside),
+        Shape::Identifier => at_first_word(token),
+        _ => None,
+    }
+}
+
+/// Behind the token after a unit's first word: its name.
+fn at_name<'a>(alloc: Global, kind: UnitKind, line: u32, token: Token<'a>) -> Option<Place<'a>>
+    ensures behind { (units : List ProgramUnit) (colon : Bool) → option_map (said_place units) result ≡ moves.move (moves.Unnamed units kind line) (symbol_in token.entry) token.entry.line colon }
+    ensures counted { IfSome result (λ it. IsPlaceCounted it) }
+{
+    match token.shape {
+        Shape::Identifier => {
+            let unit = Unit {
+                kind,
+                line,
+                name: word(token),
+                declarations: Vec::new(alloc),
+                body: Vec::new(alloc),
+            };
+            Some(Place::AtLine(body_start(alloc, unit)))
+        }
+        _ => None,
+    }
+}
+
+/// In a section, or at the start of the body behind it.
+fn section_place<'a>(alloc: Global, declaring: Declaring<'a>) -> Place<'a>
+    ensures behind { (units : List ProgramUnit) → said_place units result ≡ said_section units declaring.entry }
+    ensures counted { IsPlaceCounted result }
+{
+    let Declaring {
+        unit,
+        section,
+        place,
+    } = declaring;
+    match place {
+        Some(place) => Place::Declaring(unit, section, place),
+        None => Place::AtLine(body_start(alloc, unit)),
+    }
+}
+
+/// Behind one more token of a section.
+fn in_section<'a>(
+    alloc: Global,
+    unit: Unit<'a>,
+    section: Section,
+    place: DeclarationPlace<'a>,
+    token: Token<'a>,
+) -> Result<Option<Place<'a>>, AllocError>
+    ensures behind { IfOk result (λ next. (units : List ProgramUnit) → option_map (said_place units) next ≡ moves.declaration_move units (unit_of unit.entry) section (said_declaration place.entry) (symbol_in token.entry) token.entry.line) }
+    ensures counted { IfOk result (λ next. IfSome next (λ it. IsPlaceCounted it)) }
+{
+    match declaration_move(alloc, unit, section, place, token)? {
+        Some(declaring) => Ok(Some(section_place(alloc, declaring))),
+        None => Ok(None),
+    }
+}
+
+/// Behind one more token; none where no text goes on so. `colon` says whether a colon follows it.
+pub(crate) fn text_move<'a>(
+    alloc: Global,
+    reading: Reading<'a>,
+    token: Token<'a>,
+    colon: bool,
+) -> Result<Option<Reading<'a>>, AllocError>
+    requires { IsPlaceCounted reading.place }
+    ensures behind { IfOk result (λ next. option_map said_reading next ≡ moves.move (said_reading reading.entry) (symbol_in token.entry) token.entry.line colon) }
+    ensures counted { IfOk result (λ next. IfSome next (λ it. IsPlaceCounted it.place)) }
+{
+    let Reading { units, place } = reading;
+    match place {
+        Place::Outside => Ok(with_units(units, outside(token))),
+        Place::Unnamed(kind, line) => Ok(with_units(units, at_name(alloc, kind, line, token))),
+        Place::Declaring(unit, section, place) => {
+            let place = in_section(alloc, unit, section, place, token)?;
+            Ok(with_units(units, place))
+        }
+        Place::AtLine(body) => at_line(alloc, units, body, token, colon),
+        Place::OnLine(body, line) => {
+            let place = along_line(alloc, body, line, token)?;
+            Ok(with_units(units, place))
+        }
+        Place::Closed(body) => Ok(with_units(units, at_closed(body, token))),
+    }
+}

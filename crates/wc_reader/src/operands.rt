@@ -1,0 +1,228 @@
+ghost use Rattle.std.specs.Prelude.{◌≡◌, ℕ, Bool, IfOk, Some, option_map};
+ghost use Rattle.wc_grammar_laws.proofs.LineMoves as lines;
+ghost use Rattle.wc_grammar_laws.proofs.Words as words;
+ghost use Rattle.wc_model.specs.Grammar.{Setting};
+ghost use Rattle.wc_model.specs.Marks as marks;
+ghost use Rattle.wc_model.specs.Tree as tree;
+ghost use Rattle.wc_model.specs.Views.{name_in, term_of};
+ghost use Rattle.wc_reader.specs.LineViews.{said_begun, said_line, said_listed, said_owner, said_step};
+ghost use Rattle.wc_reader.specs.Words.{said_operating, symbol_in};
+
+use crate::line_place::{Begun, InList, LineForm, LinePlace, Listed, OperandOf, Step};
+use crate::operators::Operating;
+use crate::words::{truth, word};
+use std::alloc::AllocError;
+use wc_lexer::{Shape, Token};
+use wc_model::{Argument, Operand, Operator, Value, Word};
+
+/// The instruction of an operator with its operand.
+fn step_of<'a>(operating: Operating, operand: Operand<'a>) -> Step<'a>
+    ensures { said_step result ≡ words.step_of (said_operating operating) (term_of operand.entry) }
+{
+    match operating {
+        Operating::Loads(negated) => Step::Load(negated, operand),
+        Operating::Stores(storing) => Step::Store(storing, operand),
+        Operating::Applies(operator) => Step::Apply(operator, operand),
+    }
+}
+
+/// The call with one more argument.
+fn with_argument<'a>(
+    call: Listed<'a>,
+    input: Word<'a>,
+    value: Operand<'a>,
+) -> Result<Listed<'a>, AllocError>
+    ensures { IfOk result (λ more. said_listed more ≡ lines.with_argument (said_listed call.entry) (name_in input.entry) (term_of value.entry)) }
+{
+    let mut call = call;
+    call.arguments.push(Argument { name: input, value })?;
+    Ok(call)
+}
+
+/// Behind a whole operand.
+fn behind_operand<'a>(
+    begun: Begun<'a>,
+    owner: OperandOf<'a>,
+    operand: Operand<'a>,
+) -> Result<LinePlace<'a>, AllocError>
+    ensures { IfOk result (λ next. said_line next ≡ lines.behind_operand (said_begun begun.entry) (said_owner owner.entry) (term_of operand.entry)) }
+{
+    match owner {
+        OperandOf::OfStep(operating) => Ok(LinePlace::Stepped(begun, step_of(operating, operand))),
+        OperandOf::OfOpening(operator) => Ok(LinePlace::BracketedWith(begun, operator, operand)),
+        OperandOf::OfArgument(call, input) => {
+            let call = with_argument(call, input, operand)?;
+            Ok(LinePlace::Listing(begun, call, InList::AtEnd))
+        }
+    }
+}
+
+/// Behind a literal where an operand stands.
+fn behind_literal<'a>(
+    begun: Begun<'a>,
+    owner: OperandOf<'a>,
+    value: Value,
+) -> Result<Option<LinePlace<'a>>, AllocError>
+    ensures { IfOk result (λ next. option_map said_line next ≡ Some (lines.behind_operand (said_begun begun.entry) (said_owner owner.entry) (tree.Constant value))) }
+{
+    let next = behind_operand(begun, owner, Operand::Literal(value))?;
+    Ok(Some(next))
+}
+
+/// Behind the first token of an operand; none where none begins so.
+pub(crate) fn at_operand<'a>(
+    begun: Begun<'a>,
+    owner: OperandOf<'a>,
+    token: Token<'a>,
+) -> Result<Option<LinePlace<'a>>, AllocError>
+    ensures { IfOk result (λ next. option_map said_line next ≡ lines.at_operand (said_begun begun.entry) (said_owner owner.entry) (symbol_in token.entry) token.entry.line) }
+{
+    match token.shape {
+        Shape::Identifier => match truth(token.text) {
+            Some(value) => behind_literal(begun, owner, Value::Bool(value)),
+            None => Ok(Some(LinePlace::Named(begun, owner, word(token)))),
+        },
+        Shape::Whole(number) => behind_literal(begun, owner, Value::Dint(number)),
+        Shape::Duration(milliseconds) => behind_literal(begun, owner, Value::Time(milliseconds)),
+        Shape::Truth(value) => behind_literal(begun, owner, Value::Bool(value)),
+        Shape::Address => {
+            let next = behind_operand(begun, owner, Operand::Address(word(token)))?;
+            Ok(Some(next))
+        }
+        _ => Ok(None),
+    }
+}
+
+/// Behind the token after an argument's name that is the whole operand.
+fn behind_value<'a>(
+    begun: Begun<'a>,
+    call: Listed<'a>,
+    input: Word<'a>,
+    name: Word<'a>,
+    token: Token<'a>,
+) -> Result<Option<LinePlace<'a>>, AllocError>
+    ensures { IfOk result (λ next. option_map said_line next ≡ lines.behind_name (said_begun begun.entry) (lines.OfArgument (said_listed call.entry) (name_in input.entry)) (name_in name.entry) (symbol_in token.entry)) }
+{
+    match token.shape {
+        Shape::LineEnd => Ok(Some(LinePlace::Named(
+            begun,
+            OperandOf::OfArgument(call, input),
+            name,
+        ))),
+        Shape::Comma => {
+            let call = with_argument(call, input, Operand::Name(name))?;
+            Ok(Some(LinePlace::Listing(begun, call, InList::AtNext)))
+        }
+        Shape::Closing => {
+            let call = with_argument(call, input, Operand::Name(name))?;
+            Ok(Some(LinePlace::Stepped(begun, Step::Call(call))))
+        }
+        _ => Ok(None),
+    }
+}
+
+/// Behind the token after an instruction's name that is the whole operand.
+fn behind_step_name<'a>(
+    begun: Begun<'a>,
+    operating: Operating,
+    name: Word<'a>,
+    token: Token<'a>,
+) -> Option<LinePlace<'a>>
+    ensures { option_map said_line result ≡ lines.behind_name (said_begun begun.entry) (lines.OfStep (said_operating operating)) (name_in name.entry) (symbol_in token.entry) }
+{
+    match token.shape {
+        Shape::LineEnd => {
+            let step = step_of(operating, Operand::Name(name));
+            Some(LinePlace::Ended(LineForm::Instructs(begun, step)))
+        }
+        _ => None,
+    }
+}
+
+/// Behind the token after an opening line's name that is the whole operand.
+fn behind_opening_name<'a>(
+    begun: Begun<'a>,
+    operator: Operator,
+    name: Word<'a>,
+    token: Token<'a>,
+) -> Option<LinePlace<'a>>
+    ensures { option_map said_line result ≡ lines.behind_name (said_begun begun.entry) (lines.OfOpening operator) (name_in name.entry) (symbol_in token.entry) }
+{
+    match token.shape {
+        Shape::LineEnd => Some(LinePlace::Ended(LineForm::Opens(
+            begun,
+            operator,
+            Some(Operand::Name(name)),
+        ))),
+        _ => None,
+    }
+}
+
+/// Behind the token after a name that is the whole operand.
+fn behind_name<'a>(
+    begun: Begun<'a>,
+    owner: OperandOf<'a>,
+    name: Word<'a>,
+    token: Token<'a>,
+) -> Result<Option<LinePlace<'a>>, AllocError>
+    ensures { IfOk result (λ next. option_map said_line next ≡ lines.behind_name (said_begun begun.entry) (said_owner owner.entry) (name_in name.entry) (symbol_in token.entry)) }
+{
+    match owner {
+        OperandOf::OfStep(operating) => Ok(behind_step_name(begun, operating, name, token)),
+        OperandOf::OfOpening(operator) => Ok(behind_opening_name(begun, operator, name, token)),
+        OperandOf::OfArgument(call, input) => behind_value(begun, call, input, name, token),
+    }
+}
+
+/// Behind the token after a name.
+pub(crate) fn at_named<'a>(
+    begun: Begun<'a>,
+    owner: OperandOf<'a>,
+    name: Word<'a>,
+    token: Token<'a>,
+) -> Result<Option<LinePlace<'a>>, AllocError>
+    ensures { IfOk result (λ next. (setting : Setting) (line : ℕ) (colon : Bool) → option_map said_line next ≡ lines.line_move setting (lines.Named (said_begun begun.entry) (said_owner owner.entry) (name_in name.entry)) (symbol_in token.entry) line colon) }
+{
+    match token.shape {
+        Shape::Point => Ok(Some(LinePlace::Pointed(begun, owner, name))),
+        _ => behind_name(begun, owner, name, token),
+    }
+}
+
+/// Behind the line end after a field's point: only in a call's list line ends are passed over.
+fn behind_point<'a>(
+    begun: Begun<'a>,
+    owner: OperandOf<'a>,
+    instance: Word<'a>,
+) -> Option<LinePlace<'a>>
+    ensures { option_map said_line result ≡ lines.at_field (said_begun begun.entry) (said_owner owner.entry) (name_in instance.entry) marks.LineEnd }
+{
+    match owner {
+        OperandOf::OfArgument(call, input) => Some(LinePlace::Pointed(
+            begun,
+            OperandOf::OfArgument(call, input),
+            instance,
+        )),
+        _ => None,
+    }
+}
+
+/// Behind the token after a field's point.
+pub(crate) fn at_field<'a>(
+    begun: Begun<'a>,
+    owner: OperandOf<'a>,
+    instance: Word<'a>,
+    token: Token<'a>,
+) -> Result<Option<LinePlace<'a>>, AllocError>
+    ensures { IfOk result (λ next. option_map said_line next ≡ lines.at_field (said_begun begun.entry) (said_owner owner.entry) (name_in instance.entry) (symbol_in token.entry)) }
+{
+    match token.shape {
+        Shape::Identifier => {
+            let field = word(token);
+            let next = behind_operand(begun, owner, Operand::Field { instance, field })?;
+            Ok(Some(next))
+        }
+        Shape::LineEnd => Ok(behind_point(begun, owner, instance)),
+        _ => Ok(None),
+    }
+}

@@ -1,0 +1,186 @@
+ghost use Rattle.std.specs.Prelude.{◌≡◌, option_map};
+ghost use Rattle.wc_grammar_laws.proofs.Words as words;
+ghost use Rattle.wc_model.specs.Names.{name_of};
+ghost use Rattle.wc_reader.specs.OperatorGroups.{loads_and_stores, logic, arithmetic, comparisons, negation_and_jumps, calls_and_returns};
+ghost use Rattle.wc_reader.specs.Words.{said_operation, symbol_in};
+
+use crate::words::is_word;
+use wc_lexer::{Shape, Token};
+use wc_model::{Condition, Operator, Storing};
+
+/// An operator that takes an operand.
+#[derive(Clone, Copy, Debug, PartialEq, Eq)]
+pub(crate) enum Operating {
+    /// LD, or LDN where negated.
+    Loads(bool),
+    /// ST, STN, S, R.
+    Stores(Storing),
+    /// An operator that a parenthesis may defer.
+    Applies(Operator),
+}
+
+/// An operator (IEC 61131-3:2003, table 52).
+#[derive(Clone, Copy, Debug, PartialEq, Eq)]
+pub(crate) enum Operation {
+    /// With an operand.
+    Operates(Operating),
+    /// NOT.
+    Negates,
+    /// JMP, JMPC, JMPCN.
+    Jumps(Condition),
+    /// CAL, CALC, CALCN.
+    Calls(Condition),
+    /// RET, RETC, RETCN.
+    Returns(Condition),
+}
+
+/// LD, LDN, ST, STN, S, R.
+fn load_or_store(text: &[u8]) -> Option<Operation>
+    ensures { option_map said_operation result ≡ words.found loads_and_stores (name_of text.now) }
+{
+    if is_word(text, b"ld") {
+        Some(Operation::Operates(Operating::Loads(false)))
+    } else if is_word(text, b"ldn") {
+        Some(Operation::Operates(Operating::Loads(true)))
+    } else if is_word(text, b"st") {
+        Some(Operation::Operates(Operating::Stores(Storing::Result)))
+    } else if is_word(text, b"stn") {
+        Some(Operation::Operates(Operating::Stores(Storing::Negation)))
+    } else if is_word(text, b"s") {
+        Some(Operation::Operates(Operating::Stores(Storing::Set)))
+    } else if is_word(text, b"r") {
+        Some(Operation::Operates(Operating::Stores(Storing::Reset)))
+    } else {
+        None
+    }
+}
+
+/// AND, ANDN, OR, ORN, XOR, XORN.
+fn logic(text: &[u8]) -> Option<Operation>
+    ensures { option_map said_operation result ≡ words.found logic (name_of text.now) }
+{
+    if is_word(text, b"and") {
+        Some(Operation::Operates(Operating::Applies(Operator::And)))
+    } else if is_word(text, b"andn") {
+        Some(Operation::Operates(Operating::Applies(Operator::Andn)))
+    } else if is_word(text, b"or") {
+        Some(Operation::Operates(Operating::Applies(Operator::Or)))
+    } else if is_word(text, b"orn") {
+        Some(Operation::Operates(Operating::Applies(Operator::Orn)))
+    } else if is_word(text, b"xor") {
+        Some(Operation::Operates(Operating::Applies(Operator::Xor)))
+    } else if is_word(text, b"xorn") {
+        Some(Operation::Operates(Operating::Applies(Operator::Xorn)))
+    } else {
+        None
+    }
+}
+
+/// ADD, SUB, MUL, DIV, MOD.
+fn arithmetic(text: &[u8]) -> Option<Operation>
+    ensures { option_map said_operation result ≡ words.found arithmetic (name_of text.now) }
+{
+    if is_word(text, b"add") {
+        Some(Operation::Operates(Operating::Applies(Operator::Add)))
+    } else if is_word(text, b"sub") {
+        Some(Operation::Operates(Operating::Applies(Operator::Sub)))
+    } else if is_word(text, b"mul") {
+        Some(Operation::Operates(Operating::Applies(Operator::Mul)))
+    } else if is_word(text, b"div") {
+        Some(Operation::Operates(Operating::Applies(Operator::Div)))
+    } else if is_word(text, b"mod") {
+        Some(Operation::Operates(Operating::Applies(Operator::Mod)))
+    } else {
+        None
+    }
+}
+
+/// GT, GE, EQ, NE, LE, LT.
+fn comparison(text: &[u8]) -> Option<Operation>
+    ensures { option_map said_operation result ≡ words.found comparisons (name_of text.now) }
+{
+    if is_word(text, b"gt") {
+        Some(Operation::Operates(Operating::Applies(Operator::Gt)))
+    } else if is_word(text, b"ge") {
+        Some(Operation::Operates(Operating::Applies(Operator::Ge)))
+    } else if is_word(text, b"eq") {
+        Some(Operation::Operates(Operating::Applies(Operator::Eq)))
+    } else if is_word(text, b"ne") {
+        Some(Operation::Operates(Operating::Applies(Operator::Ne)))
+    } else if is_word(text, b"le") {
+        Some(Operation::Operates(Operating::Applies(Operator::Le)))
+    } else if is_word(text, b"lt") {
+        Some(Operation::Operates(Operating::Applies(Operator::Lt)))
+    } else {
+        None
+    }
+}
+
+/// NOT, JMP, JMPC, JMPCN.
+fn negation_or_jump(text: &[u8]) -> Option<Operation>
+    ensures { option_map said_operation result ≡ words.found negation_and_jumps (name_of text.now) }
+{
+    if is_word(text, b"not") {
+        Some(Operation::Negates)
+    } else if is_word(text, b"jmp") {
+        Some(Operation::Jumps(Condition::Always))
+    } else if is_word(text, b"jmpc") {
+        Some(Operation::Jumps(Condition::IfTrue))
+    } else if is_word(text, b"jmpcn") {
+        Some(Operation::Jumps(Condition::IfFalse))
+    } else {
+        None
+    }
+}
+
+/// CAL, CALC, CALCN, RET, RETC, RETCN.
+fn call_or_return(text: &[u8]) -> Option<Operation>
+    ensures { option_map said_operation result ≡ words.found calls_and_returns (name_of text.now) }
+{
+    if is_word(text, b"cal") {
+        Some(Operation::Calls(Condition::Always))
+    } else if is_word(text, b"calc") {
+        Some(Operation::Calls(Condition::IfTrue))
+    } else if is_word(text, b"calcn") {
+        Some(Operation::Calls(Condition::IfFalse))
+    } else if is_word(text, b"ret") {
+        Some(Operation::Returns(Condition::Always))
+    } else if is_word(text, b"retc") {
+        Some(Operation::Returns(Condition::IfTrue))
+    } else if is_word(text, b"retcn") {
+        Some(Operation::Returns(Condition::IfFalse))
+    } else {
+        None
+    }
+}
+
+/// The operator that the word is.
+pub(crate) fn operation_named(text: &[u8]) -> Option<Operation>
+    ensures { option_map said_operation result ≡ words.found words.operations (name_of text.now) }
+{
+    load_or_store(text)
+        .or(logic(text))
+        .or(arithmetic(text))
+        .or(comparison(text))
+        .or(negation_or_jump(text))
+        .or(call_or_return(text))
+}
+
+/// The operator that the token is.
+pub(crate) fn operation_of(token: Token) -> Option<Operation>
+    ensures { option_map said_operation result ≡ words.operation_of (symbol_in token.entry) }
+{
+    match token.shape {
+        Shape::Identifier => operation_named(token.text),
+        Shape::And => Some(Operation::Operates(Operating::Applies(Operator::And))),
+        Shape::AndNot => Some(Operation::Operates(Operating::Applies(Operator::Andn))),
+        _ => None,
+    }
+}
+
+/// Whether it is a jump, a call or a return.
+pub(crate) fn is_transfer(operation: Operation) -> bool
+    ensures { result ≡ words.is_transfer (said_operation operation) }
+{
+    !matches!(operation, Operation::Operates(_) | Operation::Negates)
+}

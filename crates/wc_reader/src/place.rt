@@ -1,0 +1,29 @@
+use crate::body::Body;
+use crate::declarations::DeclarationPlace;
+use crate::line_place::LinePlace;
+use std::alloc::Global;
+use wc_model::{Section, Unit, UnitKind};
+
+/// How far a text has been read, behind its whole units.
+#[derive(Debug, Drop)]
+pub(crate) enum Place<'a> {
+    /// In no unit.
+    Outside,
+    /// Behind a unit's first word, of that line.
+    Unnamed(UnitKind, u32),
+    /// In a section of declarations.
+    Declaring(Unit<'a>, Section, DeclarationPlace<'a>),
+    /// At the start of a line of a body.
+    AtLine(Body<'a>),
+    /// On a line that has begun.
+    OnLine(Body<'a>, LinePlace<'a>),
+    /// Behind a `)`, which the body counts as done.
+    Closed(Body<'a>),
+}
+
+/// The whole units, and how far the text behind them has been read.
+#[derive(Debug, Drop)]
+pub(crate) struct Reading<'a> {
+    pub units: Vec<Unit<'a>, Global>,
+    pub place: Place<'a>,
+}

@@ -1,0 +1,146 @@
+ghost use Rattle.std.specs.Prelude.{◌≡◌, ◌+◌, ◌==◌, ◌≤◌, ◌<◌, ◌∷◌, ℕ, IfErr, IfOk, List, Some, count_by, drop, false, length, option_map};
+ghost use Rattle.wc_grammar_laws.proofs.Moves as moves;
+ghost use Rattle.wc_grammar_laws.proofs.Moves.{at_first, colon_next};
+ghost use Rattle.wc_model.specs.Marks.{Mark};
+ghost use Rattle.wc_model.specs.Reading.{IsRead, last_line, mark_of_token};
+ghost use Rattle.wc_model.specs.Tokens.{most_bytes};
+ghost use Rattle.wc_model.specs.Views.{text_of};
+ghost use Rattle.wc_lexer.specs.Views.{said_token};
+ghost use Rattle.wc_reader.specs.ReadTexts.{IsRefusedAs};
+ghost use Rattle.wc_reader.specs.TextViews.{IsPlaceCounted, said_reading};
+ghost use Rattle.wc_reader.specs.Told.{IsUnexpected, Tells, TellsFault};
+ghost use Rattle.wc_reader.specs.Words.{marks_of, symbol_in};
+
+use crate::ends::at_text_end;
+use crate::faults::fault_at;
+use crate::moves::text_move;
+use crate::place::{Place, Reading};
+use std::alloc::Global;
+use wc_lexer::{Shape, Token, tokens};
+use wc_model::{Fault, Source};
+
+/// Whether the next token is a colon.
+fn is_colon_next(tokens: &[Token]) -> bool
+    ensures { result ≡ colon_next (marks_of tokens.now) false }
+{
+    match tokens.first() {
+        Some(token) => matches!(token.shape, Shape::Colon),
+        None => false,
+    }
+}
+
+/// What stands behind a token of that line, which is unexpected where there is nothing.
+fn or_unexpected<'a>(next: Option<Reading<'a>>, line: u32) -> Result<Reading<'a>, Fault>
+    ensures there { IfOk result (λ reading. next.entry ≡ Some reading) }
+    ensures nothing { IfErr result (λ fault. IsUnexpected (option_map said_reading next.entry) line fault) }
+{
+    match next {
+        Some(reading) => Ok(reading),
+        None => Err(Fault::Refused {
+            number: 201,
+            place: line,
+        }),
+    }
+}
+
+/// Behind a token with which nothing else is wrong, or that it is unexpected.
+fn moved<'a>(
+    alloc: Global,
+    reading: Reading<'a>,
+    token: Token<'a>,
+    colon: bool,
+) -> Result<Reading<'a>, Fault>
+    requires { IsPlaceCounted reading.place }
+    ensures goes_on { IfOk result (λ next. Some (said_reading next) ≡ moves.move (said_reading reading.entry) (symbol_in token.entry) token.entry.line colon) }
+    ensures stops { IfErr result (λ fault. IsUnexpected (moves.move (said_reading reading.entry) (symbol_in token.entry) token.entry.line colon) token.entry.line fault) }
+    ensures counted { IfOk result (λ next. IsPlaceCounted next.place) }
+{
+    match text_move(alloc, reading, token, colon) {
+        Ok(next) => or_unexpected(next, token.line),
+        Err(_) => Err(Fault::Memory),
+    }
+}
+
+/// Behind one more token, or what is wrong with it. `colon` says whether a colon follows it.
+fn next_reading<'a>(
+    alloc: Global,
+    reading: Reading<'a>,
+    token: Token<'a>,
+    colon: bool,
+) -> Result<Reading<'a>, Fault>
+    requires { IsPlaceCounted reading.place }
+    ensures goes_on { IfOk result (λ next. (behind : List Mark) (last : ℕ) → colon_next behind false ≡ colon → moves.reading (said_reading reading.entry) (mark_of_token (said_token token.entry) ∷ behind) last ≡ moves.reading (said_reading next) behind last) }
+    ensures stops { IfErr result (λ fault. (behind : List Mark) (last : ℕ) → colon_next behind false ≡ colon → TellsFault (moves.reading (said_reading reading.entry) (mark_of_token (said_token token.entry) ∷ behind) last) fault) }
+    ensures counted { IfOk result (λ next. IsPlaceCounted next.place) }
+{
+    match fault_at(&reading, token, colon) {
+        Some(fault) => Err(fault),
+        None => moved(alloc, reading, token, colon),
+    }
+}
+
+/// Behind the token at that index, or what is wrong with it.
+fn read_at<'a>(
+    alloc: Global,
+    reading: Reading<'a>,
+    tokens: &[Token<'a>],
+    index: usize,
+) -> Result<Reading<'a>, Fault>
+    requires counted { IsPlaceCounted reading.place }
+    requires within { index < length tokens.now }
+    ensures goes_on { IfOk result (λ next. (last : ℕ) → moves.reading (said_reading reading.entry) (marks_of (drop index tokens.now)) last ≡ moves.reading (said_reading next) (marks_of (drop (index + 1) tokens.now)) last) }
+    ensures stops { IfErr result (λ fault. (last : ℕ) → TellsFault (moves.reading (said_reading reading.entry) (marks_of (drop index tokens.now)) last) fault) }
+    ensures counted { IfOk result (λ next. IsPlaceCounted next.place) }
+{
+    let (_, left) = tokens.split_at(index);
+    match left.split_first() {
+        Some((token, behind)) => next_reading(alloc, reading, *token, is_colon_next(behind)),
+        None => Err(Fault::Memory),
+    }
+}
+
+/// The text that the tokens spell, or the first fault in them.
+fn read_tokens<'a>(alloc: Global, tokens: &[Token<'a>], last_line: u32) -> Result<Source<'a>, Fault>
+    ensures { Tells (moves.reading at_first (marks_of tokens.now) last_line) result }
+{
+    let mut reading = Reading {
+        units: Vec::new(alloc),
+        place: Place::Outside,
+    };
+    for index in 0..tokens.len() {
+        reading = match read_at(alloc, reading, tokens, index) {
+            Ok(next) => next,
+            Err(fault) => return Err(fault),
+        };
+    }
+    at_text_end(reading, last_line)
+}
+
+/// How many line feeds the text has.
+fn line_feeds(text: &[u8]) -> usize
+    ensures counted { result ≡ count_by (λ byte. byte == 10) text.now }
+    ensures within { result ≤ length text.now }
+{
+    text.iter().filter(|byte| **byte == b'\n').count()
+}
+
+/// The number of the text's last line.
+fn last_line(text: &[u8]) -> u32
+    requires { length text.now ≤ most_bytes }
+    ensures { result ≡ last_line text.now }
+{
+    1 + line_feeds(text) as u32
+}
+
+/// The text as a tree (IEC 61131-3:2003, annex B), or its first fault. `Err(Refused)` has the number and line of the
+/// first fault in text order, by the list of refusals: 101 to 107 of its tokens, 201 to 208 of what they spell; the text
+/// is then read as no tree. `Err(Memory)` is want of memory.
+pub fn read<'a>(alloc: Global, text: &'a [u8]) -> Result<Source<'a>, Fault>
+    ensures read { IfOk result (λ source. IsRead text.now (text_of source)) }
+    ensures refused { IfErr result (λ fault. IsRefusedAs text.now fault) }
+{
+    match tokens(alloc, text) {
+        Ok(tokens) => read_tokens(alloc, &tokens, last_line(text)),
+        Err(fault) => Err(fault),
+    }
+}
