@@ -198,3 +198,31 @@ fn every_cut_is_judged(rt: HostRuntime) {
         b"FUNCTION_BLOCK Cnt\nVAR_INPUT IN : BOOL; END_VAR\nVAR_OUTPUT N : DINT := 16#0F; END_VAR\nLD IN\nJMPCN E\nLD N\nADD 1\nST N\nE:\nEND_FUNCTION_BLOCK\n\nPROGRAM P\nVAR c : Cnt; END_VAR\nCAL c(IN := %IX0.0)\nLD c.N\nST %QD0\nRETC\nEND_PROGRAM\n";
     assert!(rt; cuts_are_judged(rt, blocks, 19));
 }
+
+/// Each cut of the text to `from` bytes or more, and fewer than `to`, is refused so.
+fn cuts_are_refused(
+    rt: HostRuntime,
+    text: &[u8],
+    from: usize,
+    to: usize,
+    number: u16,
+    place: u32,
+) -> bool {
+    for count in 0..text.len() {
+        if from <= count && count < to && !is_refused(rt, &text[..count], number, place) {
+            return false;
+        }
+    }
+    true
+}
+
+#[test]
+fn cuts_of_a_short_program(rt: HostRuntime) {
+    let text = b"PROGRAM P\nLD %IX0.0\nST %QX0.0\nEND_PROGRAM";
+    assert!(rt; cuts_are_refused(rt, text, 0, 1, 203, 1));
+    assert!(rt; cuts_are_refused(rt, text, 1, 7, 201, 1));
+    assert!(rt; cuts_are_refused(rt, text, 7, 34, 202, 1));
+    assert!(rt; cuts_are_refused(rt, text, 34, 35, 104, 4));
+    assert!(rt; cuts_are_refused(rt, text, 35, 41, 202, 1));
+    assert!(rt; has_units(rt, text, 1));
+}
