@@ -16,7 +16,7 @@ use Rattle.wc_sma.specs.declared.line.Line.{Line}
 use Rattle.wc_sma.specs.Seen.{seen_in, command_told, completes}
 use Rattle.wc_sma.specs.Standing.{StandsAfter}
 use Rattle.wc_sma.specs.Writing.{TakesFront}
-use Rattle.wc_sma.specs.Feeding.{Feeds, Fails, IsCutShort}
+use Rattle.wc_sma.specs.Feeding.{Feeds, Fails}
 
 -- what is seen is seen of a text
 seen_text : (o : Option (List ℕ)) (seen : Seen) → Some seen ≡ option_map seen_in o → (text : List ℕ) × (o ≡ Some text) × (seen ≡ seen_in text)

@@ -87,14 +87,17 @@ fn weight_asked(indicator: &Indicator, mode: Mode) -> Option<i32>
 pub fn answer(indicator: &Indicator, mode: Mode, asked: Asked) -> [u8; 20]
     ensures { Tells (λ p history. told.answer p history (mode_told mode) (asked_told asked)) indicator.now result }
 {
-    let weight = weight_field(indicator.plate().decimals() as u32, weight_asked(indicator, mode));
+    let weight = weight_field(
+        indicator.plate().decimals() as u32,
+        weight_asked(indicator, mode),
+    );
     let [first, second, third] = indicator.plate().unit();
     let status = status_byte(indicator, asked);
     let letter = mode_byte(indicator, mode);
     let motion = motion_byte(indicator);
     let mut bytes = [
-        b'\n', status, b'1', letter, motion, b' ', b' ', b' ', b' ', b' ', b' ', b' ', b' ', b' ', b' ', b' ', first,
-        second, third, b'\r',
+        b'\n', status, b'1', letter, motion, b' ', b' ', b' ', b' ', b' ', b' ', b' ', b' ', b' ',
+        b' ', b' ', first, second, third, b'\r',
     ];
     bytes[6..16].copy_from_slice(&weight);
     bytes

@@ -6,6 +6,8 @@ mod acting;
 mod answers;
 mod command;
 mod line;
+#[cfg(test)]
+mod tests;
 mod weight;
 mod writing;
 

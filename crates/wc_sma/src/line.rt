@@ -30,7 +30,11 @@ fn completed(begun: Option<Seen>, byte: u8) -> Option<Seen>
 }
 
 /// Acts on a request and writes its answer.
-fn serve<W: ByteOut>(command: Command, indicator: &mut Indicator, writer: &mut W) -> Result<(), WriteFault>
+fn serve<W: ByteOut>(
+    command: Command,
+    indicator: &mut Indicator,
+    writer: &mut W,
+) -> Result<(), WriteFault>
     ensures stands { (p : PlateData) (history : History) → StandsFor indicator.old p history → StandsFor indicator.new p (told.after_command (command_told command) history) }
     ensures whole { IfOk result (λ done. (p : PlateData) (history : History) → StandsFor indicator.old p history → Appends (W.bytes_taken writer.old) (W.bytes_taken writer.new) (told.answer_to p (command_told command) history)) }
     ensures steady { IfOk result (λ done. W.failure_count writer.new ≡ W.failure_count writer.old) }
@@ -53,7 +57,12 @@ impl Line {
     }
 
     /// Takes one byte.
-    fn take_byte<W: ByteOut>(&mut self, byte: u8, indicator: &mut Indicator, writer: &mut W) -> Result<(), WriteFault>
+    fn take_byte<W: ByteOut>(
+        &mut self,
+        byte: u8,
+        indicator: &mut Indicator,
+        writer: &mut W,
+    ) -> Result<(), WriteFault>
         requires { self.old.failed ≡ false }
         ensures feeds { IfOk result (λ done. Feeds self.old indicator.old (W.bytes_taken writer.old) self.new indicator.new (W.bytes_taken writer.new) (byte ∷ [])) }
         ensures works { IfOk result (λ done. self.new.failed ≡ false) }
@@ -78,7 +87,12 @@ impl Line {
     /// Takes a piece of the stream, acts on the requests that it completes and writes their answers, in order. Where an
     /// answer could not be written in full, the line has failed: its request was acted on, those behind it are not, and each later piece
     /// is refused.
-    pub fn feed<W: ByteOut>(&mut self, piece: &[u8], indicator: &mut Indicator, writer: &mut W) -> Result<(), WriteFault>
+    pub fn feed<W: ByteOut>(
+        &mut self,
+        piece: &[u8],
+        indicator: &mut Indicator,
+        writer: &mut W,
+    ) -> Result<(), WriteFault>
         ensures feeds { IfOk result (λ done. Feeds self.old indicator.old (W.bytes_taken writer.old) self.new indicator.new (W.bytes_taken writer.new) piece.now) }
         ensures fails { IfErr result (λ e. Fails self.old indicator.old (W.bytes_taken writer.old) self.new indicator.new (W.bytes_taken writer.new) piece.now) }
         // A line that has failed changes nothing.

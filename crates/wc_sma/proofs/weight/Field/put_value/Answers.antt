@@ -1,4 +1,4 @@
-use Rattle.std.proofs.Common.{◌≡◌, ◌/◌, ◌^◌, ◌<◌, ◌++◌, [], length, ap, ◌∙◌, subst, sym, append-nil, length-append, arith, to_z, of_z, w32}
+use Rattle.std.proofs.Common.{◌≡◌, ◌/◌, ◌^◌, ◌<◌, ◌++◌, length, ap, ◌∙◌, subst, sym, append-nil, length-append, arith, to_z, of_z, w32}
 use Rattle.std.proofs.lemmas.Int.{ints}
 use Rattle.std.specs.Prelude.{pos, ◌<ℤ◌, unsigned_abs, decimal}
 use Rattle.wc_model.specs.Answers.{fraction_text, minus_of}
