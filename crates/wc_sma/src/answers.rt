@@ -83,7 +83,8 @@ fn weight_asked(indicator: &Indicator, mode: Mode) -> Option<i32>
     }
 }
 
-/// The twenty bytes of an answer: line feed, status, `1`, mode, motion, space, ten of weight, three of unit, carriage return.
+/// The twenty bytes of an answer: line feed, status, `1`, mode, motion, space, ten of weight, three of unit, carriage
+/// return.
 pub fn answer(indicator: &Indicator, mode: Mode, asked: Asked) -> [u8; 20]
     ensures { Tells (λ p history. told.answer p history (mode_told mode) (asked_told asked)) indicator.now result }
 {

@@ -1,4 +1,4 @@
-ghost use Rattle.std.specs.Prelude.{◌≡◌, ◌⊎◌, ℕ, List, [], ◌∷◌, false, Option, option_map, OnOk, OnErr, IfOk, IfErr, IsErr};
+ghost use Rattle.std.specs.Prelude.{◌≡◌, ◌⊎◌, ℕ, List, [], ◌∷◌, false, Option, option_map, IfOk, IfErr, IsErr};
 ghost use Rattle.wc_model.specs.Plates.{PlateData};
 ghost use Rattle.wc_model.specs.WeighingHistories.{History};
 ghost use Rattle.wc_model.specs.Answers as told;
@@ -85,8 +85,8 @@ impl Line {
     }
 
     /// Takes a piece of the stream, acts on the requests that it completes and writes their answers, in order. Where an
-    /// answer could not be written in full, the line has failed: its request was acted on, those behind it are not, and each later piece
-    /// is refused.
+    /// answer could not be written in full the line has failed: its request was acted on, those behind it are not, and
+    /// each later call answers `WriteFault` and does nothing.
     pub fn feed<W: ByteOut>(
         &mut self,
         piece: &[u8],
