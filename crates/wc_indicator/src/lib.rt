@@ -1,5 +1,6 @@
 //! The indication of a class III instrument with a single range (OIML R 76-1:2006): what a plate, the samples
-//! of a sensor and the commands come to. The contracts say it of all that has come so far; the code keeps a ring and three numbers.
+//! of a sensor and the commands come to. The contracts say it of all that has come so far; the code keeps a ring and
+//! three numbers.
 #![tactic(auto)]
 
 mod commands;
