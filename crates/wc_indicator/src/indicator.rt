@@ -2,7 +2,7 @@ ghost use Rattle.std.specs.Prelude.{◌≡◌, ◌≤ℤ◌, ◌∷◌, [], IfOk
 ghost use Rattle.wc_model.specs.Plates.{least_sample, greatest_sample, PlateData};
 ghost use Rattle.wc_model.specs.WeighingHistories.{Sample, History};
 ghost use Rattle.wc_model.specs.Indication as told;
-ghost use Rattle.wc_indicator.specs.Kept.{StandsFor, Tells, IsDifference};
+ghost use Rattle.wc_indicator.specs.Kept.{StandsFor, Tells, IsCount, IsDifference};
 
 use crate::rounding::intervals;
 use crate::spread::spread;
@@ -15,11 +15,11 @@ use wc_plate::Plate;
 /// An indicator: what it shows is a function of its plate and of all that has come to it.
 #[derive(Drop)]
 pub struct Indicator {
-    plate: Plate,
-    latest: HeapCircularBuffer<i32>,
-    last: Option<i32>,
-    zero: i32,
-    tare: Option<i32>,
+    pub(crate) plate: Plate,
+    pub(crate) latest: HeapCircularBuffer<i32>,
+    pub(crate) last: Option<i32>,
+    pub(crate) zero: i32,
+    pub(crate) tare: Option<i32>,
 }
 
 impl Model for Indicator {
@@ -70,12 +70,20 @@ impl Indicator {
         &self.plate
     }
 
+    /// The last sample, and the calibrated zero before any.
+    pub(crate) fn present_counts(&self) -> i32
+        ensures told { Tells told.present_counts self.now result }
+        ensures range { IsCount result }
+    {
+        self.last.unwrap_or(self.plate.zero_counts())
+    }
+
     /// The last sample, counted from the zero point.
-    fn from_zero(&self) -> i32
+    pub(crate) fn from_zero(&self) -> i32
         ensures told { Tells told.from_zero self.now result }
         ensures range { IsDifference result }
     {
-        self.last.unwrap_or(self.plate.zero_counts()) - self.zero
+        self.present_counts() - self.zero
     }
 
     /// The tare in counts, 0 while none is active.
@@ -108,7 +116,7 @@ impl Indicator {
     }
 
     /// The gross weight in intervals.
-    fn gross_intervals(&self) -> i64
+    pub(crate) fn gross_intervals(&self) -> i64
         ensures told { Tells told.gross_intervals self.now result }
         ensures few { unsigned_abs result ≤ 2 ^ 25 }
     {

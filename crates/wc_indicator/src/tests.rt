@@ -1,4 +1,4 @@
-use crate::Indicator;
+use crate::{Indicator, Refused};
 use std::alloc::Global;
 use std::test::Fail;
 use wc_model::Fault;
@@ -121,6 +121,134 @@ fn other_plates(rt: HostRuntime) {
             assert_eq!(rt; indicator.gross(), Some(0));
             assert!(rt; indicator.stable());
             assert!(rt; indicator.centre());
+        }
+        Err(_) => assert!(rt; false),
+    }
+}
+
+/// Puts this load on the scale, at rest.
+fn rest(indicator: &mut Indicator, counts: i32) {
+    for _ in 0..4 {
+        if counts >= -8388608 && counts <= 8388607 {
+            indicator.sample(counts);
+        }
+    }
+}
+
+#[test]
+fn zero_is_set_within_two_percent(rt: HostRuntime) {
+    let alloc = rt.alloc();
+    for (counts, answer, gross) in [
+        (22000, Ok(()), Some(0)),
+        (22001, Err(Refused::Range), Some(300)),
+        (-2000, Ok(()), Some(0)),
+        (-2001, Err(Refused::Range), None),
+        (611900, Err(Refused::Range), None),
+        (5900, Ok(()), Some(0)),
+    ] {
+        match after(alloc, FIFTEEN_KILOGRAMS, &[counts; 4]) {
+            Ok(mut indicator) => {
+                assert_eq!(rt; indicator.set_zero(), answer, "zero at {counts}");
+                assert_eq!(rt; indicator.gross(), gross, "gross at {counts}");
+            }
+            Err(_) => assert!(rt; false),
+        }
+    }
+}
+
+#[test]
+fn commands_in_motion(rt: HostRuntime) {
+    let alloc = rt.alloc();
+    for samples in [
+        &[] as &[i32],
+        &[60000, 60000, 60000],
+        &[10000, 10000, 10000, 700000],
+    ] {
+        match after(alloc, FIFTEEN_KILOGRAMS, samples) {
+            Ok(mut indicator) => {
+                assert_eq!(rt; indicator.set_zero(), Err(Refused::Motion));
+                assert_eq!(rt; indicator.set_tare(), Err(Refused::Motion));
+                assert!(rt; !indicator.tare_active());
+            }
+            Err(_) => assert!(rt; false),
+        }
+    }
+    match after(alloc, FIFTEEN_KILOGRAMS, &[60000; 4]) {
+        Ok(mut indicator) => {
+            assert_eq!(rt; indicator.set_tare(), Ok(()));
+            indicator.sample(70000);
+            assert!(rt; !indicator.stable());
+            assert!(rt; indicator.tare_active());
+            indicator.clear_tare();
+            assert!(rt; !indicator.tare_active());
+            assert_eq!(rt; indicator.tare_value(), 0);
+            assert_eq!(rt; indicator.shown(), Some(1500));
+        }
+        Err(_) => assert!(rt; false),
+    }
+}
+
+#[test]
+fn tare_is_taken_from_one_interval_to_the_greatest_load(rt: HostRuntime) {
+    let alloc = rt.alloc();
+    for (counts, answer, tare) in [
+        (10000, Err(Refused::Range), 0),
+        (10099, Err(Refused::Range), 0),
+        (10100, Ok(()), 5),
+        (610000, Ok(()), 15000),
+        (610099, Ok(()), 15000),
+        (610100, Err(Refused::Range), 0),
+        (9000, Err(Refused::Range), 0),
+    ] {
+        match after(alloc, FIFTEEN_KILOGRAMS, &[counts; 4]) {
+            Ok(mut indicator) => {
+                assert_eq!(rt; indicator.set_tare(), answer, "tare at {counts}");
+                assert_eq!(rt;
+                    indicator.tare_active(),
+                    answer.is_ok(),
+                    "active at {counts}"
+                );
+                assert_eq!(rt; indicator.tare_value(), tare, "tare value at {counts}");
+            }
+            Err(_) => assert!(rt; false),
+        }
+    }
+}
+
+#[test]
+fn tare_is_not_rounded(rt: HostRuntime) {
+    match after(rt.alloc(), FIFTEEN_KILOGRAMS, &[10100; 4]) {
+        Ok(mut indicator) => {
+            assert_eq!(rt; indicator.set_tare(), Ok(()));
+            assert_eq!(rt; indicator.shown(), Some(0));
+            rest(&mut indicator, 10200);
+            assert_eq!(rt; indicator.gross(), Some(5));
+            assert_eq!(rt; indicator.net(), Some(5));
+            assert_eq!(rt; indicator.shown(), Some(5));
+            assert_eq!(rt; indicator.tare_value(), 5);
+        }
+        Err(_) => assert!(rt; false),
+    }
+}
+
+#[test]
+fn tare_is_replaced_and_zero_ends_it(rt: HostRuntime) {
+    match after(rt.alloc(), FIFTEEN_KILOGRAMS, &[210000; 4]) {
+        Ok(mut indicator) => {
+            assert_eq!(rt; indicator.set_tare(), Ok(()));
+            rest(&mut indicator, 310000);
+            assert_eq!(rt; indicator.shown(), Some(2500));
+            assert_eq!(rt; indicator.set_zero(), Err(Refused::Range));
+            assert_eq!(rt; indicator.shown(), Some(2500));
+            assert_eq!(rt; indicator.set_tare(), Ok(()));
+            assert_eq!(rt; indicator.shown(), Some(0));
+            assert_eq!(rt; indicator.tare_value(), 7500);
+            rest(&mut indicator, 10000);
+            assert!(rt; indicator.centre());
+            assert_eq!(rt; indicator.shown(), Some(-7500));
+            assert_eq!(rt; indicator.set_zero(), Ok(()));
+            assert!(rt; !indicator.tare_active());
+            assert_eq!(rt; indicator.shown(), Some(0));
         }
         Err(_) => assert!(rt; false),
     }

@@ -40,13 +40,13 @@ difference_bound x y z span h le =
     ]
 
 -- the last digits are so many
-length_last_digits : (count number : ℕ) → length (last_digits count number) ≡ count
+pub length_last_digits : (count number : ℕ) → length (last_digits count number) ≡ count
 length_last_digits zero number = refl
 length_last_digits (suc count) number =
     omega (arith, length-append (last_digits count (number / 10)) ((48 + number % 10) ∷ []), length_last_digits count (number / 10))
 
 -- a sign is one byte or none
-length_minus : (value : ℤ) → length (minus_of value) ≤ 1
+pub length_minus : (value : ℤ) → length (minus_of value) ≤ 1
 length_minus value = one_or_none (is_negative value)
   where
     one_or_none : (b : Bool) → length {A = ℕ} (cond b (45 ∷ []) []) ≤ 1
@@ -54,11 +54,11 @@ length_minus value = one_or_none (is_negative value)
     one_or_none false = omega arith
 
 -- a text of three parts
-length_three : (a b c : List ℕ) → length (a ++ b ++ c) ≡ length a + length b + length c
+pub length_three : (a b c : List ℕ) → length (a ++ b ++ c) ≡ length a + length b + length c
 length_three a b c = omega (arith, length-append (a ++ b) c, length-append a b)
 
 -- a weight below ten million is at most ten bytes
-length_value : (decimals : ℕ) (value : ℤ) → decimals ≤ 3 → unsigned_abs value < 10000000 → length (value_text decimals value) ≤ 10
+pub length_value : (decimals : ℕ) (value : ℤ) → decimals ≤ 3 → unsigned_abs value < 10000000 → length (value_text decimals value) ≤ 10
 length_value zero value few small =
     omega (
       arith,
@@ -189,7 +189,7 @@ units_bound p k e h =
     omega (arith, unsigned_abs-mul k (pos p.e))
 
 -- there is none, or it is below ten million units
-abbrev IsShort : Option ℤ → Type 0
+abbrev pub IsShort : Option ℤ → Type 0
 IsShort None = ⊤
 IsShort (Some value) = unsigned_abs value < 10000000
 
@@ -204,7 +204,7 @@ short_of_two true x y hx hy = hx
 short_of_two false x y hx hy = hy
 
 -- the weights that answers carry are short
-short_weight : (p : PlateData) (history : History) (mode : Mode) → IsPlate p → IsShort (weight_asked p history mode)
+pub short_weight : (p : PlateData) (history : History) (mode : Mode) → IsPlate p → IsShort (weight_asked p history mode)
 short_weight p history mode plate = by_mode mode
   where
     some_span : 0 < p.span_counts
@@ -262,7 +262,7 @@ length_mode p history Shown = one_byte (is_tare_active p history) 78 71
 length_mode p history Tare = refl
 
 -- a unit has three bytes
-length_unit : (unit : List ℕ) → Contains (grams ∷ kilograms ∷ tonnes ∷ []) unit → length unit ≡ 3
+pub length_unit : (unit : List ℕ) → Contains (grams ∷ kilograms ∷ tonnes ∷ []) unit → length unit ≡ 3
 length_unit unit (zero, l, e) = ap length (sym e)
 length_unit unit (suc zero, l, e) = ap length (sym e)
 length_unit unit (suc (suc zero), l, e) = ap length (sym e)

@@ -203,7 +203,7 @@ one_more (byte ∷ rest) x =
     ap (λ r. cons_option (request_at byte (rest ++ (x ∷ []))) r) (one_more rest x) ∙ one_more_at byte rest x
 
 -- the requests that the bytes of a piece complete, one after another
-abbrev completed : List ℕ → List ℕ → List (List ℕ)
+abbrev pub completed : List ℕ → List ℕ → List (List ℕ)
 completed before [] = []
 completed before (x ∷ piece) = completed_by x (open_request before) ++ completed (before ++ (x ∷ [])) piece
 
@@ -217,7 +217,7 @@ joined before (x ∷ piece) =
     ∙ append_assoc (requests before) (completed_by x (open_request before)) (completed (before ++ (x ∷ [])) piece)
 
 -- what a piece completes, byte by byte
-in_piece : (before piece : List ℕ) → requests_in before piece ≡ completed before piece
+pub in_piece : (before piece : List ℕ) → requests_in before piece ≡ completed before piece
 in_piece before piece = ap (drop (length (requests before))) (joined before piece)
     ∙ drop-append_seam (requests before) (completed before piece)
 

@@ -1,33 +1,16 @@
-use Rattle.std.proofs.Common.{◌≡◌, ap, sym, ◌∙◌, subst, arith, to_z, of_z, w32}
-use Rattle.std.proofs.lemmas.Int.{ints}
-use Rattle.std.specs.Prelude.{unwrap_or}
-use Rattle.wc_model.specs.WeighingHistories.{last_sample}
+use Rattle.std.proofs.Common.{sym, subst, arith}
 use Rattle.wc_model.specs.Indication.{present_counts, zero_point}
-use Rattle.wc_indicator.specs.Kept.{StandsFor, IsCount}
+use Rattle.wc_indicator.specs.Kept.{StandsFor}
 use Rattle.wc_indicator.specs.Fields.{kept_in}
-use Rattle.wc_indicator.proofs.Units.{difference_kept, difference_range, either_range}
+use Rattle.wc_indicator.proofs.Units.{difference_kept, difference_range}
 use Rattle.wc_indicator.proofs.indicator.Indicator.from_zero.Goals as goal
 
 pub returns-clause-told : goal.returns-clause-told
 returns-clause-told c = λ p history st.
     let before : StandsFor (kept_in c.self.inside) p history = subst (λ k. StandsFor k p history) (sym c.self.view_is) st in
-    let range = c.self.invariant.ranges.plate.zero_in_range in
-    let raw : to_z w32 (of_z w32 c.zero_counts.result) ≡ c.self.inside.plate.zero_counts = omega (arith, ints, range, c.zero_counts.ensures.zero_counts) in
-    let calibrated : IsCount c.self.inside.plate.zero_counts = omega (arith, ints, range) in
-    let seen = c.unwrap_or.ensures ∙ ap (unwrap_or c.self.inside.last) raw in
-    let counts : IsCount c.unwrap_or.result =
-    subst (λ z. IsCount z) (sym seen) (either_range c.self.inside.last c.self.inside.plate.zero_counts c.self.invariant.ranges.last calibrated) in
-    let present : c.unwrap_or.result ≡ present_counts p history =
-    seen ∙ ap (λ o. unwrap_or o c.self.inside.plate.zero_counts) before.same_last ∙ ap (λ q. unwrap_or (last_sample history) q.zero_counts) before.same_plate in
-    difference_kept c.unwrap_or.result c.self.inside.zero (present_counts p history) (zero_point p history)
-    (omega (arith, counts)) (omega (arith, c.self.invariant.ranges.zero)) present before.same_zero
+    difference_kept c.present_counts.result c.self.inside.zero (present_counts p history) (zero_point p history)
+    (omega (arith, c.present_counts.ensures.range)) (omega (arith, c.self.invariant.ranges.zero)) (c.present_counts.ensures.told p history st) before.same_zero
 
 pub returns-clause-range : goal.returns-clause-range
 returns-clause-range c =
-    let range = c.self.invariant.ranges.plate.zero_in_range in
-    let raw : to_z w32 (of_z w32 c.zero_counts.result) ≡ c.self.inside.plate.zero_counts = omega (arith, ints, range, c.zero_counts.ensures.zero_counts) in
-    let calibrated : IsCount c.self.inside.plate.zero_counts = omega (arith, ints, range) in
-    let counts : IsCount c.unwrap_or.result =
-    subst (λ z. IsCount z) (sym (c.unwrap_or.ensures ∙ ap (unwrap_or c.self.inside.last) raw))
-    (either_range c.self.inside.last c.self.inside.plate.zero_counts c.self.invariant.ranges.last calibrated) in
-    difference_range c.unwrap_or.result c.self.inside.zero counts c.self.invariant.ranges.zero
+    difference_range c.present_counts.result c.self.inside.zero c.present_counts.ensures.range c.self.invariant.ranges.zero

@@ -1,0 +1,25 @@
+ghost use Rattle.std.specs.Prelude.{◌≡◌};
+ghost use Rattle.wc_model.specs.Indication.{refused_unless};
+ghost use Rattle.wc_indicator.specs.Refusals.{told_by};
+
+/// Why a command was refused.
+#[derive(Clone, Copy, Debug, PartialEq, Eq)]
+pub enum Refused {
+    /// The scale was not stable.
+    Motion,
+    /// It was stable, and the load was out of the command's range.
+    Range,
+}
+
+/// Why a command is refused, if it is: for motion first.
+pub(crate) fn refused_unless(stable: bool, within: bool) -> Option<Refused>
+    ensures { told_by result ≡ refused_unless stable within }
+{
+    if !stable {
+        Some(Refused::Motion)
+    } else if !within {
+        Some(Refused::Range)
+    } else {
+        None
+    }
+}

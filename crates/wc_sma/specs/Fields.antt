@@ -1,0 +1,12 @@
+-- What a `Field` holds.
+use Rattle.std.specs.Prelude.{◌≡◌, ℕ, ◌≤◌, List, take, drop, replicate}
+use Rattle.wc_sma.specs.declared.weight.Field.TheInside.{Inside}
+
+-- its text is what stands from its place on
+abbrev pub text_in : Inside → List ℕ
+text_in a = drop a.at a.bytes
+
+-- before it stand spaces
+pub record IsFilled (a : Inside) : Type 0 where
+  pub within : a.at ≤ 10
+  pub spaces : take a.at a.bytes ≡ replicate a.at 32

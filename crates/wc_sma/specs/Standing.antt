@@ -1,0 +1,13 @@
+-- The bytes after which a line stands.
+use Rattle.std.specs.Prelude.{◌≡◌, ℕ, true, false, List, option_map}
+use Rattle.wc_model.specs.Requests.{open_request}
+use Rattle.wc_sma.specs.declared.line.Line.{Line}
+use Rattle.wc_sma.specs.Seen.{seen_in}
+
+-- it has not failed, and knows of the request that these bytes leave open what it needs
+abbrev pub StandsAfter : Line → List ℕ → Type 0
+StandsAfter line bytes = (line.begun ≡ option_map seen_in (open_request bytes)) × (line.failed ≡ false)
+
+-- an answer could not be written in full
+abbrev pub HasFailed : Line → Type 0
+HasFailed line = line.failed ≡ true

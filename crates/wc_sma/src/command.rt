@@ -1,0 +1,74 @@
+ghost use Rattle.std.specs.Prelude.{◌≡◌, ℕ, List, [], ◌∷◌, ◌++◌, Option, option_map};
+ghost use Rattle.wc_model.specs.Requests.{opened_by};
+ghost use Rattle.wc_model.specs.Answers as told;
+ghost use Rattle.wc_sma.specs.Seen.{seen_in, asked_by, command_told};
+
+/// What the line knows of a request's text so far.
+#[derive(Clone, Copy, Debug, PartialEq, Eq)]
+pub(crate) enum Seen {
+    /// No byte has come.
+    Nothing,
+    /// This byte alone.
+    One(u8),
+    /// More bytes than a request's text can have that is known.
+    More,
+}
+
+/// What a request asks of the indicator.
+#[derive(Clone, Copy, Debug, PartialEq, Eq)]
+pub(crate) enum Command {
+    AskWeight,
+    Zero,
+    TakeTare,
+    AskTare,
+    Clear,
+    Unknown,
+}
+
+/// What is known of the text with one byte more.
+fn with_byte(seen: Seen, byte: u8) -> Seen
+    ensures { (text : List ℕ) → seen ≡ seen_in text → result ≡ seen_in (text ++ (byte ∷ [])) }
+{
+    match seen {
+        Seen::Nothing => Seen::One(byte),
+        Seen::One(_) | Seen::More => Seen::More,
+    }
+}
+
+/// What one more byte makes of the request that is open.
+pub(crate) fn after_byte(begun: Option<Seen>, byte: u8) -> Option<Seen>
+    ensures { (text : Option (List ℕ)) → begun ≡ option_map seen_in text → result ≡ option_map seen_in (opened_by byte text) }
+{
+    match byte {
+        b'\n' => Some(Seen::Nothing),
+        b'\r' | 0x1b => None,
+        _ => match begun {
+            Some(seen) => Some(with_byte(seen, byte)),
+            None => None,
+        },
+    }
+}
+
+/// The command that a letter stands for.
+fn command_of_letter(letter: u8) -> Command
+    ensures { command_told result ≡ asked_by (Seen.One letter) }
+{
+    match letter {
+        b'W' => Command::AskWeight,
+        b'Z' => Command::Zero,
+        b'T' => Command::TakeTare,
+        b'M' => Command::AskTare,
+        b'C' => Command::Clear,
+        _ => Command::Unknown,
+    }
+}
+
+/// The command that a request's text spells.
+pub(crate) fn command_of(seen: Seen) -> Command
+    ensures { (text : List ℕ) → seen ≡ seen_in text → command_told result ≡ told.command_of text }
+{
+    match seen {
+        Seen::One(letter) => command_of_letter(letter),
+        Seen::Nothing | Seen::More => Command::Unknown,
+    }
+}

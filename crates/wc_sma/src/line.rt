@@ -1,0 +1,110 @@
+ghost use Rattle.std.specs.Prelude.{◌≡◌, ◌⊎◌, ℕ, List, [], ◌∷◌, false, Option, option_map, IfOk, IfErr, IsErr};
+ghost use Rattle.wc_model.specs.Plates.{PlateData};
+ghost use Rattle.wc_model.specs.WeighingHistories.{History};
+ghost use Rattle.wc_model.specs.Answers as told;
+ghost use Rattle.std.specs.Io.KnownBytes.{Appends};
+ghost use Rattle.wc_indicator.specs.Kept.{StandsFor};
+ghost use Rattle.wc_sma.specs.Seen.{seen_in, command_told, completes};
+ghost use Rattle.wc_sma.specs.Writing.{HasFailedSince, TakesFront};
+ghost use Rattle.wc_sma.specs.Standing.{StandsAfter, HasFailed};
+ghost use Rattle.wc_sma.specs.Feeding.{Feeds, Fails};
+
+use crate::acting::act;
+use crate::command::{Command, Seen, after_byte, command_of};
+use crate::writing::{WriteFault, write_whole};
+use wc_indicator::Indicator;
+use wc_model::ByteOut;
+
+/// The line: what it knows of the request that is open, and whether it has failed.
+#[derive(Drop)]
+pub struct Line {
+    begun: Option<Seen>,
+    failed: bool,
+}
+
+/// The request that a byte completes.
+fn completed(begun: Option<Seen>, byte: u8) -> Option<Seen>
+    ensures { (text : Option (List ℕ)) → begun ≡ option_map seen_in text → result ≡ option_map seen_in (completes byte text) }
+{
+    if byte == b'\r' { begun } else { None }
+}
+
+/// Acts on a request and writes its answer.
+fn serve<W: ByteOut>(
+    command: Command,
+    indicator: &mut Indicator,
+    writer: &mut W,
+) -> Result<(), WriteFault>
+    ensures stands { (p : PlateData) (history : History) → StandsFor indicator.old p history → StandsFor indicator.new p (told.after_command (command_told command) history) }
+    ensures whole { IfOk result (λ done. (p : PlateData) (history : History) → StandsFor indicator.old p history → Appends (W.bytes_taken writer.old) (W.bytes_taken writer.new) (told.answer_to p (command_told command) history)) }
+    ensures steady { IfOk result (λ done. W.failure_count writer.new ≡ W.failure_count writer.old) }
+    ensures front { IfErr result (λ e. (p : PlateData) (history : History) → StandsFor indicator.old p history → TakesFront (W.bytes_taken writer.old) (W.bytes_taken writer.new) (told.answer_to p (command_told command) history)) }
+    ensures device { IfErr result (λ e. HasFailedSince (W.failure_count writer.old) (W.failure_count writer.new)) }
+{
+    let reply = act(command, indicator);
+    write_whole(writer, reply.bytes())
+}
+
+impl Line {
+    /// A line on which nothing has come.
+    pub fn new() -> Line
+        ensures { StandsAfter result [] }
+    {
+        Line {
+            begun: None,
+            failed: false,
+        }
+    }
+
+    /// Takes one byte.
+    fn take_byte<W: ByteOut>(
+        &mut self,
+        byte: u8,
+        indicator: &mut Indicator,
+        writer: &mut W,
+    ) -> Result<(), WriteFault>
+        requires { self.old.failed ≡ false }
+        ensures feeds { IfOk result (λ done. Feeds self.old indicator.old (W.bytes_taken writer.old) self.new indicator.new (W.bytes_taken writer.new) (byte ∷ [])) }
+        ensures works { IfOk result (λ done. self.new.failed ≡ false) }
+        ensures steady { IfOk result (λ done. W.failure_count writer.new ≡ W.failure_count writer.old) }
+        ensures fails { IfErr result (λ e. Fails self.old indicator.old (W.bytes_taken writer.old) self.new indicator.new (W.bytes_taken writer.new) (byte ∷ [])) }
+        ensures device { IfErr result (λ e. HasFailedSince (W.failure_count writer.old) (W.failure_count writer.new)) }
+    {
+        let request = completed(self.begun, byte);
+        self.begun = after_byte(self.begun, byte);
+        match request {
+            Some(seen) => match serve(command_of(seen), indicator, writer) {
+                Ok(()) => Ok(()),
+                Err(fault) => {
+                    self.failed = true;
+                    Err(fault)
+                }
+            },
+            None => Ok(()),
+        }
+    }
+
+    /// Takes a piece of the stream, acts on the requests that it completes and writes their answers, in order. Where an
+    /// answer could not be written in full the line has failed: its request was acted on, those behind it are not, and
+    /// each later call answers `WriteFault` and does nothing.
+    pub fn feed<W: ByteOut>(
+        &mut self,
+        piece: &[u8],
+        indicator: &mut Indicator,
+        writer: &mut W,
+    ) -> Result<(), WriteFault>
+        ensures feeds { IfOk result (λ done. Feeds self.old indicator.old (W.bytes_taken writer.old) self.new indicator.new (W.bytes_taken writer.new) piece.now) }
+        ensures fails { IfErr result (λ e. Fails self.old indicator.old (W.bytes_taken writer.old) self.new indicator.new (W.bytes_taken writer.new) piece.now) }
+        // A line that has failed changes nothing.
+        ensures failed { HasFailed self.old → IsErr result × (self.new ≡ self.old) × (indicator.new ≡ indicator.old) × (writer.new ≡ writer.old) }
+        ensures device { IfErr result (λ e. HasFailed self.old ⊎ HasFailedSince (W.failure_count writer.old) (W.failure_count writer.new)) }
+    {
+        if self.failed {
+            return Err(WriteFault);
+        }
+        for byte in piece {
+            self.take_byte(*byte, indicator, writer)?;
+        }
+        Ok(())
+    }
+}
