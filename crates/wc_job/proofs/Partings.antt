@@ -1,6 +1,5 @@
 -- A text parted at a heading, as far as its lines are read.
-use Rattle.std.proofs.Common.{◌≡◌, ◌≤◌, ◌<◌, ◌++◌, ℕ, ◌+◌, true, false, codes, List, [], ◌∷◌, length, drop, take, Option, Some, None, if◌then◌else◌, refl, sym, ap, ◌∙◌, arith, append_assoc, append-nil, length-append}
-use Rattle.std.proofs.lemmas.List.{drop_all}
+use Rattle.std.proofs.Common.{◌≡◌, ◌<◌, ◌++◌, ℕ, ◌+◌, false, codes, List, [], ◌∷◌, length, drop, take, Option, Some, None, if◌then◌else◌, refl, sym, ap, ◌∙◌, arith, append_assoc, length-append}
 use Rattle.wc_job.proofs.FirstLines.{lines_whole}
 use Rattle.wc_job.specs.Views.{BeginsWithLine}
 use Rattle.wc_model.specs.JobSections.{Parted, is_heading, part_at, sections_with_log, sections_with_program, whole_lines, with_line}
@@ -9,15 +8,6 @@ use Rattle.wc_model.specs.JobSections.{Parted, is_heading, part_at, sections_wit
 abbrev pub IsFoundFrom : List ℕ → List ℕ → ℕ → Type 0
 IsFoundFrom word text start =
     part_at word (whole_lines text) ≡ with_line (take start text) (part_at word (whole_lines (drop start text)))
-
--- no bytes before it
-with_nothing : (parted : Option Parted) → parted ≡ with_line [] parted
-with_nothing None = refl
-with_nothing (Some parted) = refl
-
--- before any line is read
-pub found_at_first : (word text : List ℕ) → IsFoundFrom word text 0
-found_at_first word text = with_nothing (part_at word (whole_lines text))
 
 -- two pieces before it
 with_both : (a b : List ℕ) (parted : Option Parted) → with_line a (with_line b parted) ≡ with_line (a ++ b) parted
@@ -30,25 +20,10 @@ passed_line word [] line after some h other = absurd (omega arith)
 passed_line word (byte ∷ rest) line after some h other =
     ap (part_at word) h.0 ∙ ap (λ v. if v then Some (record { section = []; rest = whole_lines after }) else with_line line (part_at word (whole_lines after))) other
 
--- the first line is the heading
-met_line : (word rest line after : List ℕ) → 0 < length rest → BeginsWithLine rest line after → is_heading word line ≡ true → part_at word (whole_lines rest) ≡ Some (record { section = []; rest = whole_lines after })
-met_line word [] line after some h is = absurd (omega arith)
-met_line word (byte ∷ rest) line after some h is =
-    ap (part_at word) h.0 ∙ ap (λ v. if v then Some (record { section = []; rest = whole_lines after }) else with_line line (part_at word (whole_lines after))) is
-
 -- a list cut behind its front
 cut_behind : (front after : List ℕ) → (take (length front) (front ++ after) ≡ front) × (drop (length front) (front ++ after) ≡ after)
 cut_behind [] after = (refl, refl)
 cut_behind (x ∷ xs) after = let more = cut_behind xs after in (ap (λ l. x ∷ l) more.0, more.1)
-
--- the heading stands at the line that is read
-pub found_here : (word text before rest line after : List ℕ) (start : ℕ) → IsFoundFrom word text start → before ≡ take start text → rest ≡ drop start text → 0 < length rest → BeginsWithLine rest line after → is_heading word line ≡ true → part_at word (whole_lines text) ≡ Some (record { section = before; rest = whole_lines after })
-found_here word text before rest line after start so e f some h is =
-    so
-    ∙ ap (λ r. with_line (take start text) (part_at word (whole_lines r))) (sym f)
-    ∙ ap (λ b. with_line b (part_at word (whole_lines rest))) (sym e)
-    ∙ ap (with_line before) (met_line word rest line after some h is)
-    ∙ ap (λ s. Some (record { section = s; rest = whole_lines after })) (append-nil before)
 
 -- behind one more line
 pub found_further : (word text before rest line after : List ℕ) (start : ℕ) → IsFoundFrom word text start → before ≡ take start text → rest ≡ drop start text → length before ≡ start → text ≡ before ++ rest → rest ≡ line ++ after → 0 < length rest → BeginsWithLine rest line after → is_heading word line ≡ false → IsFoundFrom word text (start + length line)
@@ -65,11 +40,6 @@ found_further word text before rest line after start so e f long whole cut some 
     ∙ with_both before line (part_at word (whole_lines after))
     ∙ ap (λ b. with_line b (part_at word (whole_lines after))) (sym taken)
     ∙ ap (λ r. with_line (take (start + length line) text) (part_at word (whole_lines r))) (sym left)
-
--- no line is left
-pub found_nowhere : (word text : List ℕ) (start : ℕ) → IsFoundFrom word text start → length text ≤ start → part_at word (whole_lines text) ≡ None
-found_nowhere word text start so over =
-    so ∙ ap (λ r. with_line (take start text) (part_at word (whole_lines r))) (drop_all start text over)
 
 -- both headings behind the first one
 pub both_found : (lines : List (List ℕ)) (plate middle program log : List ℕ) → Some (record { section = plate; rest = whole_lines middle }) ≡ part_at (codes "@program") lines → Some (record { section = program; rest = whole_lines log }) ≡ part_at (codes "@log") (whole_lines middle) → Some (record { plate = plate; program = program; log = log }) ≡ sections_with_program (part_at (codes "@program") lines)

@@ -1,4 +1,4 @@
-ghost use Rattle.std.specs.Prelude.{◌≡◌, ◌≤◌, ◌==◌, ◌<◌, ◌++◌, length};
+ghost use Rattle.std.specs.Prelude.{◌≡◌, ◌≤◌, ◌==◌, ◌++◌, length};
 ghost use Rattle.std.specs.List.{position_or_len};
 ghost use Rattle.wc_job.specs.Views.{BeginsWithLine, line_length};
 
@@ -14,7 +14,6 @@ fn length_before_end(text: &[u8]) -> usize
 fn line_length(text: &[u8]) -> usize
     ensures longest { result ≡ line_length text.now }
     ensures within { result ≤ length text.now }
-    ensures some { 0 < length text.now → 0 < result }
 {
     let before = length_before_end(text);
     if before < text.len() {
