@@ -1,0 +1,3 @@
+pub mod FirstLines
+pub mod Partings
+pub mod Faults

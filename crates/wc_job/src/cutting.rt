@@ -1,0 +1,70 @@
+ghost use Rattle.std.specs.Prelude.{◌≡◌, codes};
+ghost use Rattle.wc_job.specs.Views.{said_parted, said_result, said_sections, word_of};
+ghost use Rattle.wc_model.specs.JobSections.{part_at, sections_in, sections_of, sections_with_program, whole_lines};
+
+use crate::headings::{Heading, is_heading};
+use crate::lines::first_line;
+use crate::parts::{Parting, Sections};
+
+/// What stands before and behind the first line that is this heading.
+fn part_at<'a>(heading: Heading, text: &'a [u8]) -> Option<Parting<'a>>
+    ensures { said_parted result ≡ part_at (word_of heading) (whole_lines text.now) }
+{
+    let mut start = 0_usize;
+    while start < text.len() {
+        let (before, rest) = text.split_at(start);
+        let (line, after) = first_line(rest);
+        if is_heading(heading, line) {
+            return Some(Parting {
+                section: before,
+                rest: after,
+            });
+        }
+        start += line.len();
+    }
+    None
+}
+
+/// The sections behind the first heading.
+fn sections_behind<'a>(text: &'a [u8]) -> Option<Sections<'a>>
+    ensures { said_sections result ≡ sections_with_program (part_at (codes "@program") (whole_lines text.now)) }
+{
+    match part_at(Heading::Program, text) {
+        None => None,
+        Some(plate) => match part_at(Heading::Log, plate.rest) {
+            None => None,
+            Some(program) => Some(Sections {
+                plate: plate.section,
+                program: program.section,
+                log: program.rest,
+            }),
+        },
+    }
+}
+
+/// The sections of a text whose first line is the first heading.
+fn sections_in<'a>(text: &'a [u8]) -> Option<Sections<'a>>
+    ensures { said_sections result ≡ sections_in (whole_lines text.now) }
+{
+    let (first, rest) = first_line(text);
+    if is_heading(Heading::Plate, first) {
+        sections_behind(rest)
+    } else {
+        None
+    }
+}
+
+/// The sections of a job of at most 1048576 bytes: what stands between `@plate`, its first line, the first line `@program`
+/// behind it, the first line `@log` behind that one, and the end. A heading stands alone on its line and ends with LF or CRLF.
+/// 702 where the job is longer, 701 where a heading is missing. It takes no memory. (The form is the profile's own.)
+pub fn sections<'a>(bytes: &'a [u8]) -> Result<Sections<'a>, u16>
+    ensures { said_result result ≡ sections_of bytes.now }
+{
+    if bytes.len() > 1048576 {
+        return Err(702);
+    }
+    match sections_in(bytes) {
+        Some(sections) => Ok(sections),
+        None => Err(701),
+    }
+}

@@ -1,0 +1,14 @@
+//! What the program reads before it runs: a job's bytes, and its sections in them.
+#![tactic(auto)]
+
+mod cutting;
+mod headings;
+mod lines;
+mod parts;
+mod reading;
+#[cfg(test)]
+mod tests;
+
+pub use cutting::sections;
+pub use parts::Sections;
+pub use reading::{ReadFault, read_whole};

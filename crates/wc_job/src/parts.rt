@@ -1,0 +1,17 @@
+/// The three sections of a job, each with the line end before the next heading.
+#[derive(Clone, Copy)]
+pub struct Sections<'a> {
+    /// The text of the plate.
+    pub plate: &'a [u8],
+    /// The text of the program.
+    pub program: &'a [u8],
+    /// The bytes of the log.
+    pub log: &'a [u8],
+}
+
+/// What stands before a heading and what stands behind it.
+#[derive(Clone, Copy)]
+pub(crate) struct Parting<'a> {
+    pub(crate) section: &'a [u8],
+    pub(crate) rest: &'a [u8],
+}

@@ -1,0 +1,65 @@
+ghost use Rattle.std.specs.Prelude.{◌≡◌, ◌+◌, ◌≤◌, IfErr, IfOk, length};
+ghost use Rattle.wc_job.specs.Reads.{Adds, IsTooLong, IsWhole, ReadsInto, TakesAtMost, failures_after};
+ghost use Rattle.wc_model.specs.Devices.{failures_after_read};
+ghost use Rattle.wc_model.specs.JobSections.{longest_job};
+
+use std::alloc::Global;
+use std::io;
+use wc_model::ByteIn;
+
+/// Why the bytes of a job are not known.
+#[derive(Clone, Copy, Debug)]
+pub enum ReadFault {
+    /// There are more than 1048576.
+    TooLong,
+    /// A read failed.
+    Read,
+    /// Memory is refused.
+    Memory,
+}
+
+/// Reads into the front of the buffer, at most so many bytes.
+fn read_up_to<R: ByteIn>(reader: &mut R, buffer: &mut [u8], most: usize) -> io::Result<usize>
+    requires { most ≤ length buffer.old }
+    ensures bytes { ReadsInto most (R.bytes_left reader.old) (R.bytes_left reader.new) result buffer.new }
+    ensures failures { R.failure_count reader.new ≡ failures_after_read (R.failure_count reader.old) result }
+{
+    reader.read(&mut buffer[..most])
+}
+
+/// Reads once, and adds what it gave. False is the end.
+fn read_more<R: ByteIn>(reader: &mut R, bytes: &mut Vec<u8>) -> Result<bool, ReadFault>
+    requires { length bytes.old.items ≤ longest_job }
+    ensures added { Adds (R.bytes_left reader.old) (R.bytes_left reader.new) result bytes.old.items bytes.new.items }
+    ensures failures { R.failure_count reader.new ≡ failures_after (R.failure_count reader.old) result }
+{
+    let mut buffer = [0_u8; 4096];
+    let most = (1048577 - bytes.len()).min(4096);
+    match read_up_to(reader, &mut buffer, most) {
+        Err(_) => Err(ReadFault::Read),
+        Ok(0) => Ok(false),
+        Ok(count) => match bytes.extend_from_slice(&buffer[..count]) {
+            Ok(()) => Ok(true),
+            Err(_) => Err(ReadFault::Memory),
+        },
+    }
+}
+
+/// All bytes of a reader, where they are at most 1048576. `TooLong` where they are more, `Read` where a call of `read` failed
+/// (also one that was interrupted), `Memory` where memory is refused. It reads up to the end, the first fault, or byte 1048577.
+pub fn read_whole<R: ByteIn>(alloc: Global, reader: &mut R) -> Result<Vec<u8>, ReadFault>
+    ensures whole { IfOk result (λ bytes. IsWhole (R.bytes_left reader.old) bytes.items) }
+    ensures too_long { IfErr result (λ fault. IsTooLong (R.bytes_left reader.old) fault) }
+    ensures taken { TakesAtMost (longest_job + 1) (R.bytes_left reader.old) (R.bytes_left reader.new) }
+    ensures failures { R.failure_count reader.new ≡ failures_after (R.failure_count reader.old) result }
+{
+    let mut bytes = Vec::new(alloc);
+    while bytes.len() <= 1048576 {
+        match read_more(reader, &mut bytes) {
+            Ok(true) => {}
+            Ok(false) => return Ok(bytes),
+            Err(fault) => return Err(fault),
+        }
+    }
+    Err(ReadFault::TooLong)
+}
