@@ -1,5 +1,5 @@
 -- What the walk over a text's tokens says of the text.
-use Rattle.std.proofs.Common.{◌≡◌, ◌≤◌, ℕ, List, map, length, refl, ap, subst, ◌∙◌, sym, inl, inr, ◌⊎◌, arith}
+use Rattle.std.proofs.Common.{◌≡◌, ◌≤◌, ℕ, List, map, length, subst, sym, inl, inr}
 use Rattle.std.specs.Prelude.{Ok, Err, Result, IfOk, IfErr}
 use Rattle.wc_grammar_laws.proofs.Moves.{Met, at_first, reading}
 use Rattle.wc_grammar_laws.proofs.Readings.{read_is_spelled, refused_is_first, refused_spells_nothing}
@@ -35,8 +35,12 @@ not_spelled bytes tokens met short cut e text r =
 
 misread : (bytes : List ℕ) (tokens : List Token) (number place : ℕ) → length bytes ≤ most_bytes → IsCut bytes tokens → IsMetAs (reading at_first (map mark_of_token tokens) (last_line bytes)) number place → IsUnread bytes number place
 misread bytes tokens number place short cut m = record {
-  first = inr (m.met.fault, m.number_is, subst (IsMisread bytes m.met.fault) (sym m.place_is)
-    (record { short = short; tokens = tokens; cut = cut; first = refused_is_first (map mark_of_token tokens) (last_line bytes) m.met m.outcome_is }));
+  first = inr (
+    m.met.fault,
+    m.number_is,
+    subst (IsMisread bytes m.met.fault) (sym m.place_is)
+        (record { short = short; tokens = tokens; cut = cut; first = refused_is_first (map mark_of_token tokens) (last_line bytes) m.met m.outcome_is }),
+  );
   unread = not_spelled bytes tokens m.met short cut m.outcome_is;
 }
 

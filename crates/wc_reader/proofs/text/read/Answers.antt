@@ -1,6 +1,5 @@
-use Rattle.std.proofs.Common.{ap, map, subst, sym, ◌∙◌}
+use Rattle.std.proofs.Common.{ap, map}
 use Rattle.wc_lexer.specs.Views.{said_token}
-use Rattle.wc_model.specs.Reading.{mark_of_token}
 use Rattle.wc_reader.proofs.ReadTexts.{result_read, result_refused, token_fault}
 use Rattle.wc_reader.proofs.text.read.Goals as goal
 use Rattle.wc_reader.specs.Words.{marks_of}
