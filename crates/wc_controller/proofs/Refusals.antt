@@ -1,5 +1,5 @@
 -- Why a text is not loaded, pass by pass.
-use Rattle.std.proofs.Common.{◌≡◌, ℕ, List, inl, inr}
+use Rattle.std.proofs.Common.{ℕ, List, inl, inr}
 use Rattle.wc_controller.specs.Loads.{IsRefusedLoad, IsWhy, at_a_pass, at_the_language}
 use Rattle.wc_machine.specs.Passes as machine
 use Rattle.wc_machine.specs.Passes.{Refuses}

@@ -1,4 +1,3 @@
-use Rattle.std.specs.Prelude.{IfErr, Ok, Err}
 use Rattle.std.proofs.lemmas.Result.{IfErr-weaker}
 use Rattle.wc_controller.proofs.Refusals.{not_accepted, not_read}
 use Rattle.wc_controller.proofs.loading.load.Goals as goal
