@@ -4,7 +4,8 @@ use Rattle.std.specs.Prelude.{◌⊎◌, Err}
 use Rattle.wc_grammar_laws.proofs.Judged.{operator_walked, same_end}
 use Rattle.wc_grammar_laws.proofs.LineMoves.{LineForm, Instructs, Opens, Begun, Bracketed, Operated}
 use Rattle.wc_grammar_laws.proofs.LineRests.{line_of}
-use Rattle.wc_grammar_laws.proofs.Moves.{State, AtLine, OnLine, Closed, at_first, behind_closing, behind_line, colon_next, is_colon, move, open_in, walk}
+use Rattle.wc_grammar_laws.proofs.LineStart.{bracket_no_colon}
+use Rattle.wc_grammar_laws.proofs.Moves.{State, AtLine, OnLine, Closed, at_first, behind_closing, behind_line, colon_next, move, open_in, walk}
 use Rattle.wc_grammar_laws.proofs.Stops.{EndsInParentheses, inside_begins, line_stays, on_line_ends, opening_ends, opening_stays}
 use Rattle.wc_grammar_laws.proofs.WalkedLines.{closing_walked, line_walked, lines_walked, walk_on, walk_then, with_lines}
 use Rattle.wc_grammar_laws.proofs.WalkedUnits.{at_line_walked, plain}
@@ -35,10 +36,6 @@ behind_bracket p begun operator x (mark ∷ marks) h =
     let s = opening_stays p (Bracketed begun operator) (Opens begun.label begun.line operator x) marks k.1.0 k.1.1 false tt (x, refl, k.1.2) in
     (OnLine p s.0, ap (λ y. walk_on (move (OnLine p (Operated begun (Applies operator))) y mark.line (colon_next marks false)) marks false) k.0 ∙ s.1, opening_ends p s.0 s.2)
 
-bracket_no_colon : (second : List Mark → Type 0) (tokens : List Mark) → (symbol OpeningBracket then second) tokens → colon_next tokens false ≡ false
-bracket_no_colon second [] h = refl
-bracket_no_colon second (mark ∷ marks) h = ap is_colon (next_is h).0
-
 -- on an opening line
 stops_on_opening : (us : List ProgramUnit) (unit : ProgramUnit) (outer : List Opening) (o : Opening) (tokens : List Mark) → (units us then head unit then opening_cut_short outer o) tokens → LeadsInside at_first tokens
 stops_on_opening us unit outer o tokens h =
@@ -49,7 +46,7 @@ stops_on_opening us unit outer o tokens h =
       b.0,
       subst (λ ts. walk at_first ts false ≡ Some b.0) (sym l.whole)
           (walk_then at_first (OnLine (plain p) (Operated (record { label = o.label; line = o.line }) (Applies o.operator))) l.front l.rest false (Some b.0)
-          (ap (walk at_first l.front) (bracket_no_colon _ l.rest l.goes_on) ∙ operator_walked p o.label o.line o.operator l.front l.begins) b.1),
+          (ap (walk at_first l.front) (bracket_no_colon _ l.rest false l.goes_on) ∙ operator_walked p o.label o.line o.operator l.front l.begins) b.1),
       b.2,
     )
 

@@ -1,9 +1,9 @@
 -- What completes a line is taken by the walk, token by token.
-use Rattle.std.proofs.Common.{◌≡◌, ◌≢◌, ℕ, Bool, false, List, [], ◌∷◌, Option, Some, None, refl, ap, subst, if◌then◌else◌, append_assoc, append-nil, ◌∙◌, sym, inl, inr}
+use Rattle.std.proofs.Common.{◌≡◌, ◌≢◌, ℕ, Bool, false, List, [], ◌∷◌, Option, Some, None, refl, ap, subst, if◌then◌else◌, append-nil, ◌∙◌, sym, inl, inr}
 use Rattle.std.specs.Prelude.{◌⊎◌, not, filter}
-use Rattle.wc_grammar_laws.proofs.LineMoves.{LineForm, LabelAlone, Instructs, Opens, Begun, Listed, OperandOf, OfStep, OfOpening, OfArgument, InList, AtFirst, AtNext, AtAssign, AtValue, AtEnd, LineState, Start, Worded, Labelled, Operated, Jumped, Called, Instanced, Listing, Bracketed, Named, Pointed, Stepped, BracketedWith, Ended, with_argument, behind_operand, name_or_literal, at_operand, behind_operator, at_operator, at_labelled, at_operated, at_list, at_bracketed, at_field, line_move}
+use Rattle.wc_grammar_laws.proofs.LineMoves.{LineForm, LabelAlone, Instructs, Opens, Begun, Listed, OperandOf, OfStep, OfOpening, OfArgument, InList, AtFirst, AtNext, AtAssign, AtValue, AtEnd, LineState, Start, Worded, Labelled, Operated, Jumped, Called, Instanced, Listing, Bracketed, Named, Pointed, Stepped, BracketedWith, Ended, behind_operand, name_or_literal, at_operand, behind_operator, at_operator, at_labelled, at_operated, at_list, at_bracketed, at_field, line_move}
 use Rattle.wc_grammar_laws.proofs.LineRests.{behind_its_name, behind_its_point, more_arguments, list_rest, list_end, call_form, operand_rest, labelled_rest, rest_of}
-use Rattle.wc_grammar_laws.proofs.LineSound.{mark_on}
+use Rattle.wc_grammar_laws.proofs.LineSound.{mark_on, one_argument}
 use Rattle.wc_grammar_laws.proofs.Skipping.{behind, skip_next_is, skip_over_is}
 use Rattle.wc_grammar_laws.proofs.WordLaws.{step_begins, operator_is, operation_in, truth_is_found, no_truth}
 use Rattle.wc_grammar_laws.proofs.Words.{Operating, Loads, Stores, Applies, Operation, Operates, found, operation_of, step_of, truths}
@@ -108,12 +108,6 @@ some_operand (Field instance field) h = (both_empty h).0.1
 no_end : (symbol : Symbol) (line : ℕ) (tokens : List Mark) → symbol ≢ ClosingBracket → ¬ (list_end (mark_on symbol line ∷ tokens))
 no_end symbol line tokens n h = n (next_is h).0
 
--- one argument more, and the others
-one_argument : (begun : Begun) (call : Listed) (input : Name) (x : Term) (more : List Assignment)
-    → call_form begun call (record { input = input; value = x } ∷ more) ≡ call_form begun (with_argument call input x) more
-one_argument begun call input x more =
-    ap (λ arguments. Instructs begun.label begun.line (Call call.condition call.instance arguments)) (sym (append_assoc call.arguments (record { input = input; value = x } ∷ []) more))
-
 argument_is : (input : Name) (first : Assignment) → input ≡ first.input → first ≡ record { input = input; value = first.value }
 argument_is input first e = λ i. record { input = sym e i; value = first.value }
 
@@ -124,7 +118,7 @@ kept_value_led : (begun : Begun) (call : Listed) (input : Name) (first : Assignm
     → Leads (at_operand begun (OfArgument call input) symbol line) form tokens
 kept_value_led begun call input first others form symbol line tokens e same k =
     operand_led begun (OfArgument call input) first.value form symbol line (more_arguments others) _ tokens
-    (λ left. (others, is ∙ one_argument begun call input first.value others, record { front = k.front; rest = k.rest; whole = k.whole; begins = left; goes_on = k.goes_on }))
+    (λ left. (others, is ∙ sym (one_argument begun call input first.value others), record { front = k.front; rest = k.rest; whole = k.whole; begins = left; goes_on = k.goes_on }))
     (λ name left. (first.value, others, is, record { front = k.front; rest = k.rest; whole = k.whole; begins = left; goes_on = k.goes_on }))
     (operand_first first.value symbol line (more_arguments others) _ k.begins)
   where
@@ -285,7 +279,7 @@ name_argument_led begun call input name (Variable other) (first ∷ others) form
     let n = next_is (ungroup (passed g.1)) in
     by_symbol (λ s. line_move setting (Named begun (OfArgument call input) name) s line colon) symbol Comma form tokens n.0 (
       first ∷ others,
-      e ∙ ap (λ n. call_form begun call (record { input = input; value = Variable n } ∷ first ∷ others)) (sym g.0) ∙ one_argument begun call input (Variable name) (first ∷ others),
+      e ∙ ap (λ n. call_form begun call (record { input = input; value = Variable n } ∷ first ∷ others)) (sym g.0) ∙ sym (one_argument begun call input (Variable name) (first ∷ others)),
       record { front = k.front; rest = k.rest; whole = k.whole; begins = n.1; goes_on = k.goes_on },
     )
 name_argument_led begun call input name (Field instance field) more form symbol line tokens setting colon e (inr k) =
@@ -329,7 +323,7 @@ pointed_led begun (OfArgument call input) name form symbol line tokens r =
     elim (skip_next_is is_line_end (behind_its_point name r.0 then more_arguments r.1) refl r.3) [
       | inl k ↦ absurd (no_field name r.0 (both_empty k.0).0)
       | inr k ↦ point_led begun (OfArgument call input) name r.0 form symbol line (more_arguments r.1) _ tokens
-          (λ left. (r.1, r.2 ∙ one_argument begun call input r.0 r.1, record { front = k.front; rest = k.rest; whole = k.whole; begins = left; goes_on = k.goes_on })) k.begins
+          (λ left. (r.1, r.2 ∙ sym (one_argument begun call input r.0 r.1), record { front = k.front; rest = k.rest; whole = k.whole; begins = left; goes_on = k.goes_on })) k.begins
     ]
   where
     no_field : (name : Name) (x : Term) → ¬ (behind_its_point name x [])

@@ -26,7 +26,7 @@ abbrev pub AllowsFrom : LineState → Mark → Option LineState → Type 0
 AllowsFrom state mark next = Allows (λ m form tokens. rest_of state form (m ∷ tokens)) mark next
 
 -- one argument more, and the others
-one_argument : (begun : Begun) (call : Listed) (input : Name) (x : Term) (more : List Assignment)
+pub one_argument : (begun : Begun) (call : Listed) (input : Name) (x : Term) (more : List Assignment)
     → call_form begun (with_argument call input x) more ≡ call_form begun call (record { input = input; value = x } ∷ more)
 one_argument begun call input x more =
     ap (λ arguments. Instructs begun.label begun.line (Call call.condition call.instance arguments)) (append_assoc call.arguments (record { input = input; value = x } ∷ []) more)

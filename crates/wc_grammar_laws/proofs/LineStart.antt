@@ -66,7 +66,8 @@ step_no_colon (Jump condition label) tokens colon h = identifier_no_colon label 
 step_no_colon (Call condition instance arguments) tokens colon h = identifier_no_colon instance _ tokens colon (ungroup h)
 step_no_colon (Return condition) tokens colon h = end_no_colon tokens colon (passed h)
 
-bracket_no_colon : (second : List Mark → Type 0) (tokens : List Mark) (colon : Bool) → (grammar.symbol OpeningBracket then second) tokens → colon_next tokens colon ≡ false
+-- a bracket is no colon
+pub bracket_no_colon : (second : List Mark → Type 0) (tokens : List Mark) (colon : Bool) → (grammar.symbol OpeningBracket then second) tokens → colon_next tokens colon ≡ false
 bracket_no_colon second [] colon h = absurd ((both_empty h).0)
 bracket_no_colon second (mark ∷ marks) colon h = no_colon mark.symbol OpeningBracket (next_is h).0 refl
 

@@ -111,8 +111,9 @@ follows_so : (behind : List Mark) → colon_next behind false ≡ true → Colon
 follows_so [] e = absurd (cc)
 follows_so (mark ∷ marks) e = colon_is mark.symbol e
 
-no_colon_here : (p : Position) (before : List Mark) → at_line p before → at_instruction p None before
-no_colon_here p before h = with_nothing _ refl h
+-- the start of a line is that of an instruction without a label
+at_bare_line : (p : Position) (before : List Mark) → at_line p before → at_instruction p None before
+at_bare_line p before h = with_nothing _ refl h
 
 -- an operator at the start of a line
 operator_there : (p : Position) (before : List Mark) (mark : Mark) (behind : List Mark) → at_line p before → IsThere before mark behind (judge_operator p mark.symbol mark.line (colon_next behind false))
@@ -120,7 +121,7 @@ operator_there p before mark behind h =
     there_if before mark behind (is_some (operation_of mark.symbol) && not (colon_next behind false) && is_full p) TooMany mark.line (λ t.
     let a = both_hold (is_some (operation_of mark.symbol) && not (colon_next behind false)) (is_full p) t in
     let b = both_hold (is_some (operation_of mark.symbol)) (not (colon_next behind false)) a.0 in
-    (inr (inl (p, None, no_colon_here p before h, reaches most_lines (lines_before p) a.1, (begins_any mark b.0, λ e. follows_no behind (not_holds (colon_next behind false) b.1)))), refl))
+    (inr (inl (p, None, at_bare_line p before h, reaches most_lines (lines_before p) a.1, (begins_any mark b.0, λ e. follows_no behind (not_holds (colon_next behind false) b.1)))), refl))
 
 transfer_for : (operation : Operation) → is_transfer operation ≡ true → IsTransfer (step_for operation)
 transfer_for (Operates operating) e = absurd (cc)

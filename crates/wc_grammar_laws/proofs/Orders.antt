@@ -35,7 +35,8 @@ Ordered (AtLine p) = AreBlocks p.before
 Ordered (OnLine p line) = AreBlocks p.before × IsOpen line
 Ordered (Closed p) = AreBlocks p.before
 
-abbrev OrderedNext : Option State → Type 0
+-- the same of the place behind a token, where it is taken
+abbrev pub OrderedNext : Option State → Type 0
 OrderedNext None = Unit {0}
 OrderedNext (Some next) = Ordered next
 

@@ -8,7 +8,7 @@ use Rattle.wc_grammar_laws.proofs.Judged.{Judged, judged, same_end}
 use Rattle.wc_grammar_laws.proofs.LineMoves.{LineState, Start, Worded, Labelled, Operated, Jumped, Called, Instanced, Listing, Bracketed, Named, Pointed, Stepped, BracketedWith, line_move}
 use Rattle.wc_grammar_laws.proofs.MetThere.{IsThere, there}
 use Rattle.wc_grammar_laws.proofs.Moves.{State, Outside, Unnamed, Declaring, AtLine, OnLine, Closed, Met, at_end, at_first, begun_line, body_move, colon_next, has_program, is_colon, is_program, judge, move, reading, start_move, walk, section_or_line, section_begun, behind_unit}
-use Rattle.wc_grammar_laws.proofs.Orders.{Ordered, front, ordered_on}
+use Rattle.wc_grammar_laws.proofs.Orders.{Ordered, OrderedNext, front, ordered_on}
 use Rattle.wc_grammar_laws.proofs.Told.{Exact, Keeps, Told}
 use Rattle.wc_grammar_laws.proofs.ToldOn.{told_first, told_on}
 use Rattle.wc_grammar_laws.proofs.WalkedLines.{next_of_both, walk_on, walk_then}
@@ -204,10 +204,6 @@ unexpected_first state before mark marks last_line c e m = record {
     lower ParenthesisNotPaired place h = absurd (none_met state before mark marks c e ParenthesisNotPaired place (λ f. let k = ap rank_of f in omega (arith, k)) h)
     lower TooDeep place h = absurd (none_met state before mark marks c e TooDeep place (λ f. let k = ap rank_of f in omega (arith, k)) h)
     lower TooMany place h = absurd (none_met state before mark marks c e TooMany place (λ f. let k = ap rank_of f in omega (arith, k)) h)
-
-abbrev OrderedNext : Option State → Type 0
-OrderedNext None = Unit {0}
-OrderedNext (Some next) = Ordered next
 
 -- one token more, at which no fault is judged
 come_on : (state next : State) (before : List Mark) (mark : Mark) (marks : List Mark) → Come state before (mark ∷ marks) → judge state mark.symbol mark.line (colon_next marks false) ≡ None → move state mark.symbol mark.line (colon_next marks false) ≡ Some next
