@@ -2,7 +2,8 @@
 ghost use Rattle.std.specs.Prelude.{◌≡◌, ◌<◌, Some, length, slice_get, option_map, IfOk, IfErr, OnOk};
 ghost use Rattle.wc_model.specs.Views.{text_of, unit_of};
 ghost use Rattle.wc_machine.specs.Passes.{IsAccepted, IsFit, Refuses};
-ghost use Rattle.wc_machine.specs.Machines.{IsProgramBound, text_by_itself};
+ghost use Rattle.wc_model.specs.UnitReport.{IsBoundAt};
+ghost use Rattle.wc_machine.specs.Machines.{text_by_itself};
 
 use crate::count::line_count;
 use crate::program::{judge_program, single};
@@ -55,7 +56,7 @@ impl<'a> Loaded<'a> {
     /// How many steps a unit takes at most: the length of its longest path.
     pub fn bound(&self, unit: usize) -> u32
         requires { unit < length (text_by_itself self.now) }
-        ensures { IsProgramBound (text_by_itself self.now) result }
+        ensures { IsBoundAt (text_by_itself self.now) unit result }
     {
         let _unit = unit;
         line_count(&self.program) as u32

@@ -1,12 +1,12 @@
 -- The store of a new text after a change between two scans: what keeps its value, place by place. (The profile's own.)
-use Rattle.std.specs.Prelude.{◌≡◌, ℕ, Bool, true, false, ◌&&◌, List, [], ◌∷◌, reverse, Option, Some, None, is_some, if◌then◌else◌}
+use Rattle.std.specs.Prelude.{Bool, true, false, List, [], ◌∷◌, reverse, Option, Some, None, if◌then◌else◌}
 use Rattle.std.specs.List.{list_any}
 use Rattle.wc_model.specs.Declarations.{VariableType, Elementary, Standard, Block, same_name, type_named, variable_named, block_named}
 use Rattle.wc_model.specs.DirectVariables.{DirectVariable, direct_variables, kind_of_direct}
 use Rattle.wc_model.specs.Kinds.{is_kind}
 use Rattle.wc_model.specs.Names.{Name}
 use Rattle.wc_model.specs.Scans.{initial_of}
-use Rattle.wc_model.specs.Store.{Location, Direct, Path, Content, Store, same_direct, standard_fields}
+use Rattle.wc_model.specs.Store.{Location, Direct, Path, Store, same_direct, standard_fields}
 use Rattle.wc_model.specs.Tree.{ProgramUnit, Text}
 use Rattle.wc_model.specs.declared.block.StandardBlock.{StandardBlock}
 use Rattle.wc_model.specs.declared.block.StandardBlock.TheVariants.{RTrig, Sr, Ctu, Ton, Tof}

@@ -58,3 +58,4 @@ pub mod Loading
 pub mod ProgramReport
 pub mod Carried
 pub mod Job
+pub mod UnitReport

@@ -1,7 +1,6 @@
 -- Loading a text in five passes: tokens, reading, declarations, bodies, cost. The first pass with a fault names it. (The
 -- profile's own.)
-use Rattle.std.specs.Prelude.{◌≡◌, ℕ, List, Option, Some, None}
-use Rattle.wc_model.specs.Checks.{Refusal}
+use Rattle.std.specs.Prelude.{◌≡◌, ℕ, List, Some, None}
 use Rattle.wc_model.specs.Faults.{declaration_fault, body_fault, IsCostFault}
 use Rattle.wc_model.specs.Reading.{IsRead, IsMisread}
 use Rattle.wc_model.specs.ReadingFaults.{ReadingFault, number_of}

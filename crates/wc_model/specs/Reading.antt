@@ -1,12 +1,12 @@
 -- The text that bytes spell: their tokens as the grammar sees them (IEC 61131-3:2003, 2.1 and annex B).
-use Rattle.std.specs.Prelude.{◌≡◌, ℕ, ◌+◌, ◌==◌, ◌≤◌, List, map, length, count_by}
+use Rattle.std.specs.Prelude.{ℕ, ◌+◌, ◌==◌, ◌≤◌, List, map, length, count_by}
 use Rattle.wc_model.specs.Grammar.{Spells}
 use Rattle.wc_model.specs.Limits.{IsWithinLimits}
 use Rattle.wc_model.specs.Marks as marks
 use Rattle.wc_model.specs.Marks.{Symbol, Mark}
-use Rattle.wc_model.specs.ReadingFaults.{ReadingFault, number_of, IsFirstFault as IsFirstReadingFault}
+use Rattle.wc_model.specs.ReadingFaults.{ReadingFault, IsFirstFault as IsFirstReadingFault}
 use Rattle.wc_model.specs.Shapes.{Shape, Identifier, Whole, Duration, Truth, Address, And, AndNot, Opening, Closing, Comma, Colon, Semicolon, Point, Assign, Arrow, LineEnd}
-use Rattle.wc_model.specs.Tokens.{Token, IsCut, most_bytes, IsFirstFault as IsFirstTokenFault}
+use Rattle.wc_model.specs.Tokens.{Token, IsCut, most_bytes}
 use Rattle.wc_model.specs.Tree.{Text}
 
 -- a token's shape, with its bytes where the grammar looks at them

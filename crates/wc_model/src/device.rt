@@ -23,4 +23,11 @@ impl<D> Device<D> {
             spent: 0,
         }
     }
+
+    /// The reader or writer inside.
+    pub fn get_ref(&self) -> &D
+        ensures { result.now ≡ device_inner self.now }
+    {
+        &self.inner
+    }
 }

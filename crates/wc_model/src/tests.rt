@@ -76,7 +76,7 @@ fn bytes_are_written(rt: HostRuntime) -> Result<(), Fail> {
     assert_eq!(rt; device.write(b"ab")?, 2);
     assert_eq!(rt; device.write(b"c")?, 1);
     assert_eq!(rt; ByteOut::failures(&device), 0);
-    assert_eq!(rt; device.inner.as_slice(), b"abc".as_slice());
+    assert_eq!(rt; device.get_ref().as_slice(), b"abc".as_slice());
     Ok(())
 }
 

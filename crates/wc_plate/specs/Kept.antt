@@ -18,3 +18,16 @@ plate_kept a = record {
 -- it keeps the ranges of a plate
 abbrev pub IsKept : Inside → Type 0
 IsKept a = IsPlate (plate_kept a)
+
+-- the fields that a plate is kept in
+abbrev pub fields_of : PlateData → Inside
+fields_of p = record {
+  unit = p.unit;
+  decimals = p.decimals;
+  max = p.max;
+  e = p.e;
+  n = p.n;
+  zero_counts = p.zero_counts;
+  span_counts = p.span_counts;
+  window = p.window;
+}

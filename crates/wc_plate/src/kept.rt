@@ -4,7 +4,7 @@ ghost use Rattle.wc_model.specs.Plates.{IsPlate};
 use std::marker::Model;
 
 /// What is written on an instrument. Every plate keeps the ranges of a class III instrument.
-#[derive(Drop)]
+#[derive(Clone, Copy, Debug)]
 pub struct Plate {
     pub(crate) unit: [u8; 3],
     pub(crate) decimals: u32,
@@ -21,9 +21,11 @@ impl Model for Plate {
 
     ghost Value = { PlateData };
 
-    ghost use Rattle.wc_plate.specs.Kept.{plate_kept, IsKept};
+    ghost use Rattle.wc_plate.specs.Kept.{plate_kept, fields_of, IsKept};
 
     ghost view = { plate_kept };
+
+    ghost inverse = { fields_of };
 
     ghost invariant = { IsKept };
 }

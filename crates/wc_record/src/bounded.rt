@@ -8,8 +8,9 @@ use std::io;
 use std::io::Read;
 use wc_model::ByteIn;
 
-/// Whether as much was read as may be: 134217728 bytes and calls since the start, or a count at its end.
-pub(crate) fn is_used_up(start: u64, spent: u64) -> bool
+/// Whether as much of a log was read as may be: 134217728 bytes and calls since the start, or a count at its end. Both are
+/// counts of `ByteIn::spent`, the first of when the reader was lent.
+pub fn is_used_up(start: u64, spent: u64) -> bool
     ensures { result ≡ is_used_up start spent }
 {
     spent == u64::MAX || spent.saturating_sub(start) >= 134217728

@@ -14,6 +14,7 @@ mod source;
 #[cfg(test)]
 mod tests;
 
+pub use bounded::is_used_up;
 pub use log::Rows;
 pub use process_image::image;
 pub use row_kind::{LogFault, Row, RowKind};

@@ -15,7 +15,7 @@ use Rattle.wc_sma.specs.declared.command.Command.{Command}
 use Rattle.wc_sma.specs.declared.line.Line.{Line}
 use Rattle.wc_sma.specs.Seen.{seen_in, command_told, completes}
 use Rattle.wc_sma.specs.Standing.{StandsAfter}
-use Rattle.wc_sma.specs.Writing.{TakesFront}
+use Rattle.wc_writing.specs.Writing.{TakesFront}
 use Rattle.wc_sma.specs.Feeding.{Feeds, Fails}
 
 -- what is seen is seen of a text

@@ -9,8 +9,7 @@ mod line;
 #[cfg(test)]
 mod tests;
 mod weight;
-mod writing;
 
 pub use answers::{Asked, Mode, answer};
 pub use line::Line;
-pub use writing::WriteFault;
+pub use wc_writing::WriteFault;

@@ -5,15 +5,15 @@ ghost use Rattle.wc_model.specs.Answers as told;
 ghost use Rattle.std.specs.Io.KnownBytes.{Appends};
 ghost use Rattle.wc_indicator.specs.Kept.{StandsFor};
 ghost use Rattle.wc_sma.specs.Seen.{seen_in, command_told, completes};
-ghost use Rattle.wc_sma.specs.Writing.{HasFailedSince, TakesFront};
+ghost use Rattle.wc_writing.specs.Writing.{HasFailedSince, TakesFront};
 ghost use Rattle.wc_sma.specs.Standing.{StandsAfter, HasFailed};
 ghost use Rattle.wc_sma.specs.Feeding.{Feeds, Fails};
 
 use crate::acting::act;
 use crate::command::{Command, Seen, after_byte, command_of};
-use crate::writing::{WriteFault, write_whole};
 use wc_indicator::Indicator;
 use wc_model::ByteOut;
+use wc_writing::{WriteFault, write_whole};
 
 /// The line: what it knows of the request that is open, and whether it has failed.
 #[derive(Drop)]

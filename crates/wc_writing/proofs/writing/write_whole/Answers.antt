@@ -2,7 +2,7 @@ use Rattle.std.proofs.Common.{◌≡◌, ◌-◌, ℕ, List, ap, subst, sym, tak
 use Rattle.std.proofs.Math.Seq.{take-add, take-length}
 use Rattle.std.proofs.KnownBytes.{Appends-trans}
 use Rattle.std.specs.Io.KnownBytes.{Appends}
-use Rattle.wc_sma.proofs.writing.write_whole.Goals as goal
+use Rattle.wc_writing.proofs.writing.write_whole.Goals as goal
 
 -- what stands from a place on is all that is left there
 whole_rest : (n : ℕ) (xs : List ℕ) → take (length xs - n) (drop n xs) ≡ drop n xs

@@ -1,6 +1,6 @@
 ghost use Rattle.std.specs.Prelude.{◌≡◌, ◌<◌, ◌≤◌, length, take, IfOk, IfErr};
 ghost use Rattle.std.specs.Io.KnownBytes.{Appends, Keeps};
-ghost use Rattle.wc_sma.specs.Writing.{HasFailedSince, TakesFront};
+ghost use Rattle.wc_writing.specs.Writing.{HasFailedSince, TakesFront};
 
 use wc_model::ByteOut;
 
@@ -23,8 +23,9 @@ fn write_some<W: ByteOut>(writer: &mut W, piece: &[u8]) -> Result<usize, WriteFa
     }
 }
 
-/// Has the writer take all of a text.
-pub(crate) fn write_whole<W: ByteOut>(writer: &mut W, text: &[u8]) -> Result<(), WriteFault>
+/// Has the writer take all of a text, in as many calls as it needs. `WriteFault` comes where a call failed; the writer has
+/// then taken a front of the text, not all of it, and is asked no further. It takes no memory.
+pub fn write_whole<W: ByteOut>(writer: &mut W, text: &[u8]) -> Result<(), WriteFault>
     ensures whole { IfOk result (λ done. Appends (W.bytes_taken writer.old) (W.bytes_taken writer.new) text.now) }
     ensures steady { IfOk result (λ done. W.failure_count writer.new ≡ W.failure_count writer.old) }
     ensures front { IfErr result (λ e. TakesFront (W.bytes_taken writer.old) (W.bytes_taken writer.new) text.now) }

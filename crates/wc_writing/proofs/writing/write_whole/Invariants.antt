@@ -1,6 +1,6 @@
 use Rattle.std.proofs.Common.{◌≡◌, ◌≤◌, ◌-◌, length, take}
 use Rattle.std.specs.Io.KnownBytes.{Appends}
-use Rattle.wc_sma.proofs.writing.write_whole.Given as goal
+use Rattle.wc_writing.proofs.writing.write_whole.Given as goal
 
 -- a front of the text is taken, and no call has failed
 abbrev pub invariant-loop-at : goal.invariant-loop-at
