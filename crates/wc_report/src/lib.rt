@@ -1,0 +1,11 @@
+//! The texts that a run, a check and a refusal print, line by line.
+#![tactic(auto)]
+
+mod digits;
+mod lines;
+mod memory;
+mod numbers;
+#[cfg(test)]
+mod tests;
+
+pub use lines::{answer_line, refused_line, scan_line, unit_line};

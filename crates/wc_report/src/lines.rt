@@ -1,0 +1,58 @@
+ghost use Rattle.std.specs.Prelude.{◌≡◌, IfOk, IsOkUnless};
+ghost use Rattle.wc_model.specs.Job.{refused_text};
+ghost use Rattle.wc_model.specs.Report.{AnswerLine, ScanLine, line_text};
+ghost use Rattle.wc_model.specs.UnitReport.{unit_line};
+
+use crate::digits::{digits_of_bytes, digits_of_word};
+use crate::memory::or_memory;
+use crate::numbers::spaced;
+use std::alloc::Global;
+use wc_model::{Fault, Outputs, Steps};
+
+/// The line of a scan: `S`, its moment in milliseconds, its steps, the bits of `%QX0` in four hexadecimal digits, and the
+/// words `%QD0` to `%QD3`, with a space between and a line feed at the end. Each value of each type can be written.
+/// `Memory` is the only fault.
+pub fn scan_line(alloc: Global, ms: u64, steps: Steps, outputs: &Outputs) -> Result<Vec<u8>, Fault>
+    ensures text { IfOk result (λ text. text.items ≡ line_text (ScanLine ms steps.0 outputs.now)) }
+    ensures memory { IsOkUnless result Fault.Memory }
+{
+    let steps = steps.0;
+    let bits = digits_of_word(alloc, outputs.bits)?;
+    let words = spaced(alloc, &outputs.words)?;
+    let text = or_memory(format!(in alloc; "S {ms} {steps} {bits}{words}\n"))?;
+    Ok(text.into_bytes())
+}
+
+/// The line of an answer: `L`, the moment of its row in milliseconds, and its bytes, two hexadecimal digits for each, with
+/// a space between and a line feed at the end. An answer of no bytes has no digits. `Memory` is the only fault.
+pub fn answer_line(alloc: Global, ms: u64, bytes: &[u8]) -> Result<Vec<u8>, Fault>
+    ensures text { IfOk result (λ text. text.items ≡ line_text (AnswerLine ms bytes.now)) }
+    ensures memory { IsOkUnless result Fault.Memory }
+{
+    let digits = digits_of_bytes(alloc, bytes)?;
+    let text = or_memory(format!(in alloc; "L {ms} {digits}\n"))?;
+    Ok(text.into_bytes())
+}
+
+/// The line of a refusal: `refused`, its number and its place, a line or row counted from 1 or 0 for none, with a space
+/// between and a line feed at the end. `Memory` is the only fault.
+pub fn refused_line(alloc: Global, number: u16, place: u32) -> Result<Vec<u8>, Fault>
+    ensures text { IfOk result (λ text. text.items ≡ refused_text number place) }
+    ensures memory { IsOkUnless result Fault.Memory }
+{
+    let text = or_memory(format!(in alloc; "refused {number} {place}\n"))?;
+    Ok(text.into_bytes())
+}
+
+/// The line of a unit: `unit`, its name as it is spelled, `cost` and its bound in steps, with a space between and a line
+/// feed at the end. `Memory` is the only fault.
+pub fn unit_line(alloc: Global, name: &[u8], bound: u32) -> Result<Vec<u8>, Fault>
+    ensures text { IfOk result (λ text. text.items ≡ unit_line name.now bound) }
+    ensures memory { IsOkUnless result Fault.Memory }
+{
+    let mut text = or_memory(Vec::from_slice(alloc, b"unit "))?;
+    or_memory(text.extend_from_slice(name))?;
+    let cost = or_memory(format!(in alloc; " cost {bound}\n"))?;
+    or_memory(text.extend_from_slice(cost.as_bytes()))?;
+    Ok(text)
+}
