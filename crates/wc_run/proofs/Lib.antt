@@ -1,0 +1,4 @@
+pub mod Texts
+pub mod RunsOn
+pub mod Outcomes
+pub mod ScaleRows

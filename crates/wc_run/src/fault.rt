@@ -1,0 +1,17 @@
+/// Why a run or a check did not end well.
+#[derive(Clone, Copy, Debug, PartialEq, Eq)]
+pub enum RunFault {
+    /// The input breaks a rule.
+    Refused {
+        /// The rule's number, by the list of refusals.
+        number: u16,
+        /// The line or row that breaks it, counted from 1; 0 where no line does.
+        place: u32,
+    },
+    /// The reader failed, or more was read than may be.
+    Read,
+    /// The writer failed, or took nothing.
+    Write,
+    /// Memory was refused.
+    Memory,
+}

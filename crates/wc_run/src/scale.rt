@@ -1,0 +1,123 @@
+ghost use Rattle.std.specs.Prelude.{◌≡◌, ◌<◌, ◌^◌, ℕ, [], ◌∷◌, Option, IfOk, IsOkUnless, OnOk};
+ghost use Rattle.wc_model.specs.Plates.{PlateData};
+ghost use Rattle.wc_model.specs.Rows.{Past, Counts, Bytes, Inputs, Scan};
+ghost use Rattle.wc_record.specs.Views.{IsInRange, brought, log_row};
+ghost use Rattle.wc_run.specs.Logics.{Logic, StandsAt, text_of_row};
+ghost use Rattle.wc_run.specs.Standing.{IsNotBehind, Stands};
+ghost use Rattle.wc_run.specs.Taking.{Prints, Takes};
+
+use crate::answers::answer_text;
+use crate::fault::RunFault;
+use crate::scans::scan_text;
+use std::alloc::Global;
+use wc_indicator::Indicator;
+use wc_machine::Machine;
+use wc_model::Device;
+use wc_plate::Plate;
+use wc_record::{Row, RowKind, image};
+use wc_sma::Line;
+
+/// A scale: its indicator, its line, the digital inputs, and the machine beside it, if there is one.
+#[derive(Drop)]
+pub(crate) struct Scale<'a> {
+    indicator: Indicator,
+    line: Line,
+    inputs: u16,
+    machine: Option<Machine<'a>>,
+}
+
+impl<'a> Scale<'a> {
+    /// A scale to which no row has come.
+    pub(crate) fn new(
+        alloc: Global,
+        plate: &Plate,
+        machine: Option<Machine<'a>>,
+    ) -> Result<Scale<'a>, RunFault>
+        ensures stands { IfOk result (λ scale. (logic : Option Logic) → StandsAt machine.entry logic → Stands scale plate.now logic []) }
+        ensures machine { IfOk result (λ scale. scale.machine ≡ machine.entry) }
+        ensures memory { IsOkUnless result RunFault.Memory }
+    {
+        match Indicator::new(alloc, *plate) {
+            Ok(indicator) => Ok(Scale {
+                indicator,
+                line: Line::new(),
+                inputs: 0,
+                machine,
+            }),
+            Err(_) => Err(RunFault::Memory),
+        }
+    }
+
+    /// Does a row, and gives what is printed of it.
+    pub(crate) fn take(&mut self, alloc: Global, row: &Row) -> Result<Vec<u8>, RunFault>
+        requires in_range { IsInRange (brought row.now.kind) }
+        requires early { row.now.ms < 2 ^ 40 }
+        requires in_order { IsNotBehind self.old row.now.ms }
+        ensures stands { OnOk result ((plate : PlateData) (logic : Option Logic) (past : Past) → Stands self.old plate logic past → Stands self.new plate logic (log_row row.now ∷ past)) }
+        ensures text { IfOk result (λ text. (plate : PlateData) (logic : Option Logic) (past : Past) → Stands self.old plate logic past → text.items ≡ text_of_row plate logic past (log_row row.now)) }
+        ensures in_order { OnOk result (IsNotBehind self.new row.now.ms) }
+        ensures memory { IsOkUnless result RunFault.Memory }
+    {
+        match &row.kind {
+            RowKind::Counts(counts) => {
+                self.take_sample(*counts);
+                Ok(Vec::new(alloc))
+            }
+            RowKind::Bytes(bytes) => self.take_bytes(alloc, row.ms, bytes),
+            RowKind::Inputs(inputs) => {
+                self.take_inputs(*inputs);
+                Ok(Vec::new(alloc))
+            }
+            RowKind::Scan => self.take_scan(alloc, row.ms),
+        }
+    }
+
+    /// Takes a sample. Nothing is printed of it.
+    fn take_sample(&mut self, counts: i32)
+        requires { IsInRange (Counts counts) }
+        ensures stands { (ms : ℕ) → Takes self.old self.new ms (Counts counts) }
+        ensures machine { self.new.machine ≡ self.old.machine }
+    {
+        self.indicator.sample(counts);
+    }
+
+    /// Takes bytes on the line, and gives the line of what was answered.
+    fn take_bytes(&mut self, alloc: Global, ms: u64, bytes: &[u8]) -> Result<Vec<u8>, RunFault>
+        ensures stands { OnOk result (Takes self.old self.new ms (Bytes bytes.now)) }
+        ensures text { IfOk result (λ text. Prints self.old ms (Bytes bytes.now) text.items) }
+        ensures machine { self.new.machine ≡ self.old.machine }
+        ensures memory { IsOkUnless result RunFault.Memory }
+    {
+        let mut answers = Device::new(Vec::new(alloc));
+        match self.line.feed(bytes, &mut self.indicator, &mut answers) {
+            Ok(()) => answer_text(alloc, ms, answers.get_ref()),
+            Err(_) => Err(RunFault::Memory),
+        }
+    }
+
+    /// Takes the inputs from now on. Nothing is printed of them.
+    fn take_inputs(&mut self, inputs: u16)
+        ensures stands { (ms : ℕ) → Takes self.old self.new ms (Inputs inputs) }
+        ensures machine { self.new.machine ≡ self.old.machine }
+    {
+        self.inputs = inputs;
+    }
+
+    /// Does a scan where there is a machine, and gives its line.
+    fn take_scan(&mut self, alloc: Global, ms: u64) -> Result<Vec<u8>, RunFault>
+        requires early { ms < 2 ^ 40 }
+        requires in_order { IsNotBehind self.old ms }
+        ensures stands { OnOk result (Takes self.old self.new ms Scan) }
+        ensures text { IfOk result (λ text. Prints self.old ms Scan text.items) }
+        ensures in_order { OnOk result (IsNotBehind self.new ms) }
+        ensures memory { IsOkUnless result RunFault.Memory }
+    {
+        match &mut self.machine {
+            Some(machine) => {
+                let image = image(&self.indicator, self.inputs);
+                scan_text(alloc, ms, &image, machine)
+            }
+            None => Ok(Vec::new(alloc)),
+        }
+    }
+}
