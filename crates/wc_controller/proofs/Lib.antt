@@ -1,1 +1,4 @@
 pub mod Refusals
+pub mod UnitReports
+pub mod Givings
+pub mod Allowing

@@ -1,1 +1,4 @@
 pub mod Loads
+pub mod UnitLines
+pub mod Checking
+pub mod Jobs

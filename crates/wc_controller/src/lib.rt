@@ -1,8 +1,16 @@
-//! A program text loaded for the machine: reading, and the passes behind it.
+//! The whole of a job and of a check: a program text loaded for the machine, its units' bounds written, and a job answered.
 #![tactic(auto)]
 
+mod answering;
+mod checking;
 mod loading;
+mod refusing;
 #[cfg(test)]
 mod tests;
+mod unit_lines;
 
+pub use answering::job;
+pub use checking::check;
 pub use loading::load;
+pub use refusing::refuse;
+pub use wc_run::{RunFault, run};

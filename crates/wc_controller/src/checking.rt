@@ -1,0 +1,48 @@
+ghost use Rattle.std.specs.Prelude.{IsErrOf};
+ghost use Rattle.wc_controller.specs.Checking.{Checks, WritesReport};
+ghost use Rattle.wc_machine.specs.Machines.{text_by_itself};
+ghost use Rattle.wc_writing.specs.Writing.{HasFailedSince};
+
+use crate::loading::load;
+use crate::unit_lines::unit_lines;
+use std::alloc::Global;
+use wc_machine::first::Loaded;
+use wc_model::{ByteOut, Fault};
+use wc_run::RunFault;
+use wc_writing::write_whole;
+
+/// Writes the report of the units.
+fn write_report<W: ByteOut>(
+    alloc: Global,
+    loaded: &Loaded<'_>,
+    writer: &mut W,
+) -> Result<(), RunFault>
+    ensures report { WritesReport (text_by_itself loaded.now) result (W.bytes_taken writer.old) (W.bytes_taken writer.new) }
+    ensures write { IsErrOf result RunFault.Write → HasFailedSince (W.failure_count writer.old) (W.failure_count writer.new) }
+{
+    let lines = match unit_lines(alloc, loaded) {
+        Ok(lines) => lines,
+        Err(_) => return Err(RunFault::Memory),
+    };
+    match write_whole(writer, &lines) {
+        Ok(()) => Ok(()),
+        Err(_) => Err(RunFault::Write),
+    }
+}
+
+/// Checks a program text, and writes for each unit, in the text's order, a line with its name and the number of steps that
+/// it takes at most. `Refused` names the fault by which the text is not loaded, and nothing is written. `Write` comes only
+/// where the writer failed in this call; a front of the report is then written. `Memory` is want of memory, before anything
+/// is written. `Read` never comes.
+pub fn check<W: ByteOut>(alloc: Global, text: &[u8], writer: &mut W) -> Result<(), RunFault>
+    ensures checks { Checks text.now result (W.bytes_taken writer.old) (W.bytes_taken writer.new) }
+    ensures write { IsErrOf result RunFault.Write → HasFailedSince (W.failure_count writer.old) (W.failure_count writer.new) }
+{
+    match load(alloc, text) {
+        Ok(loaded) => write_report(alloc, &loaded, writer),
+        Err(fault) => match fault {
+            Fault::Refused { number, place } => Err(RunFault::Refused { number, place }),
+            Fault::Memory => Err(RunFault::Memory),
+        },
+    }
+}
