@@ -1,0 +1,80 @@
+ghost use Rattle.std.specs.Prelude.{◌≡◌, IfSome};
+
+use crate::files::{open, read_file, read_plate};
+use crate::stops::{Stopped, stop_at, stop_by};
+use crate::words::ProgramFiles;
+use wc_controller::{check, load, run};
+use wc_machine::Machine;
+use wc_model::ByteOut;
+use wc_plate::Plate;
+
+/// Writes the cost of each unit of a program.
+pub(crate) fn check_file<'a, W: ByteOut>(
+    rt: &HostRuntime,
+    program: &'a str,
+    writer: &mut W,
+) -> Result<(), Stopped<'a>> {
+    let text = read_file(rt, program)?;
+    match check(rt.alloc(), &text, writer) {
+        Ok(()) => Ok(()),
+        Err(fault) => Err(stop_at(program, fault)),
+    }
+}
+
+/// Runs a log, with a machine or with none.
+fn run_log<'a, W: ByteOut>(
+    rt: &HostRuntime,
+    plate: &Plate,
+    machine: Option<Machine<'_>>,
+    log: &'a str,
+    writer: &mut W,
+) -> Result<(), Stopped<'a>>
+    requires { IfSome machine (λ machine. machine.last ≡ 0) }
+{
+    let mut reader = open(rt, log)?;
+    match run(rt.alloc(), plate, machine, &mut reader, writer) {
+        Ok(_) => Ok(()),
+        Err(fault) => Err(stop_at(log, fault)),
+    }
+}
+
+/// Loads a program and runs a log with it. The log is opened only where the program is loaded.
+fn run_text<'a, W: ByteOut>(
+    rt: &HostRuntime,
+    plate: &Plate,
+    files: ProgramFiles<'a>,
+    text: &[u8],
+    writer: &mut W,
+) -> Result<(), Stopped<'a>> {
+    let loaded = match load(rt.alloc(), text) {
+        Ok(loaded) => loaded,
+        Err(fault) => return Err(stop_by(files.program, fault)),
+    };
+    match Machine::new(rt.alloc(), loaded) {
+        Ok(machine) => run_log(rt, plate, Some(machine), files.log, writer),
+        Err(fault) => Err(stop_by(files.program, fault)),
+    }
+}
+
+/// Runs a log with a program.
+pub(crate) fn run_files<'a, W: ByteOut>(
+    rt: &HostRuntime,
+    plate: &'a str,
+    files: ProgramFiles<'a>,
+    writer: &mut W,
+) -> Result<(), Stopped<'a>> {
+    let plate = read_plate(rt, plate)?;
+    let text = read_file(rt, files.program)?;
+    run_text(rt, &plate, files, &text, writer)
+}
+
+/// Runs a log with no program.
+pub(crate) fn line_files<'a, W: ByteOut>(
+    rt: &HostRuntime,
+    plate: &'a str,
+    log: &'a str,
+    writer: &mut W,
+) -> Result<(), Stopped<'a>> {
+    let plate = read_plate(rt, plate)?;
+    run_log(rt, &plate, None, log, writer)
+}
