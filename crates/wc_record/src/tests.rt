@@ -1,4 +1,4 @@
-use crate::{LogFault, Row, RowKind, Rows, image};
+use crate::{LogFault, Row, RowKind, Rows, image, is_used_up};
 use std::alloc::Global;
 use std::io;
 use std::io::Read;
@@ -293,4 +293,12 @@ fn images(rt: HostRuntime) {
         assert_eq!(rt; after.status, status);
         assert_eq!(rt; after.weights, [gross, gross, 0]);
     }
+}
+
+#[test]
+fn the_bound_on_what_is_read(rt: HostRuntime) {
+    assert!(rt; !is_used_up(5, 5));
+    assert!(rt; !is_used_up(5, 134217732));
+    assert!(rt; is_used_up(5, 134217733));
+    assert!(rt; is_used_up(u64::MAX, u64::MAX));
 }
