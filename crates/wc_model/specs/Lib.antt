@@ -17,6 +17,7 @@ pub mod Paths
 pub mod WorstPaths
 pub mod Kinds
 pub mod Checks
+pub mod Frames
 pub mod DeclarationRules
 pub mod BodyRules
 pub mod Faults
