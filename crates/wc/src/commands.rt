@@ -4,7 +4,7 @@ use crate::files::{open, read_file, read_plate};
 use crate::stops::{Stopped, stop_at, stop_by};
 use crate::words::ProgramFiles;
 use wc_controller::{check, load, run};
-use wc_machine::Machine;
+use wc_first::Machine;
 use wc_model::ByteOut;
 use wc_plate::Plate;
 

@@ -5,11 +5,11 @@ use Rattle.std.specs.Prelude.{Option, Some, None, IfSome, Ok, Err, if◌then◌e
 use Rattle.wc_controller.proofs.Givings.{gives_more}
 use Rattle.wc_controller.specs.Jobs.{Allows, as_defined, outside, AllowsProgram, AllowsSections, Gives}
 use Rattle.wc_controller.specs.Loads.{IsWhy, at_a_pass, at_the_language}
-use Rattle.wc_model.specs.Job.{JobAnswer, AnswersPlate, AnswersSections, refuses_program, refusing}
-use Rattle.wc_model.specs.JobSections.{Sections, longest_job, sections_in, sections_of, sections_or_refusal, whole_lines}
-use Rattle.wc_model.specs.Log.{LogOf, log_of}
-use Rattle.wc_model.specs.PlateTable.{plate_of}
-use Rattle.wc_model.specs.Plates.{PlateData}
+use Rattle.wc_model.specs.Say.Job.{JobAnswer, AnswersPlate, AnswersSections, refuses_program, refusing}
+use Rattle.wc_model.specs.Run.JobSections.{Sections, longest_job, sections_in, sections_of, sections_or_refusal, whole_lines}
+use Rattle.wc_model.specs.Run.Log.{LogOf, log_of}
+use Rattle.wc_model.specs.Instrument.PlateTable.{plate_of}
+use Rattle.wc_model.specs.Instrument.Plates.{PlateData}
 use Rattle.wc_plate.specs.TomlTable.{table_read}
 use Rattle.wc_record.specs.Reading.{records_of}
 

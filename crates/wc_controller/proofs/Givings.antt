@@ -5,18 +5,18 @@ use Rattle.std.proofs.lemmas.List.Concat.{flat_map-append}
 use Rattle.std.specs.Prelude.{Option, Some, None, Err, flat_map}
 use Rattle.std.specs.Io.KnownBytes.{Appends}
 use Rattle.wc_controller.specs.Jobs.{Gives, answered, cut_short, silent, IsFailure}
-use Rattle.wc_model.specs.Job.{JobAnswer, behind_report, refused_text, refusing, run_answer}
-use Rattle.wc_model.specs.Log.{LogOf, LogRefusal}
-use Rattle.wc_model.specs.Plates.{PlateData}
-use Rattle.wc_model.specs.ProgramReport.{program_report, scans_of}
-use Rattle.wc_model.specs.Report.{ReportLine, Scans, line_text, lines_with, report_lines}
-use Rattle.wc_model.specs.Rows.{LogRow, Past}
-use Rattle.wc_model.specs.Scans.{initial_of}
-use Rattle.wc_model.specs.Tree.{Text}
+use Rattle.wc_model.specs.Say.Job.{JobAnswer, behind_report, refused_text, refusing, run_answer}
+use Rattle.wc_model.specs.Run.Log.{LogOf, LogRefusal}
+use Rattle.wc_model.specs.Instrument.Plates.{PlateData}
+use Rattle.wc_model.specs.Say.ProgramReport.{program_report, scans_of}
+use Rattle.wc_model.specs.Say.Report.{ReportLine, Scans, line_text, lines_with, report_lines}
+use Rattle.wc_model.specs.Run.Rows.{LogRow, Past}
+use Rattle.wc_model.specs.Language.Scans.{initial_of}
+use Rattle.wc_model.specs.Language.Tree.{Text}
 use Rattle.wc_run.specs.Runs.{AppendsFirst, AppendsFront, Reports}
 use Rattle.wc_run.specs.declared.fault.RunFault.{RunFault}
 use Rattle.wc_run.specs.declared.fault.RunFault.TheVariants.{Refused, Read, Write, Memory}
-use Rattle.wc_writing.specs.Writing.{TakesFront}
+use Rattle.wc_model.specs.Run.Writing.{TakesFront}
 
 -- more may be allowed
 pub gives_more : (allowed more : JobAnswer → Type 0) (status : ℕ) (old new : Option (List ℕ)) →

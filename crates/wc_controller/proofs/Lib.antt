@@ -1,3 +1,4 @@
+pub mod Endings
 pub mod Refusals
 pub mod UnitReports
 pub mod Givings

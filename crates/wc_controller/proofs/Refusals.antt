@@ -1,11 +1,11 @@
 -- Why a text is not loaded, pass by pass.
 use Rattle.std.proofs.Common.{ℕ, List, inl, inr}
 use Rattle.wc_controller.specs.Loads.{IsRefusedLoad, IsWhy, at_a_pass, at_the_language}
-use Rattle.wc_machine.specs.Passes as machine
-use Rattle.wc_machine.specs.Passes.{Refuses}
-use Rattle.wc_model.specs.Loading as loading
-use Rattle.wc_model.specs.Reading.{IsRead}
-use Rattle.wc_model.specs.Tree.{Text}
+use Rattle.wc_first.specs.Passes as machine
+use Rattle.wc_first.specs.Passes.{Refuses}
+use Rattle.wc_model.specs.Language.Loading as loading
+use Rattle.wc_model.specs.Text.Reading.{IsRead}
+use Rattle.wc_model.specs.Language.Tree.{Text}
 use Rattle.wc_model.specs.declared.fault.Fault.{Fault}
 use Rattle.wc_model.specs.declared.fault.Fault.TheVariants.{Memory, Refused}
 use Rattle.wc_reader.specs.ReadTexts.{IsFirstOf, IsRefusedAs}
@@ -20,7 +20,7 @@ not_read bytes (Refused number place) h = first_of bytes number place h.first
 not_read bytes Memory h = tt
 
 -- a text that is read, and refused by a later pass
-later : (bytes : List ℕ) (text : Text) (number place : ℕ) → IsRead bytes text → machine.IsRefused text number place → IsWhy bytes number place
+later : (bytes : List ℕ) (text : Text) (number place : ℕ) → IsRead bytes text → machine.IsRefusedByFirst text number place → IsWhy bytes number place
 later bytes text number place r (machine.at_language e) = at_the_language text r e
 later bytes text number place r (machine.at_declarations l e) = at_a_pass (loading.at_declarations text r e)
 later bytes text number place r (machine.at_bodies l d e) = at_a_pass (loading.at_bodies text r d e)

@@ -3,9 +3,9 @@ use Rattle.std.proofs.Common.{◌≡◌, ℕ, zero, suc, ◌+◌, ◌≤◌, Lis
 use Rattle.std.proofs.lemmas.Option.{none-some, same_Some}
 use Rattle.std.specs.Prelude.{Some, IfSome, option_map, slice_get}
 use Rattle.wc_controller.specs.UnitLines.{IsLineAt}
-use Rattle.wc_model.specs.Checks.{Spot, spots_behind, spots_of}
-use Rattle.wc_model.specs.Tree.{ProgramUnit, Text}
-use Rattle.wc_model.specs.UnitReport.{AreUnitLines, IsBoundOf, IsUnitReport, unit_line}
+use Rattle.wc_model.specs.Language.Checks.{Spot, spots_behind, spots_of}
+use Rattle.wc_model.specs.Language.Tree.{ProgramUnit, Text}
+use Rattle.wc_model.specs.Say.UnitReport.{AreUnitLines, IsBoundOf, IsUnitReport, unit_line}
 
 -- the units at the spots are the text's
 items_at : (before units : List ProgramUnit) → map (λ spot. spot.item) (spots_behind before units) ≡ units

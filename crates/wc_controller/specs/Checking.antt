@@ -2,12 +2,12 @@
 use Rattle.std.specs.Prelude.{ℕ, List, Option, Result, Ok, Err}
 use Rattle.std.specs.Io.KnownBytes.{Appends, Keeps}
 use Rattle.wc_controller.specs.Loads.{IsWhy}
-use Rattle.wc_model.specs.Loading.{IsLoaded}
-use Rattle.wc_model.specs.Tree.{Text}
-use Rattle.wc_model.specs.UnitReport.{IsUnitReport}
+use Rattle.wc_model.specs.Language.Loading.{IsLoaded}
+use Rattle.wc_model.specs.Language.Tree.{Text}
+use Rattle.wc_model.specs.Say.UnitReport.{IsUnitReport}
 use Rattle.wc_run.specs.declared.fault.RunFault.{RunFault}
 use Rattle.wc_run.specs.declared.fault.RunFault.TheVariants.{Refused, Read, Write, Memory}
-use Rattle.wc_writing.specs.Writing.{TakesFront}
+use Rattle.wc_model.specs.Run.Writing.{TakesFront}
 
 -- A text's report is written; at a write fault a front of it, and not all; for want of memory nothing. There is no other
 -- fault.

@@ -1,14 +1,14 @@
 -- What a job is answered while the first language alone is loaded, and what its status says of what was written.
 use Rattle.std.specs.Prelude.{◌≡◌, ℕ, ◌⊎◌, List, Option, Some, Ok}
 use Rattle.std.specs.Io.KnownBytes.{Appends, Keeps}
-use Rattle.wc_machine.specs.FirstLanguage.{language_fault}
-use Rattle.wc_model.specs.Job.{JobAnswer, AnswersJob, AnswersPlate, AnswersProgram, refusing}
-use Rattle.wc_model.specs.JobSections.{Sections, sections_of}
-use Rattle.wc_model.specs.Log.{LogOf}
-use Rattle.wc_model.specs.PlateTable.{plate_of}
-use Rattle.wc_model.specs.Plates.{PlateData}
-use Rattle.wc_model.specs.Reading.{IsRead}
-use Rattle.wc_model.specs.Tree.{Text}
+use Rattle.wc_first.specs.FirstLanguage.{language_fault}
+use Rattle.wc_model.specs.Say.Job.{JobAnswer, AnswersJob, AnswersPlate, AnswersProgram, refusing}
+use Rattle.wc_model.specs.Run.JobSections.{Sections, sections_of}
+use Rattle.wc_model.specs.Run.Log.{LogOf}
+use Rattle.wc_model.specs.Instrument.PlateTable.{plate_of}
+use Rattle.wc_model.specs.Instrument.Plates.{PlateData}
+use Rattle.wc_model.specs.Text.Reading.{IsRead}
+use Rattle.wc_model.specs.Language.Tree.{Text}
 use Rattle.wc_plate.specs.TomlTable.{table_read}
 use Rattle.wc_record.specs.Reading.{records_of}
 use Rattle.wc_run.specs.Runs.{AppendsFront}

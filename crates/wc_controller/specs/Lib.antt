@@ -1,3 +1,4 @@
+pub mod Headline
 pub mod Loads
 pub mod UnitLines
 pub mod Checking

@@ -1,9 +1,9 @@
 -- Why a text of the first language is not loaded.
 use Rattle.std.specs.Prelude.{◌≡◌, ℕ, List, Some}
-use Rattle.wc_machine.specs.FirstLanguage.{language_fault}
-use Rattle.wc_model.specs.Loading.{IsRefused}
-use Rattle.wc_model.specs.Reading.{IsRead}
-use Rattle.wc_model.specs.Tree.{Text}
+use Rattle.wc_first.specs.FirstLanguage.{language_fault}
+use Rattle.wc_model.specs.Language.Loading.{IsRefused}
+use Rattle.wc_model.specs.Text.Reading.{IsRead}
+use Rattle.wc_model.specs.Language.Tree.{Text}
 use Rattle.wc_model.specs.declared.fault.Fault.{Fault}
 use Rattle.wc_model.specs.declared.fault.Fault.TheVariants.{Memory, Refused}
 

@@ -1,20 +1,20 @@
 ghost use Rattle.std.specs.Prelude.{◌≡◌, ◌⊎◌, IfSome};
 ghost use Rattle.wc_controller.specs.Jobs.{Allows, AllowsProgram, AllowsSections, Gives, IsStatus};
-ghost use Rattle.wc_job.specs.Views.{said};
-ghost use Rattle.wc_machine.specs.Machines.{StandsFor, text_by_itself};
-ghost use Rattle.wc_model.specs.Job.{run_answer};
-ghost use Rattle.wc_model.specs.Log.{log_of};
-ghost use Rattle.wc_model.specs.Scans.{initial_of};
-ghost use Rattle.wc_model.specs.Tree.{Text};
+ghost use Rattle.wc_job.specs.Views.{sections_view};
+ghost use Rattle.wc_first.specs.Machines.{StandsForProgram, text_by_itself};
+ghost use Rattle.wc_model.specs.Say.Job.{run_answer};
+ghost use Rattle.wc_model.specs.Run.Log.{log_of};
+ghost use Rattle.wc_model.specs.Language.Scans.{initial_of};
+ghost use Rattle.wc_model.specs.Language.Tree.{Text};
 ghost use Rattle.wc_record.specs.Reading.{records_of};
-ghost use Rattle.wc_writing.specs.Writing.{HasFailedSince};
+ghost use Rattle.wc_model.specs.Run.Writing.{HasFailedSince};
 
 use crate::loading::load;
 use crate::refusing::{DEVICE_FAULT, NO_MEMORY, SUCCESS, refuse};
 use std::alloc::Global;
 use wc_job::{ReadFault, Sections, read_whole, sections};
-use wc_machine::Machine;
-use wc_machine::first::Loaded;
+use wc_first::Machine;
+use wc_first::first::Loaded;
 use wc_model::{ByteIn, ByteOut, Device, Fault};
 use wc_plate::{Plate, plate};
 use wc_run::{RunFault, run};
@@ -28,7 +28,7 @@ fn run_log<W: ByteOut>(
     writer: &mut W,
 ) -> u8
     requires { machine.last ≡ 0 }
-    ensures gives { (text : Text) → StandsFor machine.entry text (initial_of text) → Gives (λ answer. answer ≡ run_answer plate.now text (log_of (records_of log.now))) result (W.bytes_taken writer.old) (W.bytes_taken writer.new) }
+    ensures gives { (text : Text) → StandsForProgram machine.entry text (initial_of text) → Gives (λ answer. answer ≡ run_answer plate.now text (log_of (records_of log.now))) result (W.bytes_taken writer.old) (W.bytes_taken writer.new) }
     ensures status { IsStatus result }
     ensures device { result ≡ 3 → HasFailedSince (W.failure_count writer.old) (W.failure_count writer.new) }
 {
@@ -85,7 +85,7 @@ fn run_program<W: ByteOut>(
 
 /// Answers a job by its sections.
 fn answer_sections<W: ByteOut>(alloc: Global, sections: Sections<'_>, writer: &mut W) -> u8
-    ensures gives { Gives (AllowsSections (said sections.entry)) result (W.bytes_taken writer.old) (W.bytes_taken writer.new) }
+    ensures gives { Gives (AllowsSections (sections_view sections.entry)) result (W.bytes_taken writer.old) (W.bytes_taken writer.new) }
     ensures status { IsStatus result }
     ensures device { result ≡ 3 → HasFailedSince (W.failure_count writer.old) (W.failure_count writer.new) }
 {

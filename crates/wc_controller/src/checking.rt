@@ -1,15 +1,14 @@
 ghost use Rattle.std.specs.Prelude.{IsErrOf};
 ghost use Rattle.wc_controller.specs.Checking.{Checks, WritesReport};
-ghost use Rattle.wc_machine.specs.Machines.{text_by_itself};
-ghost use Rattle.wc_writing.specs.Writing.{HasFailedSince};
+ghost use Rattle.wc_first.specs.Machines.{text_by_itself};
+ghost use Rattle.wc_model.specs.Run.Writing.{HasFailedSince};
 
 use crate::loading::load;
 use crate::unit_lines::unit_lines;
 use std::alloc::Global;
-use wc_machine::first::Loaded;
-use wc_model::{ByteOut, Fault};
+use wc_first::first::Loaded;
+use wc_model::{ByteOut, Fault, write_whole};
 use wc_run::RunFault;
-use wc_writing::write_whole;
 
 /// Writes the report of the units.
 fn write_report<W: ByteOut>(

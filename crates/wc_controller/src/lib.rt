@@ -3,6 +3,7 @@
 
 mod answering;
 mod checking;
+mod headline;
 mod loading;
 mod refusing;
 #[cfg(test)]
@@ -11,6 +12,7 @@ mod unit_lines;
 
 pub use answering::job;
 pub use checking::check;
+pub use headline::the_headline;
 pub use loading::load;
 pub use refusing::refuse;
 pub use wc_run::{RunFault, run};

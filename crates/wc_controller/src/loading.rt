@@ -1,11 +1,11 @@
 ghost use Rattle.std.specs.Prelude.{IfErr, IfOk};
 ghost use Rattle.wc_controller.specs.Loads.{IsRefusedLoad};
-ghost use Rattle.wc_machine.specs.Machines.{text_by_itself};
-ghost use Rattle.wc_model.specs.Loading.{IsLoaded};
+ghost use Rattle.wc_first.specs.Machines.{text_by_itself};
+ghost use Rattle.wc_model.specs.Language.Loading.{IsLoaded};
 
 use std::alloc::Global;
-use wc_machine::first;
-use wc_machine::first::Loaded;
+use wc_first::first;
+use wc_first::first::Loaded;
 use wc_model::Fault;
 use wc_reader::read;
 

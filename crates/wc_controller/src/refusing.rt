@@ -1,12 +1,11 @@
 ghost use Rattle.std.specs.Prelude.{◌≡◌};
 ghost use Rattle.wc_controller.specs.Jobs.{Gives, IsStatus};
-ghost use Rattle.wc_model.specs.Job.{refusing};
-ghost use Rattle.wc_writing.specs.Writing.{HasFailedSince};
+ghost use Rattle.wc_model.specs.Say.Job.{refusing};
+ghost use Rattle.wc_model.specs.Run.Writing.{HasFailedSince};
 
 use std::alloc::Global;
-use wc_model::ByteOut;
+use wc_model::{ByteOut, write_whole};
 use wc_report::refused_line;
-use wc_writing::write_whole;
 
 /// The status where all rows ran.
 pub(crate) const SUCCESS: u8 = 0;

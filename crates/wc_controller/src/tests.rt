@@ -3,7 +3,7 @@ use std::alloc::Global;
 use std::io;
 use std::io::{Read, Write};
 use std::test::Fail;
-use wc_machine::Machine;
+use wc_first::Machine;
 use wc_model::{ByteOut, Device, Fault, Image};
 
 /// The first of the examples.

@@ -1,10 +1,10 @@
 ghost use Rattle.std.specs.Prelude.{◌≡◌, ◌<◌, ◌++◌, length, IfOk, OnOk, IsOkUnless};
 ghost use Rattle.wc_controller.specs.UnitLines.{IsLineAt};
-ghost use Rattle.wc_machine.specs.Machines.{text_by_itself};
-ghost use Rattle.wc_model.specs.UnitReport.{IsUnitReport};
+ghost use Rattle.wc_first.specs.Machines.{text_by_itself};
+ghost use Rattle.wc_model.specs.Say.UnitReport.{IsUnitReport};
 
 use std::alloc::Global;
-use wc_machine::first::Loaded;
+use wc_first::first::Loaded;
 use wc_report::unit_line;
 use wc_run::RunFault;
 

@@ -1,11 +1,11 @@
 -- `PROGRAM P / LD /` is no front: behind LD stands an operand, or a colon where it is a label.
 use Rattle.std.proofs.Common.{true, false, List, [], ◌∷◌, ◌++◌, refl, inl, inr}
 use Rattle.std.specs.Prelude.{Some, None, codes}
-use Rattle.wc_model.specs.Marks.{Mark, IsNamed}
-use Rattle.wc_model.specs.Tree.{Term, Constant, Address, Variable, Field, Step, Load, Store, Apply, Negate, Jump, Call, Return, Lines, End, Alone, Plain, Nested}
-use Rattle.wc_model.specs.Languages.{◌then◌}
-use Rattle.wc_model.specs.Keywords.{end_word, section_word}
-use Rattle.wc_model.specs.Grammar.{InBody, operand, operands_of, IsOperator, IsOperatorOf, IsFront}
+use Rattle.wc_model.specs.Text.Marks.{Mark, IsNamed}
+use Rattle.wc_model.specs.Language.Tree.{Term, Constant, Address, Variable, Field, Step, Load, Store, Apply, Negate, Jump, Call, Return, Lines, End, Alone, Plain, Nested}
+use Rattle.wc_model.specs.Text.Languages.{◌then◌}
+use Rattle.wc_model.specs.Text.Keywords.{end_word, section_word}
+use Rattle.wc_model.specs.Text.Grammar.{InBody, operand, operands_of, IsOperator, IsOperatorOf, IsFront}
 use Rattle.wc_model.specs.declared.operator.Condition.TheVariants.{Always, IfTrue, IfFalse}
 use Rattle.wc_model.specs.declared.operator.Operator.{Operator}
 use Rattle.wc_model.specs.declared.operator.Operator.TheVariants.{And, Andn}

@@ -1,9 +1,9 @@
 -- So many function blocks.
 use Rattle.std.proofs.Common.{◌≡◌, ◌≤◌, ℕ, zero, suc, List, [], ◌∷◌, refl, inl, arith}
 use Rattle.std.specs.Prelude.{codes, length}
-use Rattle.wc_model.specs.Tree.{ProgramUnit}
-use Rattle.wc_model.specs.Grammar.{units}
-use Rattle.wc_model.specs.ReadingFaults.{IsMet, TooMany}
+use Rattle.wc_model.specs.Language.Tree.{ProgramUnit}
+use Rattle.wc_model.specs.Text.Grammar.{units}
+use Rattle.wc_model.specs.Text.ReadingFaults.{IsMet, TooMany}
 use Rattle.wc_model.specs.declared.source.UnitKind.TheVariants.{Program}
 use Rattle.wc_model.proofs.Languages.{next, pass, regroup}
 use Rattle.wc_grammar_examples.specs.Texts.{ident, block_b}

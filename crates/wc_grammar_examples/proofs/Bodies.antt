@@ -1,12 +1,12 @@
 -- `PROGRAM P /` and two tokens are no front, where no line and no section of declarations begins with them.
 use Rattle.std.proofs.Common.{◌≡◌, ℕ, true, false, List, [], ◌∷◌, ◌++◌, inl, inr}
 use Rattle.std.specs.Prelude.{Some, None}
-use Rattle.wc_model.specs.Names.{name_of}
-use Rattle.wc_model.specs.Marks.{Mark, LineEnd, IsNamed, IsSymbol}
-use Rattle.wc_model.specs.Tree.{Step, Load, Store, Apply, Negate, Jump, Call, Return, Lines, End, Alone, Plain, Nested, Declaration, Text}
-use Rattle.wc_model.specs.Languages.{Language, ◌then◌, each}
-use Rattle.wc_model.specs.Keywords.{end_word, section_word}
-use Rattle.wc_model.specs.Grammar.{InBody, IsOperator, IsOperatorOf, Group, identifier, line_ends, lines, section_of, sections, units, IsFront, IsProgramLast}
+use Rattle.wc_model.specs.Language.Names.{name_of}
+use Rattle.wc_model.specs.Text.Marks.{Mark, LineEnd, IsNamed, IsSymbol}
+use Rattle.wc_model.specs.Language.Tree.{Step, Load, Store, Apply, Negate, Jump, Call, Return, Lines, End, Alone, Plain, Nested, Declaration, Text}
+use Rattle.wc_model.specs.Text.Languages.{Language, ◌then◌, each}
+use Rattle.wc_model.specs.Text.Keywords.{end_word, section_word}
+use Rattle.wc_model.specs.Text.Grammar.{InBody, IsOperator, IsOperatorOf, Group, identifier, line_ends, lines, section_of, sections, units, IsFront, IsProgramLast}
 use Rattle.wc_model.specs.declared.operator.Operator.{Operator}
 use Rattle.wc_model.specs.declared.operator.Operator.TheVariants.{And, Andn}
 use Rattle.wc_model.specs.declared.source.Section.{Section}

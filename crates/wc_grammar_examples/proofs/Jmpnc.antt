@@ -1,10 +1,10 @@
 -- `PROGRAM P / JMPNC L` is no front: JMPNC is no operator, and L is no colon behind a label.
 use Rattle.std.proofs.Common.{List, [], ◌∷◌, ◌++◌, refl}
 use Rattle.std.specs.Prelude.{Some, None, codes}
-use Rattle.wc_model.specs.Marks.{Mark, IsNamed}
-use Rattle.wc_model.specs.Tree.{Lines, End, Alone, Plain, Nested}
-use Rattle.wc_model.specs.Keywords.{end_word, section_word}
-use Rattle.wc_model.specs.Grammar.{InBody, IsFront}
+use Rattle.wc_model.specs.Text.Marks.{Mark, IsNamed}
+use Rattle.wc_model.specs.Language.Tree.{Lines, End, Alone, Plain, Nested}
+use Rattle.wc_model.specs.Text.Keywords.{end_word, section_word}
+use Rattle.wc_model.specs.Text.Grammar.{InBody, IsFront}
 use Rattle.wc_model.specs.declared.source.Section.{Section}
 use Rattle.wc_model.specs.declared.source.Section.TheVariants.{Input, Output, Own}
 use Rattle.wc_model.specs.declared.source.UnitKind.{UnitKind}

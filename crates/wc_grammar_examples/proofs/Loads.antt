@@ -1,11 +1,11 @@
 -- A program of so many lines `LD TRUE`.
 use Rattle.std.proofs.Common.{◌≡◌, ◌≤◌, ℕ, zero, suc, [], ◌∷◌, refl, sym, inl, inr, append-nil, arith}
 use Rattle.std.specs.Prelude.{codes, None}
-use Rattle.wc_model.specs.Tree.{End}
-use Rattle.wc_model.specs.Limits.{line_count, depth, IsWithinLimits}
-use Rattle.wc_model.specs.Grammar.{InBody, lines}
-use Rattle.wc_model.specs.Positions.{Position, at_line, at_instruction}
-use Rattle.wc_model.specs.ReadingFaults.{IsMet, TooMany}
+use Rattle.wc_model.specs.Language.Tree.{End}
+use Rattle.wc_model.specs.Text.Limits.{line_count, depth, IsWithinLimits}
+use Rattle.wc_model.specs.Text.Grammar.{InBody, lines}
+use Rattle.wc_model.specs.Text.Positions.{Position, at_line, at_instruction}
+use Rattle.wc_model.specs.Text.ReadingFaults.{IsMet, TooMany}
 use Rattle.wc_model.proofs.Languages.{next, pass, more, regroup}
 use Rattle.wc_grammar_examples.specs.Texts.{ident, end_of, program_of}
 use Rattle.wc_grammar_examples.specs.Faulty.{load_true, loads, load_lines, program_of_loads}

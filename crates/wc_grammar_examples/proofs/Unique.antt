@@ -1,8 +1,8 @@
 -- A text has one first fault.
 use Rattle.std.proofs.Common.{◌≡◌, ◌≤◌, ℕ, List, [], ◌∷◌, ◌++◌, refl, ap, sym, ◌∙◌, inl, inr, arith}
 use Rattle.std.specs.Prelude.{◌⊎◌, ◌==◌, cond}
-use Rattle.wc_model.specs.Marks.{Mark}
-use Rattle.wc_model.specs.ReadingFaults.{ReadingFault, UnexpectedToken, UnitNotClosed, NotOneProgramLast, EmptyParentheses, NotAllowedInParentheses, ParenthesisNotPaired, TooDeep, TooMany, rank_of, IsMet, IsFaultFree, IsFirstFault}
+use Rattle.wc_model.specs.Text.Marks.{Mark}
+use Rattle.wc_model.specs.Text.ReadingFaults.{ReadingFault, UnexpectedToken, UnitNotClosed, NotOneProgramLast, EmptyParentheses, NotAllowedInParentheses, ParenthesisNotPaired, TooDeep, TooMany, rank_of, IsMet, IsFaultFree, IsFirstReadingFault}
 
 -- the first list goes on with a token where the second ends
 abbrev GoesOn : (a b x y : List Mark) → Type 0
@@ -51,7 +51,7 @@ passed_over : (f : ReadingFault) (a b x y : List Mark) (last_line line : ℕ) �
 passed_over f a b x y last_line line goes met free =
     free x goes.0 goes.1 line goes.2 f (rw goes.3 at met)
 
-pub one_fault : (tokens : List Mark) (last_line line place : ℕ) (f g : ReadingFault) → IsFirstFault tokens last_line f line → IsFirstFault tokens last_line g place → f ≡ g
+pub one_fault : (tokens : List Mark) (last_line line place : ℕ) (f g : ReadingFault) → IsFirstReadingFault tokens last_line f line → IsFirstReadingFault tokens last_line g place → f ≡ g
 one_fault tokens last_line line place f g h k =
     elim (cuts h.before h.left k.before k.left (sym h.whole ∙ k.whole)) [
       | inl same ↦ same_fault f g

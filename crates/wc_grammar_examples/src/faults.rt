@@ -1,9 +1,9 @@
 ghost use Rattle.std.specs.Prelude.{ℕ, ◌≤◌, ◌∷◌, [], ◌++◌, codes};
 ghost use Rattle.wc_grammar_examples.specs.Texts.{mark, ident, end_of, address, program_p};
 ghost use Rattle.wc_grammar_examples.specs.Faulty.{loaded, opened, opened_short, one_program, eight_opened, jmpnc_before, jmpnc_left, bare_load_before, blocks, program_of_loads};
-ghost use Rattle.wc_model.specs.Grammar.{IsFront};
-ghost use Rattle.wc_model.specs.Marks.{OpeningBracket, ClosingBracket, Colon};
-ghost use Rattle.wc_model.specs.ReadingFaults.{IsMet, IsFirstFault, UnexpectedToken, UnitNotClosed, NotOneProgramLast, EmptyParentheses, NotAllowedInParentheses, ParenthesisNotPaired, TooDeep, TooMany};
+ghost use Rattle.wc_model.specs.Text.Grammar.{IsFront};
+ghost use Rattle.wc_model.specs.Text.Marks.{OpeningBracket, ClosingBracket, Colon};
+ghost use Rattle.wc_model.specs.Text.ReadingFaults.{IsMet, IsFirstReadingFault, UnexpectedToken, UnitNotClosed, NotOneProgramLast, EmptyParentheses, NotAllowedInParentheses, ParenthesisNotPaired, TooDeep, TooMany};
 
 /// `LD TRUE / )`: no parenthesis is open at the `)`, which stands on line 3.
 pub fn a_bracket_with_none_open()
@@ -77,7 +77,7 @@ pub fn nine_parentheses()
 /// `PROGRAM P / JMPNC L / END_PROGRAM`: JMPNC is no operator, though it could be a label. So the first
 /// fault is the unexpected token behind it, on line 2.
 pub fn an_unknown_operator()
-    ensures { IsFirstFault (jmpnc_before ++ jmpnc_left) 3 UnexpectedToken 2 }
+    ensures { IsFirstReadingFault (jmpnc_before ++ jmpnc_left) 3 UnexpectedToken 2 }
 {}
 
 /// `LD` alone on line 2: it could be a label, and behind an operator stands its operand. So the line's end

@@ -1,11 +1,11 @@
 ghost use Rattle.std.specs.Prelude.{◌≡◌, ℕ, ◌≤◌, List, [], ◌∷◌, ◌++◌};
 ghost use Rattle.wc_grammar_examples.specs.Faulty.{load_lines};
 ghost use Rattle.wc_grammar_examples.specs.Texts.{jump_lines, program_of};
-ghost use Rattle.wc_model.specs.Grammar.{IsFront, Spells};
-ghost use Rattle.wc_model.specs.Limits.{depth, line_count, IsWithinLimits};
-ghost use Rattle.wc_model.specs.Marks.{Mark};
-ghost use Rattle.wc_model.specs.ReadingFaults.{IsFaultFree, IsFirstFault, KeepsLimits, ReadingFault, UnexpectedToken};
-ghost use Rattle.wc_model.specs.Tree.{Text};
+ghost use Rattle.wc_model.specs.Text.Grammar.{IsFront, Spells};
+ghost use Rattle.wc_model.specs.Text.Limits.{depth, line_count, IsWithinLimits};
+ghost use Rattle.wc_model.specs.Text.Marks.{Mark};
+ghost use Rattle.wc_model.specs.Text.ReadingFaults.{IsFaultFree, IsFirstReadingFault, KeepsLimits, ReadingFault, UnexpectedToken};
+ghost use Rattle.wc_model.specs.Language.Tree.{Text};
 
 /// The tokens of a whole text are a front.
 pub fn a_text_is_a_front()
@@ -19,7 +19,7 @@ pub fn a_front_of_a_front_is_one()
 
 /// Where an unexpected token is the first fault, the tokens spell no text.
 pub fn an_unexpected_token_spells_nothing()
-    ensures { (tokens : List Mark) (last_line line : ℕ) (text : Text) → IsFirstFault tokens last_line UnexpectedToken line → ¬ (Spells tokens text) }
+    ensures { (tokens : List Mark) (last_line line : ℕ) (text : Text) → IsFirstReadingFault tokens last_line UnexpectedToken line → ¬ (Spells tokens text) }
 {}
 
 /// Two loads and jumps, two parentheses with two lines in one of them, a store, and a label alone: nine
@@ -36,7 +36,7 @@ pub fn as_many_lines_as_may_be()
 
 /// Two first faults of the same tokens have the same number: a reader that answers by them has no choice of it.
 pub fn one_first_fault()
-    ensures { (tokens : List Mark) (last_line line place : ℕ) (fault other : ReadingFault) → IsFirstFault tokens last_line fault line → IsFirstFault tokens last_line other place → fault ≡ other }
+    ensures { (tokens : List Mark) (last_line line place : ℕ) (fault other : ReadingFault) → IsFirstReadingFault tokens last_line fault line → IsFirstReadingFault tokens last_line other place → fault ≡ other }
 {}
 
 /// Before a first fault no limit is exceeded.

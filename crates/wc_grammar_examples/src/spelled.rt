@@ -1,7 +1,7 @@
 ghost use Rattle.std.specs.Prelude.{◌∷◌, [], ◌++◌, codes};
 ghost use Rattle.wc_grammar_examples.specs.Texts.{ident, copy_tokens, copy_lines, jump_tokens, jump_lines, declaration_tokens, declaring_program, call_tokens, call_lines, ampersand_tokens, ampersand_lines, program_of, program_text, bare_call_lines, bare_call_tokens, block_b, block_tokens};
-ghost use Rattle.wc_model.specs.Grammar.{Spells};
-ghost use Rattle.wc_model.specs.Tree.{End};
+ghost use Rattle.wc_model.specs.Text.Grammar.{Spells};
+ghost use Rattle.wc_model.specs.Language.Tree.{End};
 
 /// The text `PROGRAM P / LD %IX0.0 / ST %QX0.0 / END_PROGRAM`.
 pub fn a_copy_of_one_bit()

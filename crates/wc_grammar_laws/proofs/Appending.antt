@@ -4,11 +4,11 @@ use Rattle.wc_grammar_laws.proofs.LineMoves.{LineForm, LabelAlone, Instructs, Op
 use Rattle.wc_grammar_laws.proofs.LineRests.{line_of}
 use Rattle.wc_grammar_laws.proofs.Moves.{behind_line, behind_closing, lines_and}
 use Rattle.wc_model.proofs.Languages.{joined, pass, ungroup, after}
-use Rattle.wc_model.specs.Grammar.{Setting, InParentheses, HasContent, IsOn, label_in, line_ends, lines, opening, symbol}
-use Rattle.wc_model.specs.Languages.{◌then◌, one}
-use Rattle.wc_model.specs.Marks.{Mark, ClosingBracket, LineEnd, IsSymbol}
-use Rattle.wc_model.specs.Positions.{Opening, Position, at_line, openings_of, setting_in}
-use Rattle.wc_model.specs.Tree.{Step, Word, Lines, End, Alone, Plain, Nested}
+use Rattle.wc_model.specs.Text.Grammar.{Setting, InParentheses, HasContent, IsOn, label_in, line_ends, lines, opening, symbol}
+use Rattle.wc_model.specs.Text.Languages.{◌then◌, one}
+use Rattle.wc_model.specs.Text.Marks.{Mark, ClosingBracket, LineEnd, IsSymbol}
+use Rattle.wc_model.specs.Text.Positions.{Opening, Position, at_line, openings_of, setting_in}
+use Rattle.wc_model.specs.Language.Tree.{Step, Word, Lines, End, Alone, Plain, Nested}
 
 -- what is put behind a sequence is put behind its last part
 pub append_last : {T : Type 0} {first second second' : List T → Type 0} {tokens : List T} (more : List T) → ((rest : List T) → second rest → second' (rest ++ more)) → (first then second) tokens → (first then second') (tokens ++ more)

@@ -16,13 +16,13 @@ use Rattle.wc_grammar_laws.proofs.Told.{BehindClosing, Exact, InLine, PartOpened
 use Rattle.wc_grammar_laws.proofs.WalkedLines.{not_complete}
 use Rattle.wc_grammar_laws.proofs.WalkedUnits.{units_walked}
 use Rattle.wc_model.proofs.Languages.{joined, next, pass, ungroup}
-use Rattle.wc_model.specs.Grammar.{InParentheses, IsOn, bracket, head, label_in, lines, operand, symbol, units}
-use Rattle.wc_model.specs.Keywords.{not_word}
-use Rattle.wc_model.specs.Languages.{◌then◌, ◌or◌, begun, one, optional, unfinished}
-use Rattle.wc_model.specs.Marks.{ClosingBracket, Identifier, IsSymbol, LineEnd, Mark}
-use Rattle.wc_model.specs.Positions.{Opening, Position, StopsInParentheses, StopsInUnit, at_line, cut_short, cut_short_inside, opening_cut_short, openings_of, part_of_line, setting_in}
-use Rattle.wc_model.specs.ReadingFaults.{MetAtEnd, NotOneProgramLast, ParenthesisNotPaired, ReadingFault, UnitNotClosed, rank_of}
-use Rattle.wc_model.specs.Tree.{Text, End, Negate, ProgramUnit}
+use Rattle.wc_model.specs.Text.Grammar.{InParentheses, IsOn, bracket, head, label_in, lines, operand, symbol, units}
+use Rattle.wc_model.specs.Text.Keywords.{not_word}
+use Rattle.wc_model.specs.Text.Languages.{◌then◌, ◌or◌, begun, one, optional, unfinished}
+use Rattle.wc_model.specs.Text.Marks.{ClosingBracket, Identifier, IsSymbol, LineEnd, Mark}
+use Rattle.wc_model.specs.Text.Positions.{Opening, Position, StopsInParentheses, StopsInUnit, at_line, cut_short, cut_short_inside, opening_cut_short, openings_of, part_of_line, setting_in}
+use Rattle.wc_model.specs.Text.ReadingFaults.{MetAtEnd, NotOneProgramLast, ParenthesisNotPaired, ReadingFault, UnitNotClosed, rank_of}
+use Rattle.wc_model.specs.Language.Tree.{Text, End, Negate, ProgramUnit}
 use Rattle.wc_model.specs.declared.operator.Operator.{Operator}
 
 -- tokens stop in parentheses whose opening stands on this line

@@ -8,12 +8,12 @@ use Rattle.wc_grammar_laws.proofs.WordLaws.{same_is, truth_found}
 use Rattle.wc_grammar_laws.proofs.Words.{found, literal_of, truth_value, truths}
 use Rattle.wc_model.proofs.Languages.{next, pass, regroup, after}
 use Rattle.wc_model.proofs.Spelling.{same}
-use Rattle.wc_model.specs.Grammar.{declared_names, identifier, initial_value, symbol, IsLiteral}
-use Rattle.wc_model.specs.Keywords.{end_var}
-use Rattle.wc_model.specs.Languages.{◌then◌, optional}
-use Rattle.wc_model.specs.Marks.{Symbol, Identifier, Whole, Duration, Truth, Comma, Colon, Semicolon, Assign, LineEnd, Mark}
-use Rattle.wc_model.specs.Names.{name_of}
-use Rattle.wc_model.specs.Tree.{Word, Declaration, ProgramUnit}
+use Rattle.wc_model.specs.Text.Grammar.{declared_names, identifier, initial_value, symbol, IsLiteral}
+use Rattle.wc_model.specs.Text.Keywords.{end_var}
+use Rattle.wc_model.specs.Text.Languages.{◌then◌, optional}
+use Rattle.wc_model.specs.Text.Marks.{Symbol, Identifier, Whole, Duration, Truth, Comma, Colon, Semicolon, Assign, LineEnd, Mark}
+use Rattle.wc_model.specs.Language.Names.{name_of}
+use Rattle.wc_model.specs.Language.Tree.{Word, Declaration, ProgramUnit}
 use Rattle.wc_model.specs.declared.source.Section.{Section}
 use Rattle.wc_model.specs.declared.value.Value.{Value}
 use Rattle.wc_model.specs.declared.value.Value.TheVariants.{Bool as BoolValue, Dint, Time}

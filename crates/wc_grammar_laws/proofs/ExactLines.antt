@@ -7,12 +7,12 @@ use Rattle.wc_grammar_laws.proofs.Told.{Exact, PartOpened}
 use Rattle.wc_grammar_laws.proofs.WordLaws.{is_operator}
 use Rattle.wc_grammar_laws.proofs.Words.{Operating, Applies, Operation, Operates, Negates, Jumps, Calls, Returns, found, is_transfer, operation_of, operations, truths}
 use Rattle.wc_model.proofs.Languages.{joined}
-use Rattle.wc_model.specs.Grammar as grammar
-use Rattle.wc_model.specs.Grammar.{IsOn, IsOperator, Setting, InBody, InParentheses, label_in, operand}
-use Rattle.wc_model.specs.Languages.{◌then◌, one, optional}
-use Rattle.wc_model.specs.Marks.{Symbol, Identifier, Whole, Duration, Truth, Direct, OpeningBracket, ClosingBracket, Comma, Colon, Point, Assign, LineEnd, Mark}
-use Rattle.wc_model.specs.Names.{Name, name_of}
-use Rattle.wc_model.specs.Tree.{Word, Term}
+use Rattle.wc_model.specs.Text.Grammar as grammar
+use Rattle.wc_model.specs.Text.Grammar.{IsOn, IsOperator, Setting, InBody, InParentheses, label_in, operand}
+use Rattle.wc_model.specs.Text.Languages.{◌then◌, one, optional}
+use Rattle.wc_model.specs.Text.Marks.{Symbol, Identifier, Whole, Duration, Truth, Direct, OpeningBracket, ClosingBracket, Comma, Colon, Point, Assign, LineEnd, Mark}
+use Rattle.wc_model.specs.Language.Names.{Name, name_of}
+use Rattle.wc_model.specs.Language.Tree.{Word, Term}
 use Rattle.wc_model.specs.declared.operator.Operator.{Operator}
 
 -- what is kept behind one more token

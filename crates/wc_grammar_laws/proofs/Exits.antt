@@ -10,12 +10,12 @@ use Rattle.wc_grammar_laws.proofs.WalkedLines.{on_line_walked, walk_on, walk_the
 use Rattle.wc_grammar_laws.proofs.Words.{step_of}
 use Rattle.wc_model.proofs.Languages.{next, pass}
 use Rattle.wc_model.proofs.Spelling.{same}
-use Rattle.wc_model.specs.Grammar.{IsProgramLast}
-use Rattle.wc_model.specs.Keywords.{end_var, end_word, not_word, unit_word}
-use Rattle.wc_model.specs.Marks.{Symbol, Identifier, Truth, Colon, Semicolon, Assign, LineEnd, ClosingBracket, Mark}
-use Rattle.wc_model.specs.Names.{name_of}
-use Rattle.wc_model.specs.Positions.{Opening, Position}
-use Rattle.wc_model.specs.Tree.{Word, Term, Constant, Variable, Field, Assignment, Step, Negate, Jump, Call, Lines, End, Alone, Plain, Nested, ProgramUnit}
+use Rattle.wc_model.specs.Text.Grammar.{IsProgramLast}
+use Rattle.wc_model.specs.Text.Keywords.{end_var, end_word, not_word, unit_word}
+use Rattle.wc_model.specs.Text.Marks.{Symbol, Identifier, Truth, Colon, Semicolon, Assign, LineEnd, ClosingBracket, Mark}
+use Rattle.wc_model.specs.Language.Names.{name_of}
+use Rattle.wc_model.specs.Text.Positions.{Opening, Position}
+use Rattle.wc_model.specs.Language.Tree.{Word, Term, Constant, Variable, Field, Assignment, Step, Negate, Jump, Call, Lines, End, Alone, Plain, Nested, ProgramUnit}
 use Rattle.wc_model.specs.declared.source.Section.{Section}
 use Rattle.wc_model.specs.declared.source.UnitKind.{UnitKind}
 use Rattle.wc_model.specs.declared.source.UnitKind.TheVariants.{FunctionBlock, Program}

@@ -12,11 +12,11 @@ use Rattle.wc_grammar_laws.proofs.ToldOn.{told_behind, told_first}
 use Rattle.wc_grammar_laws.proofs.WalkedUnits.{units_walked}
 use Rattle.wc_grammar_laws.proofs.WithinBack.{no_program}
 use Rattle.wc_grammar_laws.specs.Laws.{FaultSpellsNothing, OneText, TextOrFault}
-use Rattle.wc_model.specs.Grammar.{Spells}
-use Rattle.wc_model.specs.Limits.{IsWithinLimits}
-use Rattle.wc_model.specs.Marks.{Mark}
-use Rattle.wc_model.specs.ReadingFaults.{EmptyParentheses, IsFirstFault, IsMet, MetAtEnd, MetAtToken, NotAllowedInParentheses, NotOneProgramLast, ParenthesisNotPaired, ReadingFault, TooDeep, TooMany, UnexpectedToken, UnitNotClosed, rank_of}
-use Rattle.wc_model.specs.Tree.{Text}
+use Rattle.wc_model.specs.Text.Grammar.{Spells}
+use Rattle.wc_model.specs.Text.Limits.{IsWithinLimits}
+use Rattle.wc_model.specs.Text.Marks.{Mark}
+use Rattle.wc_model.specs.Text.ReadingFaults.{EmptyParentheses, IsFirstReadingFault, IsMet, MetAtEnd, MetAtToken, NotAllowedInParentheses, NotOneProgramLast, ParenthesisNotPaired, ReadingFault, TooDeep, TooMany, UnexpectedToken, UnitNotClosed, rank_of}
+use Rattle.wc_model.specs.Language.Tree.{Text}
 
 pub one_text : OneText
 one_text tokens text other s o = outside_is (same_end tokens false (Outside text) (Outside other) (units_walked text tokens false refl s.spelled) (units_walked other tokens false refl o.spelled))
@@ -27,7 +27,7 @@ one_text tokens text other s o = outside_is (same_end tokens false (Outside text
 pub text_or_fault : TextOrFault
 text_or_fault tokens last_line = by_reading (reading at_first tokens last_line) refl
   where
-    by_reading : (r : Result Text Met) → reading at_first tokens last_line ≡ r → ((text : Text) × Spells tokens text × IsWithinLimits text) ⊎ ((fault : ReadingFault) × (line : ℕ) × IsFirstFault tokens last_line fault line)
+    by_reading : (r : Result Text Met) → reading at_first tokens last_line ≡ r → ((text : Text) × Spells tokens text × IsWithinLimits text) ⊎ ((fault : ReadingFault) × (line : ℕ) × IsFirstReadingFault tokens last_line fault line)
     by_reading (Ok text) e = let k = read_is_spelled tokens last_line text e in inl (text, k.0, k.1)
     by_reading (Err met) e = inr (met.fault, met.line, refused_is_first tokens last_line met e)
 

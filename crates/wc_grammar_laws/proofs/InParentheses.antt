@@ -11,11 +11,11 @@ use Rattle.wc_grammar_laws.proofs.WalkedLines.{closing_walked, line_walked, line
 use Rattle.wc_grammar_laws.proofs.WalkedUnits.{at_line_walked, plain}
 use Rattle.wc_grammar_laws.proofs.Words.{Applies}
 use Rattle.wc_model.proofs.Languages.{after, next_is, both_empty, regroup, ungroup}
-use Rattle.wc_model.specs.Grammar.{InParentheses, IsOn, IsOperator, bracket, head, label_in, lines, operand, symbol, units}
-use Rattle.wc_model.specs.Languages.{◌then◌, one, optional, unfinished}
-use Rattle.wc_model.specs.Marks.{ClosingBracket, IsSymbol, LineEnd, Mark, OpeningBracket}
-use Rattle.wc_model.specs.Positions.{Opening, Position, StopsInParentheses, at_instruction, at_line, cut_short, closed, cut_short_inside, opening_cut_short, openings_of, part_of_line, setting_in}
-use Rattle.wc_model.specs.Tree.{Lines, ProgramUnit, Term}
+use Rattle.wc_model.specs.Text.Grammar.{InParentheses, IsOn, IsOperator, bracket, head, label_in, lines, operand, symbol, units}
+use Rattle.wc_model.specs.Text.Languages.{◌then◌, one, optional, unfinished}
+use Rattle.wc_model.specs.Text.Marks.{ClosingBracket, IsSymbol, LineEnd, Mark, OpeningBracket}
+use Rattle.wc_model.specs.Text.Positions.{Opening, Position, StopsInParentheses, at_instruction, at_line, cut_short, closed, cut_short_inside, opening_cut_short, openings_of, part_of_line, setting_in}
+use Rattle.wc_model.specs.Language.Tree.{Lines, ProgramUnit, Term}
 use Rattle.wc_model.specs.declared.operator.Operator.{Operator}
 
 -- where the walk leads, the text's end is met in parentheses

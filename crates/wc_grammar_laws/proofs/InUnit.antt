@@ -9,13 +9,13 @@ use Rattle.wc_grammar_laws.proofs.Orders.{IsOpen, open_is}
 use Rattle.wc_grammar_laws.proofs.Told.{BehindClosing, Exact, InLine, InSection, Told}
 use Rattle.wc_grammar_laws.proofs.ToldOn.{told_behind}
 use Rattle.wc_model.proofs.Languages.{joined, many_are, next_is, pass, passed, both_empty, ungroup}
-use Rattle.wc_model.specs.Grammar.{IsOn, head, identifier, lines, unit_of, units}
-use Rattle.wc_model.specs.Keywords.{end_word, unit_word}
-use Rattle.wc_model.specs.Languages.{◌then◌, one}
-use Rattle.wc_model.specs.Marks.{Identifier, IsNamed, LineEnd, Mark, Symbol, name_in}
-use Rattle.wc_model.specs.Names.{Name}
-use Rattle.wc_model.specs.Positions.{Position, StopsInUnit, at_line, openings_of, setting_in}
-use Rattle.wc_model.specs.Tree.{ProgramUnit}
+use Rattle.wc_model.specs.Text.Grammar.{IsOn, head, identifier, lines, unit_of, units}
+use Rattle.wc_model.specs.Text.Keywords.{end_word, unit_word}
+use Rattle.wc_model.specs.Text.Languages.{◌then◌, one}
+use Rattle.wc_model.specs.Text.Marks.{Identifier, IsNamed, LineEnd, Mark, Symbol, name_in}
+use Rattle.wc_model.specs.Language.Names.{Name}
+use Rattle.wc_model.specs.Text.Positions.{Position, StopsInUnit, at_line, openings_of, setting_in}
+use Rattle.wc_model.specs.Language.Tree.{ProgramUnit}
 use Rattle.wc_model.specs.declared.source.Section.{Section}
 use Rattle.wc_model.specs.declared.source.UnitKind.{UnitKind}
 use Rattle.wc_model.specs.declared.source.UnitKind.TheVariants.{FunctionBlock, Program}

@@ -14,15 +14,15 @@ use Rattle.wc_grammar_laws.proofs.WordLaws.{is_same, operator_is, step_begins, o
 use Rattle.wc_grammar_laws.proofs.Words.{Applies, Operation, Operates, found, is_transfer, operation_of, unit_kinds}
 use Rattle.wc_model.proofs.Languages.{both_empty, next, next_is, pass}
 use Rattle.wc_model.proofs.Spelling.{same}
-use Rattle.wc_model.specs.Grammar.{HasContent, InBody, IsOn, IsOperator, IsTransfer, label_in, units}
-use Rattle.wc_model.specs.Keywords.{end_word, unit_word}
-use Rattle.wc_model.specs.Languages.{◌then◌, one}
-use Rattle.wc_model.specs.Limits.{lines_before, most_depth, most_lines, most_units}
-use Rattle.wc_model.specs.Marks.{ClosingBracket, Colon, Identifier, LineEnd, IsNamed, IsSymbol, Mark, OpeningBracket, Symbol, name_in}
-use Rattle.wc_model.specs.Names.{Name, name_of}
-use Rattle.wc_model.specs.Positions.{Opening, Position, at_instruction, at_line, setting_in}
-use Rattle.wc_model.specs.ReadingFaults.{BeginsInstruction, BeginsTransferOrLabel, BeginsUnit, ColonFollows, EmptyParentheses, IsInnermost, MetAtToken, NotAllowedInParentheses, NotOneProgramLast, ParenthesisNotPaired, ReadingFault, TooDeep, TooMany, UnexpectedToken, UnitNotClosed, rank_of}
-use Rattle.wc_model.specs.Tree.{Call, Jump, Lines, End, Alone, Plain, Nested, ProgramUnit, Return, Step, Term, Word, Load, Store, Apply, Negate}
+use Rattle.wc_model.specs.Text.Grammar.{HasContent, InBody, IsOn, IsOperator, IsTransfer, label_in, units}
+use Rattle.wc_model.specs.Text.Keywords.{end_word, unit_word}
+use Rattle.wc_model.specs.Text.Languages.{◌then◌, one}
+use Rattle.wc_model.specs.Text.Limits.{lines_before, most_depth, most_lines, most_units}
+use Rattle.wc_model.specs.Text.Marks.{ClosingBracket, Colon, Identifier, LineEnd, IsNamed, IsSymbol, Mark, OpeningBracket, Symbol, name_in}
+use Rattle.wc_model.specs.Language.Names.{Name, name_of}
+use Rattle.wc_model.specs.Text.Positions.{Opening, Position, at_instruction, at_line, setting_in}
+use Rattle.wc_model.specs.Text.ReadingFaults.{BeginsInstruction, BeginsTransferOrLabel, BeginsUnit, ColonFollows, EmptyParentheses, IsInnermost, MetAtToken, NotAllowedInParentheses, NotOneProgramLast, ParenthesisNotPaired, ReadingFault, TooDeep, TooMany, UnexpectedToken, UnitNotClosed, rank_of}
+use Rattle.wc_model.specs.Language.Tree.{Call, Jump, Lines, End, Alone, Plain, Nested, ProgramUnit, Return, Step, Term, Word, Load, Store, Apply, Negate}
 use Rattle.wc_model.specs.declared.operator.Operator.{Operator}
 use Rattle.wc_model.specs.declared.source.UnitKind.{UnitKind}
 use Rattle.wc_model.specs.declared.source.UnitKind.TheVariants.{Program}

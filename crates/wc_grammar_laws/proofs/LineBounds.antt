@@ -5,11 +5,11 @@ use Rattle.wc_grammar_laws.proofs.Bounds.{Within, PositionWithin, counted, ended
 use Rattle.wc_grammar_laws.proofs.LineMoves.{Begun, Listed, InList, AtFirst, AtNext, AtAssign, AtValue, AtEnd, OperandOf, OfStep, OfOpening, OfArgument, LineState, Start, Worded, Labelled, Operated, Jumped, Called, Instanced, Listing, Bracketed, Named, Pointed, Stepped, BracketedWith, Ended, at_bracketed, at_field, at_labelled, at_list, at_operand, at_operated, at_operator, at_start, behind_name, behind_operand, behind_operator, line_move, name_or_literal, operator_or_label, simple_operator}
 use Rattle.wc_grammar_laws.proofs.Moves.{State, begun_line}
 use Rattle.wc_grammar_laws.proofs.Words.{Operating, Loads, Stores, Applies, Operation, Operates, Negates, Jumps, Calls, Returns, found, is_transfer, operation_of, operations, truths}
-use Rattle.wc_model.specs.Grammar.{Setting}
-use Rattle.wc_model.specs.Marks.{Symbol, Identifier, Whole, Duration, Truth, Direct, OpeningBracket, ClosingBracket, Comma, Colon, Point, Assign, LineEnd}
-use Rattle.wc_model.specs.Names.{Name, name_of}
-use Rattle.wc_model.specs.Positions.{Position}
-use Rattle.wc_model.specs.Tree.{Term, Word}
+use Rattle.wc_model.specs.Text.Grammar.{Setting}
+use Rattle.wc_model.specs.Text.Marks.{Symbol, Identifier, Whole, Duration, Truth, Direct, OpeningBracket, ClosingBracket, Comma, Colon, Point, Assign, LineEnd}
+use Rattle.wc_model.specs.Language.Names.{Name, name_of}
+use Rattle.wc_model.specs.Text.Positions.{Position}
+use Rattle.wc_model.specs.Language.Tree.{Term, Word}
 use Rattle.wc_model.specs.declared.operator.Operator.{Operator}
 
 -- the next place counts and opens so much

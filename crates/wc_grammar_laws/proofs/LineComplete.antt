@@ -8,13 +8,13 @@ use Rattle.wc_grammar_laws.proofs.Skipping.{behind, skip_next_is, skip_over_is}
 use Rattle.wc_grammar_laws.proofs.WordLaws.{step_begins, operator_is, operation_in, truth_is_found, no_truth}
 use Rattle.wc_grammar_laws.proofs.Words.{Operating, Loads, Stores, Applies, Operation, Operates, found, operation_of, step_of, truths}
 use Rattle.wc_model.proofs.Languages.{next_is, passed, both_empty, given_are, given_first, ungroup, pass}
-use Rattle.wc_model.specs.Grammar as grammar
-use Rattle.wc_model.specs.Grammar.{operand, argument, call_list, bracketed, instruction, opening, operands_of, IsLiteral, IsOn, IsOperatorOf, Setting, InBody, InParentheses, MayStand, label_in}
-use Rattle.wc_model.specs.Keywords.{truth_word}
-use Rattle.wc_model.specs.Languages.{◌then◌, empty, optional, separated, skipping}
-use Rattle.wc_model.specs.Marks.{Symbol, Identifier, Direct, OpeningBracket, ClosingBracket, Comma, Colon, Point, Assign, LineEnd, Mark, is_line_end, is_line_end_symbol, name_in, address_in}
-use Rattle.wc_model.specs.Names.{Name, name_of}
-use Rattle.wc_model.specs.Tree.{Word, Term, Constant, Address, Variable, Field, Assignment, Step, Load, Store, Apply, Negate, Jump, Call, Return}
+use Rattle.wc_model.specs.Text.Grammar as grammar
+use Rattle.wc_model.specs.Text.Grammar.{operand, argument, call_list, bracketed, instruction, opening, operands_of, IsLiteral, IsOn, IsOperatorOf, Setting, InBody, InParentheses, MayStand, label_in}
+use Rattle.wc_model.specs.Text.Keywords.{truth_word}
+use Rattle.wc_model.specs.Text.Languages.{◌then◌, empty, optional, separated, skipping}
+use Rattle.wc_model.specs.Text.Marks.{Symbol, Identifier, Direct, OpeningBracket, ClosingBracket, Comma, Colon, Point, Assign, LineEnd, Mark, is_line_end, is_line_end_symbol, name_in, address_in}
+use Rattle.wc_model.specs.Language.Names.{Name, name_of}
+use Rattle.wc_model.specs.Language.Tree.{Word, Term, Constant, Address, Variable, Field, Assignment, Step, Load, Store, Apply, Negate, Jump, Call, Return}
 use Rattle.wc_model.specs.declared.operator.Condition.{Condition}
 use Rattle.wc_model.specs.declared.operator.Operator.{Operator}
 use Rattle.wc_model.specs.declared.value.Value.{Value}

@@ -2,11 +2,11 @@
 use Rattle.std.specs.Prelude.{◌≡◌, List, [], ◌∷◌, ◌++◌, Option, Some, ◌⊎◌}
 use Rattle.wc_grammar_laws.proofs.LineMoves.{LineForm, LabelAlone, Instructs, Opens, Begun, Listed, OperandOf, OfStep, OfOpening, OfArgument, InList, AtFirst, AtNext, AtAssign, AtValue, AtEnd, LineState, Start, Worded, Labelled, Operated, Jumped, Called, Instanced, Listing, Bracketed, Named, Pointed, Stepped, BracketedWith, Ended}
 use Rattle.wc_grammar_laws.proofs.Words.{Applies, step_of}
-use Rattle.wc_model.specs.Grammar.{symbol, identifier, operand, argument, call_list, instruction, opening, Setting, MayStand, label_in}
-use Rattle.wc_model.specs.Languages.{Language, nothing, empty, ◌then◌, ◌given◌, optional, each, separated, skipping}
-use Rattle.wc_model.specs.Marks.{Mark, OpeningBracket, ClosingBracket, Comma, Colon, Point, Assign, LineEnd, is_line_end}
-use Rattle.wc_model.specs.Names.{Name}
-use Rattle.wc_model.specs.Tree.{Word, Term, Constant, Address, Variable, Field, Assignment, Jump, Call}
+use Rattle.wc_model.specs.Text.Grammar.{symbol, identifier, operand, argument, call_list, instruction, opening, Setting, MayStand, label_in}
+use Rattle.wc_model.specs.Text.Languages.{Language, nothing, empty, ◌then◌, ◌given◌, optional, each, separated, skipping}
+use Rattle.wc_model.specs.Text.Marks.{Mark, OpeningBracket, ClosingBracket, Comma, Colon, Point, Assign, LineEnd, is_line_end}
+use Rattle.wc_model.specs.Language.Names.{Name}
+use Rattle.wc_model.specs.Language.Tree.{Word, Term, Constant, Address, Variable, Field, Assignment, Jump, Call}
 use Rattle.wc_model.specs.declared.operator.Operator.{Operator}
 
 -- a whole line of this form

@@ -6,12 +6,12 @@ use Rattle.wc_grammar_laws.proofs.Skipping.{skip_next, skip_over, skip_none}
 use Rattle.wc_grammar_laws.proofs.Words.{Operating, Loads, Stores, Applies, Operation, Operates, Negates, Jumps, Calls, Returns, found, is_transfer, operation_of, operations, step_of, truths}
 use Rattle.wc_grammar_laws.proofs.WordLaws.{truth_found, not_truth, is_operator, is_operator_of, operation_in, operation_in_step}
 use Rattle.wc_model.proofs.Languages.{joined, next, pass, regroup, before, after}
-use Rattle.wc_model.specs.Grammar as grammar
-use Rattle.wc_model.specs.Grammar.{operand, argument, call_list, bracketed, instruction, opening, operands_of, IsLiteral, IsOn, IsOperatorOf, Setting, InBody, InParentheses, MayStand, label_in}
-use Rattle.wc_model.specs.Languages.{Language, ◌then◌, optional, separated}
-use Rattle.wc_model.specs.Marks.{Symbol, Identifier, Whole, Duration, Truth, Direct, Ampersand, AmpersandN, OpeningBracket, ClosingBracket, Comma, Colon, Point, Assign, LineEnd, Mark, is_line_end}
-use Rattle.wc_model.specs.Names.{Name, name_of}
-use Rattle.wc_model.specs.Tree.{Word, Term, Constant, Address, Variable, Field, Assignment, Step, Negate, Jump, Call, Return}
+use Rattle.wc_model.specs.Text.Grammar as grammar
+use Rattle.wc_model.specs.Text.Grammar.{operand, argument, call_list, bracketed, instruction, opening, operands_of, IsLiteral, IsOn, IsOperatorOf, Setting, InBody, InParentheses, MayStand, label_in}
+use Rattle.wc_model.specs.Text.Languages.{Language, ◌then◌, optional, separated}
+use Rattle.wc_model.specs.Text.Marks.{Symbol, Identifier, Whole, Duration, Truth, Direct, Ampersand, AmpersandN, OpeningBracket, ClosingBracket, Comma, Colon, Point, Assign, LineEnd, Mark, is_line_end}
+use Rattle.wc_model.specs.Language.Names.{Name, name_of}
+use Rattle.wc_model.specs.Language.Tree.{Word, Term, Constant, Address, Variable, Field, Assignment, Step, Negate, Jump, Call, Return}
 use Rattle.wc_model.specs.declared.operator.Condition.{Condition}
 use Rattle.wc_model.specs.declared.operator.Operator.{Operator}
 use Rattle.wc_model.specs.declared.value.Value.TheVariants.{Bool as BoolValue, Dint, Time}

@@ -8,12 +8,12 @@ use Rattle.wc_grammar_laws.proofs.Moves.{is_colon, colon_next}
 use Rattle.wc_grammar_laws.proofs.WordLaws.{operation_in}
 use Rattle.wc_grammar_laws.proofs.Words.{Applies, Operation, Operates, is_transfer, operation_of}
 use Rattle.wc_model.proofs.Languages.{next_is, passed, both_empty, given_are, ungroup, after}
-use Rattle.wc_model.specs.Grammar as grammar
-use Rattle.wc_model.specs.Grammar.{operand, call_list, instruction, operands_of, IsLiteral, Setting, InBody, InParentheses, MayStand}
-use Rattle.wc_model.specs.Languages.{◌then◌}
-use Rattle.wc_model.specs.Marks.{Symbol, Identifier, Colon, LineEnd, OpeningBracket, Mark, IsWord, name_in, address_in, Ampersand, AmpersandN}
-use Rattle.wc_model.specs.Names.{Name, name_of}
-use Rattle.wc_model.specs.Tree.{Word, Term, Constant, Address, Variable, Field, Step, Load, Store, Apply, Negate, Jump, Call, Return}
+use Rattle.wc_model.specs.Text.Grammar as grammar
+use Rattle.wc_model.specs.Text.Grammar.{operand, call_list, instruction, operands_of, IsLiteral, Setting, InBody, InParentheses, MayStand}
+use Rattle.wc_model.specs.Text.Languages.{◌then◌}
+use Rattle.wc_model.specs.Text.Marks.{Symbol, Identifier, Colon, LineEnd, OpeningBracket, Mark, IsWord, name_in, address_in, Ampersand, AmpersandN}
+use Rattle.wc_model.specs.Language.Names.{Name, name_of}
+use Rattle.wc_model.specs.Language.Tree.{Word, Term, Constant, Address, Variable, Field, Step, Load, Store, Apply, Negate, Jump, Call, Return}
 use Rattle.wc_model.specs.declared.value.Value.{Value}
 use Rattle.wc_model.specs.declared.value.Value.TheVariants.{Bool as BoolValue, Dint, Time}
 

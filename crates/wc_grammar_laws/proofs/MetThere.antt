@@ -13,15 +13,15 @@ use Rattle.wc_grammar_laws.proofs.WalkedUnits.{colon_is}
 use Rattle.wc_grammar_laws.proofs.WordLaws.{found_unit_kind, is_operator_of, operation_in, same_is}
 use Rattle.wc_grammar_laws.proofs.Words.{Loads, Stores, Applies, Operation, Operates, Negates, Jumps, Calls, Returns, found, is_transfer, operation_of, unit_kinds}
 use Rattle.wc_model.proofs.Languages.{before, joined}
-use Rattle.wc_model.specs.Grammar.{HasContent, IsOn, IsOperator, IsOperatorOf, IsTransfer, label_in, units}
-use Rattle.wc_model.specs.Keywords.{end_word, unit_word}
-use Rattle.wc_model.specs.Languages.{◌then◌, one}
-use Rattle.wc_model.specs.Limits.{lines_before, most_depth, most_lines, most_units}
-use Rattle.wc_model.specs.Marks.{ClosingBracket, Identifier, IsNamed, Mark, OpeningBracket, Symbol, name_in}
-use Rattle.wc_model.specs.Names.{Name, name_of}
-use Rattle.wc_model.specs.Positions.{Opening, Position, at_instruction, at_line}
-use Rattle.wc_model.specs.ReadingFaults.{ColonFollows, EmptyParentheses, MetAtToken, NotAllowedInParentheses, NotOneProgramLast, ParenthesisNotPaired, ReadingFault, TooDeep, TooMany}
-use Rattle.wc_model.specs.Tree.{Call, Constant, End, Jump, Lines, Alone, Plain, Nested, Load, Negate, ProgramUnit, Return, Step, Store, Apply, Term, Word}
+use Rattle.wc_model.specs.Text.Grammar.{HasContent, IsOn, IsOperator, IsOperatorOf, IsTransfer, label_in, units}
+use Rattle.wc_model.specs.Text.Keywords.{end_word, unit_word}
+use Rattle.wc_model.specs.Text.Languages.{◌then◌, one}
+use Rattle.wc_model.specs.Text.Limits.{lines_before, most_depth, most_lines, most_units}
+use Rattle.wc_model.specs.Text.Marks.{ClosingBracket, Identifier, IsNamed, Mark, OpeningBracket, Symbol, name_in}
+use Rattle.wc_model.specs.Language.Names.{Name, name_of}
+use Rattle.wc_model.specs.Text.Positions.{Opening, Position, at_instruction, at_line}
+use Rattle.wc_model.specs.Text.ReadingFaults.{ColonFollows, EmptyParentheses, MetAtToken, NotAllowedInParentheses, NotOneProgramLast, ParenthesisNotPaired, ReadingFault, TooDeep, TooMany}
+use Rattle.wc_model.specs.Language.Tree.{Call, Constant, End, Jump, Lines, Alone, Plain, Nested, Load, Negate, ProgramUnit, Return, Step, Store, Apply, Term, Word}
 use Rattle.wc_model.specs.declared.operator.Operator.{Operator}
 use Rattle.wc_model.specs.declared.source.UnitKind.{UnitKind}
 use Rattle.wc_model.specs.declared.source.UnitKind.TheVariants.{FunctionBlock, Program}

@@ -4,14 +4,14 @@ use Rattle.std.specs.List.{list_any}
 use Rattle.wc_grammar_laws.proofs.LineMoves.{LineForm, LabelAlone, Instructs, Opens, OfOpening, LineState, Start, Labelled, Operated, Bracketed, BracketedWith, Named, Pointed, Ended, line_move}
 use Rattle.wc_grammar_laws.proofs.Words.{Applies, Operation, found, is_transfer, literal_of, operation_of, section_words, unit_kinds}
 use Rattle.wc_model.proofs.Spelling.{same}
-use Rattle.wc_model.specs.Grammar.{InBody, InParentheses}
-use Rattle.wc_model.specs.Keywords.{end_var, end_word}
-use Rattle.wc_model.specs.Limits.{most_depth, most_lines, most_units, lines_before}
-use Rattle.wc_model.specs.Marks.{Symbol, Identifier, ClosingBracket, OpeningBracket, Comma, Colon, Semicolon, Assign, LineEnd, Mark}
-use Rattle.wc_model.specs.Names.{Name, name_of}
-use Rattle.wc_model.specs.Positions.{Opening, Position, setting_in}
-use Rattle.wc_model.specs.ReadingFaults.{ReadingFault, UnexpectedToken, UnitNotClosed, NotOneProgramLast, EmptyParentheses, NotAllowedInParentheses, ParenthesisNotPaired, TooDeep, TooMany}
-use Rattle.wc_model.specs.Tree.{Word, Term, Lines, End, Alone, Plain, Nested, ProgramUnit, Text}
+use Rattle.wc_model.specs.Text.Grammar.{InBody, InParentheses}
+use Rattle.wc_model.specs.Text.Keywords.{end_var, end_word}
+use Rattle.wc_model.specs.Text.Limits.{most_depth, most_lines, most_units, lines_before}
+use Rattle.wc_model.specs.Text.Marks.{Symbol, Identifier, ClosingBracket, OpeningBracket, Comma, Colon, Semicolon, Assign, LineEnd, Mark}
+use Rattle.wc_model.specs.Language.Names.{Name, name_of}
+use Rattle.wc_model.specs.Text.Positions.{Opening, Position, setting_in}
+use Rattle.wc_model.specs.Text.ReadingFaults.{ReadingFault, UnexpectedToken, UnitNotClosed, NotOneProgramLast, EmptyParentheses, NotAllowedInParentheses, ParenthesisNotPaired, TooDeep, TooMany}
+use Rattle.wc_model.specs.Language.Tree.{Word, Term, Lines, End, Alone, Plain, Nested, ProgramUnit, Text}
 use Rattle.wc_model.specs.declared.source.Initial.{Initial}
 use Rattle.wc_model.specs.declared.source.Section.{Section}
 use Rattle.wc_model.specs.declared.source.UnitKind.{UnitKind}

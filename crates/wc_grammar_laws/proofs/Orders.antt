@@ -8,14 +8,14 @@ use Rattle.wc_grammar_laws.proofs.Told.{Exact, Told}
 use Rattle.wc_grammar_laws.proofs.ToldOn.{told_behind}
 use Rattle.wc_grammar_laws.proofs.Words.{found, literal_of, unit_kinds}
 use Rattle.wc_model.proofs.Spelling.{same}
-use Rattle.wc_model.specs.Grammar.{InBody, InParentheses, IsFront, IsProgramLast}
-use Rattle.wc_model.specs.Keywords.{end_var, end_word}
-use Rattle.wc_model.specs.Marks.{ClosingBracket, Identifier, LineEnd, Mark, Symbol, Comma, Colon, Semicolon, Assign}
-use Rattle.wc_model.specs.Names.{name_of}
-use Rattle.wc_model.specs.Positions.{Opening, Position, setting_in}
-use Rattle.wc_model.specs.ReadingFaults.{NotOneProgramLast, TooMany}
-use Rattle.wc_model.specs.Limits.{most_units}
-use Rattle.wc_model.specs.Tree.{ProgramUnit, Word}
+use Rattle.wc_model.specs.Text.Grammar.{InBody, InParentheses, IsFront, IsProgramLast}
+use Rattle.wc_model.specs.Text.Keywords.{end_var, end_word}
+use Rattle.wc_model.specs.Text.Marks.{ClosingBracket, Identifier, LineEnd, Mark, Symbol, Comma, Colon, Semicolon, Assign}
+use Rattle.wc_model.specs.Language.Names.{name_of}
+use Rattle.wc_model.specs.Text.Positions.{Opening, Position, setting_in}
+use Rattle.wc_model.specs.Text.ReadingFaults.{NotOneProgramLast, TooMany}
+use Rattle.wc_model.specs.Text.Limits.{most_units}
+use Rattle.wc_model.specs.Language.Tree.{ProgramUnit, Word}
 use Rattle.wc_model.specs.declared.source.Section.{Section}
 use Rattle.wc_model.specs.declared.source.UnitKind.{UnitKind}
 use Rattle.wc_model.specs.declared.source.UnitKind.TheVariants.{FunctionBlock, Program}

@@ -16,14 +16,14 @@ use Rattle.wc_grammar_laws.proofs.WalkedUnits.{colon_is, units_walked}
 use Rattle.wc_grammar_laws.proofs.WithinBack.{Good, WasGood, no_program, was_good}
 use Rattle.wc_grammar_laws.proofs.WithinOn.{GoesWithin, HasBegun, RejectsColon, within_on}
 use Rattle.wc_model.proofs.Spelling.{same}
-use Rattle.wc_model.specs.Grammar.{IsFront, IsProgramLast, Setting, Spells, units}
-use Rattle.wc_model.specs.Keywords.{end_word}
-use Rattle.wc_model.specs.Limits.{IsWithinLimits}
-use Rattle.wc_model.specs.Marks.{Colon, Identifier, LineEnd, OpeningBracket, Point, Mark, Symbol}
-use Rattle.wc_model.specs.Names.{name_of}
-use Rattle.wc_model.specs.Positions.{Opening, Position, setting_in}
-use Rattle.wc_model.specs.ReadingFaults.{EmptyParentheses, IsFaultFree, IsFirstFault, IsMet, MetAtToken, NotAllowedInParentheses, NotOneProgramLast, ParenthesisNotPaired, ReadingFault, TooDeep, TooMany, UnexpectedToken, UnitNotClosed, rank_of}
-use Rattle.wc_model.specs.Tree.{ProgramUnit, Text}
+use Rattle.wc_model.specs.Text.Grammar.{IsFront, IsProgramLast, Setting, Spells, units}
+use Rattle.wc_model.specs.Text.Keywords.{end_word}
+use Rattle.wc_model.specs.Text.Limits.{IsWithinLimits}
+use Rattle.wc_model.specs.Text.Marks.{Colon, Identifier, LineEnd, OpeningBracket, Point, Mark, Symbol}
+use Rattle.wc_model.specs.Language.Names.{name_of}
+use Rattle.wc_model.specs.Text.Positions.{Opening, Position, setting_in}
+use Rattle.wc_model.specs.Text.ReadingFaults.{EmptyParentheses, IsFaultFree, IsFirstReadingFault, IsMet, MetAtToken, NotAllowedInParentheses, NotOneProgramLast, ParenthesisNotPaired, ReadingFault, TooDeep, TooMany, UnexpectedToken, UnitNotClosed, rank_of}
+use Rattle.wc_model.specs.Language.Tree.{ProgramUnit, Text}
 use Rattle.wc_model.specs.declared.source.Section.{Section}
 
 -- where a walk goes over two parts, it stops between them
@@ -143,7 +143,7 @@ pub record Come (state : State) (before left : List Mark) : Type 0 where
 
 -- the fault that is judged at a token is the first
 judged_first : (state : State) (before : List Mark) (mark : Mark) (marks : List Mark) (last_line : ℕ) (met : Met) → Come state before (mark ∷ marks) → judge state mark.symbol mark.line (colon_next marks false) ≡ Some met
-    → IsFirstFault (before ++ mark ∷ marks) last_line met.fault met.line
+    → IsFirstReadingFault (before ++ mark ∷ marks) last_line met.fault met.line
 judged_first state before mark marks last_line met c e = record {
   before = before;
   left = mark ∷ marks;
@@ -184,7 +184,7 @@ none_met state before mark marks c e fault line n h = let j = judged fault befor
 
 -- a token that is not taken is the first fault
 unexpected_first : (state : State) (before : List Mark) (mark : Mark) (marks : List Mark) (last_line : ℕ) → Come state before (mark ∷ marks) → judge state mark.symbol mark.line (colon_next marks false) ≡ None → move state mark.symbol mark.line (colon_next marks false) ≡ None
-    → IsFirstFault (before ++ mark ∷ marks) last_line UnexpectedToken mark.line
+    → IsFirstReadingFault (before ++ mark ∷ marks) last_line UnexpectedToken mark.line
 unexpected_first state before mark marks last_line c e m = record {
   before = before;
   left = mark ∷ marks;
@@ -247,8 +247,8 @@ outcome state mark marks last_line met next = elim met as (λ _. Result Text Met
   ]
 ]
 
-first_at : (tokens : List Mark) (last_line : ℕ) (a b : Met) → (reading' : Result Text Met) → reading' ≡ Err a → reading' ≡ Err b → IsFirstFault tokens last_line a.fault a.line → IsFirstFault tokens last_line b.fault b.line
-first_at tokens last_line a b r e f h = let same = same_error a b (sym e ∙ f) in subst (λ m. IsFirstFault tokens last_line m.fault m.line) same h
+first_at : (tokens : List Mark) (last_line : ℕ) (a b : Met) → (reading' : Result Text Met) → reading' ≡ Err a → reading' ≡ Err b → IsFirstReadingFault tokens last_line a.fault a.line → IsFirstReadingFault tokens last_line b.fault b.line
+first_at tokens last_line a b r e f h = let same = same_error a b (sym e ∙ f) in subst (λ m. IsFirstReadingFault tokens last_line m.fault m.line) same h
   where
     met_in : Result Text Met → Met
     met_in (Ok text) = a
@@ -261,18 +261,18 @@ first_at tokens last_line a b r e f h = let same = same_error a b (sym e ∙ f) 
     same_error a b e = ap met_in e
 
 -- what the walk tells is the first fault of the tokens
-pub read_fault : (state : State) (before left : List Mark) (last_line : ℕ) (met : Met) → Come state before left → reading state left last_line ≡ Err met → IsFirstFault (before ++ left) last_line met.fault met.line
+pub read_fault : (state : State) (before left : List Mark) (last_line : ℕ) (met : Met) → Come state before left → reading state left last_line ≡ Err met → IsFirstReadingFault (before ++ left) last_line met.fault met.line
 read_fault state before [] last_line met c e =
     let k = at_end_met state before last_line met c.told c.ordered c.reached e in
     record { before = before; left = []; whole = refl; is_front = front state before c.told c.ordered; fault_free = c.free; met = k.met_here; lowest = k.lowest }
 read_fault state before (mark ∷ marks) last_line met c e =
     elim (judge state mark.symbol mark.line (colon_next marks false)) as (λ j. judge state mark.symbol mark.line (colon_next marks false) ≡ j
-    → outcome state mark marks last_line j (move state mark.symbol mark.line (colon_next marks false)) ≡ Err met → IsFirstFault (before ++ mark ∷ marks) last_line met.fault met.line) [
+    → outcome state mark marks last_line j (move state mark.symbol mark.line (colon_next marks false)) ≡ Err met → IsFirstReadingFault (before ++ mark ∷ marks) last_line met.fault met.line) [
       | Some found ↦ λ j e. first_at (before ++ mark ∷ marks) last_line found met (Err found) refl e (judged_first state before mark marks last_line found c j)
       | None ↦ λ j e.
           elim (move state mark.symbol mark.line (colon_next marks false)) as (λ m. move state mark.symbol mark.line (colon_next marks false) ≡ m
-          → outcome state mark marks last_line None m ≡ Err met → IsFirstFault (before ++ mark ∷ marks) last_line met.fault met.line) [
-            | Some next ↦ λ m e. subst (λ ts. IsFirstFault ts last_line met.fault met.line) (append_assoc before (mark ∷ []) marks) (read_fault next (before ++ mark ∷ []) marks last_line met (come_on state next before mark marks c j m) e)
+          → outcome state mark marks last_line None m ≡ Err met → IsFirstReadingFault (before ++ mark ∷ marks) last_line met.fault met.line) [
+            | Some next ↦ λ m e. subst (λ ts. IsFirstReadingFault ts last_line met.fault met.line) (append_assoc before (mark ∷ []) marks) (read_fault next (before ++ mark ∷ []) marks last_line met (come_on state next before mark marks c j m) e)
             | None ↦ λ m e. first_at (before ++ mark ∷ marks) last_line (record { fault = UnexpectedToken; line = mark.line }) met _ refl e (unexpected_first state before mark marks last_line c j m)
           ] refl e
     ] refl e
@@ -408,7 +408,7 @@ pub read_is_spelled : (tokens : List Mark) (last_line : ℕ) (text : Text) → r
 read_is_spelled tokens last_line text e = let r = read_text at_first [] tokens last_line text told_first (inl tt) (omega arith, tt) e in (r.spelled, r.within)
 
 -- What is refused is the first fault of the tokens.
-pub refused_is_first : (tokens : List Mark) (last_line : ℕ) (met : Met) → reading at_first tokens last_line ≡ Err met → IsFirstFault tokens last_line met.fault met.line
+pub refused_is_first : (tokens : List Mark) (last_line : ℕ) (met : Met) → reading at_first tokens last_line ≡ Err met → IsFirstReadingFault tokens last_line met.fault met.line
 refused_is_first tokens last_line met e = read_fault at_first [] tokens last_line met (first_come tokens) e
 
 -- And no text within the limits is spelled by them.

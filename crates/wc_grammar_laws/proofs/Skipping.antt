@@ -1,7 +1,7 @@
 -- Regions in which tokens are passed over, token by token.
 use Rattle.std.proofs.Common.{◌≡◌, Bool, true, false, List, [], ◌∷◌, ◌++◌, refl, ap, inl, inr}
 use Rattle.std.specs.Prelude.{◌⊎◌, not, filter}
-use Rattle.wc_model.specs.Languages.{Language, ◌then◌, skipping}
+use Rattle.wc_model.specs.Text.Languages.{Language, ◌then◌, skipping}
 
 -- what a language goes on with behind a token
 abbrev pub behind : {T : Type 0} → T → Language T → Language T

@@ -10,12 +10,12 @@ use Rattle.wc_grammar_laws.proofs.Moves.{State, AtLine, OnLine, begun_line, at_e
 use Rattle.wc_grammar_laws.proofs.Orders.{IsOpen}
 use Rattle.wc_grammar_laws.proofs.WalkedLines.{begins, walk_on}
 use Rattle.wc_grammar_laws.proofs.Words.{found, truths}
-use Rattle.wc_model.specs.Grammar.{Setting}
-use Rattle.wc_model.specs.Marks.{Direct, Duration, Identifier, LineEnd, Mark, Point, Symbol, Truth, Whole}
-use Rattle.wc_model.specs.Names.{Name, name_of}
-use Rattle.wc_model.specs.Positions.{Opening, Position, setting_in}
-use Rattle.wc_model.specs.ReadingFaults.{ParenthesisNotPaired}
-use Rattle.wc_model.specs.Tree.{Term}
+use Rattle.wc_model.specs.Text.Grammar.{Setting}
+use Rattle.wc_model.specs.Text.Marks.{Direct, Duration, Identifier, LineEnd, Mark, Point, Symbol, Truth, Whole}
+use Rattle.wc_model.specs.Language.Names.{Name, name_of}
+use Rattle.wc_model.specs.Text.Positions.{Opening, Position, setting_in}
+use Rattle.wc_model.specs.Text.ReadingFaults.{ParenthesisNotPaired}
+use Rattle.wc_model.specs.Language.Tree.{Term}
 use Rattle.wc_model.specs.declared.operator.Operator.{Operator}
 
 -- where a front of a line that has begun stays on it

@@ -10,13 +10,13 @@ use Rattle.wc_grammar_laws.proofs.Moves.{InDeclaration, Undeclared, State, Outsi
 use Rattle.wc_grammar_laws.proofs.WordLaws.{found_unit_kind}
 use Rattle.wc_grammar_laws.proofs.Words.{Operates, found, operation_of, unit_kinds}
 use Rattle.wc_model.proofs.Languages.{joined, pass, ungroup, after}
-use Rattle.wc_model.specs.Grammar.{Group, HasContent, InBody, IsOn, Setting, bracket, head, identifier, label_in, line_ends, operand, section_of, sections, symbol, units}
-use Rattle.wc_model.specs.Keywords.{end_var, section_word, unit_word}
-use Rattle.wc_model.specs.Languages.{◌then◌, each, one, optional, skipping}
-use Rattle.wc_model.specs.Marks.{ClosingBracket, Identifier, IsNamed, IsSymbol, IsWord, LineEnd, Mark, is_line_end}
-use Rattle.wc_model.specs.Names.{name_of}
-use Rattle.wc_model.specs.Positions.{Opening, Position, at_line, setting_in}
-use Rattle.wc_model.specs.Tree.{Declaration, ProgramUnit, Term}
+use Rattle.wc_model.specs.Text.Grammar.{Group, HasContent, InBody, IsOn, Setting, bracket, head, identifier, label_in, line_ends, operand, section_of, sections, symbol, units}
+use Rattle.wc_model.specs.Text.Keywords.{end_var, section_word, unit_word}
+use Rattle.wc_model.specs.Text.Languages.{◌then◌, each, one, optional, skipping}
+use Rattle.wc_model.specs.Text.Marks.{ClosingBracket, Identifier, IsNamed, IsSymbol, IsWord, LineEnd, Mark, is_line_end}
+use Rattle.wc_model.specs.Language.Names.{name_of}
+use Rattle.wc_model.specs.Text.Positions.{Opening, Position, at_line, setting_in}
+use Rattle.wc_model.specs.Language.Tree.{Declaration, ProgramUnit, Term}
 use Rattle.wc_model.specs.declared.operator.Operator.{Operator}
 use Rattle.wc_model.specs.declared.source.Section.{Section}
 use Rattle.wc_model.specs.declared.source.UnitKind.{UnitKind}

@@ -15,13 +15,13 @@ use Rattle.wc_grammar_laws.proofs.WordLaws.{found_section, same_is}
 use Rattle.wc_grammar_laws.proofs.Words.{found, unit_kinds}
 use Rattle.wc_model.proofs.Languages.{joined, pass, passed, ungroup}
 use Rattle.wc_model.proofs.Spelling.{same}
-use Rattle.wc_model.specs.Grammar.{HasContent, InBody, InParentheses, Setting, identifier, line_ends, lines, unit_of, units}
-use Rattle.wc_model.specs.Keywords.{end_word}
-use Rattle.wc_model.specs.Languages.{◌then◌, each, skipping}
-use Rattle.wc_model.specs.Marks.{ClosingBracket, Identifier, LineEnd, Mark, Symbol, is_line_end, is_line_end_symbol}
-use Rattle.wc_model.specs.Names.{name_of}
-use Rattle.wc_model.specs.Positions.{Opening, Position, at_line, openings_of, setting_in}
-use Rattle.wc_model.specs.Tree.{Alone, End, Lines, Nested, Plain, ProgramUnit, Term}
+use Rattle.wc_model.specs.Text.Grammar.{HasContent, InBody, InParentheses, Setting, identifier, line_ends, lines, unit_of, units}
+use Rattle.wc_model.specs.Text.Keywords.{end_word}
+use Rattle.wc_model.specs.Text.Languages.{◌then◌, each, skipping}
+use Rattle.wc_model.specs.Text.Marks.{ClosingBracket, Identifier, LineEnd, Mark, Symbol, is_line_end, is_line_end_symbol}
+use Rattle.wc_model.specs.Language.Names.{name_of}
+use Rattle.wc_model.specs.Text.Positions.{Opening, Position, at_line, openings_of, setting_in}
+use Rattle.wc_model.specs.Language.Tree.{Alone, End, Lines, Nested, Plain, ProgramUnit, Term}
 use Rattle.wc_model.specs.declared.source.Section.{Section}
 
 -- the tokens of a front and a part, and one more

@@ -10,13 +10,13 @@ use Rattle.wc_grammar_laws.proofs.WordLaws.{told_apart, truth_is_found}
 use Rattle.wc_grammar_laws.proofs.Words.{found, literal_of, truth_value, truths}
 use Rattle.wc_model.proofs.Languages.{next_is, passed, both_empty, given_are, ungroup, after}
 use Rattle.wc_model.proofs.Spelling.{same}
-use Rattle.wc_model.specs.Grammar as grammar
-use Rattle.wc_model.specs.Grammar.{declaration, declared_names, initial_value, IsLiteral, IsOn}
-use Rattle.wc_model.specs.Keywords.{end_var, truth_word}
-use Rattle.wc_model.specs.Languages.{◌then◌, optional, skipping}
-use Rattle.wc_model.specs.Marks.{Symbol, Colon, LineEnd, Mark, is_line_end, is_line_end_symbol}
-use Rattle.wc_model.specs.Names.{name_of}
-use Rattle.wc_model.specs.Tree.{Word, Declaration, ProgramUnit}
+use Rattle.wc_model.specs.Text.Grammar as grammar
+use Rattle.wc_model.specs.Text.Grammar.{declaration, declared_names, initial_value, IsLiteral, IsOn}
+use Rattle.wc_model.specs.Text.Keywords.{end_var, truth_word}
+use Rattle.wc_model.specs.Text.Languages.{◌then◌, optional, skipping}
+use Rattle.wc_model.specs.Text.Marks.{Symbol, Colon, LineEnd, Mark, is_line_end, is_line_end_symbol}
+use Rattle.wc_model.specs.Language.Names.{name_of}
+use Rattle.wc_model.specs.Language.Tree.{Word, Declaration, ProgramUnit}
 use Rattle.wc_model.specs.declared.source.Initial.{Initial}
 use Rattle.wc_model.specs.declared.source.Section.{Section}
 use Rattle.wc_model.specs.declared.value.Value.{Value}

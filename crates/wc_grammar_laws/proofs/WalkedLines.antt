@@ -9,14 +9,14 @@ use Rattle.wc_grammar_laws.proofs.WordLaws.{found_operation}
 use Rattle.wc_grammar_laws.proofs.Words.{Loads, Stores, Applies, Operation, Operates, Negates, Jumps, Calls, Returns, found, operations, operation_word, section_words}
 use Rattle.wc_model.proofs.Languages.{next_is, both_empty, regroup, after, given_first}
 use Rattle.wc_model.proofs.Spelling.{same}
-use Rattle.wc_model.specs.Grammar as grammar
-use Rattle.wc_model.specs.Grammar.{IsOn, Setting, InBody, InParentheses, HasContent, lines, line_ends, label_in, opening, instruction}
-use Rattle.wc_model.specs.Keywords.{end_word}
-use Rattle.wc_model.specs.Languages.{◌then◌, one}
-use Rattle.wc_model.specs.Marks.{Symbol, Identifier, LineEnd, ClosingBracket, Mark, IsSymbol}
-use Rattle.wc_model.specs.Names.{Name, name_of}
-use Rattle.wc_model.specs.Positions.{Opening, Position, setting_in}
-use Rattle.wc_model.specs.Tree.{Term, Lines, End, Alone, Plain, Nested}
+use Rattle.wc_model.specs.Text.Grammar as grammar
+use Rattle.wc_model.specs.Text.Grammar.{IsOn, Setting, InBody, InParentheses, HasContent, lines, line_ends, label_in, opening, instruction}
+use Rattle.wc_model.specs.Text.Keywords.{end_word}
+use Rattle.wc_model.specs.Text.Languages.{◌then◌, one}
+use Rattle.wc_model.specs.Text.Marks.{Symbol, Identifier, LineEnd, ClosingBracket, Mark, IsSymbol}
+use Rattle.wc_model.specs.Language.Names.{Name, name_of}
+use Rattle.wc_model.specs.Text.Positions.{Opening, Position, setting_in}
+use Rattle.wc_model.specs.Language.Tree.{Term, Lines, End, Alone, Plain, Nested}
 use Rattle.wc_model.specs.declared.operator.Condition.TheVariants.{Always, IfTrue, IfFalse}
 use Rattle.wc_model.specs.declared.operator.Operator.TheVariants.{And, Andn, Or, Orn, Xor, Xorn, Add, Sub, Mul, Div, Mod, Gt, Ge, Eq, Ne, Le, Lt}
 use Rattle.wc_model.specs.declared.operator.Storing.TheVariants.{Result, Negation, Set, Reset}

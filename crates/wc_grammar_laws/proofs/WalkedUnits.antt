@@ -13,13 +13,13 @@ use Rattle.wc_grammar_laws.proofs.WordLaws.{is_same}
 use Rattle.wc_grammar_laws.proofs.Words.{found, section_words, unit_kinds}
 use Rattle.wc_model.proofs.Languages.{next_is, many_are, passed, both_empty, ungroup}
 use Rattle.wc_model.proofs.Spelling.{same}
-use Rattle.wc_model.specs.Grammar.{Group, InBody, IsNameOf, IsOn, head, identifier, label_in, line_ends, lines, opening, section_of, sections, unit_of, units}
-use Rattle.wc_model.specs.Keywords.{end_var, end_word, section_word, unit_word}
-use Rattle.wc_model.specs.Languages.{◌then◌, each, one, skipping}
-use Rattle.wc_model.specs.Marks.{Symbol, Identifier, Colon, LineEnd, Mark, IsNamed, is_line_end}
-use Rattle.wc_model.specs.Names.{Name, name_of}
-use Rattle.wc_model.specs.Positions.{Opening, Position, at_line, openings_of, setting_in}
-use Rattle.wc_model.specs.Tree.{Declaration, End, ProgramUnit}
+use Rattle.wc_model.specs.Text.Grammar.{Group, InBody, IsNameOf, IsOn, head, identifier, label_in, line_ends, lines, opening, section_of, sections, unit_of, units}
+use Rattle.wc_model.specs.Text.Keywords.{end_var, end_word, section_word, unit_word}
+use Rattle.wc_model.specs.Text.Languages.{◌then◌, each, one, skipping}
+use Rattle.wc_model.specs.Text.Marks.{Symbol, Identifier, Colon, LineEnd, Mark, IsNamed, is_line_end}
+use Rattle.wc_model.specs.Language.Names.{Name, name_of}
+use Rattle.wc_model.specs.Text.Positions.{Opening, Position, at_line, openings_of, setting_in}
+use Rattle.wc_model.specs.Language.Tree.{Declaration, End, ProgramUnit}
 use Rattle.wc_model.specs.declared.source.Section.{Section}
 use Rattle.wc_model.specs.declared.source.Section.TheVariants.{Input, Output, Own}
 use Rattle.wc_model.specs.declared.source.UnitKind.{UnitKind}

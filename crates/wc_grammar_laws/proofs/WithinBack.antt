@@ -16,14 +16,14 @@ use Rattle.wc_grammar_laws.proofs.WithinOn.{HasBegun, RejectsColon, simple_rejec
 use Rattle.wc_grammar_laws.proofs.WordLaws.{found_operation, found_section, same_is}
 use Rattle.wc_grammar_laws.proofs.Words.{Applies, Operating, Loads, Stores, Operation, found, is_transfer, literal_of, operation_of, operations, unit_kinds}
 use Rattle.wc_model.proofs.Spelling.{same}
-use Rattle.wc_model.specs.Grammar.{IsProgramLast}
-use Rattle.wc_model.specs.Keywords.{end_var, end_word, section_word}
-use Rattle.wc_model.specs.Limits.{IsBodyWithinLimits, depth, line_count, lines_before, lines_opened, most_depth, most_lines, most_units}
-use Rattle.wc_model.specs.Marks.{Symbol, Ampersand, AmpersandN, Identifier, ClosingBracket, OpeningBracket, Colon, Comma, Semicolon, Assign, LineEnd}
-use Rattle.wc_model.specs.Names.{name_of}
-use Rattle.wc_model.specs.Positions.{Opening, Position, setting_in}
-use Rattle.wc_model.specs.ReadingFaults.{NotAllowedInParentheses, NotOneProgramLast, ReadingFault, TooDeep, TooMany, EmptyParentheses, ParenthesisNotPaired}
-use Rattle.wc_model.specs.Tree.{Alone, End, Lines, Nested, Plain, ProgramUnit, Word}
+use Rattle.wc_model.specs.Text.Grammar.{IsProgramLast}
+use Rattle.wc_model.specs.Text.Keywords.{end_var, end_word, section_word}
+use Rattle.wc_model.specs.Text.Limits.{IsBodyWithinLimits, depth, line_count, lines_before, lines_opened, most_depth, most_lines, most_units}
+use Rattle.wc_model.specs.Text.Marks.{Symbol, Ampersand, AmpersandN, Identifier, ClosingBracket, OpeningBracket, Colon, Comma, Semicolon, Assign, LineEnd}
+use Rattle.wc_model.specs.Language.Names.{name_of}
+use Rattle.wc_model.specs.Text.Positions.{Opening, Position, setting_in}
+use Rattle.wc_model.specs.Text.ReadingFaults.{NotAllowedInParentheses, NotOneProgramLast, ReadingFault, TooDeep, TooMany, EmptyParentheses, ParenthesisNotPaired}
+use Rattle.wc_model.specs.Language.Tree.{Alone, End, Lines, Nested, Plain, ProgramUnit, Word}
 use Rattle.wc_model.specs.declared.source.Section.{Section}
 use Rattle.wc_model.specs.declared.source.Section.TheVariants.{Input, Output, Own}
 use Rattle.wc_model.specs.declared.source.UnitKind.{UnitKind}

@@ -10,13 +10,13 @@ use Rattle.wc_grammar_laws.proofs.LineMoves.{Begun, LineState, Start, Worded, La
 use Rattle.wc_grammar_laws.proofs.Moves.{InDeclaration, Undeclared, BehindNames, BehindComma, BehindColon, BehindType, BehindAssign, BehindValue, State, Outside, Unnamed, Declaring, AtLine, OnLine, Closed, Met, at_value, begins_transfer, begun_line, behind_closing, behind_unit, body_move, body_start, declaration_move, has_content, has_name, has_program, inside_move, is_full, is_identifier, judge, judge_closing, judge_line, judge_on_line, judge_operator, judge_unit, met_if, met_or, move, named_unit, section_begun, section_or_line, start_move, unit_with}
 use Rattle.wc_grammar_laws.proofs.Words.{Applies, Operating, Loads, Stores, Operation, Operates, Negates, Jumps, Calls, Returns, found, is_transfer, literal_of, operation_of, unit_kinds}
 use Rattle.wc_model.proofs.Spelling.{same}
-use Rattle.wc_model.specs.Keywords.{end_var, end_word}
-use Rattle.wc_model.specs.Limits.{IsBodyWithinLimits, lines_before, lines_opened, most_depth, most_lines, most_units}
-use Rattle.wc_model.specs.Marks.{Symbol, Identifier, ClosingBracket, OpeningBracket, Colon, Comma, Semicolon, Assign, LineEnd}
-use Rattle.wc_model.specs.Names.{name_of}
-use Rattle.wc_model.specs.Positions.{Opening, Position, setting_in}
-use Rattle.wc_model.specs.ReadingFaults.{NotAllowedInParentheses, NotOneProgramLast, ReadingFault, TooDeep, TooMany, EmptyParentheses, ParenthesisNotPaired}
-use Rattle.wc_model.specs.Tree.{ProgramUnit, Word}
+use Rattle.wc_model.specs.Text.Keywords.{end_var, end_word}
+use Rattle.wc_model.specs.Text.Limits.{IsBodyWithinLimits, lines_before, lines_opened, most_depth, most_lines, most_units}
+use Rattle.wc_model.specs.Text.Marks.{Symbol, Identifier, ClosingBracket, OpeningBracket, Colon, Comma, Semicolon, Assign, LineEnd}
+use Rattle.wc_model.specs.Language.Names.{name_of}
+use Rattle.wc_model.specs.Text.Positions.{Opening, Position, setting_in}
+use Rattle.wc_model.specs.Text.ReadingFaults.{NotAllowedInParentheses, NotOneProgramLast, ReadingFault, TooDeep, TooMany, EmptyParentheses, ParenthesisNotPaired}
+use Rattle.wc_model.specs.Language.Tree.{ProgramUnit, Word}
 use Rattle.wc_model.specs.declared.source.Section.{Section}
 use Rattle.wc_model.specs.declared.source.UnitKind.{UnitKind}
 use Rattle.wc_model.specs.declared.value.Value.{Value}

@@ -5,11 +5,11 @@ use Rattle.std.specs.Prelude.{◌≢◌, if◌then◌else◌, ◌&&◌, eqb}
 use Rattle.std.specs.List.{AllByRecursion}
 use Rattle.wc_grammar_laws.proofs.Words.{found, Operating, Loads, Stores, Applies, Operation, Operates, Negates, Jumps, Calls, Returns, operation_word, all_operations, operations, worded, step_of, operation_of, unit_kinds, section_words, truths}
 use Rattle.wc_model.proofs.Spelling.{same}
-use Rattle.wc_model.specs.Keywords.{truth_word, unit_word, section_word}
-use Rattle.wc_model.specs.Marks.{Symbol, Identifier, Ampersand, AmpersandN, Mark, name_in}
-use Rattle.wc_model.specs.Names.{Name, name_of}
-use Rattle.wc_model.specs.Grammar.{IsOperator, IsOperatorOf}
-use Rattle.wc_model.specs.Tree.{Term, Step, Load, Store, Apply, Negate, Jump, Call, Return}
+use Rattle.wc_model.specs.Text.Keywords.{truth_word, unit_word, section_word}
+use Rattle.wc_model.specs.Text.Marks.{Symbol, Identifier, Ampersand, AmpersandN, Mark, name_in}
+use Rattle.wc_model.specs.Language.Names.{Name, name_of}
+use Rattle.wc_model.specs.Text.Grammar.{IsOperator, IsOperatorOf}
+use Rattle.wc_model.specs.Language.Tree.{Term, Step, Load, Store, Apply, Negate, Jump, Call, Return}
 use Rattle.wc_model.specs.declared.operator.Condition.TheVariants.{Always, IfTrue, IfFalse}
 use Rattle.wc_model.specs.declared.operator.Operator.{Operator}
 use Rattle.wc_model.specs.declared.operator.Operator.TheVariants.{And, Andn, Or, Orn, Xor, Xorn, Add, Sub, Mul, Div, Mod, Gt, Ge, Eq, Ne, Le, Lt}

@@ -2,7 +2,7 @@
 use Rattle.std.proofs.Common.{◌≡◌, Bool, true, false, cond, List, [], ◌∷◌, refl, ap, sym, ◌∙◌}
 use Rattle.std.specs.Prelude.{ℤ, ◌-ℤ◌, Some, unsigned_abs, slice_get, fold, int_lt}
 use Rattle.std.specs.Int.{int_max, int_min}
-use Rattle.wc_model.specs.Indication.{spread_of}
+use Rattle.wc_model.specs.Instrument.Indication.{spread_of}
 
 -- of two that are one
 one_of : (b : Bool) (x : ℤ) → cond b x x ≡ x

@@ -4,7 +4,7 @@ use Rattle.std.proofs.Math.Nat.{mul-le-mul_right, mul-le-mul_left, div-eq_of_lt}
 use Rattle.std.proofs.lemmas.Bool.{cases_lt}
 use Rattle.std.proofs.lemmas.Int.{ints}
 use Rattle.std.specs.Prelude.{ℤ, pos, negsuc, neg_ℤ, ◌<ℤ◌, ◌*ℤ◌, unsigned_abs}
-use Rattle.wc_model.specs.Rounding.{nearest, nearest_above_zero}
+use Rattle.wc_model.specs.Instrument.Rounding.{nearest, nearest_above_zero}
 use Rattle.wc_model.proofs.Rounding.{quotient_bounds}
 
 -- no more intervals than counts, where an interval has a count or more

@@ -5,7 +5,7 @@ use Rattle.std.proofs.lemmas.Bool.{and_parts, leb-true}
 use Rattle.std.proofs.lemmas.Int.{ints, unsigned_abs-mul}
 use Rattle.std.specs.Prelude.{ℤ, pos, ◌-ℤ◌, ◌*ℤ◌, unsigned_abs, nat_le, slice_index_or, Option, Some, None, IfSome, unwrap_or}
 use Rattle.std.specs.List.{list_all}
-use Rattle.wc_model.specs.Plates.{PlateData, IsPlate}
+use Rattle.wc_model.specs.Instrument.Plates.{PlateData, IsPlate}
 use Rattle.wc_indicator.specs.Kept.{IsCount, IsDifference}
 
 -- an item of a list whose items are all at most 50

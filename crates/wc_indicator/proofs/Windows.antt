@@ -3,9 +3,9 @@ use Rattle.std.proofs.Common.{◌≡◌, ℕ, ◌+◌, ◌-◌, List, [], ◌∷
 use Rattle.std.proofs.lemmas.List.{drop-append-le, drop-drop, length-drop, length-append}
 use Rattle.std.specs.Prelude.{ℤ, Option, Some, None}
 use Rattle.std.specs.List.{last_or}
-use Rattle.wc_model.specs.Plates.{PlateData}
-use Rattle.wc_model.specs.WeighingHistories.{History, Sample, samples, last_items}
-use Rattle.wc_indicator.specs.Kept.{Kept, StandsFor}
+use Rattle.wc_model.specs.Instrument.Plates.{PlateData}
+use Rattle.wc_model.specs.Instrument.WeighingHistories.{History, Sample, samples, last_items}
+use Rattle.wc_indicator.specs.Kept.{IndicatorState, StandsForHistory}
 
 -- what is left behind two cuts
 two_cuts : (n l : ℕ) → l - n + (l - (l - n) + 1 - n) ≡ l + 1 - n
@@ -27,9 +27,9 @@ last_of o [] x = refl
 last_of o (y ∷ ys) x = last_of (Some y) ys x
 
 -- an indicator that takes one more sample
-pub stands_after : (k : Kept) (p : PlateData) (history : History) (x : ℤ) (latest : List ℤ) → StandsFor k p history →
+pub stands_after : (k : IndicatorState) (p : PlateData) (history : History) (x : ℤ) (latest : List ℤ) → StandsForHistory k p history →
     latest ≡ last_items k.plate.window (k.latest ++ x ∷ []) →
-    StandsFor (record { plate = k.plate; latest = latest; last = Some x; zero = k.zero; tare = k.tare }) p (Sample x ∷ history)
+    StandsForHistory (record { plate = k.plate; latest = latest; last = Some x; zero = k.zero; tare = k.tare }) p (Sample x ∷ history)
 stands_after k p history x latest h e = record {
   same_plate = h.same_plate;
   same_latest = e ∙ ap (λ q. last_items q.window (k.latest ++ x ∷ [])) h.same_plate

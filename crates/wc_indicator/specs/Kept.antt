@@ -1,12 +1,12 @@
 -- What an indicator keeps, and the plate and the history for which it stands. What is kept is this crate's own choice; the
 -- values that it tells are those of the profile on OIML R 76-1:2006.
 use Rattle.std.specs.Prelude.{◌≡◌, ◌≤◌, ◌^◌, List, ℤ, Option, IfSome, unsigned_abs}
-use Rattle.wc_model.specs.Plates.{PlateData, IsPlate}
-use Rattle.wc_model.specs.WeighingHistories.{History, last_sample}
-use Rattle.wc_model.specs.Indication.{window_of, zero_point, active_tare}
+use Rattle.wc_model.specs.Instrument.Plates.{PlateData, IsPlate}
+use Rattle.wc_model.specs.Instrument.WeighingHistories.{History, last_sample}
+use Rattle.wc_model.specs.Instrument.Indication.{window_of, zero_point, active_tare}
 
 -- its plate, its last samples, the last of all, the zero point, and the tare in counts while one is active
-pub record Kept : Type 0 where
+pub record IndicatorState : Type 0 where
   pub plate : PlateData
   pub latest : List ℤ
   pub last : Option ℤ
@@ -14,7 +14,7 @@ pub record Kept : Type 0 where
   pub tare : Option ℤ
 
 -- the indicator stands for a plate and for all that has come to it
-pub record StandsFor (indicator : Kept) (p : PlateData) (history : History) : Type 0 where
+pub record StandsForHistory (indicator : IndicatorState) (p : PlateData) (history : History) : Type 0 where
   pub same_plate : indicator.plate ≡ p
   pub same_latest : indicator.latest ≡ window_of p history
   pub same_last : indicator.last ≡ last_sample history
@@ -22,8 +22,8 @@ pub record StandsFor (indicator : Kept) (p : PlateData) (history : History) : Ty
   pub same_tare : indicator.tare ≡ active_tare p history
 
 -- the answer is the value at each plate and history for which the indicator stands
-abbrev pub Tells : {X : Type 0} → (PlateData → History → X) → Kept → X → Type 0
-Tells value indicator answer = (p : PlateData) (history : History) → StandsFor indicator p history → answer ≡ value p history
+abbrev pub Tells : {X : Type 0} → (PlateData → History → X) → IndicatorState → X → Type 0
+Tells value indicator answer = (p : PlateData) (history : History) → StandsForHistory indicator p history → answer ≡ value p history
 
 -- no farther from 0 than a sample can be
 abbrev pub IsCount : ℤ → Type 0
@@ -34,7 +34,7 @@ abbrev pub IsDifference : ℤ → Type 0
 IsDifference counts = unsigned_abs counts ≤ 2 ^ 24
 
 -- the ranges of what is kept
-pub record IsInRange (kept : Kept) : Type 0 where
+pub record IsKeptInRange (kept : IndicatorState) : Type 0 where
   pub plate : IsPlate kept.plate
   pub last : IfSome kept.last IsCount
   pub zero : IsCount kept.zero

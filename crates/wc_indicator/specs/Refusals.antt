@@ -1,21 +1,21 @@
 -- What an answer to a command says of the refusal.
 use Rattle.std.specs.Prelude.{Option, Some, None, Result, Ok, Err}
-use Rattle.wc_model.specs.Indication.{Refusal}
-use Rattle.wc_model.specs.Indication as told
+use Rattle.wc_model.specs.Instrument.Indication.{CommandRefusal}
+use Rattle.wc_model.specs.Instrument.Indication as told
 use Rattle.wc_indicator.specs.declared.refused.Refused.{Refused}
 use Rattle.wc_indicator.specs.declared.refused.Refused.TheVariants.{Motion, Range}
 
 -- the definition's word for each reason
-abbrev pub reason : Refused → Refusal
+abbrev pub reason : Refused → CommandRefusal
 reason Motion = told.Motion
 reason Range = told.Range
 
 -- why, if there is a reason
-abbrev pub told_by : Option Refused → Option Refusal
+abbrev pub told_by : Option Refused → Option CommandRefusal
 told_by None = None
 told_by (Some refused) = Some (reason refused)
 
 -- what an answer says: `Ok` that the command was accepted
-abbrev pub refusal_in : {T : Type 0} → Result T Refused → Option Refusal
-refusal_in (Ok _) = None
-refusal_in (Err refused) = Some (reason refused)
+abbrev pub refusal_view : {T : Type 0} → Result T Refused → Option CommandRefusal
+refusal_view (Ok _) = None
+refusal_view (Err refused) = Some (reason refused)

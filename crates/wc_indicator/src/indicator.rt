@@ -1,8 +1,8 @@
 ghost use Rattle.std.specs.Prelude.{◌≡◌, ◌≤ℤ◌, ◌∷◌, [], IfOk, IsOk, IsErrOf, IsOkUnless, unsigned_abs, ◌≤◌, ◌^◌};
-ghost use Rattle.wc_model.specs.Plates.{least_sample, greatest_sample, PlateData};
-ghost use Rattle.wc_model.specs.WeighingHistories.{Sample, History};
-ghost use Rattle.wc_model.specs.Indication as told;
-ghost use Rattle.wc_indicator.specs.Kept.{StandsFor, Tells, IsCount, IsDifference};
+ghost use Rattle.wc_model.specs.Instrument.Plates.{least_sample, greatest_sample, PlateData};
+ghost use Rattle.wc_model.specs.Instrument.WeighingHistories.{Sample, History};
+ghost use Rattle.wc_model.specs.Instrument.Indication as told;
+ghost use Rattle.wc_indicator.specs.Kept.{StandsForHistory, Tells, IsCount, IsDifference};
 
 use crate::rounding::intervals;
 use crate::spread::spread;
@@ -27,17 +27,17 @@ impl Model for Indicator {
 
     ghost Value = { Kept };
 
-    ghost use Rattle.wc_indicator.specs.Fields.{kept_in, IsSound};
+    ghost use Rattle.wc_indicator.specs.Fields.{kept_view, IsIndicatorSound};
 
-    ghost view = { kept_in };
+    ghost view = { kept_view };
 
-    ghost invariant = { IsSound };
+    ghost invariant = { IsIndicatorSound };
 }
 
 impl Indicator {
     /// An indicator to which nothing has come. `Memory` is its only fault.
     pub fn new(alloc: Global, plate: Plate) -> Result<Indicator, Fault>
-        ensures stands { IfOk result (λ indicator. StandsFor indicator plate []) }
+        ensures stands { IfOk result (λ indicator. StandsForHistory indicator plate []) }
         ensures memory { IsOkUnless result Fault.Memory }
     {
         let window = plate.window() as usize;
@@ -57,7 +57,7 @@ impl Indicator {
     /// Takes a sample of the sensor.
     pub fn sample(&mut self, counts: i32)
         requires { (least_sample ≤ℤ counts) × (counts ≤ℤ greatest_sample) }
-        ensures { (p : PlateData) (history : History) → StandsFor self.old p history → StandsFor self.new p (Sample counts ∷ history) }
+        ensures { (p : PlateData) (history : History) → StandsForHistory self.old p history → StandsForHistory self.new p (Sample counts ∷ history) }
     {
         self.latest.push_back(counts);
         self.last = Some(counts);
@@ -65,7 +65,7 @@ impl Indicator {
 
     /// The plate.
     pub fn plate(&self) -> &Plate
-        ensures { (p : PlateData) (history : History) → StandsFor self.now p history → result.now ≡ p }
+        ensures { (p : PlateData) (history : History) → StandsForHistory self.now p history → result.now ≡ p }
     {
         &self.plate
     }

@@ -1,5 +1,5 @@
 ghost use Rattle.std.specs.Prelude.{◌≡◌};
-ghost use Rattle.wc_model.specs.Indication.{refused_unless};
+ghost use Rattle.wc_model.specs.Instrument.Indication.{refused_unless};
 ghost use Rattle.wc_indicator.specs.Refusals.{told_by};
 
 /// Why a command was refused.

@@ -1,5 +1,5 @@
 ghost use Rattle.std.specs.Prelude.{◌≡◌, ◌≤◌, ◌^◌, ◌<◌, ◌*ℤ◌, ◌*◌, pos, unsigned_abs};
-ghost use Rattle.wc_model.specs.Rounding.{nearest, nearest_above_zero};
+ghost use Rattle.wc_model.specs.Instrument.Rounding.{nearest, nearest_above_zero};
 
 /// How many spans `amount` comes to, to the nearest, a tie upward.
 fn nearest_above_zero(amount: u64, span: u32) -> u64

@@ -1,5 +1,5 @@
 ghost use Rattle.std.specs.Prelude.{◌≡◌};
-ghost use Rattle.wc_model.specs.Indication.{spread_of};
+ghost use Rattle.wc_model.specs.Instrument.Indication.{spread_of};
 
 use circular_buffer::HeapCircularBuffer;
 

@@ -1,7 +1,7 @@
 //! Where the indication ends, at the top and at the bottom.
 
 ghost use Rattle.std.specs.Prelude.{◌≡◌, pos, negsuc, IsTrue, IsFalse};
-ghost use Rattle.wc_model.specs.Indication.{gross, gross_intervals, is_over, is_under};
+ghost use Rattle.wc_model.specs.Instrument.Indication.{gross, gross_intervals, is_over, is_under};
 ghost use Rattle.wc_instrument_examples.specs.Worked.{plate_of_15_kg, four_of};
 
 /// The last load below the upper edge: 601899 counts are 3009 intervals, 9 above Max.

@@ -1,7 +1,7 @@
 //! The sections of a job.
 
 ghost use Rattle.std.specs.Prelude.{◌≡◌, ◌++◌, [], ◌∷◌, codes};
-ghost use Rattle.wc_model.specs.JobSections.{sections_of};
+ghost use Rattle.wc_model.specs.Run.JobSections.{sections_of};
 ghost use Rattle.wc_instrument_examples.specs.Worked.{lines_text, plate_text};
 
 /// The first job: a plate, a program, a log, each with the line ends of its lines.

@@ -2,18 +2,18 @@
 
 ghost use Rattle.std.specs.Prelude.{◌≡◌, ◌∷◌, ◌++◌, ℕ, ◌<◌, ℤ, List, length, Option, true, IsFalse};
 ghost use Rattle.std.specs.List.{list_all};
-ghost use Rattle.wc_model.specs.Answers.{Asked, Mode, answer};
-ghost use Rattle.wc_model.specs.Effects.{EffectsOf};
-ghost use Rattle.wc_model.specs.WeighingHistories.{History, samples};
-ghost use Rattle.wc_model.specs.Independence.{IsFreeOfScans, IsFreeOfPrograms};
-ghost use Rattle.wc_model.specs.Indication.{is_stable};
-ghost use Rattle.wc_model.specs.Log.{Record, row_of};
-ghost use Rattle.wc_model.specs.Plates.{PlateData, IsPlate};
-ghost use Rattle.wc_model.specs.PlateTable.{Table, plate_of};
-ghost use Rattle.wc_model.specs.Report.{Scans};
-ghost use Rattle.wc_model.specs.Requests.{IsCutAnywhere, carriage_return, is_text, line_feed, requests, requests_in};
-ghost use Rattle.wc_model.specs.Rounding.{HasOneNearest};
-ghost use Rattle.wc_model.specs.Rows.{LogRow};
+ghost use Rattle.wc_model.specs.Instrument.Answers.{Asked, Mode, answer};
+ghost use Rattle.wc_model.specs.Instrument.Effects.{EffectsOf};
+ghost use Rattle.wc_model.specs.Instrument.WeighingHistories.{History, samples};
+ghost use Rattle.wc_model.specs.Instrument.Independence.{IsFreeOfScans, IsFreeOfPrograms};
+ghost use Rattle.wc_model.specs.Instrument.Indication.{is_stable};
+ghost use Rattle.wc_model.specs.Run.Log.{Record, row_of};
+ghost use Rattle.wc_model.specs.Instrument.Plates.{PlateData, IsPlate};
+ghost use Rattle.wc_model.specs.Instrument.PlateTable.{Table, plate_of};
+ghost use Rattle.wc_model.specs.Say.Report.{Scans};
+ghost use Rattle.wc_model.specs.Instrument.Requests.{IsCutAnywhere, carriage_return, is_text, line_feed, requests, requests_in};
+ghost use Rattle.wc_model.specs.Instrument.Rounding.{HasOneNearest};
+ghost use Rattle.wc_model.specs.Run.Rows.{LogRow};
 
 /// Exactly one whole number is nearest to a quotient by a positive span, and it is the one that is computed.
 pub fn one_number_is_nearest()

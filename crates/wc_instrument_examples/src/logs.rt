@@ -1,8 +1,8 @@
 //! Logs that are read, and logs that are refused, with the number and the row. The first row is counted.
 
 ghost use Rattle.std.specs.Prelude.{◌≡◌, negsuc, [], ◌∷◌, codes, replicate};
-ghost use Rattle.wc_model.specs.Log.{log_of, with_row, refused_at};
-ghost use Rattle.wc_model.specs.Rows.{Counts, Bytes, Inputs};
+ghost use Rattle.wc_model.specs.Run.Log.{log_of, with_row, refused_at};
+ghost use Rattle.wc_model.specs.Run.Rows.{Counts, Bytes, Inputs};
 ghost use Rattle.wc_instrument_examples.specs.Worked.{log_with_rows, three_fields, scan_row};
 
 /// An empty log has no first row; neither has one that begins otherwise.

@@ -2,7 +2,7 @@
 //! steps of 5 g with 600000 counts.
 
 ghost use Rattle.std.specs.Prelude.{◌≡◌, ◌++◌, pos, negsuc, [], ◌∷◌, codes, take};
-ghost use Rattle.wc_model.specs.PlateTable.{plate_of, Text, Whole, Other};
+ghost use Rattle.wc_model.specs.Instrument.PlateTable.{plate_of, Text, Whole, Other};
 ghost use Rattle.wc_instrument_examples.specs.Worked.{plate_of_15_kg, plate_table, refusal_of_table};
 
 /// The plate of 15 kg is read.

@@ -1,7 +1,7 @@
 //! The answers to `W`: gross weights near zero and near Max, in motion, and with no sample.
 
 ghost use Rattle.std.specs.Prelude.{◌≡◌, pos, [], ◌∷◌, ◌++◌, codes};
-ghost use Rattle.wc_model.specs.Rows.{Counts};
+ghost use Rattle.wc_model.specs.Run.Rows.{Counts};
 ghost use Rattle.wc_instrument_examples.specs.Worked.{plate_of_15_kg, plate_of_2500_g, four_rows, asks, replies, framed};
 
 /// 50 counts above zero are the centre of zero; 51 are none, though 0.000 is shown.

@@ -2,13 +2,13 @@
 use Rattle.std.proofs.Common.{ℕ, ◌+◌, ◌≤◌, List, ◌++◌, length, Option, Err, arith, length-append}
 use Rattle.std.proofs.KnownBytes.{Consumes-kept, Consumes-trans}
 use Rattle.std.specs.Io.KnownBytes.{Consumes}
-use Rattle.wc_job.specs.Reads.{Adds, IsTooLong, TakesAtMost}
+use Rattle.wc_job.specs.Reads.{Adds, IsOverTheLimit, TakesAtMost}
 use Rattle.wc_job.specs.declared.reading.ReadFault.{ReadFault}
 use Rattle.wc_job.specs.declared.reading.ReadFault.TheVariants.{TooLong, Read, Memory}
-use Rattle.wc_model.specs.JobSections.{longest_job}
+use Rattle.wc_model.specs.Run.JobSections.{longest_job}
 
 -- it does not say that the job is too long
-pub not_too_long : (known old new : Option (List ℕ)) (fault : ReadFault) (before after : List ℕ) → Adds old new (Err fault) before after → IsTooLong known fault
+pub not_too_long : (known old new : Option (List ℕ)) (fault : ReadFault) (before after : List ℕ) → Adds old new (Err fault) before after → IsOverTheLimit known fault
 not_too_long known old new TooLong before after h = absurd h
 not_too_long known old new Read before after h = tt
 not_too_long known old new Memory before after h = tt

@@ -4,7 +4,7 @@ use Rattle.std.proofs.lemmas.Bool.{eqb-true}
 use Rattle.std.specs.List.{concat}
 use Rattle.std.specs.List.{position_or_len}
 use Rattle.wc_job.specs.Views.{BeginsWithLine, line_length}
-use Rattle.wc_model.specs.JobSections.{onto_first_line, whole_lines}
+use Rattle.wc_model.specs.Run.JobSections.{onto_first_line, whole_lines}
 
 -- the length of the first line, from its first byte
 length_on : (byte : ℕ) (rest : List ℕ) → line_length (byte ∷ rest) ≡ (if byte == 10 then 1 else suc (line_length rest))

@@ -3,8 +3,8 @@ use Rattle.std.specs.Prelude.{◌≡◌, ⊤, ℕ, ◌+◌, ◌-◌, ◌<◌, �
 use Rattle.std.specs.Io.KnownBytes.{Consumes, IsAtEnd, Keeps}
 use Rattle.wc_job.specs.declared.reading.ReadFault.{ReadFault}
 use Rattle.wc_job.specs.declared.reading.ReadFault.TheVariants.{TooLong, Read, Memory}
-use Rattle.wc_model.specs.Devices.{counted}
-use Rattle.wc_model.specs.JobSections.{longest_job}
+use Rattle.wc_model.specs.Run.Devices.{counted}
+use Rattle.wc_model.specs.Run.JobSections.{longest_job}
 
 -- at most so many bytes are taken of a reader whose bytes are known
 abbrev pub TakesAtMost : ℕ → Option (List ℕ) → Option (List ℕ) → Type 0
@@ -37,7 +37,7 @@ abbrev pub IsWhole : Option (List ℕ) → List ℕ → Type 0
 IsWhole known bytes = (length bytes ≤ longest_job) × IfSome known (λ all. bytes ≡ all)
 
 -- a job is too long where it has more than the longest
-abbrev pub IsTooLong : Option (List ℕ) → ReadFault → Type 0
-IsTooLong known TooLong = IfSome known (λ all. longest_job < length all)
-IsTooLong known Read = ⊤
-IsTooLong known Memory = ⊤
+abbrev pub IsOverTheLimit : Option (List ℕ) → ReadFault → Type 0
+IsOverTheLimit known TooLong = IfSome known (λ all. longest_job < length all)
+IsOverTheLimit known Read = ⊤
+IsOverTheLimit known Memory = ⊤

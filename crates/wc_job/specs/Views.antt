@@ -5,13 +5,13 @@ use Rattle.wc_job.specs.declared.headings.Heading.{Heading}
 use Rattle.wc_job.specs.declared.headings.Heading.TheVariants.{Plate, Program, Log}
 use Rattle.wc_job.specs.declared.parts.Parting.{Parting}
 use Rattle.wc_job.specs.declared.parts.Sections as answer
-use Rattle.wc_model.specs.JobSections.{Parted, Sections, whole_lines}
+use Rattle.wc_model.specs.Run.JobSections.{Parted, Sections, whole_lines}
 
 -- the word of a heading
-abbrev pub word_of : Heading → List ℕ
-word_of Plate = codes "@plate"
-word_of Program = codes "@program"
-word_of Log = codes "@log"
+abbrev pub heading_view : Heading → List ℕ
+heading_view Plate = codes "@plate"
+heading_view Program = codes "@program"
+heading_view Log = codes "@log"
 
 -- how many bytes the first line has, with its LF where it has one
 abbrev pub line_length : List ℕ → ℕ
@@ -23,20 +23,20 @@ BeginsWithLine [] line after = (line ≡ []) × (after ≡ [])
 BeginsWithLine (byte ∷ rest) line after = (whole_lines (byte ∷ rest) ≡ line ∷ whole_lines after) × (0 < length line)
 
 -- the bytes before a heading, and the lines after it
-abbrev pub said_parted : Option Parting → Option Parted
-said_parted None = None
-said_parted (Some parting) = Some (record { section = parting.section.now; rest = whole_lines parting.rest.now })
+abbrev pub parted_view : Option Parting → Option Parted
+parted_view None = None
+parted_view (Some parting) = Some (record { section = parting.section.now; rest = whole_lines parting.rest.now })
 
 -- the three sections
-abbrev pub said : answer.Sections → Sections
-said sections = record { plate = sections.plate.now; program = sections.program.now; log = sections.log.now }
+abbrev pub sections_view : answer.Sections → Sections
+sections_view sections = record { plate = sections.plate.now; program = sections.program.now; log = sections.log.now }
 
 -- the sections, where there are some
-abbrev pub said_sections : Option answer.Sections → Option Sections
-said_sections None = None
-said_sections (Some sections) = Some (said sections)
+abbrev pub found_view : Option answer.Sections → Option Sections
+found_view None = None
+found_view (Some sections) = Some (sections_view sections)
 
 -- the sections, or the number of the refusal
-abbrev pub said_result : Result answer.Sections ℕ → Result Sections ℕ
-said_result (Ok sections) = Ok (said sections)
-said_result (Err number) = Err number
+abbrev pub result_view : Result answer.Sections ℕ → Result Sections ℕ
+result_view (Ok sections) = Ok (sections_view sections)
+result_view (Err number) = Err number

@@ -1,6 +1,6 @@
 ghost use Rattle.std.specs.Prelude.{◌≡◌, codes};
-ghost use Rattle.wc_job.specs.Views.{said_parted, said_result, said_sections, word_of};
-ghost use Rattle.wc_model.specs.JobSections.{part_at, sections_in, sections_of, sections_with_program, whole_lines};
+ghost use Rattle.wc_job.specs.Views.{parted_view, result_view, found_view, heading_view};
+ghost use Rattle.wc_model.specs.Run.JobSections.{part_at, sections_in, sections_of, sections_with_program, whole_lines};
 
 use crate::headings::{Heading, is_heading};
 use crate::lines::first_line;
@@ -8,7 +8,7 @@ use crate::parts::{Parting, Sections};
 
 /// What stands before and behind the first line that is this heading.
 fn part_at<'a>(heading: Heading, text: &'a [u8]) -> Option<Parting<'a>>
-    ensures { said_parted result ≡ part_at (word_of heading) (whole_lines text.now) }
+    ensures { parted_view result ≡ part_at (heading_view heading) (whole_lines text.now) }
 {
     let mut start = 0_usize;
     while start < text.len() {
@@ -27,7 +27,7 @@ fn part_at<'a>(heading: Heading, text: &'a [u8]) -> Option<Parting<'a>>
 
 /// The sections behind the first heading.
 fn sections_behind<'a>(text: &'a [u8]) -> Option<Sections<'a>>
-    ensures { said_sections result ≡ sections_with_program (part_at (codes "@program") (whole_lines text.now)) }
+    ensures { found_view result ≡ sections_with_program (part_at (codes "@program") (whole_lines text.now)) }
 {
     match part_at(Heading::Program, text) {
         None => None,
@@ -44,7 +44,7 @@ fn sections_behind<'a>(text: &'a [u8]) -> Option<Sections<'a>>
 
 /// The sections of a text whose first line is the first heading.
 fn sections_in<'a>(text: &'a [u8]) -> Option<Sections<'a>>
-    ensures { said_sections result ≡ sections_in (whole_lines text.now) }
+    ensures { found_view result ≡ sections_in (whole_lines text.now) }
 {
     let (first, rest) = first_line(text);
     if is_heading(Heading::Plate, first) {
@@ -58,7 +58,7 @@ fn sections_in<'a>(text: &'a [u8]) -> Option<Sections<'a>>
 /// behind it, the first line `@log` behind that one, and the end. A heading stands alone on its line and ends with LF or CRLF.
 /// 702 where the job is longer, 701 where a heading is missing. It takes no memory. (The form is the profile's own.)
 pub fn sections<'a>(bytes: &'a [u8]) -> Result<Sections<'a>, u16>
-    ensures { said_result result ≡ sections_of bytes.now }
+    ensures { result_view result ≡ sections_of bytes.now }
 {
     if bytes.len() > 1048576 {
         return Err(702);

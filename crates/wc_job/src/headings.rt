@@ -1,6 +1,6 @@
 ghost use Rattle.std.specs.Prelude.{◌≡◌, ◌||◌, bytes_eq};
-ghost use Rattle.wc_job.specs.Views.{word_of};
-ghost use Rattle.wc_model.specs.JobSections.{is_heading};
+ghost use Rattle.wc_job.specs.Views.{heading_view};
+ghost use Rattle.wc_model.specs.Run.JobSections.{is_heading};
 
 /// A heading.
 #[derive(Clone, Copy)]
@@ -19,7 +19,7 @@ fn is_either(text: &[u8], one: &[u8], other: &[u8]) -> bool
 
 /// The line is this heading: its word, then LF or CRLF, with nothing beside it.
 pub(crate) fn is_heading(heading: Heading, line: &[u8]) -> bool
-    ensures { result ≡ is_heading (word_of heading) line.now }
+    ensures { result ≡ is_heading (heading_view heading) line.now }
 {
     match heading {
         Heading::Plate => is_either(line, b"@plate\n", b"@plate\r\n"),

@@ -1,7 +1,7 @@
 ghost use Rattle.std.specs.Prelude.{◌≡◌, ◌+◌, ◌≤◌, IfErr, IfOk, length};
-ghost use Rattle.wc_job.specs.Reads.{Adds, IsTooLong, IsWhole, ReadsInto, TakesAtMost, failures_after};
-ghost use Rattle.wc_model.specs.Devices.{failures_after_read};
-ghost use Rattle.wc_model.specs.JobSections.{longest_job};
+ghost use Rattle.wc_job.specs.Reads.{Adds, IsOverTheLimit, IsWhole, ReadsInto, TakesAtMost, failures_after};
+ghost use Rattle.wc_model.specs.Run.Devices.{failures_after_read};
+ghost use Rattle.wc_model.specs.Run.JobSections.{longest_job};
 
 use std::alloc::Global;
 use std::io;
@@ -49,7 +49,7 @@ fn read_more<R: ByteIn>(reader: &mut R, bytes: &mut Vec<u8>) -> Result<bool, Rea
 /// (also one that was interrupted), `Memory` where memory is refused. It reads up to the end, the first fault, or byte 1048577.
 pub fn read_whole<R: ByteIn>(alloc: Global, reader: &mut R) -> Result<Vec<u8>, ReadFault>
     ensures whole { IfOk result (λ bytes. IsWhole (R.bytes_left reader.old) bytes.items) }
-    ensures too_long { IfErr result (λ fault. IsTooLong (R.bytes_left reader.old) fault) }
+    ensures too_long { IfErr result (λ fault. IsOverTheLimit (R.bytes_left reader.old) fault) }
     ensures taken { TakesAtMost (longest_job + 1) (R.bytes_left reader.old) (R.bytes_left reader.new) }
     ensures failures { R.failure_count reader.new ≡ failures_after (R.failure_count reader.old) result }
 {

@@ -8,15 +8,15 @@ use Rattle.wc_language_examples.specs.BoolPrograms.{copies_an_input, first_unit}
 use Rattle.wc_laws.proofs.Longest.{computed_is_worst, longest_of_worst}
 use Rattle.wc_model.proofs.FoundTokens.{found_cut}
 use Rattle.wc_model.proofs.Spelling.{spelling}
-use Rattle.wc_model.specs.Faults.{IsCostFault}
-use Rattle.wc_model.specs.Job.{JobAnswer, AnswersProgram, runs, AnswersPlate, AnswersJob}
-use Rattle.wc_model.specs.JobSections.{Sections}
-use Rattle.wc_model.specs.Loading.{IsLoaded}
-use Rattle.wc_model.specs.Log.{Record, log_of}
-use Rattle.wc_model.specs.PlateTable.{Table, plate_of}
-use Rattle.wc_model.specs.Paths.{IsLongest}
-use Rattle.wc_model.specs.Reading.{IsRead}
-use Rattle.wc_model.specs.Scopes.{Scope}
+use Rattle.wc_model.specs.Language.Faults.{IsCostFault}
+use Rattle.wc_model.specs.Say.Job.{JobAnswer, AnswersProgram, runs, AnswersPlate, AnswersJob}
+use Rattle.wc_model.specs.Run.JobSections.{Sections}
+use Rattle.wc_model.specs.Language.Loading.{IsLoaded}
+use Rattle.wc_model.specs.Run.Log.{Record, log_of}
+use Rattle.wc_model.specs.Instrument.PlateTable.{Table, plate_of}
+use Rattle.wc_model.specs.Language.Paths.{IsLongest}
+use Rattle.wc_model.specs.Text.Reading.{IsRead}
+use Rattle.wc_model.specs.Language.Scopes.{Scope}
 
 pub first_is_read : IsRead program_bytes copies_an_input
 first_is_read = record {

@@ -2,10 +2,10 @@ ghost use Rattle.std.specs.Prelude.{◌≡◌, ℕ, ◌++◌, [], ◌∷◌, Lis
 ghost use Rattle.wc_instrument_examples.specs.Worked.{plate_text};
 ghost use Rattle.wc_job_examples.specs.FirstJob.{program_bytes, log_bytes, log_records, table, job_bytes};
 ghost use Rattle.wc_language_examples.specs.BoolPrograms.{copies_an_input};
-ghost use Rattle.wc_model.specs.Job.{AnswersJob};
-ghost use Rattle.wc_model.specs.Loading.{IsLoaded};
-ghost use Rattle.wc_model.specs.Log.{Record};
-ghost use Rattle.wc_model.specs.PlateTable.{Table};
+ghost use Rattle.wc_model.specs.Say.Job.{AnswersJob};
+ghost use Rattle.wc_model.specs.Language.Loading.{IsLoaded};
+ghost use Rattle.wc_model.specs.Run.Log.{Record};
+ghost use Rattle.wc_model.specs.Instrument.PlateTable.{Table};
 
 /// The first program is loaded: its bytes spell it, and no pass refuses it.
 pub fn first_program_is_loaded()

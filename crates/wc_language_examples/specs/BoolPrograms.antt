@@ -1,7 +1,7 @@
 -- Programs of BOOL logic.
 use Rattle.std.specs.Prelude.{[], ◌∷◌, None}
 use Rattle.wc_language_examples.specs.Writing.{word, at, ld, ldn, st, stn, op, program, var}
-use Rattle.wc_model.specs.Tree.{ProgramUnit, Text, End}
+use Rattle.wc_model.specs.Language.Tree.{ProgramUnit, Text, End}
 use Rattle.wc_model.specs.declared.operator.Operator.TheVariants.{And, Or}
 use Rattle.wc_model.specs.declared.source.Section.TheVariants.{Own}
 

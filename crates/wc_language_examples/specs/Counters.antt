@@ -1,7 +1,7 @@
 -- A program with a CTU.
 use Rattle.std.specs.Prelude.{[], ◌∷◌, pos}
 use Rattle.wc_language_examples.specs.Writing.{at, dot, ld, st, call, arg, declares, program, num}
-use Rattle.wc_model.specs.Tree.{Text, End}
+use Rattle.wc_model.specs.Language.Tree.{Text, End}
 use Rattle.wc_model.specs.declared.source.Section.TheVariants.{Own}
 
 -- VAR c : CTU; END_VAR / CAL c(CU := %IX0.0, R := %IX0.1, PV := 2) / LD c.Q / ST %QX0.0 / LD c.CV / ST %QD0

@@ -1,7 +1,7 @@
 -- A block of the text that counts edges, and a program with two instances of it.
 use Rattle.std.specs.Prelude.{[], ◌∷◌, codes, None, pos}
 use Rattle.wc_language_examples.specs.Writing.{word, at, var, dot, ld, st, op, call, arg, declares, num}
-use Rattle.wc_model.specs.Tree.{Text, End, Plain, Return, ProgramUnit}
+use Rattle.wc_model.specs.Language.Tree.{Text, End, Plain, Return, ProgramUnit}
 use Rattle.wc_model.specs.declared.operator.Condition.TheVariants.{IfFalse}
 use Rattle.wc_model.specs.declared.operator.Operator.TheVariants.{Add}
 use Rattle.wc_model.specs.declared.source.Section.TheVariants.{Input, Output, Own}

@@ -1,7 +1,7 @@
 -- Jumps that act, and that do not.
 use Rattle.std.specs.Prelude.{[], ◌∷◌, pos, false}
 use Rattle.wc_language_examples.specs.Writing.{at, ld, st, op, jump, labelled, program, num, yes'}
-use Rattle.wc_model.specs.Tree.{Text, ProgramUnit, End, Load, Store as StoreStep}
+use Rattle.wc_model.specs.Language.Tree.{Text, ProgramUnit, End, Load, Store as StoreStep}
 use Rattle.wc_model.specs.declared.operator.Condition.TheVariants.{Always, IfTrue}
 use Rattle.wc_model.specs.declared.operator.Operator.TheVariants.{Gt}
 use Rattle.wc_model.specs.declared.operator.Storing.TheVariants.{Result}

@@ -1,7 +1,7 @@
 -- Programs that reckon with DINT and TIME.
 use Rattle.std.specs.Prelude.{[], ◌∷◌, pos, negsuc}
 use Rattle.wc_language_examples.specs.Writing.{at, ld, st, op, program, num, ms}
-use Rattle.wc_model.specs.Tree.{Text, End, Constant}
+use Rattle.wc_model.specs.Language.Tree.{Text, End, Constant}
 use Rattle.wc_model.specs.declared.operator.Operator.TheVariants.{Add, Div, Mod, Eq}
 use Rattle.wc_model.specs.declared.value.Value.TheVariants.{Time}
 

@@ -1,7 +1,7 @@
 -- A deferred operator, in both forms.
 use Rattle.std.specs.Prelude.{[], ◌∷◌, Some, None}
 use Rattle.wc_language_examples.specs.Writing.{at, ld, st, op, program}
-use Rattle.wc_model.specs.Tree.{Text, End, Nested}
+use Rattle.wc_model.specs.Language.Tree.{Text, End, Nested}
 use Rattle.wc_model.specs.declared.operator.Operator.TheVariants.{And, Or}
 
 -- LD %IX0.0 / AND( / LD %IX0.1 / OR %IX0.2 / ) / ST %QX0.0

@@ -3,7 +3,7 @@ use Rattle.std.specs.Prelude.{[], ◌∷◌}
 use Rattle.wc_language_examples.specs.CountingBlock.{counting_block, two_counters_program}
 use Rattle.wc_language_examples.specs.Jumps.{two_ways_program}
 use Rattle.wc_language_examples.specs.Timers.{on_delay_program}
-use Rattle.wc_model.specs.Scopes.{Scope}
+use Rattle.wc_model.specs.Language.Scopes.{Scope}
 
 -- the timer program
 abbrev pub timer_scope : Scope

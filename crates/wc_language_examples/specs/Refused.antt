@@ -2,8 +2,8 @@
 use Rattle.std.specs.Prelude.{ℕ, List, [], ◌∷◌, Option, Some, pos, codes}
 use Rattle.wc_language_examples.specs.Writing.{word, at, var, num, ld, jump, labelled, declares, program}
 use Rattle.wc_language_examples.specs.CountingBlock.{counting_block}
-use Rattle.wc_model.specs.Checks.{Refusal}
-use Rattle.wc_model.specs.Tree.{Text, Lines, End, Store as StoreStep, Declaration}
+use Rattle.wc_model.specs.Language.Checks.{Refusal}
+use Rattle.wc_model.specs.Language.Tree.{Text, Lines, End, Store as StoreStep, Declaration}
 use Rattle.wc_model.specs.declared.operator.Condition.TheVariants.{IfTrue}
 use Rattle.wc_model.specs.declared.operator.Storing.TheVariants.{Result}
 use Rattle.wc_model.specs.declared.source.Section.TheVariants.{Own}

@@ -1,9 +1,9 @@
 -- The timers: a program with a TON, and the calls of a TOF.
 use Rattle.std.specs.Prelude.{ℕ, Bool, true, false, List, [], ◌∷◌, pos, Some}
 use Rattle.wc_language_examples.specs.Writing.{word, at, var, dot, ld, st, jump, arg, labelled, declares, program, ms}
-use Rattle.wc_model.specs.Blocks.{TofFields, tof_step}
-use Rattle.wc_model.specs.Histories.{TimerCall}
-use Rattle.wc_model.specs.Tree.{Text, ProgramUnit, End, Call, Declaration}
+use Rattle.wc_model.specs.Language.Blocks.{TofFields, tof_step}
+use Rattle.wc_model.specs.Language.Histories.{TimerCall}
+use Rattle.wc_model.specs.Language.Tree.{Text, ProgramUnit, End, Call, Declaration}
 use Rattle.wc_model.specs.declared.operator.Condition.TheVariants.{Always, IfFalse}
 use Rattle.wc_model.specs.declared.source.Section.TheVariants.{Own}
 use Rattle.wc_model.specs.declared.value.Value.TheVariants.{Time}

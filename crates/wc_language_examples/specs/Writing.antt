@@ -1,7 +1,7 @@
 -- Short forms for the trees of the examples. Names are written in small letters, as trees have them.
 use Rattle.std.specs.Prelude.{ℕ, true, false, List, [], ◌∷◌, Some, None, ℤ, pos, codes}
 use Prim.Native.String.{String}
-use Rattle.wc_model.specs.Tree.{Word, Term, Constant, Address, Variable, Field, Assignment, Step, Load, Store, Apply, Jump, Call, Lines, Plain, Declaration, ProgramUnit}
+use Rattle.wc_model.specs.Language.Tree.{Word, Term, Constant, Address, Variable, Field, Assignment, Step, Load, Store, Apply, Jump, Call, Lines, Plain, Declaration, ProgramUnit}
 use Rattle.wc_model.specs.declared.operator.Condition.{Condition}
 use Rattle.wc_model.specs.declared.operator.Condition.TheVariants.{Always}
 use Rattle.wc_model.specs.declared.operator.Operator.{Operator}

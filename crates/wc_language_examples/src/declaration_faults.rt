@@ -2,8 +2,8 @@ ghost use Rattle.std.specs.Prelude.{◌≡◌, [], ◌∷◌, None};
 ghost use Rattle.wc_language_examples.specs.CountingBlock.{counting_block, two_counters};
 ghost use Rattle.wc_language_examples.specs.Refused.{refused, declaring, doing, starts_at_two};
 ghost use Rattle.wc_language_examples.specs.Writing.{at, ld, declares, labelled, yes'};
-ghost use Rattle.wc_model.specs.Faults.{declaration_fault};
-ghost use Rattle.wc_model.specs.Tree.{End, Load};
+ghost use Rattle.wc_model.specs.Language.Faults.{declaration_fault};
+ghost use Rattle.wc_model.specs.Language.Tree.{End, Load};
 ghost use Rattle.wc_model.specs.declared.source.Section.TheVariants.{Own, Input};
 ghost use Rattle.std.specs.Prelude.{false};
 

@@ -1,7 +1,7 @@
 ghost use Rattle.std.specs.Prelude.{[], ◌∷◌};
 ghost use Rattle.wc_language_examples.specs.PathScopes.{timer_scope, ways_scope, block_scope, counters_scope};
-ghost use Rattle.wc_model.specs.Paths.{IsLongest};
-ghost use Rattle.wc_model.specs.WorstPaths.{AreWorstLines};
+ghost use Rattle.wc_model.specs.Language.Paths.{IsLongest};
+ghost use Rattle.wc_model.specs.Language.WorstPaths.{AreWorstLines};
 
 /// The timer program takes at most ten steps: the jump is passed by.
 pub fn timer_path()

@@ -1,7 +1,7 @@
 ghost use Rattle.std.specs.Prelude.{◌≡◌, [], ◌∷◌, map, pos, true, false, ℤ};
 ghost use Rattle.wc_language_examples.specs.Timers.{new_tof, tof_run, five_calls, five_told};
-ghost use Rattle.wc_model.specs.Blocks.{TofFields};
-ghost use Rattle.wc_model.specs.Histories.{FitsTof};
+ghost use Rattle.wc_model.specs.Language.Blocks.{TofFields};
+ghost use Rattle.wc_model.specs.Language.Histories.{FitsTof};
 
 /// TOF by its step: TRUE until the preset time has passed since IN fell.
 pub fn off_delay_steps()

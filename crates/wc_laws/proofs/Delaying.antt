@@ -3,8 +3,8 @@ use Rattle.std.proofs.Common.{◌≡◌, ℕ, Bool, true, false, not, ◌||◌, 
 use Rattle.std.proofs.lemmas.List.Sums.{take_while-cons}
 use Rattle.std.specs.Prelude.{take_while, if◌then◌else◌}
 use Rattle.wc_laws.specs.Laws.{ton_call, tof_call}
-use Rattle.wc_model.specs.Blocks.{TonFields, TofFields, ton_step, ton_running, ton_idle, tof_step, tof_released, tof_held, tof_falling}
-use Rattle.wc_model.specs.Histories.{TimerCall, FitsTon, FitsTonRun, FitsTonIdle, run_start, oldest_moment, FitsTof, FitsTofNever, FitsTofHeld, FitsTofFalling, FitsTofReleased, fall_start, was_held}
+use Rattle.wc_model.specs.Language.Blocks.{TonFields, TofFields, ton_step, ton_running, ton_idle, tof_step, tof_released, tof_held, tof_falling}
+use Rattle.wc_model.specs.Language.Histories.{TimerCall, FitsTon, FitsTonRun, FitsTonIdle, run_start, oldest_moment, FitsTof, FitsTofNever, FitsTofHeld, FitsTofFalling, FitsTofReleased, fall_start, was_held}
 
 -- the calls of the run that ends the history
 abbrev pub running : List TimerCall → List TimerCall

@@ -2,10 +2,10 @@
 use Rattle.std.proofs.Common.{◌≡◌, [], Option, Some, refl, ◌∙◌, true, false}
 use Rattle.std.specs.Prelude.{if◌then◌else◌}
 use Rattle.wc_laws.specs.Laws.{from_label}
-use Rattle.wc_model.specs.Meaning.{Place, Outcome, Done, Stuck, Running, Seeking, ahead, means, after, carries, line_effect, nested_effect, continued}
-use Rattle.wc_model.specs.Names.{Name}
-use Rattle.wc_model.specs.Store.{Store}
-use Rattle.wc_model.specs.Tree.{Lines, End, Alone, Plain, Nested}
+use Rattle.wc_model.specs.Language.Meaning.{Context, Outcome, Done, Stuck, Running, Seeking, ahead, means, after, carries, line_effect, nested_effect, continued}
+use Rattle.wc_model.specs.Language.Names.{Name}
+use Rattle.wc_model.specs.Language.Store.{Store}
+use Rattle.wc_model.specs.Language.Tree.{Lines, End, Alone, Plain, Nested}
 use Rattle.wc_model.specs.declared.value.Value.{Value}
 
 -- an outcome with nothing before its trace
@@ -14,7 +14,7 @@ after-nil (Done result store trace) = refl
 after-nil (Stuck reason) = refl
 
 -- by whether the first line carries the label
-pub seeking : (here : Place) (lines : Lines) (label : Name) (result : Option Value) (store : Store) → means here lines (Seeking label result) store ≡ from_label here (ahead lines label) result store
+pub seeking : (here : Context) (lines : Lines) (label : Name) (result : Option Value) (store : Store) → means here lines (Seeking label result) store ≡ from_label here (ahead lines label) result store
 seeking here End label result store = refl
 seeking here (Alone word rest) label result store =
     elim (carries (Some word) label) as (λ b. means here rest (if b then Running result else Seeking label result) store ≡ from_label here (if b then Some (Alone word rest) else ahead rest label) result store) [

@@ -4,13 +4,13 @@ use Rattle.std.proofs.lemmas.Bool.{ltb-true, ltb-false}
 use Rattle.std.proofs.Math.Nat.{le_of_eq}
 use Rattle.std.proofs.lemmas.List.{length-map}
 use Rattle.std.specs.Prelude.{MatchOption}
-use Rattle.wc_model.specs.Declarations.{VariableType, Elementary, Standard, Block, same_name}
-use Rattle.wc_model.specs.Names.{Name}
-use Rattle.wc_model.specs.Paths.{Way, Onward, Toward, Back, arriving_way, IsBodyPath, IsCallPath, MayAct, GoesOn, MayStep, MayPass, Joined, IsNestedPath, IsPathFrom, IsBlockPath, IsPath, IsLongest}
-use Rattle.wc_model.specs.Scopes.{Scope, type_of}
-use Rattle.wc_model.specs.Traces.{Item, At, Argument, StandardBody, Called, own_lines}
-use Rattle.wc_model.specs.Tree.{Assignment, Step, Load, Store, Apply, Negate, Jump, Call, Return, Lines, End, Alone, Plain, Nested, ProgramUnit}
-use Rattle.wc_model.specs.WorstPaths.{StaysOnward, ChoosesWorst, IsWorstFrom, IsWorstPath, AreWorstLines}
+use Rattle.wc_model.specs.Language.Declarations.{VariableType, Elementary, Standard, Block, same_name}
+use Rattle.wc_model.specs.Language.Names.{Name}
+use Rattle.wc_model.specs.Language.Paths.{Way, Onward, Toward, Back, arriving_way, IsBodyPath, IsCallPath, MayAct, GoesOn, MayStep, MayPass, Joined, IsNestedPath, IsPathFrom, IsBlockPath, IsPath, IsLongest}
+use Rattle.wc_model.specs.Language.Scopes.{Scope, type_of}
+use Rattle.wc_model.specs.Language.Traces.{Item, At, Argument, StandardBody, Called, own_lines}
+use Rattle.wc_model.specs.Language.Tree.{Assignment, Step, Load, Store, Apply, Negate, Jump, Call, Return, Lines, End, Alone, Plain, Nested, ProgramUnit}
+use Rattle.wc_model.specs.Language.WorstPaths.{StaysOnward, ChoosesWorst, IsWorstFrom, IsWorstPath, AreWorstLines}
 use Rattle.wc_model.specs.declared.operator.Condition.{Condition}
 use Rattle.wc_model.specs.declared.operator.Condition.TheVariants.{Always, IfTrue, IfFalse}
 

@@ -2,7 +2,7 @@
 use Rattle.std.proofs.Common.{◌≡◌, Bool, true, false, List, [], ◌∷◌, ◌++◌, ◌&&◌, Some, refl, sym, ap, ◌∙◌}
 use Rattle.std.specs.List.{list_all}
 use Rattle.std.specs.Prelude.{if◌then◌else◌}
-use Rattle.wc_model.specs.Checks.{Check, Refusal, IsFirstBroken, first_broken}
+use Rattle.wc_model.specs.Language.Checks.{Check, Refusal, IsFirstBroken, first_broken}
 
 -- the refusal of a broken rule
 abbrev pub refusal_of : Check → Refusal

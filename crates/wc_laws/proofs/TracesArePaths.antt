@@ -1,16 +1,16 @@
 -- The trace of a meaning is a path: what a run executes, some way through the conditionals executes.
 use Rattle.std.proofs.Common.{◌≡◌, ℕ, Bool, true, false, List, [], ◌∷◌, ◌++◌, map, Option, Some, None, Result, Ok, Err, refl, sym, subst, ◌⊎◌, inl, inr}
-use Rattle.wc_model.specs.Declarations.{VariableType, Elementary, Standard, Block, same_name, members_of}
-use Rattle.wc_model.specs.Meaning.{Outcome, Done, Stuck, Mode, Running, Seeking, Returned, Effect, Goes, Fails, Place, means, at_end, arriving, carries, after, continued, given, from_value, from_store, acts, chosen, stored, set_where, store_effect, next, made, body_outcome, called_type, call_effect, step_effect, line_effect, closed, opened, nested_effect, assigned, value_of, written_to, beside, called, body_means, program_means}
-use Rattle.wc_model.specs.BlockCalls.{standard_called}
-use Rattle.wc_model.specs.Names.{Name}
-use Rattle.wc_model.specs.Operators.{apply, negated}
-use Rattle.wc_model.specs.Paths.{Way, Onward, Toward, Back, arriving_way, EndsThere, IsBodyPath, IsCallPath, MayAct, GoesOn, MayStep, MayPass, Joined, IsNestedPath, IsPathFrom, IsBlockPath, IsPath}
-use Rattle.wc_model.specs.Reasons.{Reason}
-use Rattle.wc_model.specs.Scopes.{Scope, type_of}
-use Rattle.wc_model.specs.Store.{Store}
-use Rattle.wc_model.specs.Traces.{Item, At, StandardBody, Called}
-use Rattle.wc_model.specs.Tree.{Word, Term, Assignment, Step, Load, Store as StoreStep, Apply, Negate, Jump, Call, Return, Lines, End, Alone, Plain, Nested, ProgramUnit}
+use Rattle.wc_model.specs.Language.Declarations.{VariableType, Elementary, Standard, Block, same_name, members_of}
+use Rattle.wc_model.specs.Language.Meaning.{Outcome, Done, Stuck, Mode, Running, Seeking, Returned, Effect, Goes, Fails, Context, means, at_end, arriving, carries, after, continued, given, from_value, from_store, acts, chosen, stored, set_where, store_effect, next, made, body_outcome, called_type, call_effect, step_effect, line_effect, closed, opened, nested_effect, assigned, value_of, written_to, beside, called, body_means, program_means}
+use Rattle.wc_model.specs.Language.BlockCalls.{standard_called}
+use Rattle.wc_model.specs.Language.Names.{Name}
+use Rattle.wc_model.specs.Language.Operators.{apply, negated}
+use Rattle.wc_model.specs.Language.Paths.{Way, Onward, Toward, Back, arriving_way, EndsThere, IsBodyPath, IsCallPath, MayAct, GoesOn, MayStep, MayPass, Joined, IsNestedPath, IsPathFrom, IsBlockPath, IsPath}
+use Rattle.wc_model.specs.Language.Reasons.{Reason}
+use Rattle.wc_model.specs.Language.Scopes.{Scope, type_of}
+use Rattle.wc_model.specs.Language.Store.{Store}
+use Rattle.wc_model.specs.Language.Traces.{Item, At, StandardBody, Called}
+use Rattle.wc_model.specs.Language.Tree.{Word, Term, Assignment, Step, Load, Store as StoreStep, Apply, Negate, Jump, Call, Return, Lines, End, Alone, Plain, Nested, ProgramUnit}
 use Rattle.wc_model.specs.declared.operator.Condition.{Condition}
 use Rattle.wc_model.specs.declared.operator.Condition.TheVariants.{Always, IfTrue, IfFalse}
 use Rattle.wc_model.specs.declared.operator.Operator.{Operator}
@@ -52,16 +52,16 @@ from_store_is P (Err reason) go h = tt
 abbrev pub OneLine : ℕ → List Item → Way → Type 0
 OneLine line = GoesOn (At line ∷ []) Onward
 
-pub stored_is : (here : Place) (line : ℕ) (store : Store) (target : Term) (value result : Value) → EffectIs (OneLine line) (stored here line store target value result)
+pub stored_is : (here : Context) (line : ℕ) (store : Store) (target : Term) (value result : Value) → EffectIs (OneLine line) (stored here line store target value result)
 stored_is here line store target value result = from_store_is (OneLine line) (written_to here store target value) (λ new. Goes (Running (Some result)) new (At line ∷ [])) (λ new. (refl, refl))
 
-pub set_is : (here : Place) (line : ℕ) (store : Store) (target : Term) (value : Bool) (result : Value) → EffectIs (OneLine line) (set_where here line store target value result)
+pub set_is : (here : Context) (line : ℕ) (store : Store) (target : Term) (value : Bool) (result : Value) → EffectIs (OneLine line) (set_where here line store target value result)
 set_is here line store target value (Truth true) = stored_is here line store target (Truth value) (Truth true)
 set_is here line store target value (Truth false) = (refl, refl)
 set_is here line store target value (Dint n) = tt
 set_is here line store target value (Time t) = tt
 
-pub store_is : (here : Place) (line : ℕ) (store : Store) (storing : Storing) (target : Term) (result : Value) → EffectIs (OneLine line) (store_effect here line store storing target result)
+pub store_is : (here : Context) (line : ℕ) (store : Store) (storing : Storing) (target : Term) (result : Value) → EffectIs (OneLine line) (store_effect here line store storing target result)
 store_is here line store StoreResult target result = stored_is here line store target result result
 store_is here line store Negation target result = from_value_is (OneLine line) (negated result) (λ value. stored here line store target value result) (λ value. stored_is here line store target value result)
 store_is here line store Set target result = set_is here line store target true result
@@ -98,11 +98,11 @@ chosen_is IfFalse (Some (Dint n)) acting passing A B a b = tt
 chosen_is IfFalse (Some (Time t)) acting passing A B a b = tt
 
 -- what calls do is a path of the block
-abbrev pub CallsArePaths : (Name → List Item → Type 0) → Place → Type 0
+abbrev pub CallsArePaths : (Name → List Item → Type 0) → Context → Type 0
 CallsArePaths block_path here = (name : Name) (instance : List Name) (store : Store) → TraceIs (block_path name) (here.calls name instance store)
 
 -- the body of a block
-pub body_is : (block_path : Name → List Item → Type 0) (here : Place) → CallsArePaths block_path here → (type : VariableType) (instance : Name) (store : Store) → TraceIs (IsBodyPath block_path (Some type)) (body_outcome here type instance store)
+pub body_is : (block_path : Name → List Item → Type 0) (here : Context) → CallsArePaths block_path here → (type : VariableType) (instance : Name) (store : Store) → TraceIs (IsBodyPath block_path (Some type)) (body_outcome here type instance store)
 body_is block_path here known (Elementary kind) instance store = tt
 body_is block_path here known (Standard block) instance store = go (standard_called block here.now store (here.instance ++ instance ∷ []))
   where
@@ -120,17 +120,17 @@ pub made_is : (block_path : Name → List Item → Type 0) (scope : Scope) (line
 made_is block_path scope line instance arguments result type is (Done inner store trace) h = ((trace, subst (λ (t : Option VariableType). IsBodyPath block_path t trace) (sym is) h, refl), refl)
 made_is block_path scope line instance arguments result type is (Stuck reason) h = tt
 
-pub call_is : (block_path : Name → List Item → Type 0) (here : Place) → CallsArePaths block_path here → (line : ℕ) (instance : Name) (arguments : List Assignment) (result : Option Value) (store : Store) → EffectIs (λ i n. IsCallPath block_path here.scope line instance arguments i × (n ≡ Onward)) (call_effect here line instance arguments result store)
+pub call_is : (block_path : Name → List Item → Type 0) (here : Context) → CallsArePaths block_path here → (line : ℕ) (instance : Name) (arguments : List Assignment) (result : Option Value) (store : Store) → EffectIs (λ i n. IsCallPath block_path here.scope line instance arguments i × (n ≡ Onward)) (call_effect here line instance arguments result store)
 call_is block_path here known line instance arguments result store = go (type_of here.scope instance) refl
   where
-    go : (t : Option VariableType) → type_of here.scope instance ≡ t → EffectIs (λ i n. IsCallPath block_path here.scope line instance arguments i × (n ≡ Onward)) (elim t [ Some type ↦ called_type here type line instance arguments result store | None ↦ Fails Rattle.wc_model.specs.Reasons.NoSuchPlace ])
+    go : (t : Option VariableType) → type_of here.scope instance ≡ t → EffectIs (λ i n. IsCallPath block_path here.scope line instance arguments i × (n ≡ Onward)) (elim t [ Some type ↦ called_type here type line instance arguments result store | None ↦ Fails Rattle.wc_model.specs.Language.Reasons.NoSuchPlace ])
     go None e = tt
     go (Some type) e =
         from_store_is (λ i n. IsCallPath block_path here.scope line instance arguments i × (n ≡ Onward)) (assigned here (members_of here.scope.before type) instance arguments store) (λ new. made (body_outcome here type instance new) line arguments result)
         (λ new. made_is block_path here.scope line instance arguments result type e (body_outcome here type instance new) (body_is block_path here known type instance new))
 
 -- a step that is executed
-pub step_is : (block_path : Name → List Item → Type 0) (here : Place) → CallsArePaths block_path here → (line : ℕ) (step : Step) (result : Option Value) (store : Store) → EffectIs (MayStep block_path here.scope line step) (step_effect here line step result store)
+pub step_is : (block_path : Name → List Item → Type 0) (here : Context) → CallsArePaths block_path here → (line : ℕ) (step : Step) (result : Option Value) (store : Store) → EffectIs (MayStep block_path here.scope line step) (step_effect here line step result store)
 step_is block_path here known line (Load false operand) result store = from_value_is (OneLine line) (value_of here store operand) (next line store) (λ value. (refl, refl))
 step_is block_path here known line (Load true operand) result store = from_value_is (OneLine line) (value_of here store operand) (λ value. from_value (negated value) (next line store)) (λ value. from_value_is (OneLine line) (negated value) (next line store) (λ v. (refl, refl)))
 step_is block_path here known line (StoreStep storing target) result store = given_is (OneLine line) result (store_effect here line store storing target) (λ value. store_is here line store storing target value)
@@ -147,7 +147,7 @@ step_is block_path here known line (Return condition) result store =
     chosen_is condition result (Goes (Returned result) store (At line ∷ [])) (Goes (Running result) store (At line ∷ [])) (GoesOn (At line ∷ []) Back) (OneLine line) (refl, refl) (refl, refl)
 
 -- a line that is executed or passed over
-pub line_is : (block_path : Name → List Item → Type 0) (here : Place) → CallsArePaths block_path here → (line : ℕ) (step : Step) (mode : Mode) (store : Store) → EffectIs (MayPass (MayStep block_path here.scope line step) (way_of mode)) (line_effect here line step mode store)
+pub line_is : (block_path : Name → List Item → Type 0) (here : Context) → CallsArePaths block_path here → (line : ℕ) (step : Step) (mode : Mode) (store : Store) → EffectIs (MayPass (MayStep block_path here.scope line step) (way_of mode)) (line_effect here line step mode store)
 line_is block_path here known line step (Running result) store = step_is block_path here known line step result store
 line_is block_path here known line step (Seeking label result) store = (refl, refl)
 line_is block_path here known line step (Returned result) store = (refl, refl)
@@ -178,7 +178,7 @@ closed_is line close operator outer inside (Done inner store trace) h =
     given_is (IsNestedPath line close inside) inner (λ value. from_value (apply operator outer value) (λ result. Goes (Running (Some result)) store (At line ∷ trace ++ At close ∷ [])))
     (λ value. from_value_is (IsNestedPath line close inside) (apply operator outer value) (λ result. Goes (Running (Some result)) store (At line ∷ trace ++ At close ∷ [])) (λ result. (trace, h, refl, refl)))
 
-pub opened_is : (here : Place) (operand : Option Term) (store : Store) (inside : Mode → Store → Outcome) (P : List Item → Type 0) → ((result : Option Value) (s : Store) → TraceIs P (inside (Running result) s)) → TraceIs P (opened here operand store inside)
+pub opened_is : (here : Context) (operand : Option Term) (store : Store) (inside : Mode → Store → Outcome) (P : List Item → Type 0) → ((result : Option Value) (s : Store) → TraceIs P (inside (Running result) s)) → TraceIs P (opened here operand store inside)
 opened_is here None store inside P h = h None store
 opened_is here (Some operand) store inside P h = go (value_of here store operand)
   where
@@ -186,7 +186,7 @@ opened_is here (Some operand) store inside P h = go (value_of here store operand
     go (Ok value) = h (Some value) store
     go (Err reason) = tt
 
-pub nested_is : (here : Place) (line close : ℕ) (operator : Operator) (operand : Option Term) (inside : Mode → Store → Outcome) (P : List Item → Type 0) → ((result : Option Value) (s : Store) → TraceIs P (inside (Running result) s)) → (mode : Mode) (store : Store) → EffectIs (MayPass (IsNestedPath line close P) (way_of mode)) (nested_effect here line operator operand close inside mode store)
+pub nested_is : (here : Context) (line close : ℕ) (operator : Operator) (operand : Option Term) (inside : Mode → Store → Outcome) (P : List Item → Type 0) → ((result : Option Value) (s : Store) → TraceIs P (inside (Running result) s)) → (mode : Mode) (store : Store) → EffectIs (MayPass (IsNestedPath line close P) (way_of mode)) (nested_effect here line operator operand close inside mode store)
 nested_is here line close operator operand inside P h (Running result) store = given_is (IsNestedPath line close P) result (λ outer. closed line operator close outer (opened here operand store inside)) (λ outer. closed_is line close operator outer P (opened here operand store inside) (opened_is here operand store inside P h))
 nested_is here line close operator operand inside P h (Seeking label result) store = (refl, refl)
 nested_is here line close operator operand inside P h (Returned result) store = (refl, refl)
@@ -198,7 +198,7 @@ end_is (Returned result) store = refl
 end_is (Seeking label result) store = tt
 
 -- the trace of the lines left is a path through them
-pub trace_is_path : (block_path : Name → List Item → Type 0) (here : Place) → CallsArePaths block_path here → (lines : Lines) (mode : Mode) (store : Store) → TraceIs (IsPathFrom block_path here.scope lines (way_of mode)) (means here lines mode store)
+pub trace_is_path : (block_path : Name → List Item → Type 0) (here : Context) → CallsArePaths block_path here → (lines : Lines) (mode : Mode) (store : Store) → TraceIs (IsPathFrom block_path here.scope lines (way_of mode)) (means here lines mode store)
 trace_is_path block_path here known End mode store = end_is mode store
 trace_is_path block_path here known (Alone word rest) mode store =
     subst (λ (way : Way). TraceIs (IsPathFrom block_path here.scope rest way) (means here rest (arriving (Some word) mode) store)) (arriving_is (Some word) mode) (trace_is_path block_path here known rest (arriving (Some word) mode) store)

@@ -6,7 +6,7 @@ use Rattle.std.proofs.Math.Facts.{to_z-neg}
 use Rattle.std.proofs.Math.IntN.{suc_ℤ-*ℤ}
 use Rattle.std.specs.Int.{int_wrap, w32}
 use lib.IntN.{suc_ℤ}
-use Rattle.wc_model.specs.Values.{IsWrapped, wrap}
+use Rattle.wc_model.specs.Language.Values.{IsWrapped, wrap}
 
 -- two numbers of 32 bits in one class are one
 pub IsWrapped-unique : (n v w : ℤ) → IsWrapped n v → IsWrapped n w → v ≡ w

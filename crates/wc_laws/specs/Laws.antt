@@ -1,19 +1,19 @@
 -- Statements about the definitions of the language.
 use Rattle.std.specs.Prelude.{◌≡◌, ℕ, ◌≤◌, List, ◌∷◌, ◌↔◌, ◌⊎◌, length, Option, Some, None, ℤ}
-use Rattle.wc_model.specs.Blocks.{RTrigFields, SrFields, CtuFields, TonFields, TofFields, r_trig_step, sr_step, ctu_step, ton_step, tof_step}
-use Rattle.wc_model.specs.Checks.{Check, Refusal, IsFirstBroken, first_broken}
-use Rattle.wc_model.specs.Histories.{SrCall, CtuCall, TimerCall, FitsRTrig, FitsSr, FitsCtu, FitsTon, FitsTof}
-use Rattle.wc_model.specs.Meaning.{Place, Outcome, Stuck, Running, Seeking, ahead, means, program_means}
-use Rattle.wc_model.specs.Names.{Name}
-use Rattle.wc_model.specs.Paths.{IsPath, IsLongest}
-use Rattle.wc_model.specs.Reasons.{NoLabelAhead}
-use Rattle.wc_model.specs.Store.{Store}
-use Rattle.wc_model.specs.Traces.{Item}
-use Rattle.wc_model.specs.Tree.{Lines, ProgramUnit}
-use Rattle.wc_model.specs.Values.{IsWrapped, wrap}
-use Rattle.wc_model.specs.WorstPaths.{IsWorstPath}
-use Rattle.wc_model.specs.Scans.{steps_of}
-use Rattle.wc_model.specs.Scopes.{Scope}
+use Rattle.wc_model.specs.Language.Blocks.{RTrigFields, SrFields, CtuFields, TonFields, TofFields, r_trig_step, sr_step, ctu_step, ton_step, tof_step}
+use Rattle.wc_model.specs.Language.Checks.{Check, Refusal, IsFirstBroken, first_broken}
+use Rattle.wc_model.specs.Language.Histories.{SrCall, CtuCall, TimerCall, FitsRTrig, FitsSr, FitsCtu, FitsTon, FitsTof}
+use Rattle.wc_model.specs.Language.Meaning.{Context, Outcome, Stuck, Running, Seeking, ahead, means, program_means}
+use Rattle.wc_model.specs.Language.Names.{Name}
+use Rattle.wc_model.specs.Language.Paths.{IsPath, IsLongest}
+use Rattle.wc_model.specs.Language.Reasons.{NoLabelAhead}
+use Rattle.wc_model.specs.Language.Store.{Store}
+use Rattle.wc_model.specs.Language.Traces.{Item}
+use Rattle.wc_model.specs.Language.Tree.{Lines, ProgramUnit}
+use Rattle.wc_model.specs.Language.Values.{IsWrapped, wrap}
+use Rattle.wc_model.specs.Language.WorstPaths.{IsWorstPath}
+use Rattle.wc_model.specs.Language.Scans.{steps_of}
+use Rattle.wc_model.specs.Language.Scopes.{Scope}
 use Rattle.wc_model.specs.declared.value.Value.{Value}
 use Rattle.std.specs.Prelude.{Bool}
 
@@ -22,13 +22,13 @@ abbrev pub WrapIsTheOnlyOne : Type 0
 WrapIsTheOnlyOne = (n w : ℤ) → IsWrapped n w ↔ (w ≡ wrap n)
 
 -- what the lines from a label on mean
-abbrev pub from_label : Place → Option Lines → Option Value → Store → Outcome
+abbrev pub from_label : Context → Option Lines → Option Value → Store → Outcome
 from_label here None result store = Stuck NoLabelAhead
 from_label here (Some rest) result store = means here rest (Running result) store
 
 -- a run that looks for a label goes on with the rest of the lines from the first that carries it, and is stuck if none does
 abbrev pub JumpGoesOnAhead : Type 0
-JumpGoesOnAhead = (here : Place) (lines : Lines) (label : Name) (result : Option Value) (store : Store) →
+JumpGoesOnAhead = (here : Context) (lines : Lines) (label : Name) (result : Option Value) (store : Store) →
     means here lines (Seeking label result) store ≡ from_label here (ahead lines label) result store
 
 -- the call that the fields of a block are set up for

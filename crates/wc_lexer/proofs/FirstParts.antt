@@ -6,8 +6,8 @@ use Rattle.std.specs.Char.{is_ascii_alphabetic}
 use Rattle.std.specs.List.{list_all, prefix_len}
 use Rattle.wc_model.proofs.Attained.{front_passes}
 use Rattle.wc_model.proofs.DurationParts.{has_no_letter, part, first_part, onto_number}
-use Rattle.wc_model.specs.Characters.{begins}
-use Rattle.wc_model.specs.Durations.{parts_of, onto_parts}
+use Rattle.wc_model.specs.Text.Characters.{begins}
+use Rattle.wc_model.specs.Text.Durations.{parts_of, onto_parts}
 
 -- the byte is no letter
 abbrev pub is_no_letter : ℕ → Bool

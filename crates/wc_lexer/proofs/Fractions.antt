@@ -9,8 +9,8 @@ use Rattle.std.specs.Option.{option_and_then}
 use Rattle.std.specs.Str.Parse.{digits_value}
 use Rattle.wc_lexer.proofs.Widths.{from_wide, narrow, wide}
 use Rattle.wc_lexer.specs.Widths.{within_64_bits}
-use Rattle.wc_model.specs.Characters.{is_underscore}
-use Rattle.wc_model.specs.Digits.{value_of_digits}
+use Rattle.wc_model.specs.Text.Characters.{is_underscore}
+use Rattle.wc_model.specs.Text.Digits.{value_of_digits}
 
 -- digits hold no underscore
 pub without_underscores : (text : List ℕ) → list_all is_ascii_digit text ≡ true → filter (λ b. not (is_underscore b)) text ≡ text

@@ -12,14 +12,14 @@ use Rattle.wc_lexer.proofs.FirstParts.{is_no_letter, text_parts}
 use Rattle.wc_model.proofs.DurationParts.{part}
 use Rattle.wc_lexer.proofs.Fractions.{wide_product}
 use Rattle.wc_lexer.proofs.Widths.{from_wide, narrow, wide, wide_for_32_bits}
-use Rattle.wc_lexer.specs.Parts.{IsPartTold, IsSumTold, Tells, are_later, are_none, fraction_told, part_by}
+use Rattle.wc_lexer.specs.Parts.{IsPartTold, IsSumTold, TellsPart, are_later, are_none, fraction_told, part_by}
 use Rattle.wc_lexer.specs.Widths.{within_64_bits}
 use Rattle.wc_lexer.specs.declared.durations.Part as told
 use Rattle.wc_lexer.specs.declared.durations.TimeUnit as units
-use Rattle.wc_model.specs.Characters.{begins, is_empty, is_point, is_underscore}
-use Rattle.wc_model.specs.Digits.{are_digits, value_of_digits}
-use Rattle.wc_model.specs.WholeNumbers.{within_32_bits}
-use Rattle.wc_model.specs.Durations.{Part, TimeUnit, are_duration_parts, billionths, billionths_of, fraction_digits, has_fraction_form, has_point, has_whole_form, is_falling, is_later_part, is_part, milliseconds_of, duration_parts, parts_of, without_separator, unit_below, unit_milliseconds, unit_named, whole_of}
+use Rattle.wc_model.specs.Text.Characters.{begins, is_empty, is_point, is_underscore}
+use Rattle.wc_model.specs.Text.Digits.{are_digits, value_of_digits}
+use Rattle.wc_model.specs.Text.WholeNumbers.{within_32_bits}
+use Rattle.wc_model.specs.Text.Durations.{Part, TimeUnit, are_duration_parts, billionths, billionths_of, fraction_digits, has_fraction_form, has_point, has_whole_form, is_falling, is_later_part, is_part, milliseconds_of, duration_parts, parts_of, without_separator, unit_below, unit_milliseconds, unit_named, whole_of}
 
 -- what is too wide stays so under a sum
 pub wide_sum : (n more : ℕ) → None ≡ within_64_bits n → None ≡ within_64_bits (n + more)
@@ -150,7 +150,7 @@ abbrev pub form_of : Bool → (whole below milliseconds above : ℕ) → (point 
 form_of is whole below milliseconds above point last later = is && nat_lt whole below && nat_lt milliseconds above && (not point || last) && later
 
 -- the form by what is told
-pub told_form : (above : ℕ) (part : Part) (parts : List Part) (one : told.Part) → Tells part one → are_later above (part ∷ parts) ≡ (may_stand one above (are_none parts) && are_later one.milliseconds parts)
+pub told_form : (above : ℕ) (part : Part) (parts : List Part) (one : told.Part) → TellsPart part one → are_later above (part ∷ parts) ≡ (may_stand one above (are_none parts) && are_later one.milliseconds parts)
 told_form above part parts one tells =
     ap (λ v. form_of v (whole_of part) (unit_below part) (unit_milliseconds part) above (has_point part) (are_none parts) (are_later (unit_milliseconds part) parts)) tells.form
     ∙ ap (λ v. form_of true v (unit_below part) (unit_milliseconds part) above (has_point part) (are_none parts) (are_later (unit_milliseconds part) parts)) (sym tells.whole)
@@ -168,7 +168,7 @@ later_none above part parts (inl h) = inl (ap (λ v. v && nat_lt (whole_of part)
 later_none above part parts (inr h) = inr (omega (arith, first_sum part parts))
 
 -- where a part may not stand
-pub later_unfit : (above : ℕ) (part : Part) (parts : List Part) (one : told.Part) → Tells part one → may_stand one above (are_none parts) ≡ false → IsSumTold (are_later above (part ∷ parts)) (billionths (part ∷ parts)) None
+pub later_unfit : (above : ℕ) (part : Part) (parts : List Part) (one : told.Part) → TellsPart part one → may_stand one above (are_none parts) ≡ false → IsSumTold (are_later above (part ∷ parts)) (billionths (part ∷ parts)) None
 later_unfit above part parts one tells h = inl (told_form above part parts one tells ∙ ap (λ v. v && are_later one.milliseconds parts) h)
 
 -- a sum with a part before it
@@ -183,7 +183,7 @@ sum_told form whole one sum total first (Some more) answer f e all h a =
     (cases_lt total (2 ^ 64))
 
 -- where a part may stand
-pub later_sum : (above : ℕ) (part : Part) (parts : List Part) (one : told.Part) (later answer : Option ℕ) → Tells part one → may_stand one above (are_none parts) ≡ true → IsSumTold (are_later one.milliseconds parts) (billionths parts) later → answer ≡ option_and_then (λ more. within_64_bits (one.billionths + more)) later → IsSumTold (are_later above (part ∷ parts)) (billionths (part ∷ parts)) answer
+pub later_sum : (above : ℕ) (part : Part) (parts : List Part) (one : told.Part) (later answer : Option ℕ) → TellsPart part one → may_stand one above (are_none parts) ≡ true → IsSumTold (are_later one.milliseconds parts) (billionths parts) later → answer ≡ option_and_then (λ more. within_64_bits (one.billionths + more)) later → IsSumTold (are_later above (part ∷ parts)) (billionths (part ∷ parts)) answer
 later_sum above part parts one later answer tells h told a =
     sum_told (are_later one.milliseconds parts) (are_later above (part ∷ parts)) one.billionths (billionths parts) (billionths (part ∷ parts)) (billionths_of part) later answer (told_form above part parts one tells ∙ ap (λ v. v && are_later one.milliseconds parts) h) tells.billionths (first_sum part parts) told a
 
@@ -213,7 +213,7 @@ same_behind first (part ∷ parts) =
     regrouped (is_later_part part) (list_all is_later_part parts) (nat_lt (unit_milliseconds part) (unit_milliseconds first)) (is_falling (map unit_milliseconds (part ∷ parts))) (has_point first) (list_any has_point (take (length parts) (part ∷ parts))) (not (has_point part) || are_none parts) (are_later (unit_milliseconds part) parts) (same_behind part parts)
 
 -- the form of all parts
-pub same_form : (first : Part) (later : List Part) (one : told.Part) → Tells first one → are_duration_parts (first ∷ later) ≡ ((not one.has_point || are_none later) && are_later one.milliseconds later)
+pub same_form : (first : Part) (later : List Part) (one : told.Part) → TellsPart first one → are_duration_parts (first ∷ later) ≡ ((not one.has_point || are_none later) && are_later one.milliseconds later)
 same_form first later one tells =
     ap (λ v. v && list_all is_later_part later && is_falling (map unit_milliseconds (first ∷ later)) && not (list_any has_point (take (length later) (first ∷ later)))) tells.form
     ∙ same_behind first later
@@ -226,12 +226,12 @@ all_none first later (inl h) = inl (ap (λ v. v && list_all is_later_part later 
 all_none first later (inr h) = inr (omega (arith, first_sum first later))
 
 -- where the first part has a point and another follows
-pub all_unfit : (first : Part) (later : List Part) (one : told.Part) → Tells first one → one.has_point ≡ true → are_none later ≡ false → IsSumTold (are_duration_parts (first ∷ later)) (billionths (first ∷ later)) None
+pub all_unfit : (first : Part) (later : List Part) (one : told.Part) → TellsPart first one → one.has_point ≡ true → are_none later ≡ false → IsSumTold (are_duration_parts (first ∷ later)) (billionths (first ∷ later)) None
 all_unfit first later one tells point none =
     inl (same_form first later one tells ∙ ap (λ v. (not v || are_none later) && are_later one.milliseconds later) point ∙ ap (λ v. (false || v) && are_later one.milliseconds later) none)
 
 -- the sum of all parts
-pub all_sum : (first : Part) (parts : List Part) (one : told.Part) (later answer : Option ℕ) → Tells first one → (not one.has_point || are_none parts) ≡ true → IsSumTold (are_later one.milliseconds parts) (billionths parts) later → answer ≡ option_and_then (λ more. within_64_bits (one.billionths + more)) later → IsSumTold (are_duration_parts (first ∷ parts)) (billionths (first ∷ parts)) answer
+pub all_sum : (first : Part) (parts : List Part) (one : told.Part) (later answer : Option ℕ) → TellsPart first one → (not one.has_point || are_none parts) ≡ true → IsSumTold (are_later one.milliseconds parts) (billionths parts) later → answer ≡ option_and_then (λ more. within_64_bits (one.billionths + more)) later → IsSumTold (are_duration_parts (first ∷ parts)) (billionths (first ∷ parts)) answer
 all_sum first parts one later answer tells h told a =
     sum_told (are_later one.milliseconds parts) (are_duration_parts (first ∷ parts)) one.billionths (billionths parts) (billionths (first ∷ parts)) (billionths_of first) later answer (same_form first parts one tells ∙ ap (λ v. v && are_later one.milliseconds parts) h) tells.billionths (first_sum first parts) told a
 
@@ -260,23 +260,23 @@ last_is [] = refl
 last_is (b ∷ rest) = sym (ap (λ ps. are_none (map without_separator ps)) (text_parts (b ∷ rest) (omega arith) (prefix_len is_no_letter (b ∷ rest)) refl (prefix_len is_ascii_alphabetic (drop (prefix_len is_no_letter (b ∷ rest)) (b ∷ rest))) refl))
 
 -- the sum of later parts in a text
-pub text_later : (above : ℕ) (text number trimmed letters rest : List ℕ) (last : Bool) (one : told.Part) (later answer : Option ℕ) → parts_of text ≡ part number letters ∷ parts_of rest → trimmed ≡ drop (cond (begins is_underscore number) 1 0) number → Tells (part trimmed letters) one → last ≡ is_empty rest → may_stand one above last ≡ true → IsSumTold (are_later one.milliseconds (map without_separator (parts_of rest))) (billionths (map without_separator (parts_of rest))) later → answer ≡ option_and_then (λ more. within_64_bits (one.billionths + more)) later → IsSumTold (are_later above (map without_separator (parts_of text))) (billionths (map without_separator (parts_of text))) answer
+pub text_later : (above : ℕ) (text number trimmed letters rest : List ℕ) (last : Bool) (one : told.Part) (later answer : Option ℕ) → parts_of text ≡ part number letters ∷ parts_of rest → trimmed ≡ drop (cond (begins is_underscore number) 1 0) number → TellsPart (part trimmed letters) one → last ≡ is_empty rest → may_stand one above last ≡ true → IsSumTold (are_later one.milliseconds (map without_separator (parts_of rest))) (billionths (map without_separator (parts_of rest))) later → answer ≡ option_and_then (λ more. within_64_bits (one.billionths + more)) later → IsSumTold (are_later above (map without_separator (parts_of text))) (billionths (map without_separator (parts_of text))) answer
 text_later above text number trimmed letters rest last one later answer e t tells l h told a =
     subst (λ ps. IsSumTold (are_later above (map without_separator ps)) (billionths (map without_separator ps)) answer) (sym e)
-    (later_sum above (without_separator (part number letters)) (map without_separator (parts_of rest)) one later answer (subst (λ n. Tells (part n letters) one) t tells) (ap (may_stand one above) (sym (l ∙ last_is rest)) ∙ h) told a)
+    (later_sum above (without_separator (part number letters)) (map without_separator (parts_of rest)) one later answer (subst (λ n. TellsPart (part n letters) one) t tells) (ap (may_stand one above) (sym (l ∙ last_is rest)) ∙ h) told a)
 
 -- the parts of a duration by those of its text
 abbrev pub separated : List Part → List Part
 separated parts = take 1 parts ++ map without_separator (drop 1 parts)
 
 -- the sum of all parts in a text
-pub text_all : (text number letters rest : List ℕ) (last : Bool) (one : told.Part) (later answer : Option ℕ) → parts_of text ≡ part number letters ∷ parts_of rest → Tells (part number letters) one → last ≡ is_empty rest → (not one.has_point || last) ≡ true → IsSumTold (are_later one.milliseconds (map without_separator (parts_of rest))) (billionths (map without_separator (parts_of rest))) later → answer ≡ option_and_then (λ more. within_64_bits (one.billionths + more)) later → IsSumTold (are_duration_parts (duration_parts text)) (billionths (duration_parts text)) answer
+pub text_all : (text number letters rest : List ℕ) (last : Bool) (one : told.Part) (later answer : Option ℕ) → parts_of text ≡ part number letters ∷ parts_of rest → TellsPart (part number letters) one → last ≡ is_empty rest → (not one.has_point || last) ≡ true → IsSumTold (are_later one.milliseconds (map without_separator (parts_of rest))) (billionths (map without_separator (parts_of rest))) later → answer ≡ option_and_then (λ more. within_64_bits (one.billionths + more)) later → IsSumTold (are_duration_parts (duration_parts text)) (billionths (duration_parts text)) answer
 text_all text number letters rest last one later answer e tells l h told a =
     subst (λ ps. IsSumTold (are_duration_parts (separated ps)) (billionths (separated ps)) answer) (sym e)
     (all_sum (part number letters) (map without_separator (parts_of rest)) one later answer tells (ap (λ v. not one.has_point || v) (sym (l ∙ last_is rest)) ∙ h) told a)
 
 -- a first part that may not stand
-pub text_unfit : (text number letters rest : List ℕ) (last : Bool) (one : told.Part) → parts_of text ≡ part number letters ∷ parts_of rest → Tells (part number letters) one → last ≡ is_empty rest → (not one.has_point || last) ≡ false → IsSumTold (are_duration_parts (duration_parts text)) (billionths (duration_parts text)) None
+pub text_unfit : (text number letters rest : List ℕ) (last : Bool) (one : told.Part) → parts_of text ≡ part number letters ∷ parts_of rest → TellsPart (part number letters) one → last ≡ is_empty rest → (not one.has_point || last) ≡ false → IsSumTold (are_duration_parts (duration_parts text)) (billionths (duration_parts text)) None
 text_unfit text number letters rest last one e tells l h =
     subst (λ ps. IsSumTold (are_duration_parts (separated ps)) (billionths (separated ps)) None) (sym e)
     (inl (same_form (part number letters) (map without_separator (parts_of rest)) one tells ∙ ap (λ v. v && are_later one.milliseconds (map without_separator (parts_of rest))) (ap (λ v. not one.has_point || v) (sym (l ∙ last_is rest)) ∙ h)))

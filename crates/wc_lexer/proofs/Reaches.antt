@@ -6,8 +6,8 @@ use Rattle.wc_model.proofs.FoundTokens.{Take, Refuse, sight_by_reach, sight_of_l
 use Rattle.wc_model.proofs.Reach.{reach}
 use Rattle.std.proofs.lemmas.Bool.{or_cases}
 use Rattle.std.specs.Cmp.Lexicographic.{bytes_decides}
-use Rattle.wc_model.specs.Blanks.{comment_closing, comment_opening, from_bracket, starts_with_bracket}
-use Rattle.wc_model.specs.Shapes.{Shape, shape_of}
+use Rattle.wc_model.specs.Text.Blanks.{comment_closing, comment_opening, from_bracket, starts_with_bracket}
+use Rattle.wc_model.specs.Text.Shapes.{Shape, shape_of}
 
 -- the longest lexeme is no longer than the text
 pub reach_within : (text : List ℕ) → reach text ≤ length text

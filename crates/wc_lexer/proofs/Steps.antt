@@ -6,11 +6,11 @@ use Rattle.std.proofs.lemmas.List.Sums.{sum_by-append}
 use Rattle.wc_lexer.proofs.PartSums.{empty}
 use Rattle.wc_model.proofs.FoundTokens.{Holds, Pass, Refuse, Sight, Take, sight, sight_holds}
 use Rattle.wc_model.proofs.TokenSteps.{blank_is_filled, lexeme_is_filled}
-use Rattle.wc_model.specs.Blanks.{Blank}
-use Rattle.wc_model.specs.Characters.{is_line_feed}
-use Rattle.wc_model.specs.Lexemes.{IsLongest}
-use Rattle.wc_model.specs.Shapes.{Shape, shape_of}
-use Rattle.wc_model.specs.Tokens.{AtEnd, Cuts, Faulty, IsCut, IsFirstFault, Nothing, Skipped, Stands, Taken, Token, line_after, most_bytes, token_behind}
+use Rattle.wc_model.specs.Text.Blanks.{Blank}
+use Rattle.wc_model.specs.Text.Characters.{is_line_feed}
+use Rattle.wc_model.specs.Text.Lexemes.{IsLongestLexeme}
+use Rattle.wc_model.specs.Text.Shapes.{Shape, shape_of}
+use Rattle.wc_model.specs.Text.Tokens.{AtEnd, Cuts, Faulty, IsCut, IsFirstTokenFault, Nothing, Skipped, Stands, Taken, Token, line_after, most_bytes, token_behind}
 
 -- what goes on from here completes these tokens
 abbrev pub Goes : (List ℕ → List ℕ → Type 0) → List ℕ → ℕ → List Token → Type 0
@@ -34,7 +34,7 @@ pub blank_goes : (Ends : List ℕ → List ℕ → Type 0) (text : List ℕ) (n 
 blank_goes Ends text n count tokens blank goes more cuts = goes more (Skipped (take count (drop n text)) (drop count (drop n text)) (take-append-drop count (drop n text)) blank (moved Ends text n count more cuts))
 
 -- over a token
-pub token_goes : (Ends : List ℕ → List ℕ → Type 0) (text : List ℕ) (n count : ℕ) (tokens : List Token) (shape : Shape) → IsLongest (take count (drop n text)) (drop count (drop n text)) → shape_of (take count (drop n text)) ≡ Ok shape → Goes Ends text n tokens → Goes Ends text (n + count) (tokens ++ (token_behind (take n text) shape (take count (drop n text)) ∷ []))
+pub token_goes : (Ends : List ℕ → List ℕ → Type 0) (text : List ℕ) (n count : ℕ) (tokens : List Token) (shape : Shape) → IsLongestLexeme (take count (drop n text)) (drop count (drop n text)) → shape_of (take count (drop n text)) ≡ Ok shape → Goes Ends text n tokens → Goes Ends text (n + count) (tokens ++ (token_behind (take n text) shape (take count (drop n text)) ∷ []))
 token_goes Ends text n count tokens shape longest h goes more cuts =
     subst (Cuts Ends [] text) (sym (append_assoc tokens (token_behind (take n text) shape (take count (drop n text)) ∷ []) more))
     (goes (token_behind (take n text) shape (take count (drop n text)) ∷ more) (Taken shape (take count (drop n text)) (drop count (drop n text)) (take-append-drop count (drop n text)) longest h (moved Ends text n count more cuts)))
@@ -77,7 +77,7 @@ cut_at_end text n tokens h going =
     subst (IsCut text) (append-nil tokens) (going.at_end [] (Nothing (empty (drop n text) (omega (arith, length-drop n text)))))
 
 -- at a fault it is the first
-pub fault_here : (text rest : List ℕ) (n number line : ℕ) (tokens : List Token) → length text ≤ most_bytes → rest ≡ drop n text → n < length text → Refuse number ≡ sight rest → line ≡ line_after (take n text) → Going text n tokens → IsFirstFault text number line
+pub fault_here : (text rest : List ℕ) (n number line : ℕ) (tokens : List Token) → length text ≤ most_bytes → rest ≡ drop n text → n < length text → Refuse number ≡ sight rest → line ≡ line_after (take n text) → Going text n tokens → IsFirstTokenFault text number line
 fault_here text rest n number line tokens short r h e l going =
     let held = holds_at (drop n text) (Refuse number) (some_left text n h) (e ∙ ap sight r) in
     Stands (tokens ++ []) short (going.at_fault number line [] (Nothing (record { fault = held; here = l })))

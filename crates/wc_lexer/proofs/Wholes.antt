@@ -4,9 +4,9 @@ use Rattle.std.proofs.lemmas.Bool.{cond-true, cond-false}
 use Rattle.std.specs.Option.{option_and_then}
 use Rattle.wc_lexer.proofs.Widths.{narrowed_size}
 use Rattle.wc_lexer.specs.Widths.{within_64_bits}
-use Rattle.wc_model.specs.Characters.{begins, is_minus, is_plus}
-use Rattle.wc_model.specs.Digits.{digits_of}
-use Rattle.wc_model.specs.WholeNumbers.{unsigned_of, whole_number_of, within_32_bits, written_value}
+use Rattle.wc_model.specs.Text.Characters.{begins, is_minus, is_plus}
+use Rattle.wc_model.specs.Text.Digits.{digits_of}
+use Rattle.wc_model.specs.Text.WholeNumbers.{unsigned_of, whole_number_of, within_32_bits, written_value}
 
 -- a number by its sign
 pub by_sign : (text : List ℕ) → written_value text ≡ cond (begins is_minus text) (option_map (λ n. neg_ℤ (pos n)) (digits_of 10 (drop 1 text))) (cond (begins is_plus text) (option_map pos (digits_of 10 (drop 1 text))) (option_map pos (unsigned_of text)))

@@ -6,9 +6,9 @@ use Rattle.std.specs.Char.{digit_value}
 use Rattle.std.specs.Str.Parse.{digits_value_after}
 use Rattle.std.proofs.lemmas.Bool.{le-ltb, lt-ltb, cases_lt, cond-true, not_from_false, ne_eqb}
 use Rattle.wc_lexer.specs.Widths.{within_64_bits}
-use Rattle.wc_model.specs.Characters.{is_underscore}
-use Rattle.wc_model.specs.Digits.{value_of_digits}
-use Rattle.wc_model.specs.WholeNumbers.{within_32_bits}
+use Rattle.wc_model.specs.Text.Characters.{is_underscore}
+use Rattle.wc_model.specs.Text.Digits.{value_of_digits}
+use Rattle.wc_model.specs.Text.WholeNumbers.{within_32_bits}
 
 -- a number times a base is no smaller
 pub times : (base n : ℕ) → 1 ≤ base → n ≤ n * base

@@ -5,10 +5,10 @@ use Rattle.std.specs.Str.Parse.{digits_value}
 use Rattle.wc_lexer.specs.Widths.{within_64_bits}
 use Rattle.wc_lexer.specs.declared.durations.Part.{Part}
 use Rattle.wc_lexer.specs.declared.durations.TimeUnit.{TimeUnit}
-use Rattle.wc_model.specs.Durations as durations
+use Rattle.wc_model.specs.Text.Durations as durations
 
 -- the part is so long, has this unit and this whole number, and has a point or none
-pub record Tells (part : durations.Part) (told : Part) : Type 0 where
+pub record TellsPart (part : durations.Part) (told : Part) : Type 0 where
   pub form : durations.is_part part ≡ true
   pub milliseconds : told.milliseconds ≡ durations.unit_milliseconds part
   pub below : told.below ≡ durations.unit_below part
@@ -19,7 +19,7 @@ pub record Tells (part : durations.Part) (told : Part) : Type 0 where
 -- a part that tells nothing has a wrong form or is too long for 64 bits
 abbrev pub IsPartTold : durations.Part → Option Part → Type 0
 IsPartTold part None = (durations.is_part part ≡ false) ⊎ (2 ^ 64 ≤ durations.billionths_of part)
-IsPartTold part (Some told) = Tells part told
+IsPartTold part (Some told) = TellsPart part told
 
 -- a part by its unit and its numbers, where its length has 64 bits
 abbrev pub part_by : TimeUnit → Option ℕ → Option ℕ → Bool → Option Part

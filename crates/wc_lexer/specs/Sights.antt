@@ -1,6 +1,6 @@
 -- What the lexer's functions say of a place in a text.
 use Rattle.std.specs.Prelude.{ℕ, ◌≤◌, List, [], ◌∷◌}
-use Rattle.wc_lexer.specs.Views.{said_shape}
+use Rattle.wc_lexer.specs.Views.{shape_view}
 use Rattle.wc_lexer.specs.declared.piece.Piece.{Piece}
 use Rattle.wc_lexer.specs.declared.piece.Piece.TheVariants.{Blank, Lexeme, Fault}
 use Rattle.wc_model.proofs.FoundTokens.{Sight, Pass, Take, Refuse}
@@ -14,7 +14,7 @@ mark_reach_of (b ∷ rest) = mark_reach b rest
 -- what a piece says of its place
 abbrev pub said_sight : Piece → Sight
 said_sight (Blank count) = Pass count
-said_sight (Lexeme count shape) = Take count (said_shape shape)
+said_sight (Lexeme count shape) = Take count (shape_view shape)
 said_sight (Fault number) = Refuse number
 
 -- the piece has at most so many bytes

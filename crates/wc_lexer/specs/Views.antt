@@ -3,33 +3,33 @@ use Rattle.std.specs.Prelude.{ℕ, Result, Ok, Err}
 use Rattle.wc_lexer.specs.declared.shape.Shape.{Shape}
 use Rattle.wc_lexer.specs.declared.shape.Shape.TheVariants.{Identifier, Whole, Duration, Truth, Address, And, AndNot, Opening, Closing, Comma, Colon, Semicolon, Point, Assign, Arrow, LineEnd}
 use Rattle.wc_lexer.specs.declared.shape.Token.{Token}
-use Rattle.wc_model.specs.Shapes as shapes
-use Rattle.wc_model.specs.Tokens as tokens
+use Rattle.wc_model.specs.Text.Shapes as shapes
+use Rattle.wc_model.specs.Text.Tokens as tokens
 
 -- the shape that a value of the lexer stands for
-abbrev pub said_shape : Shape → shapes.Shape
-said_shape Identifier = shapes.Identifier
-said_shape (Whole value) = shapes.Whole value
-said_shape (Duration milliseconds) = shapes.Duration milliseconds
-said_shape (Truth value) = shapes.Truth value
-said_shape Address = shapes.Address
-said_shape And = shapes.And
-said_shape AndNot = shapes.AndNot
-said_shape Opening = shapes.Opening
-said_shape Closing = shapes.Closing
-said_shape Comma = shapes.Comma
-said_shape Colon = shapes.Colon
-said_shape Semicolon = shapes.Semicolon
-said_shape Point = shapes.Point
-said_shape Assign = shapes.Assign
-said_shape Arrow = shapes.Arrow
-said_shape LineEnd = shapes.LineEnd
+abbrev pub shape_view : Shape → shapes.Shape
+shape_view Identifier = shapes.Identifier
+shape_view (Whole value) = shapes.Whole value
+shape_view (Duration milliseconds) = shapes.Duration milliseconds
+shape_view (Truth value) = shapes.Truth value
+shape_view Address = shapes.Address
+shape_view And = shapes.And
+shape_view AndNot = shapes.AndNot
+shape_view Opening = shapes.Opening
+shape_view Closing = shapes.Closing
+shape_view Comma = shapes.Comma
+shape_view Colon = shapes.Colon
+shape_view Semicolon = shapes.Semicolon
+shape_view Point = shapes.Point
+shape_view Assign = shapes.Assign
+shape_view Arrow = shapes.Arrow
+shape_view LineEnd = shapes.LineEnd
 
 -- the shape of a lexeme, or its fault's number
-abbrev pub said_judgement : Result Shape ℕ → Result shapes.Shape ℕ
-said_judgement (Ok shape) = Ok (said_shape shape)
-said_judgement (Err number) = Err number
+abbrev pub judgement_view : Result Shape ℕ → Result shapes.Shape ℕ
+judgement_view (Ok shape) = Ok (shape_view shape)
+judgement_view (Err number) = Err number
 
 -- the token that a token of the lexer stands for
-abbrev pub said_token : Token → tokens.Token
-said_token token = record { shape = said_shape token.shape; text = token.text.now; start = token.start; line = token.line }
+abbrev pub token_view : Token → tokens.Token
+token_view token = record { shape = shape_view token.shape; text = token.text.now; start = token.start; line = token.line }

@@ -1,5 +1,5 @@
 ghost use Rattle.std.specs.Prelude.{◌≡◌};
-ghost use Rattle.wc_model.specs.Characters.{is_address_character, is_identifier_character, is_number_character, is_sign, starts_identifier};
+ghost use Rattle.wc_model.specs.Text.Characters.{is_address_character, is_identifier_character, is_number_character, is_sign, starts_identifier};
 
 /// An identifier starts with a letter or an underscore.
 pub(crate) fn starts_identifier(byte: u8) -> bool

@@ -5,9 +5,9 @@ ghost use Rattle.std.specs.List.{after_first, before_first, list_all, list_any};
 ghost use Rattle.std.specs.Str.Parse.{digits_value};
 ghost use Rattle.wc_lexer.specs.Parts.{IsPartTold, IsSumTold, are_later, fraction_told, part_by};
 ghost use Rattle.wc_lexer.specs.Widths.{within_64_bits};
-ghost use Rattle.wc_model.specs.Characters.{begins, is_empty, is_point, is_underscore};
-ghost use Rattle.wc_model.specs.Digits.{are_digits, value_of_digits};
-ghost use Rattle.wc_model.specs.Durations.{are_duration_parts, billionths, duration_of, duration_parts, milliseconds_of, parts_of, unit_named, without_separator};
+ghost use Rattle.wc_model.specs.Text.Characters.{begins, is_empty, is_point, is_underscore};
+ghost use Rattle.wc_model.specs.Text.Digits.{are_digits, value_of_digits};
+ghost use Rattle.wc_model.specs.Text.Durations.{are_duration_parts, billionths, duration_of, duration_parts, milliseconds_of, parts_of, unit_named, without_separator};
 
 use crate::fronts::{
     begins_with, behind_first, is_word, length_before, letterless_length, letters_length,

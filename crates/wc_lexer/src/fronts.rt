@@ -1,8 +1,8 @@
 ghost use Rattle.std.specs.Prelude.{◌≡◌, ◌≤◌, ◌==◌, length, true, drop, false, not, MatchOption, bytes_eq};
 ghost use Rattle.std.specs.Char.{is_ascii_alphabetic};
 ghost use Rattle.std.specs.List.{after_first, before_first, list_any, position_or_len, prefix_len};
-ghost use Rattle.wc_model.specs.Characters.{begins, is_address_character, is_identifier_character, is_number_character};
-ghost use Rattle.wc_model.specs.Names.{name_of};
+ghost use Rattle.wc_model.specs.Text.Characters.{begins, is_address_character, is_identifier_character, is_number_character};
+ghost use Rattle.wc_model.specs.Language.Names.{name_of};
 
 use crate::characters::{is_address_character, is_identifier_character, is_number_character};
 

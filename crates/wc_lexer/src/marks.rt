@@ -1,15 +1,15 @@
 ghost use Rattle.std.specs.Prelude.{◌≡◌, option_map};
-ghost use Rattle.wc_lexer.specs.Views.{said_shape};
+ghost use Rattle.wc_lexer.specs.Views.{shape_view};
 ghost use Rattle.wc_model.proofs.Reach.{is_mark_before, mark_reach};
-ghost use Rattle.wc_model.specs.Lexemes.{may_stand_before};
-ghost use Rattle.wc_model.specs.Shapes.{mark_of};
+ghost use Rattle.wc_model.specs.Text.Lexemes.{may_stand_before};
+ghost use Rattle.wc_model.specs.Text.Shapes.{mark_of};
 
 use crate::Shape;
 use crate::characters::is_identifier_character;
 
 /// The mark that is spelled so.
 pub(crate) fn mark(spelling: &[u8]) -> Option<Shape>
-    ensures { option_map said_shape result ≡ mark_of spelling.now }
+    ensures { option_map shape_view result ≡ mark_of spelling.now }
 {
     match spelling {
         b"&" => Some(Shape::And),
@@ -29,7 +29,7 @@ pub(crate) fn mark(spelling: &[u8]) -> Option<Shape>
 
 /// `&N` ends where no character of an identifier follows, and `(` before `*` opens a comment.
 pub(crate) fn may_stand_before(shape: Shape, after: &[u8]) -> bool
-    ensures { result ≡ may_stand_before (said_shape shape) after.now }
+    ensures { result ≡ may_stand_before (shape_view shape) after.now }
 {
     match (shape, after) {
         (Shape::AndNot, [first, ..]) => !is_identifier_character(*first),

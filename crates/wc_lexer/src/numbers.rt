@@ -2,9 +2,9 @@ ghost use Rattle.std.specs.Prelude.{◌≡◌, ◌≤◌, ◌+◌, ◌*◌, ◌|
 ghost use Rattle.std.specs.Char.{digit_value, is_digit};
 ghost use Rattle.std.specs.List.{list_all};
 ghost use Rattle.wc_lexer.specs.Widths.{within_64_bits};
-ghost use Rattle.wc_model.specs.Characters.{begins, is_underscore};
-ghost use Rattle.wc_model.specs.Digits.{are_digits, digits_of, has_single_underscores, value_of_digits};
-ghost use Rattle.wc_model.specs.WholeNumbers.{base_of, unsigned_of, whole_number_of, within_32_bits};
+ghost use Rattle.wc_model.specs.Text.Characters.{begins, is_underscore};
+ghost use Rattle.wc_model.specs.Text.Digits.{are_digits, digits_of, has_single_underscores, value_of_digits};
+ghost use Rattle.wc_model.specs.Text.WholeNumbers.{base_of, unsigned_of, whole_number_of, within_32_bits};
 
 use crate::fronts::{begins_with, behind_first, cut_at};
 

@@ -1,9 +1,9 @@
 ghost use Rattle.std.specs.Prelude.{◌≡◌, if◌then◌else◌, ok_or};
 ghost use Rattle.std.specs.List.{list_any};
-ghost use Rattle.wc_lexer.specs.Views.{said_judgement};
-ghost use Rattle.wc_model.specs.Characters.{is_hash};
-ghost use Rattle.wc_model.specs.Names.{name_of};
-ghost use Rattle.wc_model.specs.Shapes.{duration_shape, identifier_shape, literal_shape, number_shape, shape_of, truth_shape, typed_shape, mark_of};
+ghost use Rattle.wc_lexer.specs.Views.{judgement_view};
+ghost use Rattle.wc_model.specs.Text.Characters.{is_hash};
+ghost use Rattle.wc_model.specs.Language.Names.{name_of};
+ghost use Rattle.wc_model.specs.Text.Shapes.{duration_shape, identifier_shape, literal_shape, number_shape, shape_of, truth_shape, typed_shape, mark_of};
 
 use crate::Shape;
 use crate::characters::{is_sign, starts_identifier};
@@ -14,7 +14,7 @@ use crate::numbers::{has_single_underscores, whole_number};
 
 /// An identifier has at most 32 characters and single underscores.
 fn identifier_shape(lexeme: &[u8]) -> Result<Shape, u16>
-    ensures { said_judgement result ≡ identifier_shape lexeme.now }
+    ensures { judgement_view result ≡ identifier_shape lexeme.now }
 {
     if lexeme.len() <= 32 && has_single_underscores(lexeme) {
         Ok(Shape::Identifier)
@@ -25,7 +25,7 @@ fn identifier_shape(lexeme: &[u8]) -> Result<Shape, u16>
 
 /// A number has one of the forms of whole-number literals.
 fn number_shape(lexeme: &[u8]) -> Result<Shape, u16>
-    ensures { said_judgement result ≡ number_shape lexeme.now }
+    ensures { judgement_view result ≡ number_shape lexeme.now }
 {
     match whole_number(lexeme) {
         Some(value) => Ok(Shape::Whole(value)),
@@ -35,7 +35,7 @@ fn number_shape(lexeme: &[u8]) -> Result<Shape, u16>
 
 /// `BOOL#0` and `BOOL#1` are truth values.
 fn truth_shape(value: &[u8]) -> Result<Shape, u16>
-    ensures { said_judgement result ≡ truth_shape value.now }
+    ensures { judgement_view result ≡ truth_shape value.now }
 {
     match value {
         b"0" => Ok(Shape::Truth(false)),
@@ -46,7 +46,7 @@ fn truth_shape(value: &[u8]) -> Result<Shape, u16>
 
 /// `T#` and `TIME#` stand before durations.
 fn duration_shape(value: &[u8]) -> Result<Shape, u16>
-    ensures { said_judgement result ≡ duration_shape value.now }
+    ensures { judgement_view result ≡ duration_shape value.now }
 {
     match duration(value) {
         Some(milliseconds) => Ok(Shape::Duration(milliseconds)),
@@ -56,7 +56,7 @@ fn duration_shape(value: &[u8]) -> Result<Shape, u16>
 
 /// A literal by its type's name and what stands behind the `#`.
 fn typed_shape(name: &[u8], value: &[u8]) -> Result<Shape, u16>
-    ensures { said_judgement result ≡ typed_shape (name_of name.now) value.now }
+    ensures { judgement_view result ≡ typed_shape (name_of name.now) value.now }
 {
     if is_word(name, b"bool") {
         truth_shape(value)
@@ -69,7 +69,7 @@ fn typed_shape(name: &[u8], value: &[u8]) -> Result<Shape, u16>
 
 /// An identifier, or a typed literal where it holds a `#`.
 fn word_shape(lexeme: &[u8]) -> Result<Shape, u16>
-    ensures { said_judgement result ≡ (if list_any is_hash lexeme.now then literal_shape lexeme.now else identifier_shape lexeme.now) }
+    ensures { judgement_view result ≡ (if list_any is_hash lexeme.now then literal_shape lexeme.now else identifier_shape lexeme.now) }
 {
     match cut_at(lexeme, b'#') {
         Some((name, value)) => typed_shape(name, value),
@@ -79,7 +79,7 @@ fn word_shape(lexeme: &[u8]) -> Result<Shape, u16>
 
 /// A mark.
 fn mark_shape(lexeme: &[u8]) -> Result<Shape, u16>
-    ensures { said_judgement result ≡ ok_or (mark_of lexeme.now) 101 }
+    ensures { judgement_view result ≡ ok_or (mark_of lexeme.now) 101 }
 {
     match mark(lexeme) {
         Some(shape) => Ok(shape),
@@ -89,7 +89,7 @@ fn mark_shape(lexeme: &[u8]) -> Result<Shape, u16>
 
 /// The shape of a lexeme, or the number of its fault.
 pub(crate) fn shape(lexeme: &[u8]) -> Result<Shape, u16>
-    ensures { said_judgement result ≡ shape_of lexeme.now }
+    ensures { judgement_view result ≡ shape_of lexeme.now }
 {
     match lexeme {
         [first, ..] if starts_identifier(*first) => word_shape(lexeme),

@@ -1,7 +1,7 @@
 ghost use Rattle.std.specs.Prelude.{◌≡◌, ◌≤◌, count_by, length};
 ghost use Rattle.wc_model.proofs.FoundTokens.{opens_comment, starts_space};
-ghost use Rattle.wc_model.specs.Blanks.{from_bracket, starts_with_bracket};
-ghost use Rattle.wc_model.specs.Characters.{is_line_feed};
+ghost use Rattle.wc_model.specs.Text.Blanks.{from_bracket, starts_with_bracket};
+ghost use Rattle.wc_model.specs.Text.Characters.{is_line_feed};
 
 /// A comment opens here.
 pub(crate) fn opens_comment(text: &[u8]) -> bool

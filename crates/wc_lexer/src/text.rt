@@ -1,7 +1,7 @@
 ghost use Rattle.std.specs.Prelude.{◌≤◌, IfErr, IfOk, length, map};
 ghost use Rattle.wc_lexer.specs.Refusals.{Names};
-ghost use Rattle.wc_lexer.specs.Views.{said_token};
-ghost use Rattle.wc_model.specs.Tokens.{IsCut, most_bytes};
+ghost use Rattle.wc_lexer.specs.Views.{token_view};
+ghost use Rattle.wc_model.specs.Text.Tokens.{IsCut, most_bytes};
 
 use crate::Token;
 use crate::piece::{Piece, first_piece};
@@ -11,7 +11,7 @@ use wc_model::Fault;
 
 /// The tokens of a text, or its first fault.
 pub fn tokens<'a>(alloc: Global, text: &'a [u8]) -> Result<Vec<Token<'a>>, Fault>
-    ensures cut { IfOk result (λ tokens. (length text.now ≤ most_bytes) × IsCut text.now (map said_token tokens.items)) }
+    ensures cut { IfOk result (λ tokens. (length text.now ≤ most_bytes) × IsCut text.now (map token_view tokens.items)) }
     ensures refused { IfErr result (λ fault. Names text.now fault) }
 {
     if text.len() > 65536 {

@@ -10,11 +10,11 @@ use Rattle.std.specs.Int.{is_negative}
 use Rattle.std.specs.List.{list_all, slice_index_or}
 use Rattle.wc_model.proofs.Indication.{tare_same_at_zero, tare_ended, tare_new, tare_same, no_intervals}
 use Rattle.wc_model.proofs.Rounding.{quotient_bounds}
-use Rattle.wc_model.specs.WeighingHistories.{Sample, SetZero, SetTare, ClearTare, History}
-use Rattle.wc_model.specs.Indication.{refused_unless, has_sample, is_stable, is_over, is_under, is_valid, is_centre_of_zero, can_be_tared, zero_refusal, tare_refusal, from_zero, active_tare, is_tare_active, tare_counts, intervals_of, gross_intervals, net_intervals, in_units, tare_value, gross, net}
-use Rattle.wc_model.specs.Plates.{PlateData, IsPlate, allowed_intervals, grams, kilograms, tonnes}
-use Rattle.wc_model.specs.Rounding.{nearest, nearest_above_zero}
-use Rattle.wc_model.specs.Answers.{last_digits, minus_of, value_text, weight_text, Mode, Shown, Tare, Asked, Plain, ZeroRefused, TareRefused, status_byte, mode_byte, weight_asked, answer, answer_to, answers_to, command_of, after_command, after_requests}
+use Rattle.wc_model.specs.Instrument.WeighingHistories.{Sample, SetZero, SetTare, ClearTare, History}
+use Rattle.wc_model.specs.Instrument.Indication.{refused_unless, has_sample, is_stable, is_over, is_under, is_valid, is_centre_of_zero, can_be_tared, zero_refusal, tare_refusal, from_zero, active_tare, is_tare_active, tare_counts, intervals_of, gross_intervals, net_intervals, in_units, tare_value, gross, net}
+use Rattle.wc_model.specs.Instrument.Plates.{PlateData, IsPlate, allowed_intervals, grams, kilograms, tonnes}
+use Rattle.wc_model.specs.Instrument.Rounding.{nearest, nearest_above_zero}
+use Rattle.wc_model.specs.Instrument.Answers.{last_digits, minus_of, value_text, weight_text, Mode, Shown, Tare, Asked, Plain, ZeroRefused, TareRefused, status_byte, mode_byte, weight_asked, answer, answer_to, answers_to, command_of, after_command, after_requests}
 
 -- how far from 0 the nearest number is
 abs_nearest : (num : ℤ) (span : ℕ) → unsigned_abs (nearest num span) ≡ nearest_above_zero (unsigned_abs num) span

@@ -7,9 +7,9 @@ use Rattle.std.specs.Option.{option_map_or}
 use Rattle.std.proofs.lemmas.Bool.{and_from, cases_Bool, or_left, or_from, not_from_false, eqb-true, cond-true, cond-false}
 use Rattle.std.proofs.lemmas.List.Folds.{length-prefix_len}
 use Rattle.wc_model.proofs.Reach.{hash_reach, is_mark_before, is_pair_mark, longest_at, mark_reach, reach, reach_digit, reach_mark, reach_sign, reach_word, starts_mark, value_reach, word_reach}
-use Rattle.wc_model.specs.Characters.{begins, is_address_character, is_hash, is_identifier_character, is_minus, is_number_character, is_percent, is_sign, is_underscore, starts_identifier}
-use Rattle.wc_model.specs.Lexemes.{Lexeme, Run, Typed, Unsigned, Signed, Sign, Place, Marked, IsLongest, is_literal_value, may_stand_before}
-use Rattle.wc_model.specs.Shapes.{Shape, mark_of}
+use Rattle.wc_model.specs.Text.Characters.{begins, is_address_character, is_hash, is_identifier_character, is_minus, is_number_character, is_percent, is_sign, is_underscore, starts_identifier}
+use Rattle.wc_model.specs.Text.Lexemes.{Lexeme, Run, Typed, Unsigned, Signed, Sign, Place, Marked, IsLongestLexeme, is_literal_value, may_stand_before}
+use Rattle.wc_model.specs.Text.Shapes.{Shape, mark_of}
 
 -- a lexeme as long as the look ahead
 pub record Attained (rest : List ℕ) : Type 0 where
@@ -192,5 +192,5 @@ attained b rest some = ⊎_elim (λ word. word_attained b rest word) (λ no_word
         mark_attained b rest mark (subst (λ n. 1 ≤ n) (reach_mark b rest mark) some)
 
 -- what is as long as the look ahead is the longest lexeme
-pub attained_longest : (rest : List ℕ) → (here : Attained rest) → IsLongest here.piece here.after
+pub attained_longest : (rest : List ℕ) → (here : Attained rest) → IsLongestLexeme here.piece here.after
 attained_longest rest here = longest_at here.piece here.after here.lexeme (ap reach here.whole ∙ here.full)

@@ -3,8 +3,8 @@ use Rattle.std.proofs.Common.{◌≡◌, ℕ, Bool, true, false, cond, List, [],
 use Rattle.std.specs.Char.{is_ascii_alphabetic}
 use Rattle.std.specs.List.{list_all}
 use Rattle.std.proofs.lemmas.Bool.{and_parts, cond-true, cond-false}
-use Rattle.wc_model.specs.Characters.{begins}
-use Rattle.wc_model.specs.Durations.{Part, onto_parts, parts_of}
+use Rattle.wc_model.specs.Text.Characters.{begins}
+use Rattle.wc_model.specs.Text.Durations.{Part, onto_parts, parts_of}
 
 -- no byte is a letter
 abbrev pub has_no_letter : List ℕ → Bool

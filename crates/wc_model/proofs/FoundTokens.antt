@@ -6,12 +6,12 @@ use Rattle.std.specs.List.{starts_with}
 use Rattle.wc_model.proofs.Attained.{attained, attained_longest}
 use Rattle.wc_model.proofs.Reach.{reach}
 use Rattle.wc_model.proofs.TokenSteps.{none_in_reach, blank_is_filled, lexeme_is_filled}
-use Rattle.wc_model.specs.Blanks.{Blank, Space, Tab, Return, Comment, comment_opening, comment_closing, from_bracket, starts_with_bracket}
-use Rattle.wc_model.specs.Characters.{begins, is_line_feed, is_star}
-use Rattle.wc_model.specs.Lexemes.{IsLongest}
-use Rattle.wc_model.specs.Shapes.{Shape, shape_of}
-use Rattle.wc_model.specs.TokenLaws.{CutOrFault}
-use Rattle.wc_model.specs.Tokens.{AtEnd, Cuts, Nothing, Skipped, Taken, Faulty, FaultAt, Foreign, Unclosed, Nested, Malformed, IsCut, IsFirstFault, TooLong, Stands, Token, line_after, most_bytes, token_behind}
+use Rattle.wc_model.specs.Text.Blanks.{Blank, Space, Tab, Return, Comment, comment_opening, comment_closing, from_bracket, starts_with_bracket}
+use Rattle.wc_model.specs.Text.Characters.{begins, is_line_feed, is_star}
+use Rattle.wc_model.specs.Text.Lexemes.{IsLongestLexeme}
+use Rattle.wc_model.specs.Text.Shapes.{Shape, shape_of}
+use Rattle.wc_model.specs.Text.TokenLaws.{CutOrFault}
+use Rattle.wc_model.specs.Text.Tokens.{AtEnd, Cuts, Nothing, Skipped, Taken, Faulty, FaultAt, Foreign, Unclosed, Nested, Malformed, IsCut, IsFirstTokenFault, TooLong, Stands, Token, line_after, most_bytes, token_behind}
 
 -- what stands at a place: a blank of that length, a token of that length, or a fault
 pub data Sight : Type 0 where
@@ -78,7 +78,7 @@ found text = found_from (length text) [] text
 -- what a sight says of the text
 abbrev pub Holds : List ℕ → Sight → Type 0
 Holds text (Pass count) = Blank (take count text) (drop count text)
-Holds text (Take count shape) = IsLongest (take count text) (drop count text) × (shape_of (take count text) ≡ Ok shape)
+Holds text (Take count shape) = IsLongestLexeme (take count text) (drop count text) × (shape_of (take count text) ≡ Ok shape)
 Holds text (Refuse number) = FaultAt text number
 
 -- a text that starts with another
@@ -145,7 +145,7 @@ no_blank_here text no_comment no_space piece after e (Return s lf) = true≢fals
 no_blank_here text no_comment no_space piece after e (Comment c) = true≢false (subst (λ t. opens_comment t ≡ false) (sym e ∙ c.opens) no_comment)
 
 -- a lexeme as long as the look ahead, by its shape
-shape_holds : (text : List ℕ) (count : ℕ) → IsLongest (take count text) (drop count text) → Holds text (sight_of_lexeme count (shape_of (take count text)))
+shape_holds : (text : List ℕ) (count : ℕ) → IsLongestLexeme (take count text) (drop count text) → Holds text (sight_of_lexeme count (shape_of (take count text)))
 shape_holds text count longest = go (shape_of (take count text)) refl
   where
     go : (judged : Result Shape ℕ) → shape_of (take count text) ≡ judged → Holds text (sight_of_lexeme count judged)
@@ -171,7 +171,7 @@ outside_holds b rest no_comment =
         let longest = attained_longest (b ∷ rest) here in
         let same : here.piece ≡ take (suc n) (b ∷ rest) = sym (take_at here.piece here.after (suc n) long) ∙ ap (take (suc n)) here.whole in
         let left : here.after ≡ drop (suc n) (b ∷ rest) = sym (drop_at here.piece here.after (suc n) long) ∙ ap (drop (suc n)) here.whole in
-        shape_holds (b ∷ rest) (suc n) (subst₂ IsLongest same left longest)
+        shape_holds (b ∷ rest) (suc n) (subst₂ IsLongestLexeme same left longest)
 
 -- what stands here is what the definitions say
 pub sight_holds : (b : ℕ) (rest : List ℕ) → Holds (b ∷ rest) (sight (b ∷ rest))
@@ -198,7 +198,7 @@ Claim before rest (Ok tokens) = Cuts AtEnd before rest tokens
 Claim before rest (Err fault) = (tokens : List Token) × Cuts (Faulty fault.0 fault.1) before rest tokens
 
 -- a token before what is found behind it
-token_claims : (before rest : List ℕ) (shape : Shape) (piece after : List ℕ) → piece ++ after ≡ rest → IsLongest piece after → shape_of piece ≡ Ok shape → (behind : Result (List Token) (ℕ × ℕ)) → Claim (before ++ piece) after behind → Claim before rest (with_token (token_behind before shape piece) behind)
+token_claims : (before rest : List ℕ) (shape : Shape) (piece after : List ℕ) → piece ++ after ≡ rest → IsLongestLexeme piece after → shape_of piece ≡ Ok shape → (behind : Result (List Token) (ℕ × ℕ)) → Claim (before ++ piece) after behind → Claim before rest (with_token (token_behind before shape piece) behind)
 token_claims before rest shape piece after e longest h (Ok tokens) more = Taken shape piece after e longest h more
 token_claims before rest shape piece after e longest h (Err fault) more = (token_behind before shape piece ∷ more.0, Taken shape piece after e longest h more.1)
 
@@ -229,7 +229,7 @@ pub found_cut : (text : List ℕ) (tokens : List Token) → found text ≡ Ok to
 found_cut text tokens e = subst (Claim [] text) e (found_claims (length text) [] text (omega arith))
 
 -- the fault that is found is the text's first
-pub found_fault : (text : List ℕ) (number line : ℕ) → length text ≤ most_bytes → found text ≡ Err (number, line) → IsFirstFault text number line
+pub found_fault : (text : List ℕ) (number line : ℕ) → length text ≤ most_bytes → found text ≡ Err (number, line) → IsFirstTokenFault text number line
 found_fault text number line short e =
     let claim = subst (Claim [] text) e (found_claims (length text) [] text (omega arith)) in
     Stands claim.0 short claim.1
@@ -238,6 +238,6 @@ found_fault text number line short e =
 pub cut_or_fault : CutOrFault
 cut_or_fault text = ⊎_elim (λ long. inr (107, 0, TooLong long)) (λ short. go short (found text) (found_claims (length text) [] text (omega arith))) (cases_lt most_bytes (length text))
   where
-    go : length text ≤ most_bytes → (answer : Result (List Token) (ℕ × ℕ)) → Claim [] text answer → ((tokens : List Token) × IsCut text tokens) ⊎ ((number : ℕ) × (line : ℕ) × IsFirstFault text number line)
+    go : length text ≤ most_bytes → (answer : Result (List Token) (ℕ × ℕ)) → Claim [] text answer → ((tokens : List Token) × IsCut text tokens) ⊎ ((number : ℕ) × (line : ℕ) × IsFirstTokenFault text number line)
     go short (Ok tokens) claim = inl (tokens, claim)
     go short (Err fault) claim = inr (fault.0, fault.1, Stands claim.0 short claim.1)

@@ -2,7 +2,7 @@
 use Rattle.std.proofs.Common.{◌≡◌, Bool, List, [], ◌∷◌, ◌++◌, ap, append_assoc, append-nil, ◌∙◌, sym, inl, inr}
 use Rattle.std.proofs.lemmas.List.Elements.{filter-append}
 use Rattle.std.specs.Prelude.{not}
-use Rattle.wc_model.specs.Languages.{Language, one, skipping, ◌then◌, ◌or◌, front_of}
+use Rattle.wc_model.specs.Text.Languages.{Language, one, skipping, ◌then◌, ◌or◌, front_of}
 use Rattle.wc_model.proofs.Languages.{joined}
 
 -- a whole list is a front

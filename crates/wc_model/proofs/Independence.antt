@@ -2,11 +2,11 @@
 use Rattle.std.proofs.Common.{◌≡◌, ℕ, List, [], ◌∷◌, ◌++◌, refl, ap, sym, ◌∙◌, append-nil}
 use Rattle.std.proofs.lemmas.List.Elements.{filter-append}
 use Rattle.std.specs.Prelude.{filter}
-use Rattle.wc_model.specs.WeighingHistories.{last_items}
-use Rattle.wc_model.specs.Independence.{indicator_rows, IsFreeOfScans, IsFreeOfPrograms}
-use Rattle.wc_model.specs.Plates.{PlateData}
-use Rattle.wc_model.specs.Report.{Scans, is_answer_line, is_scan_line, answer_line, lines_with, report_lines, answer_lines, report_text}
-use Rattle.wc_model.specs.Rows.{RowData, Counts, Bytes, Inputs, Scan, LogRow, Past, line_bytes, history_with, history_of, answer_with, answer_of_row}
+use Rattle.wc_model.specs.Instrument.WeighingHistories.{last_items}
+use Rattle.wc_model.specs.Instrument.Independence.{indicator_rows, IsFreeOfScans, IsFreeOfPrograms}
+use Rattle.wc_model.specs.Instrument.Plates.{PlateData}
+use Rattle.wc_model.specs.Say.Report.{Scans, is_answer_line, is_scan_line, answer_line, lines_with, report_lines, answer_lines, report_text}
+use Rattle.wc_model.specs.Run.Rows.{RowData, Counts, Bytes, Inputs, Scan, LogRow, Past, line_bytes, history_with, history_of, answer_with, answer_of_row}
 
 -- a row adds the same bytes, whether scans and inputs are there or not
 bytes_with : (number ms : ℕ) (brings : RowData) (before : Past) → line_bytes before ≡ line_bytes (indicator_rows before) →

@@ -5,10 +5,10 @@ use Rattle.std.proofs.lemmas.Bool.{and_left, lt-leb}
 use Rattle.std.proofs.lemmas.Int.{ints}
 use Rattle.std.specs.Prelude.{ℤ, pos, ◌-ℤ◌, Some, None, IsSome, is_some, unwrap_or, nat_le}
 use Rattle.std.specs.Option.{option_map_or}
-use Rattle.wc_model.specs.WeighingHistories.{Event, SetZero, SetTare, History, Moment, last_that, samples}
-use Rattle.wc_model.specs.Indication.{zero_refusal, tare_refusal, zero_point, active_tare, from_zero, present_counts, intervals_of, is_accepted_zero, acts_on_tare, tare_left_by, is_stable, spread_of, window_of}
-use Rattle.wc_model.specs.Plates.{PlateData}
-use Rattle.wc_model.specs.Effects.{EffectsOf}
+use Rattle.wc_model.specs.Instrument.WeighingHistories.{Event, SetZero, SetTare, History, Moment, last_that, samples}
+use Rattle.wc_model.specs.Instrument.Indication.{zero_refusal, tare_refusal, zero_point, active_tare, from_zero, present_counts, intervals_of, is_accepted_zero, acts_on_tare, tare_left_by, is_stable, spread_of, window_of}
+use Rattle.wc_model.specs.Instrument.Plates.{PlateData}
+use Rattle.wc_model.specs.Instrument.Effects.{EffectsOf}
 
 -- the last event that passes, where the newest does
 newest_passes : (test : Moment → Bool) (event : Event) (before : History) → test (record { event = event; before = before }) ≡ true →

@@ -1,7 +1,7 @@
 -- Laws of languages: how a list of tokens is shown to be in a sequence, part by part.
 use Rattle.std.proofs.Common.{◌≡◌, ℕ, zero, suc, List, [], ◌∷◌, ◌++◌, take, drop, refl, ap, append_assoc, ◌∙◌, sym, inl, inr}
 use Rattle.std.specs.Prelude.{◌⊎◌}
-use Rattle.wc_model.specs.Languages.{empty, one, many, ◌then◌, ◌or◌, ◌given◌}
+use Rattle.wc_model.specs.Text.Languages.{empty, one, many, ◌then◌, ◌or◌, ◌given◌}
 
 -- two parts joined
 pub joined : {T : Type 0} {first second : List T → Type 0} (front rest : List T) → first front → second rest → (first then second) (front ++ rest)

@@ -7,8 +7,8 @@ use Rattle.std.specs.Prelude.{ℤ, pos, negsuc, neg_ℤ, ◌≤ℤ◌, ◌*ℤ�
 use Rattle.std.specs.List.{list_any}
 use borrow.Author.Differences.{neg_is}
 use Rattle.std.specs.Str.{bytes_eq}
-use Rattle.wc_model.specs.Plates.{PlateData, IsPlate, grams, kilograms, tonnes, grams_of, allowed_intervals, least_sample, greatest_sample}
-use Rattle.wc_model.specs.PlateTable.{Table, Written, written_of, line_unit, is_between, is_interval, is_count, rules_after_unit, plate_from, unless_broken, judged, plate_of_written, plate_of}
+use Rattle.wc_model.specs.Instrument.Plates.{PlateData, IsPlate, grams, kilograms, tonnes, grams_of, allowed_intervals, least_sample, greatest_sample}
+use Rattle.wc_model.specs.Instrument.PlateTable.{Table, Written, written_of, line_unit, is_between, is_interval, is_count, rules_after_unit, plate_from, unless_broken, judged, plate_of_written, plate_of}
 
 -- where no rule is broken, each holds
 each_holds : (a b c d e : Bool) →

@@ -5,9 +5,9 @@ use Rattle.std.specs.List.{list_all, prefix_len}
 use Rattle.std.specs.Option.{option_map_or}
 use Rattle.std.proofs.lemmas.Bool.{and_parts, or_cases, or_parts, or_from, and_left, eqb-true, leb-true, lt-leb, ne_eqb, not-true, cond-true, cond-false}
 use Rattle.std.specs.Cmp.Lexicographic.{bytes_decides}
-use Rattle.wc_model.specs.Characters.{begins, is_address_character, is_hash, is_identifier_character, is_minus, is_number_character, is_percent, is_sign, starts_identifier}
-use Rattle.wc_model.specs.Lexemes.{Lexeme, Run, Typed, Unsigned, Signed, Sign, Place, Marked, is_run, is_literal_value, is_unsigned_run, may_stand_before, IsLongest}
-use Rattle.wc_model.specs.Shapes.{Shape, Mark, marks, mark_of}
+use Rattle.wc_model.specs.Text.Characters.{begins, is_address_character, is_hash, is_identifier_character, is_minus, is_number_character, is_percent, is_sign, starts_identifier}
+use Rattle.wc_model.specs.Text.Lexemes.{Lexeme, Run, Typed, Unsigned, Signed, Sign, Place, Marked, is_run, is_literal_value, is_unsigned_run, may_stand_before, IsLongestLexeme}
+use Rattle.wc_model.specs.Text.Shapes.{Shape, Mark, marks, mark_of}
 
 -- ---- looking ahead
 
@@ -216,7 +216,7 @@ within_reach piece after (Place place e h) =
 within_reach piece after (Marked shape found may) = mark_within piece after shape found may (mark_is_short piece shape found)
 
 -- a lexeme that is so long is the longest
-pub longest_at : (piece after : List ℕ) → Lexeme piece after → reach (piece ++ after) ≡ length piece → IsLongest piece after
+pub longest_at : (piece after : List ℕ) → Lexeme piece after → reach (piece ++ after) ≡ length piece → IsLongestLexeme piece after
 longest_at piece after lexeme full = record {
   lexeme = lexeme;
   longest = λ other left e l. subst (λ n. length other ≤ n) (ap reach e ∙ full) (within_reach other left l);

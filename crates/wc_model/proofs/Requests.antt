@@ -7,7 +7,7 @@ use Rattle.std.specs.Prelude.{take_while, Option, Some, None, option_map, ◌==�
 use Rattle.std.proofs.Common.{inl, inr}
 use Rattle.std.specs.List.{cons_option, list_all, concat}
 use Rattle.std.specs.Option.{option_or, option_to_list}
-use Rattle.wc_model.specs.Requests.{line_feed, carriage_return, escape, is_text, begins_with, request_at, requests, requests_in, open_at, open_request, completed_by, opened_by, requests_in_pieces, IsCutAnywhere}
+use Rattle.wc_model.specs.Instrument.Requests.{line_feed, carriage_return, escape, is_text, begins_with, request_at, requests, requests_in, open_at, open_request, completed_by, opened_by, requests_in_pieces, IsCutAnywhere}
 
 module _ (p : ℕ → Bool) where
   -- what stands from the first element on that fails the test

@@ -5,7 +5,7 @@ use Rattle.std.proofs.lemmas.Bool.{cases_lt}
 use Rattle.std.proofs.lemmas.Int.{ints, by_lt_z}
 use Rattle.std.specs.Prelude.{ℤ, pos, negsuc, neg_ℤ, ◌<ℤ◌, unsigned_abs}
 use borrow.Author.Differences.{up, down, neg_is}
-use Rattle.wc_model.specs.Rounding.{twice_distance, IsTie, IsNearest, nearest_above_zero, nearest, HasOneNearest}
+use Rattle.wc_model.specs.Instrument.Rounding.{twice_distance, IsTie, IsNearest, nearest_above_zero, nearest, HasOneNearest}
 
 -- a distance, over the natural numbers
 twice_is : (num : ℤ) (span : ℕ) (k : ℤ) →

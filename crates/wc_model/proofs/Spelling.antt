@@ -2,12 +2,12 @@
 use Rattle.std.proofs.Common.{◌≡◌, ℕ, Bool, true, false, List, [], ◌∷◌, refl, arith}
 use Rattle.std.proofs.lemmas.Bool.Decides.{nat_tests}
 use Rattle.std.specs.Prelude.{◌≢◌, eqb, ◌&&◌, flat_map, Option, Some}
-use Rattle.wc_model.specs.Names.{Name}
-use Rattle.wc_model.specs.Marks.{Mark, LineEnd, ClosingBracket, IsNamed, IsSymbol}
-use Rattle.wc_model.specs.Tree.{Word, Term, Step, Lines, Alone, Plain, Nested, Declaration, ProgramUnit}
-use Rattle.wc_model.specs.Languages.{◌then◌, each, empty, one}
-use Rattle.wc_model.specs.Keywords.{truth_word, unit_word, end_word}
-use Rattle.wc_model.specs.Grammar.{Group, Setting, InBody, InParentheses, MayStand, HasContent, IsOn, IsNameOf, symbol, identifier, line_ends, label_in, instruction, opening, lines, sections, section_of, units}
+use Rattle.wc_model.specs.Language.Names.{Name}
+use Rattle.wc_model.specs.Text.Marks.{Mark, LineEnd, ClosingBracket, IsNamed, IsSymbol}
+use Rattle.wc_model.specs.Language.Tree.{Word, Term, Step, Lines, Alone, Plain, Nested, Declaration, ProgramUnit}
+use Rattle.wc_model.specs.Text.Languages.{◌then◌, each, empty, one}
+use Rattle.wc_model.specs.Text.Keywords.{truth_word, unit_word, end_word}
+use Rattle.wc_model.specs.Text.Grammar.{Group, Setting, InBody, InParentheses, MayStand, HasContent, IsOn, IsNameOf, symbol, identifier, line_ends, label_in, instruction, opening, lines, sections, section_of, units}
 use Rattle.wc_model.specs.declared.operator.Operator.{Operator}
 use Rattle.wc_model.proofs.Languages.{pass, given_first, regroup, ungroup, before, after, parts}
 

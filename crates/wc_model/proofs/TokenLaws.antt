@@ -1,8 +1,8 @@
 -- The laws of the tokens of a text.
 use Rattle.std.proofs.Common.{◌≡◌, ℕ, List, ◌∷◌, ◌++◌, Ok, refl, sym, ap, ◌∙◌, subst, arith}
-use Rattle.wc_model.specs.Shapes.{shape_of}
-use Rattle.wc_model.specs.Tokens.{AtEnd, Cuts, Nothing, Skipped, Taken, Faulty, TooLong, Stands, Token, token_behind}
-use Rattle.wc_model.specs.TokenLaws.{CutIsUnique, CutHasNoFault, FirstFaultIsUnique, LongTextIsRefused}
+use Rattle.wc_model.specs.Text.Shapes.{shape_of}
+use Rattle.wc_model.specs.Text.Tokens.{AtEnd, Cuts, Nothing, Skipped, Taken, Faulty, TooLong, Stands, Token, token_behind}
+use Rattle.wc_model.specs.Text.TokenLaws.{CutIsUnique, CutHasNoFault, FirstFaultIsUnique, LongTextIsRefused}
 use Rattle.wc_model.proofs.TokenSteps.{IsStuck, end_is_stuck, fault_is_before_end, fault_is_stuck, no_lexeme_at_blank, one_blank, one_fault, one_longest}
 
 -- two cuts have the same tokens and end at one place

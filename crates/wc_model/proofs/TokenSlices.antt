@@ -2,8 +2,8 @@
 use Rattle.std.proofs.Common.{◌≡◌, ℕ, ◌+◌, ◌≤◌, List, ◌++◌, length, take, drop, All, AllPairs, refl, sym, ap, ◌∙◌, arith, append_assoc, take_at, drop_at, length-append}
 use Rattle.std.proofs.lemmas.List.Elements.{All-cons, All-nil}
 use Rattle.std.proofs.lemmas.List.Kept.{AllPairs-cons}
-use Rattle.wc_model.specs.TokenLaws.{IsSliceOf, TokensAreInOrder, TokensAreSlices}
-use Rattle.wc_model.specs.Tokens.{Cuts, Nothing, Skipped, Taken, Token, line_after, token_behind}
+use Rattle.wc_model.specs.Text.TokenLaws.{IsSliceOf, TokensAreInOrder, TokensAreSlices}
+use Rattle.wc_model.specs.Text.Tokens.{Cuts, Nothing, Skipped, Taken, Token, line_after, token_behind}
 
 -- a piece moves from the rest of a text to what stands before it
 moved : (before piece after rest text : List ℕ) → piece ++ after ≡ rest → before ++ rest ≡ text → (before ++ piece) ++ after ≡ text

@@ -2,10 +2,10 @@
 use Rattle.std.proofs.Common.{◌≡◌, ◌≢◌, ℕ, suc, ◌≤◌, true, false, cond, List, [], ◌∷◌, ◌++◌, length, get_or, drop, take, Ok, Err, refl, sym, ap, ◌∙◌, subst, arith, take_at, drop_at, le_antisymm, ◌==◌}
 use Rattle.std.proofs.lemmas.List.{append_cancel_left, append_cancel_right}
 use Rattle.wc_model.proofs.Reach.{reach, within_reach, mark_is_short}
-use Rattle.wc_model.specs.Blanks.{Blank, Space, Tab, Return, Comment, comment_opening, comment_closing, from_bracket, starts_with_bracket}
-use Rattle.wc_model.specs.Lexemes.{Lexeme, Run, Typed, Unsigned, Signed, Sign, Place, Marked, IsLongest}
-use Rattle.wc_model.specs.Shapes.{Shape, shape_of}
-use Rattle.wc_model.specs.Tokens.{FaultAt, Foreign, Unclosed, Nested, Malformed}
+use Rattle.wc_model.specs.Text.Blanks.{Blank, Space, Tab, Return, Comment, comment_opening, comment_closing, from_bracket, starts_with_bracket}
+use Rattle.wc_model.specs.Text.Lexemes.{Lexeme, Run, Typed, Unsigned, Signed, Sign, Place, Marked, IsLongestLexeme}
+use Rattle.wc_model.specs.Text.Shapes.{Shape, shape_of}
+use Rattle.wc_model.specs.Text.Tokens.{FaultAt, Foreign, Unclosed, Nested, Malformed}
 
 -- ---- blanks
 
@@ -95,7 +95,7 @@ no_lexeme_at_blank piece after other left e (Return s lf) = none_in_reach other 
 no_lexeme_at_blank piece after other left e (Comment c) = no_lexeme_at_comment other left c.inside (sym e ∙ c.opens)
 
 -- one longest lexeme at a place
-pub one_longest : (piece after other left : List ℕ) → piece ++ after ≡ other ++ left → IsLongest piece after → IsLongest other left → (piece ≡ other) × (after ≡ left)
+pub one_longest : (piece after other left : List ℕ) → piece ++ after ≡ other ++ left → IsLongestLexeme piece after → IsLongestLexeme other left → (piece ≡ other) × (after ≡ left)
 one_longest piece after other left e one two =
     let same : length piece ≡ length other = le_antisymm (two.longest piece after e one.lexeme) (one.longest other left (sym e) two.lexeme) in
     let same_piece : piece ≡ other = sym (take_at piece after (length piece) refl) ∙ ap (take (length piece)) e ∙ take_at other left (length piece) (sym same) in
@@ -129,7 +129,7 @@ one_fault rest number other (Malformed piece after e longest h) (Malformed piece
 -- no token and no blank stands here
 pub record IsStuck (rest : List ℕ) : Type 0 where
   pub no_blank : (piece after : List ℕ) → piece ++ after ≡ rest → ¬ (Blank piece after)
-  pub no_token : (shape : Shape) (piece after : List ℕ) → piece ++ after ≡ rest → IsLongest piece after → shape_of piece ≢ Ok shape
+  pub no_token : (shape : Shape) (piece after : List ℕ) → piece ++ after ≡ rest → IsLongestLexeme piece after → shape_of piece ≢ Ok shape
 
 -- texts with different first bytes differ
 starts_apart : (b c : ℕ) (xs ys : List ℕ) → b ≢ c → b ∷ xs ≢ c ∷ ys

@@ -1,7 +1,7 @@
 ghost use Rattle.std.specs.Prelude.{◌≡◌, ℕ, List, Option, None};
 ghost use Rattle.std.specs.Io.{ReadsAtMost};
 ghost use Rattle.std.specs.Io.KnownBytes.{ReadConsumes};
-ghost use Rattle.wc_model.specs.Devices.{failures_after_read, spent_after_read};
+ghost use Rattle.wc_model.specs.Run.Devices.{failures_after_read, spent_after_read};
 
 use std::io;
 

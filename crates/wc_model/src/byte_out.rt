@@ -1,7 +1,7 @@
 ghost use Rattle.std.specs.Prelude.{◌≡◌, ℕ, List, Option, None};
 ghost use Rattle.std.specs.Io.{WritesAtMost};
 ghost use Rattle.std.specs.Io.KnownBytes.{WriteAppends};
-ghost use Rattle.wc_model.specs.Devices.{failures_after_write};
+ghost use Rattle.wc_model.specs.Run.Devices.{failures_after_write};
 
 use std::io;
 

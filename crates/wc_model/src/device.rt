@@ -1,5 +1,5 @@
 ghost use Rattle.std.specs.Prelude.{◌≡◌};
-ghost use Rattle.wc_model.specs.Devices.{device_inner, device_failures, device_spent};
+ghost use Rattle.wc_model.specs.Run.Devices.{device_inner, device_failures, device_spent};
 
 /// A reader or a writer of std that counts what failed and what was spent. Its bytes are known where
 /// those of the inner one are.

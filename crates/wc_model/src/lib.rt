@@ -20,6 +20,9 @@ mod source;
 mod tests;
 mod tree;
 mod value;
+mod writing;
+#[cfg(test)]
+mod writing_tests;
 
 pub use block::StandardBlock;
 pub use byte_in::ByteIn;
@@ -35,3 +38,4 @@ pub use place::{Path, Place};
 pub use source::{Decl, Initial, Section, Source, Unit, UnitKind};
 pub use tree::{Argument, Instr, Line};
 pub use value::{Value, wrap32};
+pub use writing::{WriteFault, write_whole};

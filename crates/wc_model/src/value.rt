@@ -1,5 +1,5 @@
 ghost use Rattle.std.specs.Prelude.{◌≡◌};
-ghost use Rattle.wc_model.specs.Values.{wrap};
+ghost use Rattle.wc_model.specs.Language.Values.{wrap};
 
 /// A value with its kind (IEC 61131-3:2003, 2.3.1).
 #[derive(Clone, Copy, Debug, PartialEq, Eq)]

@@ -1,8 +1,8 @@
 -- What is written and breaks no rule is a plate.
 use Rattle.std.proofs.Common.{◌≡◌, [], ◌∷◌, codes}
 use Rattle.std.specs.Prelude.{Some, Ok}
-use Rattle.wc_model.specs.Plates.{PlateData, IsPlate}
-use Rattle.wc_model.specs.PlateTable.{Table, Written, Text, Whole, judged, line_unit}
+use Rattle.wc_model.specs.Instrument.Plates.{PlateData, IsPlate}
+use Rattle.wc_model.specs.Instrument.PlateTable.{Table, Written, Text, Whole, judged, line_unit}
 use Rattle.wc_model.proofs.PlateTable.{accepted_is_plate}
 
 -- the table in which this is written

@@ -10,7 +10,7 @@ use Rattle.std.specs.Cmp.Lexicographic.{slice_cmp, nat_list_eq_equiv}
 use Rattle.toml.specs.Data.{Data, string, integer, float, boolean, datetime, array, table, Members, no_members, member, get_member, as_str, as_integer}
 use Rattle.toml.specs.declared.value.Value.{Value}
 use Rattle.toml.specs.View.{members_view}
-use Rattle.wc_model.specs.PlateTable.{Entry, plate_keys, entry_at, text_in, number_in, text_at, number_at, has_no_other_key}
+use Rattle.wc_model.specs.Instrument.PlateTable.{Entry, plate_keys, entry_at, text_in, number_in, text_at, number_at, has_no_other_key}
 use Rattle.wc_plate.specs.TomlTable.{entry_of, entries_of}
 
 -- at one member, by the order of the keys

@@ -1,5 +1,5 @@
 -- The plate that the fields of a `Plate` stand for.
-use Rattle.wc_model.specs.Plates.{PlateData, IsPlate}
+use Rattle.wc_model.specs.Instrument.Plates.{PlateData, IsPlate}
 use Rattle.wc_plate.specs.declared.kept.Plate.TheInside.{Inside}
 
 -- the plate of the fields

@@ -1,5 +1,5 @@
 -- What stands behind the seven keys, as the rules see it.
-use Rattle.wc_model.specs.PlateTable as plate
+use Rattle.wc_model.specs.Instrument.PlateTable as plate
 use Rattle.wc_plate.specs.declared.keys.Written.{Written}
 
 -- the text and the numbers

@@ -4,7 +4,7 @@ use Rattle.std.specs.Prelude.{ℕ, List, [], ◌∷◌, Option, None, option_map
 use Rattle.std.specs.Str.{is_utf8}
 use Rattle.toml.specs.Data.{Data, string, integer, float, boolean, datetime, array, table, Members, no_members, member}
 use Rattle.toml.specs.Parse.{parse_document}
-use Rattle.wc_model.specs.PlateTable.{Entry, Text, Whole, Other, Table}
+use Rattle.wc_model.specs.Instrument.PlateTable.{Entry, Text, Whole, Other, Table}
 
 -- what stands behind a key: a text, a whole number or another kind
 abbrev pub entry_of : Data → Entry

@@ -2,8 +2,8 @@
 use Rattle.std.specs.Prelude.{◌≡◌, ℕ, List, Result, Ok, Err}
 use Rattle.wc_model.specs.declared.fault.Fault.{Fault}
 use Rattle.wc_model.specs.declared.fault.Fault.TheVariants.{Refused, Memory}
-use Rattle.wc_model.specs.Plates.{PlateData}
-use Rattle.wc_model.specs.PlateTable.{plate_of}
+use Rattle.wc_model.specs.Instrument.Plates.{PlateData}
+use Rattle.wc_model.specs.Instrument.PlateTable.{plate_of}
 use Rattle.wc_plate.specs.TomlTable.{table_read}
 
 -- an answer that agrees with what the rules say: their plate, or their number with place 0; want of memory says nothing

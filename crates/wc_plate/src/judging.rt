@@ -1,7 +1,7 @@
 ghost use Rattle.std.specs.Prelude.{◌≡◌, ◌≤◌, ◌*◌, ◌*ℤ◌, ◌≤ℤ◌, ◌&&◌, pos, int_le, int_div, is_some, IfSome, IsTrue};
 ghost use Rattle.std.specs.List.{list_any};
-ghost use Rattle.wc_model.specs.Plates.{grams_of, allowed_intervals, least_sample, greatest_sample};
-ghost use Rattle.wc_model.specs.PlateTable as plate;
+ghost use Rattle.wc_model.specs.Instrument.Plates.{grams_of, allowed_intervals, least_sample, greatest_sample};
+ghost use Rattle.wc_model.specs.Instrument.PlateTable as plate;
 ghost use Rattle.wc_plate.specs.Seen.{written_seen};
 
 use crate::kept::Plate;

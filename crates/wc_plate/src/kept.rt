@@ -1,5 +1,5 @@
 ghost use Rattle.std.specs.Prelude.{◌≡◌, pos};
-ghost use Rattle.wc_model.specs.Plates.{IsPlate};
+ghost use Rattle.wc_model.specs.Instrument.Plates.{IsPlate};
 
 use std::marker::Model;
 
@@ -17,7 +17,7 @@ pub struct Plate {
 }
 
 impl Model for Plate {
-    ghost use Rattle.wc_model.specs.Plates.{PlateData};
+    ghost use Rattle.wc_model.specs.Instrument.Plates.{PlateData};
 
     ghost Value = { PlateData };
 

@@ -2,7 +2,7 @@ ghost use Rattle.std.specs.Prelude.{◌≡◌, string_bytes, option_map};
 ghost use Rattle.std.specs.List.{list_any};
 ghost use Rattle.std.specs.Str.{bytes_eq};
 ghost use Rattle.toml.specs.View.{table_view};
-ghost use Rattle.wc_model.specs.PlateTable as plate;
+ghost use Rattle.wc_model.specs.Instrument.PlateTable as plate;
 ghost use Rattle.wc_plate.specs.TomlTable.{entries_of};
 ghost use Rattle.wc_plate.specs.Seen.{written_seen};
 

@@ -1,7 +1,7 @@
 ghost use Rattle.std.specs.Prelude.{◌≡◌, Some, IsErrOf};
 ghost use Rattle.toml.specs.Errors.{IsBlank};
 ghost use Rattle.toml.specs.View.{table_view};
-ghost use Rattle.wc_model.specs.PlateTable.{plate_of};
+ghost use Rattle.wc_model.specs.Instrument.PlateTable.{plate_of};
 ghost use Rattle.wc_plate.specs.TomlTable.{entries_of};
 ghost use Rattle.wc_plate.specs.Verdict.{IsVerdictOn};
 

@@ -2,16 +2,16 @@
 use Rattle.std.proofs.Common.{◌≡◌, ℕ, Bool, false, List, refl}
 use Rattle.wc_grammar_laws.proofs.LineMoves.{Start, line_move}
 use Rattle.wc_grammar_laws.proofs.Moves.{begun_line, body_move, inside_move}
-use Rattle.wc_lexer.specs.Views.{said_shape}
+use Rattle.wc_lexer.specs.Views.{shape_view}
 use Rattle.wc_lexer.specs.declared.shape.Shape.{Shape}
 use Rattle.wc_lexer.specs.declared.shape.Shape.TheVariants.{Identifier, Whole, Duration, Truth, Address, And, AndNot, Opening, Closing, Comma, Colon, Semicolon, Point, Assign, Arrow, LineEnd}
-use Rattle.wc_model.specs.Grammar.{InBody, InParentheses}
-use Rattle.wc_model.specs.Positions as positions
-use Rattle.wc_model.specs.Positions.{Position}
-use Rattle.wc_model.specs.Reading.{symbol_of}
+use Rattle.wc_model.specs.Text.Grammar.{InBody, InParentheses}
+use Rattle.wc_model.specs.Text.Positions as positions
+use Rattle.wc_model.specs.Text.Positions.{Position}
+use Rattle.wc_model.specs.Text.Reading.{symbol_of}
 
 -- in parentheses, other than a `)`
-pub inside-other : (p : Position) (o : positions.Opening) (outer : List positions.Opening) (line : ℕ) (shape : Shape) (bytes : List ℕ) → (shape ≡ Closing → ⊥) → inside_move p o outer (symbol_of (said_shape shape) bytes) line ≡ begun_line p (line_move InParentheses Start (symbol_of (said_shape shape) bytes) line false)
+pub inside-other : (p : Position) (o : positions.Opening) (outer : List positions.Opening) (line : ℕ) (shape : Shape) (bytes : List ℕ) → (shape ≡ Closing → ⊥) → inside_move p o outer (symbol_of (shape_view shape) bytes) line ≡ begun_line p (line_move InParentheses Start (symbol_of (shape_view shape) bytes) line false)
 inside-other p o outer line Identifier bytes h = refl
 inside-other p o outer line (Whole value) bytes h = refl
 inside-other p o outer line (Duration value) bytes h = refl
@@ -30,7 +30,7 @@ inside-other p o outer line Arrow bytes h = refl
 inside-other p o outer line LineEnd bytes h = refl
 
 -- in a body, other than an identifier
-pub body-other : (p : Position) (line : ℕ) (colon : Bool) (shape : Shape) (bytes : List ℕ) → (shape ≡ Identifier → ⊥) → body_move p (symbol_of (said_shape shape) bytes) line colon ≡ begun_line p (line_move InBody Start (symbol_of (said_shape shape) bytes) line colon)
+pub body-other : (p : Position) (line : ℕ) (colon : Bool) (shape : Shape) (bytes : List ℕ) → (shape ≡ Identifier → ⊥) → body_move p (symbol_of (shape_view shape) bytes) line colon ≡ begun_line p (line_move InBody Start (symbol_of (shape_view shape) bytes) line colon)
 body-other p line colon Identifier bytes h = absurd (h refl)
 body-other p line colon (Whole value) bytes h = refl
 body-other p line colon (Duration value) bytes h = refl

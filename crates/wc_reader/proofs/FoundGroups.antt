@@ -4,9 +4,9 @@ use Rattle.std.specs.Option.{option_or}
 use Rattle.wc_grammar_laws.proofs.Words as words
 use Rattle.wc_grammar_laws.proofs.Words.{found, operations}
 use Rattle.wc_model.proofs.Spelling.{same}
-use Rattle.wc_model.specs.Names.{Name}
+use Rattle.wc_model.specs.Language.Names.{Name}
 use Rattle.wc_reader.specs.OperatorGroups.{loads_and_stores, logic, arithmetic, comparisons, negation_and_jumps, calls_and_returns}
-use Rattle.wc_reader.specs.Words.{said_operation}
+use Rattle.wc_reader.specs.Words.{operation_view}
 use Rattle.wc_reader.specs.declared.operators.Operation.{Operation}
 
 -- in the first table, or else in the second
@@ -25,16 +25,16 @@ map-or f None b = refl
 
 -- the first of two that are found
 join : (xs ys : List (Name × words.Operation)) (name : Name) (a b : Option Operation)
-    → option_map said_operation a ≡ found xs name → option_map said_operation b ≡ found ys name
-    → option_map said_operation (option_or a b) ≡ found (xs ++ ys) name
-join xs ys name a b first second = map-or said_operation a b ∙ (rw (first, second) (sym (found-append xs ys name)))
+    → option_map operation_view a ≡ found xs name → option_map operation_view b ≡ found ys name
+    → option_map operation_view (option_or a b) ≡ found (xs ++ ys) name
+join xs ys name a b first second = map-or operation_view a b ∙ (rw (first, second) (sym (found-append xs ys name)))
 
 -- the first that is found in the groups is the word's operator
 pub chosen : (name : Name) (a b c d e f : Option Operation)
-    → option_map said_operation a ≡ found loads_and_stores name → option_map said_operation b ≡ found logic name
-    → option_map said_operation c ≡ found arithmetic name → option_map said_operation d ≡ found comparisons name
-    → option_map said_operation e ≡ found negation_and_jumps name → option_map said_operation f ≡ found calls_and_returns name
-    → option_map said_operation (option_or (option_or (option_or (option_or (option_or a b) c) d) e) f) ≡ found operations name
+    → option_map operation_view a ≡ found loads_and_stores name → option_map operation_view b ≡ found logic name
+    → option_map operation_view c ≡ found arithmetic name → option_map operation_view d ≡ found comparisons name
+    → option_map operation_view e ≡ found negation_and_jumps name → option_map operation_view f ≡ found calls_and_returns name
+    → option_map operation_view (option_or (option_or (option_or (option_or (option_or a b) c) d) e) f) ≡ found operations name
 chosen name a b c d e f ha hb hc hd he hf =
     join ((((loads_and_stores ++ logic) ++ arithmetic) ++ comparisons) ++ negation_and_jumps) calls_and_returns name _ f
     (join (((loads_and_stores ++ logic) ++ arithmetic) ++ comparisons) negation_and_jumps name _ e

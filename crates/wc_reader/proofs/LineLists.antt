@@ -3,9 +3,9 @@ use Rattle.std.proofs.Common.{◌≡◌, ◌+◌, List, [], ◌∷◌, ◌++◌,
 use Rattle.std.proofs.lemmas.Bool.Decides.{nat_tests}
 use Rattle.std.proofs.lemmas.List.{length_push}
 use Rattle.wc_grammar_laws.proofs.Moves.{are_no_lines, lines_and}
-use Rattle.wc_model.specs.Limits.{line_count}
-use Rattle.wc_model.specs.Tree.{Word, Lines, End, Alone, Plain, Nested}
-use Rattle.wc_model.specs.Views.{line_view, lines_view, seen_instr, seen_line, word_of}
+use Rattle.wc_model.specs.Text.Limits.{line_count}
+use Rattle.wc_model.specs.Language.Tree.{Word, Lines, End, Alone, Plain, Nested}
+use Rattle.wc_model.specs.Language.Views.{line_view, lines_view, instruction_view, line_step_view, word_view}
 use Rattle.wc_model.specs.declared.operand.Word.{Word as Spelled}
 use Rattle.wc_model.specs.declared.tree.Instr.{Instr}
 use Rattle.wc_model.specs.declared.tree.Instr.TheFolds.{fold-Instr, fold_out-Instr, fold_out-Line}
@@ -14,7 +14,7 @@ use Rattle.wc_model.specs.declared.tree.Line.{Line, fold-Line, map-Line, out-Lin
 
 -- what stands behind an instruction stands behind the rest
 through_instr : (layer : Instr-F (Option Word → Lines → Lines) (Lines → Lines)) (label : Option Word) (rest others : Lines)
-    → lines_and (seen_instr layer label rest) others ≡ seen_instr layer label (lines_and rest others)
+    → lines_and (instruction_view layer label rest) others ≡ instruction_view layer label (lines_and rest others)
 through_instr (Instr-F.Load negated operand line) label rest others = refl
 through_instr (Instr-F.Store storing target line) label rest others = refl
 through_instr (Instr-F.Apply operator operand line) label rest others = refl
@@ -26,18 +26,18 @@ through_instr (Instr-F.Return condition line) label rest others = refl
 
 -- a line whose instruction is seen already
 abbrev mapped : Line-F Instr Line → Line-F (Option Word → Lines → Lines) (Lines → Lines)
-mapped = map-Line Instr Line (Option Word → Lines → Lines) (Lines → Lines) (fold-Instr (Option Word → Lines → Lines) (Lines → Lines) seen_instr seen_line) (fold-Line (Option Word → Lines → Lines) (Lines → Lines) seen_instr seen_line)
+mapped = map-Line Instr Line (Option Word → Lines → Lines) (Lines → Lines) (fold-Instr (Option Word → Lines → Lines) (Lines → Lines) instruction_view line_step_view) (fold-Line (Option Word → Lines → Lines) (Lines → Lines) instruction_view line_step_view)
 
 -- what stands behind a line stands behind the rest, by its parts
 through_parts : (label : Option Spelled) (instr : Option Instr) (rest others : Lines)
-    → lines_and (seen_line (mapped (record { label = label; instr = instr })) rest) others ≡ seen_line (mapped (record { label = label; instr = instr })) (lines_and rest others)
+    → lines_and (line_step_view (mapped (record { label = label; instr = instr })) rest) others ≡ line_step_view (mapped (record { label = label; instr = instr })) (lines_and rest others)
 through_parts (Some label) None rest others = refl
 through_parts None None rest others = refl
-through_parts label (Some instr) rest others = rw (fold_out-Instr (Option Word → Lines → Lines) (Lines → Lines) seen_instr seen_line instr) (through_instr _ (option_map word_of label) rest others)
+through_parts label (Some instr) rest others = rw (fold_out-Instr (Option Word → Lines → Lines) (Lines → Lines) instruction_view line_step_view instr) (through_instr _ (option_map word_view label) rest others)
 
 -- what stands behind a line stands behind the rest
 through : (x : Line) (rest others : Lines) → lines_and (line_view x rest) others ≡ line_view x (lines_and rest others)
-through x rest others = rw (fold_out-Line (Option Word → Lines → Lines) (Lines → Lines) seen_instr seen_line x) (through_parts (out-Line x).label (out-Line x).instr rest others)
+through x rest others = rw (fold_out-Line (Option Word → Lines → Lines) (Lines → Lines) instruction_view line_step_view x) (through_parts (out-Line x).label (out-Line x).instr rest others)
 
 -- lines and then others
 pub lines_view-append : (xs ys : List Line) → lines_view (xs ++ ys) ≡ lines_and (lines_view xs) (lines_view ys)

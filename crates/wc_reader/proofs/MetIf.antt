@@ -1,7 +1,7 @@
 -- A fault where a test holds, as it is told.
 use Rattle.std.proofs.Common.{◌≡◌, ℕ, Bool, true, false, Option, Some, None, option_map, if◌then◌else◌, refl}
 use Rattle.wc_grammar_laws.proofs.Moves.{met_if}
-use Rattle.wc_model.specs.ReadingFaults.{ReadingFault, number_of}
+use Rattle.wc_model.specs.Text.ReadingFaults.{ReadingFault, number_of}
 use Rattle.wc_model.specs.declared.fault.Fault.{Fault}
 use Rattle.wc_model.specs.declared.fault.Fault.TheVariants.{Refused}
 use Rattle.wc_reader.specs.TextViews.{fault_of}

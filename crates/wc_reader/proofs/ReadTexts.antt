@@ -5,17 +5,17 @@ use Rattle.wc_grammar_laws.proofs.Moves.{Met, at_first, reading}
 use Rattle.wc_grammar_laws.proofs.Readings.{read_is_spelled, refused_is_first, refused_spells_nothing}
 use Rattle.wc_lexer.specs.Refusals.{Names}
 use Rattle.wc_model.proofs.TokenLaws.{cut_has_no_fault, cut_is_unique}
-use Rattle.wc_model.specs.Grammar.{Spells}
-use Rattle.wc_model.specs.Marks.{Mark}
-use Rattle.wc_model.specs.Reading.{IsMisread, IsRead, last_line, mark_of_token}
-use Rattle.wc_model.specs.Tokens.{IsCut, IsFirstFault, Token, most_bytes}
-use Rattle.wc_model.specs.Tree.{Text}
+use Rattle.wc_model.specs.Text.Grammar.{Spells}
+use Rattle.wc_model.specs.Text.Marks.{Mark}
+use Rattle.wc_model.specs.Text.Reading.{IsMisread, IsRead, last_line, mark_of_token}
+use Rattle.wc_model.specs.Text.Tokens.{IsCut, IsFirstTokenFault, Token, most_bytes}
+use Rattle.wc_model.specs.Language.Tree.{Text}
 use Rattle.wc_model.specs.declared.fault.Fault.{Fault}
 use Rattle.wc_model.specs.declared.fault.Fault.TheVariants.{Memory, Refused}
 use Rattle.wc_reader.specs.ReadTexts.{IsRefusedAs, IsUnread}
-use Rattle.wc_model.specs.Views.{text_of}
+use Rattle.wc_model.specs.Language.Views.{text_view}
 use Rattle.wc_model.specs.declared.source.Source.{Source}
-use Rattle.wc_reader.specs.Told.{IsMetAs, Tells, TellsFault}
+use Rattle.wc_reader.specs.Told.{IsMetAs, TellsReading, TellsFault}
 
 -- what the walk reads is what the bytes are read as
 pub read_as : (bytes : List ℕ) (tokens : List Token) (text : Text) → length bytes ≤ most_bytes → IsCut bytes tokens → reading at_first (map mark_of_token tokens) (last_line bytes) ≡ Ok text → IsRead bytes text
@@ -24,7 +24,7 @@ read_as bytes tokens text short cut e =
     record { short = short; tokens = tokens; cut = cut; spelled = k.0; within_limits = k.1 }
 
 -- a text whose tokens have a fault is not read
-pub not_cut : (bytes : List ℕ) (number place : ℕ) → IsFirstFault bytes number place → IsUnread bytes number place
+pub not_cut : (bytes : List ℕ) (number place : ℕ) → IsFirstTokenFault bytes number place → IsUnread bytes number place
 not_cut bytes number place h = record { first = inl h; unread = λ text r. cut_has_no_fault bytes r.tokens number place r.short r.cut h }
 
 -- nor is one in whose tokens the walk meets one
@@ -55,12 +55,12 @@ token_fault bytes Memory n = tt
 token_fault bytes (Refused number place) n = not_cut bytes number place n
 
 -- what a result of the walk says of the text it read, or refused
-pub result_read : (bytes : List ℕ) (tokens : List Token) (marks : List Mark) (last : ℕ) (result : Result Source Fault) → length bytes ≤ most_bytes → IsCut bytes tokens → marks ≡ map mark_of_token tokens → last ≡ last_line bytes → Tells (reading at_first marks last) result
-    → IfOk result (λ source. IsRead bytes (text_of source))
-result_read bytes tokens marks last (Ok source) short cut m l t = read_as bytes tokens (text_of source) short cut (subst (λ n. reading at_first (map mark_of_token tokens) n ≡ Ok (text_of source)) l (subst (λ ms. reading at_first ms last ≡ Ok (text_of source)) m t))
+pub result_read : (bytes : List ℕ) (tokens : List Token) (marks : List Mark) (last : ℕ) (result : Result Source Fault) → length bytes ≤ most_bytes → IsCut bytes tokens → marks ≡ map mark_of_token tokens → last ≡ last_line bytes → TellsReading (reading at_first marks last) result
+    → IfOk result (λ source. IsRead bytes (text_view source))
+result_read bytes tokens marks last (Ok source) short cut m l t = read_as bytes tokens (text_view source) short cut (subst (λ n. reading at_first (map mark_of_token tokens) n ≡ Ok (text_view source)) l (subst (λ ms. reading at_first ms last ≡ Ok (text_view source)) m t))
 result_read bytes tokens marks last (Err fault) short cut m l t = tt
 
-pub result_refused : (bytes : List ℕ) (tokens : List Token) (marks : List Mark) (last : ℕ) (result : Result Source Fault) → length bytes ≤ most_bytes → IsCut bytes tokens → marks ≡ map mark_of_token tokens → last ≡ last_line bytes → Tells (reading at_first marks last) result
+pub result_refused : (bytes : List ℕ) (tokens : List Token) (marks : List Mark) (last : ℕ) (result : Result Source Fault) → length bytes ≤ most_bytes → IsCut bytes tokens → marks ≡ map mark_of_token tokens → last ≡ last_line bytes → TellsReading (reading at_first marks last) result
     → IfErr result (λ fault. IsRefusedAs bytes fault)
 result_refused bytes tokens marks last (Ok source) short cut m l t = tt
 result_refused bytes tokens marks last (Err fault) short cut m l t = refused_as bytes tokens fault short cut (subst (λ n. TellsFault (reading at_first (map mark_of_token tokens) n) fault) l (subst (λ ms. TellsFault (reading at_first ms last) fault) m t))

@@ -1,9 +1,9 @@
 -- One step of the walk over a text's tokens.
 use Rattle.std.proofs.Common.{◌≡◌, ℕ, Bool, false, List, ◌∷◌, Option, Some, None, option_map, Result, Err, refl}
 use Rattle.wc_grammar_laws.proofs.Moves.{Met, State, colon_next, judge, move, reading}
-use Rattle.wc_model.specs.Marks.{Mark}
-use Rattle.wc_model.specs.ReadingFaults.{UnexpectedToken}
-use Rattle.wc_model.specs.Tree.{Text}
+use Rattle.wc_model.specs.Text.Marks.{Mark}
+use Rattle.wc_model.specs.Text.ReadingFaults.{UnexpectedToken}
+use Rattle.wc_model.specs.Language.Tree.{Text}
 use Rattle.wc_model.specs.declared.fault.Fault.{Fault}
 use Rattle.wc_model.specs.declared.fault.Fault.TheVariants.{Memory, Refused}
 use Rattle.wc_reader.specs.TextViews.{fault_of}

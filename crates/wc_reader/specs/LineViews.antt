@@ -1,9 +1,9 @@
 -- What the reader's places on a line stand for.
 use Rattle.std.specs.Prelude.{map, option_map}
 use Rattle.wc_grammar_laws.proofs.LineMoves as lines
-use Rattle.wc_model.specs.Tree as tree
-use Rattle.wc_model.specs.Views.{assignment_of, name_in, term_of, word_of}
-use Rattle.wc_reader.specs.Words.{said_operating}
+use Rattle.wc_model.specs.Language.Tree as tree
+use Rattle.wc_model.specs.Language.Views.{assignment_view, name_view, term_view, word_view}
+use Rattle.wc_reader.specs.Words.{operating_view}
 use Rattle.wc_reader.specs.declared.line_place.Begun.{Begun}
 use Rattle.wc_reader.specs.declared.line_place.InList.{InList}
 use Rattle.wc_reader.specs.declared.line_place.InList.TheVariants.{AtFirst, AtNext, AtAssign, AtValue, AtEnd}
@@ -18,55 +18,55 @@ use Rattle.wc_reader.specs.declared.line_place.Step.{Step}
 use Rattle.wc_reader.specs.declared.line_place.Step.TheVariants.{Load, Store, Apply, Negate, Jump, Call, Return}
 
 -- an instruction that has begun
-abbrev pub said_begun : Begun → lines.Begun
-said_begun begun = record { label = option_map word_of begun.label; line = begun.line }
+abbrev pub begun_view : Begun → lines.Begun
+begun_view begun = record { label = option_map word_view begun.label; line = begun.line }
 
 -- a call whose list has begun
-abbrev pub said_listed : Listed → lines.Listed
-said_listed call = record { condition = call.condition; instance = name_in call.instance; arguments = map assignment_of call.arguments.items }
+abbrev pub listed_view : Listed → lines.Listed
+listed_view call = record { condition = call.condition; instance = name_view call.instance; arguments = map assignment_view call.arguments.items }
 
 -- an instruction
-abbrev pub said_step : Step → tree.Step
-said_step (Load negated operand) = tree.Load negated (term_of operand)
-said_step (Store storing target) = tree.Store storing (term_of target)
-said_step (Apply operator operand) = tree.Apply operator (term_of operand)
-said_step Negate = tree.Negate
-said_step (Jump condition label) = tree.Jump condition (name_in label)
-said_step (Call call) = tree.Call call.condition (name_in call.instance) (map assignment_of call.arguments.items)
-said_step (Return condition) = tree.Return condition
+abbrev pub step_view : Step → tree.Step
+step_view (Load negated operand) = tree.Load negated (term_view operand)
+step_view (Store storing target) = tree.Store storing (term_view target)
+step_view (Apply operator operand) = tree.Apply operator (term_view operand)
+step_view Negate = tree.Negate
+step_view (Jump condition label) = tree.Jump condition (name_view label)
+step_view (Call call) = tree.Call call.condition (name_view call.instance) (map assignment_view call.arguments.items)
+step_view (Return condition) = tree.Return condition
 
 -- whose operand stands here
-abbrev pub said_owner : OperandOf → lines.OperandOf
-said_owner (OfStep operating) = lines.OfStep (said_operating operating)
-said_owner (OfOpening operator) = lines.OfOpening operator
-said_owner (OfArgument call input) = lines.OfArgument (said_listed call) (name_in input)
+abbrev pub owner_view : OperandOf → lines.OperandOf
+owner_view (OfStep operating) = lines.OfStep (operating_view operating)
+owner_view (OfOpening operator) = lines.OfOpening operator
+owner_view (OfArgument call input) = lines.OfArgument (listed_view call) (name_view input)
 
 -- where a call's list stands
-abbrev pub said_item : InList → lines.InList
-said_item AtFirst = lines.AtFirst
-said_item AtNext = lines.AtNext
-said_item (AtAssign input) = lines.AtAssign (name_in input)
-said_item (AtValue input) = lines.AtValue (name_in input)
-said_item AtEnd = lines.AtEnd
+abbrev pub item_view : InList → lines.InList
+item_view AtFirst = lines.AtFirst
+item_view AtNext = lines.AtNext
+item_view (AtAssign input) = lines.AtAssign (name_view input)
+item_view (AtValue input) = lines.AtValue (name_view input)
+item_view AtEnd = lines.AtEnd
 
 -- what a whole line is
-abbrev pub said_form : LineForm → lines.LineForm
-said_form (LabelAlone label) = lines.LabelAlone (word_of label)
-said_form (Instructs begun step) = lines.Instructs (option_map word_of begun.label) begun.line (said_step step)
-said_form (Opens begun operator operand) = lines.Opens (option_map word_of begun.label) begun.line operator (option_map term_of operand)
+abbrev pub form_view : LineForm → lines.LineForm
+form_view (LabelAlone label) = lines.LabelAlone (word_view label)
+form_view (Instructs begun step) = lines.Instructs (option_map word_view begun.label) begun.line (step_view step)
+form_view (Opens begun operator operand) = lines.Opens (option_map word_view begun.label) begun.line operator (option_map term_view operand)
 
 -- how far a line has been read
-abbrev pub said_line : LinePlace → lines.LineState
-said_line (Worded label) = lines.Worded (word_of label)
-said_line (Labelled label) = lines.Labelled (word_of label)
-said_line (Operated begun operating) = lines.Operated (said_begun begun) (said_operating operating)
-said_line (Jumped begun condition) = lines.Jumped (said_begun begun) condition
-said_line (Called begun condition) = lines.Called (said_begun begun) condition
-said_line (Instanced begun condition instance) = lines.Instanced (said_begun begun) condition (name_in instance)
-said_line (Listing begun call item) = lines.Listing (said_begun begun) (said_listed call) (said_item item)
-said_line (Bracketed begun operator) = lines.Bracketed (said_begun begun) operator
-said_line (Named begun owner name) = lines.Named (said_begun begun) (said_owner owner) (name_in name)
-said_line (Pointed begun owner name) = lines.Pointed (said_begun begun) (said_owner owner) (name_in name)
-said_line (Stepped begun step) = lines.Stepped (said_begun begun) (said_step step)
-said_line (BracketedWith begun operator operand) = lines.BracketedWith (said_begun begun) operator (term_of operand)
-said_line (Ended form) = lines.Ended (said_form form)
+abbrev pub line_state_view : LinePlace → lines.LineState
+line_state_view (Worded label) = lines.Worded (word_view label)
+line_state_view (Labelled label) = lines.Labelled (word_view label)
+line_state_view (Operated begun operating) = lines.Operated (begun_view begun) (operating_view operating)
+line_state_view (Jumped begun condition) = lines.Jumped (begun_view begun) condition
+line_state_view (Called begun condition) = lines.Called (begun_view begun) condition
+line_state_view (Instanced begun condition instance) = lines.Instanced (begun_view begun) condition (name_view instance)
+line_state_view (Listing begun call item) = lines.Listing (begun_view begun) (listed_view call) (item_view item)
+line_state_view (Bracketed begun operator) = lines.Bracketed (begun_view begun) operator
+line_state_view (Named begun owner name) = lines.Named (begun_view begun) (owner_view owner) (name_view name)
+line_state_view (Pointed begun owner name) = lines.Pointed (begun_view begun) (owner_view owner) (name_view name)
+line_state_view (Stepped begun step) = lines.Stepped (begun_view begun) (step_view step)
+line_state_view (BracketedWith begun operator operand) = lines.BracketedWith (begun_view begun) operator (term_view operand)
+line_state_view (Ended form) = lines.Ended (form_view form)

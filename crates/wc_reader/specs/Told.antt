@@ -1,9 +1,9 @@
 -- What a result of the reader says.
 use Rattle.std.specs.Prelude.{◌≡◌, ℕ, Option, None, Result, Ok, Err}
 use Rattle.wc_grammar_laws.proofs.Moves.{Met, State}
-use Rattle.wc_model.specs.ReadingFaults.{number_of}
-use Rattle.wc_model.specs.Tree.{Text}
-use Rattle.wc_model.specs.Views.{text_of}
+use Rattle.wc_model.specs.Text.ReadingFaults.{number_of}
+use Rattle.wc_model.specs.Language.Tree.{Text}
+use Rattle.wc_model.specs.Language.Views.{text_view}
 use Rattle.wc_model.specs.declared.fault.Fault.{Fault}
 use Rattle.wc_model.specs.declared.fault.Fault.TheVariants.{Memory, Refused}
 use Rattle.wc_model.specs.declared.source.Source.{Source}
@@ -21,9 +21,9 @@ TellsFault outcome Memory = Unit {0}
 TellsFault outcome (Refused number place) = IsMetAs outcome number place
 
 -- the source is the text, or the fault is what was met
-abbrev pub Tells : Result Text Met → Result Source Fault → Type 0
-Tells outcome (Ok source) = outcome ≡ Ok (text_of source)
-Tells outcome (Err fault) = TellsFault outcome fault
+abbrev pub TellsReading : Result Text Met → Result Source Fault → Type 0
+TellsReading outcome (Ok source) = outcome ≡ Ok (text_view source)
+TellsReading outcome (Err fault) = TellsFault outcome fault
 
 -- the fault says that nothing stands behind a token of that line; want of memory says nothing
 abbrev pub IsUnexpected : Option State → (line : ℕ) → Fault → Type 0

@@ -1,9 +1,9 @@
 ghost use Rattle.std.specs.Prelude.{◌≡◌, ℕ, Bool, IfOk, option_map};
 ghost use Rattle.wc_grammar_laws.proofs.LineMoves as lines;
-ghost use Rattle.wc_model.specs.Grammar.{Setting};
-ghost use Rattle.wc_model.specs.Views.{name_in};
-ghost use Rattle.wc_reader.specs.LineViews.{said_begun, said_item, said_line, said_listed};
-ghost use Rattle.wc_reader.specs.Words.{symbol_in};
+ghost use Rattle.wc_model.specs.Text.Grammar.{Setting};
+ghost use Rattle.wc_model.specs.Language.Views.{name_view};
+ghost use Rattle.wc_reader.specs.LineViews.{begun_view, item_view, line_state_view, listed_view};
+ghost use Rattle.wc_reader.specs.Words.{symbol_view};
 
 use crate::line_place::{Begun, InList, LineForm, LinePlace, Listed, OperandOf, Step};
 use crate::operands::at_operand;
@@ -20,7 +20,7 @@ pub(crate) fn at_instance<'a>(
     instance: Word<'a>,
     token: Token<'a>,
 ) -> Option<LinePlace<'a>>
-    ensures { (setting : Setting) (line : ℕ) (colon : Bool) → option_map said_line result ≡ lines.line_move setting (lines.Instanced (said_begun begun.entry) condition (name_in instance.entry)) (symbol_in token.entry) line colon }
+    ensures { (setting : Setting) (line : ℕ) (colon : Bool) → option_map line_state_view result ≡ lines.line_move setting (lines.Instanced (begun_view begun.entry) condition (name_view instance.entry)) (symbol_view token.entry) line colon }
 {
     let call = Listed {
         condition,
@@ -36,7 +36,7 @@ pub(crate) fn at_instance<'a>(
 
 /// Behind the token after the list's bracket: an input, or the list's end.
 fn at_first<'a>(begun: Begun<'a>, call: Listed<'a>, token: Token<'a>) -> Option<LinePlace<'a>>
-    ensures { (line : ℕ) → option_map said_line result ≡ lines.at_list (said_begun begun.entry) (said_listed call.entry) lines.AtFirst (symbol_in token.entry) line }
+    ensures { (line : ℕ) → option_map line_state_view result ≡ lines.at_list (begun_view begun.entry) (listed_view call.entry) lines.AtFirst (symbol_view token.entry) line }
 {
     match token.shape {
         Shape::LineEnd => Some(LinePlace::Listing(begun, call, InList::AtFirst)),
@@ -48,7 +48,7 @@ fn at_first<'a>(begun: Begun<'a>, call: Listed<'a>, token: Token<'a>) -> Option<
 
 /// Behind the token after a comma: an input.
 fn at_next<'a>(begun: Begun<'a>, call: Listed<'a>, token: Token<'a>) -> Option<LinePlace<'a>>
-    ensures { (line : ℕ) → option_map said_line result ≡ lines.at_list (said_begun begun.entry) (said_listed call.entry) lines.AtNext (symbol_in token.entry) line }
+    ensures { (line : ℕ) → option_map line_state_view result ≡ lines.at_list (begun_view begun.entry) (listed_view call.entry) lines.AtNext (symbol_view token.entry) line }
 {
     match token.shape {
         Shape::LineEnd => Some(LinePlace::Listing(begun, call, InList::AtNext)),
@@ -64,7 +64,7 @@ fn at_assign<'a>(
     input: Word<'a>,
     token: Token<'a>,
 ) -> Option<LinePlace<'a>>
-    ensures { (line : ℕ) → option_map said_line result ≡ lines.at_list (said_begun begun.entry) (said_listed call.entry) (lines.AtAssign (name_in input.entry)) (symbol_in token.entry) line }
+    ensures { (line : ℕ) → option_map line_state_view result ≡ lines.at_list (begun_view begun.entry) (listed_view call.entry) (lines.AtAssign (name_view input.entry)) (symbol_view token.entry) line }
 {
     match token.shape {
         Shape::LineEnd => Some(LinePlace::Listing(begun, call, InList::AtAssign(input))),
@@ -80,7 +80,7 @@ fn at_value<'a>(
     input: Word<'a>,
     token: Token<'a>,
 ) -> Result<Option<LinePlace<'a>>, AllocError>
-    ensures { IfOk result (λ next. option_map said_line next ≡ lines.at_list (said_begun begun.entry) (said_listed call.entry) (lines.AtValue (name_in input.entry)) (symbol_in token.entry) token.entry.line) }
+    ensures { IfOk result (λ next. option_map line_state_view next ≡ lines.at_list (begun_view begun.entry) (listed_view call.entry) (lines.AtValue (name_view input.entry)) (symbol_view token.entry) token.entry.line) }
 {
     match token.shape {
         Shape::LineEnd => Ok(Some(LinePlace::Listing(begun, call, InList::AtValue(input)))),
@@ -90,7 +90,7 @@ fn at_value<'a>(
 
 /// Behind the token after a whole argument: a comma, or the list's end.
 fn at_end<'a>(begun: Begun<'a>, call: Listed<'a>, token: Token<'a>) -> Option<LinePlace<'a>>
-    ensures { (line : ℕ) → option_map said_line result ≡ lines.at_list (said_begun begun.entry) (said_listed call.entry) lines.AtEnd (symbol_in token.entry) line }
+    ensures { (line : ℕ) → option_map line_state_view result ≡ lines.at_list (begun_view begun.entry) (listed_view call.entry) lines.AtEnd (symbol_view token.entry) line }
 {
     match token.shape {
         Shape::LineEnd => Some(LinePlace::Listing(begun, call, InList::AtEnd)),
@@ -107,7 +107,7 @@ pub(crate) fn at_list<'a>(
     item: InList<'a>,
     token: Token<'a>,
 ) -> Result<Option<LinePlace<'a>>, AllocError>
-    ensures { IfOk result (λ next. option_map said_line next ≡ lines.at_list (said_begun begun.entry) (said_listed call.entry) (said_item item.entry) (symbol_in token.entry) token.entry.line) }
+    ensures { IfOk result (λ next. option_map line_state_view next ≡ lines.at_list (begun_view begun.entry) (listed_view call.entry) (item_view item.entry) (symbol_view token.entry) token.entry.line) }
 {
     match item {
         InList::AtFirst => Ok(at_first(begun, call, token)),

@@ -1,12 +1,12 @@
 ghost use Rattle.std.specs.Prelude.{◌≡◌, [], List, map};
 ghost use Rattle.wc_grammar_laws.proofs.LineMoves as lines;
 ghost use Rattle.wc_grammar_laws.proofs.Moves as moves;
-ghost use Rattle.wc_model.specs.Names.{Name};
-ghost use Rattle.wc_model.specs.Tree.{ProgramUnit};
-ghost use Rattle.wc_model.specs.Views.{unit_of};
-ghost use Rattle.wc_reader.specs.LineViews.{said_begun, said_line, said_owner};
-ghost use Rattle.wc_reader.specs.TextViews.{fault_of, said_body, said_openings_in, said_reading};
-ghost use Rattle.wc_reader.specs.Told.{Tells};
+ghost use Rattle.wc_model.specs.Language.Names.{Name};
+ghost use Rattle.wc_model.specs.Language.Tree.{ProgramUnit};
+ghost use Rattle.wc_model.specs.Language.Views.{unit_view};
+ghost use Rattle.wc_reader.specs.LineViews.{begun_view, line_state_view, owner_view};
+ghost use Rattle.wc_reader.specs.TextViews.{fault_of, position_view, openings_view, reading_view};
+ghost use Rattle.wc_reader.specs.Told.{TellsReading};
 
 use crate::body::{Body, innermost};
 use crate::faults::has_program;
@@ -27,7 +27,7 @@ fn open_since(line: u32) -> Fault
 
 /// In a body at the text's end: the innermost parenthesis is open, or the unit.
 fn open_in(body: &Body) -> Fault
-    ensures { result ≡ fault_of (moves.open_in (unit_of body.now.unit) (said_openings_in [] body.now.openings.items)) }
+    ensures { result ≡ fault_of (moves.open_in (unit_view body.now.unit) (openings_view [] body.now.openings.items)) }
 {
     match innermost(&body.openings) {
         Some(opening) => open_since(opening.begun.line),
@@ -40,8 +40,8 @@ fn open_in(body: &Body) -> Fault
 
 /// Behind a name at the text's end: its line may open a parenthesis.
 fn open_behind_name<'a>(body: &Body<'a>, begun: &Begun<'a>, owner: &OperandOf<'a>) -> Fault
-    ensures named { (units : List ProgramUnit) (name : Name) → result ≡ fault_of (moves.open_on (said_body units body.now) (lines.Named (said_begun begun.now) (said_owner owner.now) name)) }
-    ensures pointed { (units : List ProgramUnit) (name : Name) → result ≡ fault_of (moves.open_on (said_body units body.now) (lines.Pointed (said_begun begun.now) (said_owner owner.now) name)) }
+    ensures named { (units : List ProgramUnit) (name : Name) → result ≡ fault_of (moves.open_on (position_view units body.now) (lines.Named (begun_view begun.now) (owner_view owner.now) name)) }
+    ensures pointed { (units : List ProgramUnit) (name : Name) → result ≡ fault_of (moves.open_on (position_view units body.now) (lines.Pointed (begun_view begun.now) (owner_view owner.now) name)) }
 {
     match owner {
         OperandOf::OfOpening(_) => open_since(begun.line),
@@ -51,7 +51,7 @@ fn open_behind_name<'a>(body: &Body<'a>, begun: &Begun<'a>, owner: &OperandOf<'a
 
 /// On a line at the text's end: it may open a parenthesis.
 fn open_on<'a>(body: &Body<'a>, line: &LinePlace<'a>) -> Fault
-    ensures { (units : List ProgramUnit) → result ≡ fault_of (moves.open_on (said_body units body.now) (said_line line.now)) }
+    ensures { (units : List ProgramUnit) → result ≡ fault_of (moves.open_on (position_view units body.now) (line_state_view line.now)) }
 {
     match line {
         LinePlace::Bracketed(begun, _) => open_since(begun.line),
@@ -64,7 +64,7 @@ fn open_on<'a>(body: &Body<'a>, line: &LinePlace<'a>) -> Fault
 
 /// Whole units at the text's end: one is a program, or none.
 fn whole_text<'a>(units: Vec<Unit<'a>, Global>, last_line: u32) -> Result<Source<'a>, Fault>
-    ensures { Tells (moves.at_end (moves.Outside (map unit_of units.entry.items)) last_line) result }
+    ensures { TellsReading (moves.at_end (moves.Outside (map unit_view units.entry.items)) last_line) result }
 {
     if has_program(&units) {
         Ok(Source { units })
@@ -78,7 +78,7 @@ fn whole_text<'a>(units: Vec<Unit<'a>, Global>, last_line: u32) -> Result<Source
 
 /// The text whose tokens have all been read, or what is wrong at its end.
 pub(crate) fn at_text_end<'a>(reading: Reading<'a>, last_line: u32) -> Result<Source<'a>, Fault>
-    ensures { Tells (moves.at_end (said_reading reading.entry) last_line) result }
+    ensures { TellsReading (moves.at_end (reading_view reading.entry) last_line) result }
 {
     let Reading { units, place } = reading;
     match place {

@@ -1,12 +1,12 @@
 ghost use Rattle.std.specs.Prelude.{◌≡◌, ◌∷◌, [], ◌&&◌, List, Option, Some, None, is_some, option_map, if◌then◌else◌};
 ghost use Rattle.wc_grammar_laws.proofs.Moves as moves;
 ghost use Rattle.wc_grammar_laws.proofs.Words as words;
-ghost use Rattle.wc_model.specs.Keywords.{end_word};
-ghost use Rattle.wc_model.specs.Positions as positions;
-ghost use Rattle.wc_model.specs.ReadingFaults as faults;
-ghost use Rattle.wc_model.specs.Tree.{ProgramUnit};
-ghost use Rattle.wc_reader.specs.TextViews.{IsCounted, fault_of, said_body, said_opening, said_openings_in};
-ghost use Rattle.wc_reader.specs.Words.{symbol_in};
+ghost use Rattle.wc_model.specs.Text.Keywords.{end_word};
+ghost use Rattle.wc_model.specs.Text.Positions as positions;
+ghost use Rattle.wc_model.specs.Text.ReadingFaults as faults;
+ghost use Rattle.wc_model.specs.Language.Tree.{ProgramUnit};
+ghost use Rattle.wc_reader.specs.TextViews.{IsCounted, fault_of, position_view, opening_view, openings_view};
+ghost use Rattle.wc_reader.specs.Words.{symbol_view};
 
 use crate::body::{Body, Opening, has_content, innermost};
 use crate::operators::{is_transfer, operation_of};
@@ -28,7 +28,7 @@ pub(crate) fn refused_if(test: bool, number: u16, place: u32) -> Option<Fault>
 /// Whether the unit has as many lines as it may.
 fn is_full(body: &Body) -> bool
     requires { IsCounted body.now }
-    ensures { (units : List ProgramUnit) → result ≡ moves.is_full (said_body units body.now) }
+    ensures { (units : List ProgramUnit) → result ≡ moves.is_full (position_view units body.now) }
 {
     body.count >= 1024
 }
@@ -36,7 +36,7 @@ fn is_full(body: &Body) -> bool
 /// A line too many, where the unit has as many as it may.
 fn full_fault(body: &Body, line: u32) -> Option<Fault>
     requires { IsCounted body.now }
-    ensures { (units : List ProgramUnit) → result ≡ option_map fault_of (moves.met_if (moves.is_full (said_body units body.now)) faults.TooMany line) }
+    ensures { (units : List ProgramUnit) → result ≡ option_map fault_of (moves.met_if (moves.is_full (position_view units body.now)) faults.TooMany line) }
 {
     refused_if(is_full(body), 208, line)
 }
@@ -44,7 +44,7 @@ fn full_fault(body: &Body, line: u32) -> Option<Fault>
 /// What is wrong with the `)` of a parenthesis.
 fn inner_closing_fault<'a>(body: &Body<'a>, opening: &Opening<'a>, line: u32) -> Option<Fault>
     requires { IsCounted body.now }
-    ensures { (units : List ProgramUnit) (outer : List positions.Opening) → result ≡ option_map fault_of (moves.judge_closing (said_body units body.now) (said_opening opening.now ∷ outer) line) }
+    ensures { (units : List ProgramUnit) (outer : List positions.Opening) → result ≡ option_map fault_of (moves.judge_closing (position_view units body.now) (opening_view opening.now ∷ outer) line) }
 {
     if has_content(opening, &body.done) {
         full_fault(body, line)
@@ -59,7 +59,7 @@ fn inner_closing_fault<'a>(body: &Body<'a>, opening: &Opening<'a>, line: u32) ->
 /// What is wrong with a `)` at the start of a line.
 fn closing_fault(body: &Body, line: u32) -> Option<Fault>
     requires { IsCounted body.now }
-    ensures { (units : List ProgramUnit) → result ≡ option_map fault_of (moves.judge_closing (said_body units body.now) (said_openings_in [] body.now.openings.items) line) }
+    ensures { (units : List ProgramUnit) → result ≡ option_map fault_of (moves.judge_closing (position_view units body.now) (openings_view [] body.now.openings.items) line) }
 {
     match innermost(&body.openings) {
         Some(opening) => inner_closing_fault(body, opening, line),
@@ -72,7 +72,7 @@ fn closing_fault(body: &Body, line: u32) -> Option<Fault>
 
 /// Whether the token is an operator.
 fn is_operator(token: Token) -> bool
-    ensures { result ≡ is_some (words.operation_of (symbol_in token.entry)) }
+    ensures { result ≡ is_some (words.operation_of (symbol_view token.entry)) }
 {
     match operation_of(token) {
         Some(_) => true,
@@ -83,7 +83,7 @@ fn is_operator(token: Token) -> bool
 /// What is wrong with an operator that begins a line: it is one line too many. A label is none.
 fn operator_fault(body: &Body, token: Token, colon: bool) -> Option<Fault>
     requires { IsCounted body.now }
-    ensures { (units : List ProgramUnit) → result ≡ option_map fault_of (moves.judge_operator (said_body units body.now) (symbol_in token.entry) token.entry.line colon) }
+    ensures { (units : List ProgramUnit) → result ≡ option_map fault_of (moves.judge_operator (position_view units body.now) (symbol_view token.entry) token.entry.line colon) }
 {
     if is_operator(token) {
         if colon {
@@ -98,7 +98,7 @@ fn operator_fault(body: &Body, token: Token, colon: bool) -> Option<Fault>
 
 /// Whether a jump, a call or a return begins here.
 fn begins_transfer(token: Token) -> bool
-    ensures { result ≡ moves.begins_transfer (words.operation_of (symbol_in token.entry)) }
+    ensures { result ≡ moves.begins_transfer (words.operation_of (symbol_view token.entry)) }
 {
     match operation_of(token) {
         Some(operation) => is_transfer(operation),
@@ -108,7 +108,7 @@ fn begins_transfer(token: Token) -> bool
 
 /// Whether a label begins here.
 fn begins_label(token: Token, colon: bool) -> bool
-    ensures { result ≡ (moves.is_identifier (symbol_in token.entry) && colon) }
+    ensures { result ≡ (moves.is_identifier (symbol_view token.entry) && colon) }
 {
     match token.shape {
         Shape::Identifier => colon,
@@ -118,7 +118,7 @@ fn begins_label(token: Token, colon: bool) -> bool
 
 /// Whether the token is the word that ends a unit of that kind.
 fn is_end_word(token: Token, kind: UnitKind) -> bool
-    ensures { result ≡ moves.has_name (symbol_in token.entry) (end_word kind) }
+    ensures { result ≡ moves.has_name (symbol_view token.entry) (end_word kind) }
 {
     match token.shape {
         Shape::Identifier => ends_unit(token.text, kind),
@@ -129,7 +129,7 @@ fn is_end_word(token: Token, kind: UnitKind) -> bool
 /// What is wrong with a token that begins a line in parentheses, other than a `)`, a label and a transfer.
 fn inner_fault(body: &Body, open_line: u32, token: Token, colon: bool) -> Option<Fault>
     requires { IsCounted body.now }
-    ensures { (units : List ProgramUnit) → result ≡ option_map fault_of (moves.met_or (moves.met_if (moves.has_name (symbol_in token.entry) (end_word body.now.unit.kind)) faults.ParenthesisNotPaired open_line) (moves.judge_operator (said_body units body.now) (symbol_in token.entry) token.entry.line colon)) }
+    ensures { (units : List ProgramUnit) → result ≡ option_map fault_of (moves.met_or (moves.met_if (moves.has_name (symbol_view token.entry) (end_word body.now.unit.kind)) faults.ParenthesisNotPaired open_line) (moves.judge_operator (position_view units body.now) (symbol_view token.entry) token.entry.line colon)) }
 {
     if is_end_word(token, body.unit.kind) {
         Some(Fault::Refused {
@@ -144,7 +144,7 @@ fn inner_fault(body: &Body, open_line: u32, token: Token, colon: bool) -> Option
 /// What is wrong with a token that begins a line in parentheses, other than a `)` and a transfer.
 fn label_fault(body: &Body, open_line: u32, token: Token, colon: bool) -> Option<Fault>
     requires { IsCounted body.now }
-    ensures { (units : List ProgramUnit) → result ≡ option_map fault_of (moves.met_or (moves.met_if (moves.is_identifier (symbol_in token.entry) && colon) faults.NotAllowedInParentheses token.entry.line) (moves.met_or (moves.met_if (moves.has_name (symbol_in token.entry) (end_word body.now.unit.kind)) faults.ParenthesisNotPaired open_line) (moves.judge_operator (said_body units body.now) (symbol_in token.entry) token.entry.line colon))) }
+    ensures { (units : List ProgramUnit) → result ≡ option_map fault_of (moves.met_or (moves.met_if (moves.is_identifier (symbol_view token.entry) && colon) faults.NotAllowedInParentheses token.entry.line) (moves.met_or (moves.met_if (moves.has_name (symbol_view token.entry) (end_word body.now.unit.kind)) faults.ParenthesisNotPaired open_line) (moves.judge_operator (position_view units body.now) (symbol_view token.entry) token.entry.line colon))) }
 {
     if begins_label(token, colon) {
         Some(Fault::Refused {
@@ -159,7 +159,7 @@ fn label_fault(body: &Body, open_line: u32, token: Token, colon: bool) -> Option
 /// What is wrong with the first token of a line in parentheses, other than a `)`.
 fn inside_fault(body: &Body, open_line: u32, token: Token, colon: bool) -> Option<Fault>
     requires { IsCounted body.now }
-    ensures { (units : List ProgramUnit) (opening : positions.Opening) (outer : List positions.Opening) → opening.line ≡ open_line → result ≡ option_map fault_of (moves.judge_line (said_body units body.now) (opening ∷ outer) (symbol_in token.entry) token.entry.line colon) }
+    ensures { (units : List ProgramUnit) (opening : positions.Opening) (outer : List positions.Opening) → opening.line ≡ open_line → result ≡ option_map fault_of (moves.judge_line (position_view units body.now) (opening ∷ outer) (symbol_view token.entry) token.entry.line colon) }
 {
     if begins_transfer(token) {
         Some(Fault::Refused {
@@ -174,7 +174,7 @@ fn inside_fault(body: &Body, open_line: u32, token: Token, colon: bool) -> Optio
 /// What is wrong with the first token of a line, other than a `)`.
 fn line_fault(body: &Body, token: Token, colon: bool) -> Option<Fault>
     requires { IsCounted body.now }
-    ensures { (units : List ProgramUnit) → result ≡ option_map fault_of (moves.judge_line (said_body units body.now) (said_openings_in [] body.now.openings.items) (symbol_in token.entry) token.entry.line colon) }
+    ensures { (units : List ProgramUnit) → result ≡ option_map fault_of (moves.judge_line (position_view units body.now) (openings_view [] body.now.openings.items) (symbol_view token.entry) token.entry.line colon) }
 {
     match innermost(&body.openings) {
         Some(opening) => inside_fault(body, opening.begun.line, token, colon),
@@ -185,7 +185,7 @@ fn line_fault(body: &Body, token: Token, colon: bool) -> Option<Fault>
 /// What is wrong with the first token of a line.
 pub(crate) fn start_fault(body: &Body, token: Token, colon: bool) -> Option<Fault>
     requires { IsCounted body.now }
-    ensures { (units : List ProgramUnit) → result ≡ option_map fault_of (moves.judge (moves.AtLine (said_body units body.now)) (symbol_in token.entry) token.entry.line colon) }
+    ensures { (units : List ProgramUnit) → result ≡ option_map fault_of (moves.judge (moves.AtLine (position_view units body.now)) (symbol_view token.entry) token.entry.line colon) }
 {
     match token.shape {
         Shape::Closing => closing_fault(body, token.line),
@@ -196,7 +196,7 @@ pub(crate) fn start_fault(body: &Body, token: Token, colon: bool) -> Option<Faul
 /// What is wrong with an operator behind a label: it is one line too many.
 pub(crate) fn labelled_fault(body: &Body, token: Token) -> Option<Fault>
     requires { IsCounted body.now }
-    ensures { (units : List ProgramUnit) → result ≡ option_map fault_of (moves.met_if (is_some (words.operation_of (symbol_in token.entry)) && moves.is_full (said_body units body.now)) faults.TooMany token.entry.line) }
+    ensures { (units : List ProgramUnit) → result ≡ option_map fault_of (moves.met_if (is_some (words.operation_of (symbol_view token.entry)) && moves.is_full (position_view units body.now)) faults.TooMany token.entry.line) }
 {
     if is_operator(token) {
         full_fault(body, token.line)

@@ -1,12 +1,12 @@
 ghost use Rattle.std.specs.Prelude.{◌≡◌, ℕ, Bool, IfOk, Some, option_map};
 ghost use Rattle.wc_grammar_laws.proofs.LineMoves as lines;
 ghost use Rattle.wc_grammar_laws.proofs.Words as words;
-ghost use Rattle.wc_model.specs.Grammar.{Setting};
-ghost use Rattle.wc_model.specs.Marks as marks;
-ghost use Rattle.wc_model.specs.Tree as tree;
-ghost use Rattle.wc_model.specs.Views.{name_in, term_of};
-ghost use Rattle.wc_reader.specs.LineViews.{said_begun, said_line, said_listed, said_owner, said_step};
-ghost use Rattle.wc_reader.specs.Words.{said_operating, symbol_in};
+ghost use Rattle.wc_model.specs.Text.Grammar.{Setting};
+ghost use Rattle.wc_model.specs.Text.Marks as marks;
+ghost use Rattle.wc_model.specs.Language.Tree as tree;
+ghost use Rattle.wc_model.specs.Language.Views.{name_view, term_view};
+ghost use Rattle.wc_reader.specs.LineViews.{begun_view, line_state_view, listed_view, owner_view, step_view};
+ghost use Rattle.wc_reader.specs.Words.{operating_view, symbol_view};
 
 use crate::line_place::{Begun, InList, LineForm, LinePlace, Listed, OperandOf, Step};
 use crate::operators::Operating;
@@ -17,7 +17,7 @@ use wc_model::{Argument, Operand, Operator, Value, Word};
 
 /// The instruction of an operator with its operand.
 fn step_of<'a>(operating: Operating, operand: Operand<'a>) -> Step<'a>
-    ensures { said_step result ≡ words.step_of (said_operating operating) (term_of operand.entry) }
+    ensures { step_view result ≡ words.step_of (operating_view operating) (term_view operand.entry) }
 {
     match operating {
         Operating::Loads(negated) => Step::Load(negated, operand),
@@ -32,7 +32,7 @@ fn with_argument<'a>(
     input: Word<'a>,
     value: Operand<'a>,
 ) -> Result<Listed<'a>, AllocError>
-    ensures { IfOk result (λ more. said_listed more ≡ lines.with_argument (said_listed call.entry) (name_in input.entry) (term_of value.entry)) }
+    ensures { IfOk result (λ more. listed_view more ≡ lines.with_argument (listed_view call.entry) (name_view input.entry) (term_view value.entry)) }
 {
     let mut call = call;
     call.arguments.push(Argument { name: input, value })?;
@@ -45,7 +45,7 @@ fn behind_operand<'a>(
     owner: OperandOf<'a>,
     operand: Operand<'a>,
 ) -> Result<LinePlace<'a>, AllocError>
-    ensures { IfOk result (λ next. said_line next ≡ lines.behind_operand (said_begun begun.entry) (said_owner owner.entry) (term_of operand.entry)) }
+    ensures { IfOk result (λ next. line_state_view next ≡ lines.behind_operand (begun_view begun.entry) (owner_view owner.entry) (term_view operand.entry)) }
 {
     match owner {
         OperandOf::OfStep(operating) => Ok(LinePlace::Stepped(begun, step_of(operating, operand))),
@@ -63,7 +63,7 @@ fn behind_literal<'a>(
     owner: OperandOf<'a>,
     value: Value,
 ) -> Result<Option<LinePlace<'a>>, AllocError>
-    ensures { IfOk result (λ next. option_map said_line next ≡ Some (lines.behind_operand (said_begun begun.entry) (said_owner owner.entry) (tree.Constant value))) }
+    ensures { IfOk result (λ next. option_map line_state_view next ≡ Some (lines.behind_operand (begun_view begun.entry) (owner_view owner.entry) (tree.Constant value))) }
 {
     let next = behind_operand(begun, owner, Operand::Literal(value))?;
     Ok(Some(next))
@@ -75,7 +75,7 @@ pub(crate) fn at_operand<'a>(
     owner: OperandOf<'a>,
     token: Token<'a>,
 ) -> Result<Option<LinePlace<'a>>, AllocError>
-    ensures { IfOk result (λ next. option_map said_line next ≡ lines.at_operand (said_begun begun.entry) (said_owner owner.entry) (symbol_in token.entry) token.entry.line) }
+    ensures { IfOk result (λ next. option_map line_state_view next ≡ lines.at_operand (begun_view begun.entry) (owner_view owner.entry) (symbol_view token.entry) token.entry.line) }
 {
     match token.shape {
         Shape::Identifier => match truth(token.text) {
@@ -101,7 +101,7 @@ fn behind_value<'a>(
     name: Word<'a>,
     token: Token<'a>,
 ) -> Result<Option<LinePlace<'a>>, AllocError>
-    ensures { IfOk result (λ next. option_map said_line next ≡ lines.behind_name (said_begun begun.entry) (lines.OfArgument (said_listed call.entry) (name_in input.entry)) (name_in name.entry) (symbol_in token.entry)) }
+    ensures { IfOk result (λ next. option_map line_state_view next ≡ lines.behind_name (begun_view begun.entry) (lines.OfArgument (listed_view call.entry) (name_view input.entry)) (name_view name.entry) (symbol_view token.entry)) }
 {
     match token.shape {
         Shape::LineEnd => Ok(Some(LinePlace::Named(
@@ -128,7 +128,7 @@ fn behind_step_name<'a>(
     name: Word<'a>,
     token: Token<'a>,
 ) -> Option<LinePlace<'a>>
-    ensures { option_map said_line result ≡ lines.behind_name (said_begun begun.entry) (lines.OfStep (said_operating operating)) (name_in name.entry) (symbol_in token.entry) }
+    ensures { option_map line_state_view result ≡ lines.behind_name (begun_view begun.entry) (lines.OfStep (operating_view operating)) (name_view name.entry) (symbol_view token.entry) }
 {
     match token.shape {
         Shape::LineEnd => {
@@ -146,7 +146,7 @@ fn behind_opening_name<'a>(
     name: Word<'a>,
     token: Token<'a>,
 ) -> Option<LinePlace<'a>>
-    ensures { option_map said_line result ≡ lines.behind_name (said_begun begun.entry) (lines.OfOpening operator) (name_in name.entry) (symbol_in token.entry) }
+    ensures { option_map line_state_view result ≡ lines.behind_name (begun_view begun.entry) (lines.OfOpening operator) (name_view name.entry) (symbol_view token.entry) }
 {
     match token.shape {
         Shape::LineEnd => Some(LinePlace::Ended(LineForm::Opens(
@@ -165,7 +165,7 @@ fn behind_name<'a>(
     name: Word<'a>,
     token: Token<'a>,
 ) -> Result<Option<LinePlace<'a>>, AllocError>
-    ensures { IfOk result (λ next. option_map said_line next ≡ lines.behind_name (said_begun begun.entry) (said_owner owner.entry) (name_in name.entry) (symbol_in token.entry)) }
+    ensures { IfOk result (λ next. option_map line_state_view next ≡ lines.behind_name (begun_view begun.entry) (owner_view owner.entry) (name_view name.entry) (symbol_view token.entry)) }
 {
     match owner {
         OperandOf::OfStep(operating) => Ok(behind_step_name(begun, operating, name, token)),
@@ -181,7 +181,7 @@ pub(crate) fn at_named<'a>(
     name: Word<'a>,
     token: Token<'a>,
 ) -> Result<Option<LinePlace<'a>>, AllocError>
-    ensures { IfOk result (λ next. (setting : Setting) (line : ℕ) (colon : Bool) → option_map said_line next ≡ lines.line_move setting (lines.Named (said_begun begun.entry) (said_owner owner.entry) (name_in name.entry)) (symbol_in token.entry) line colon) }
+    ensures { IfOk result (λ next. (setting : Setting) (line : ℕ) (colon : Bool) → option_map line_state_view next ≡ lines.line_move setting (lines.Named (begun_view begun.entry) (owner_view owner.entry) (name_view name.entry)) (symbol_view token.entry) line colon) }
 {
     match token.shape {
         Shape::Point => Ok(Some(LinePlace::Pointed(begun, owner, name))),
@@ -195,7 +195,7 @@ fn behind_point<'a>(
     owner: OperandOf<'a>,
     instance: Word<'a>,
 ) -> Option<LinePlace<'a>>
-    ensures { option_map said_line result ≡ lines.at_field (said_begun begun.entry) (said_owner owner.entry) (name_in instance.entry) marks.LineEnd }
+    ensures { option_map line_state_view result ≡ lines.at_field (begun_view begun.entry) (owner_view owner.entry) (name_view instance.entry) marks.LineEnd }
 {
     match owner {
         OperandOf::OfArgument(call, input) => Some(LinePlace::Pointed(
@@ -214,7 +214,7 @@ pub(crate) fn at_field<'a>(
     instance: Word<'a>,
     token: Token<'a>,
 ) -> Result<Option<LinePlace<'a>>, AllocError>
-    ensures { IfOk result (λ next. option_map said_line next ≡ lines.at_field (said_begun begun.entry) (said_owner owner.entry) (name_in instance.entry) (symbol_in token.entry)) }
+    ensures { IfOk result (λ next. option_map line_state_view next ≡ lines.at_field (begun_view begun.entry) (owner_view owner.entry) (name_view instance.entry) (symbol_view token.entry)) }
 {
     match token.shape {
         Shape::Identifier => {

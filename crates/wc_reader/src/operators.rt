@@ -1,8 +1,8 @@
 ghost use Rattle.std.specs.Prelude.{◌≡◌, option_map};
 ghost use Rattle.wc_grammar_laws.proofs.Words as words;
-ghost use Rattle.wc_model.specs.Names.{name_of};
+ghost use Rattle.wc_model.specs.Language.Names.{name_of};
 ghost use Rattle.wc_reader.specs.OperatorGroups.{loads_and_stores, logic, arithmetic, comparisons, negation_and_jumps, calls_and_returns};
-ghost use Rattle.wc_reader.specs.Words.{said_operation, symbol_in};
+ghost use Rattle.wc_reader.specs.Words.{operation_view, symbol_view};
 
 use crate::words::is_word;
 use wc_lexer::{Shape, Token};
@@ -36,7 +36,7 @@ pub(crate) enum Operation {
 
 /// LD, LDN, ST, STN, S, R.
 fn load_or_store(text: &[u8]) -> Option<Operation>
-    ensures { option_map said_operation result ≡ words.found loads_and_stores (name_of text.now) }
+    ensures { option_map operation_view result ≡ words.found loads_and_stores (name_of text.now) }
 {
     if is_word(text, b"ld") {
         Some(Operation::Operates(Operating::Loads(false)))
@@ -57,7 +57,7 @@ fn load_or_store(text: &[u8]) -> Option<Operation>
 
 /// AND, ANDN, OR, ORN, XOR, XORN.
 fn logic(text: &[u8]) -> Option<Operation>
-    ensures { option_map said_operation result ≡ words.found logic (name_of text.now) }
+    ensures { option_map operation_view result ≡ words.found logic (name_of text.now) }
 {
     if is_word(text, b"and") {
         Some(Operation::Operates(Operating::Applies(Operator::And)))
@@ -78,7 +78,7 @@ fn logic(text: &[u8]) -> Option<Operation>
 
 /// ADD, SUB, MUL, DIV, MOD.
 fn arithmetic(text: &[u8]) -> Option<Operation>
-    ensures { option_map said_operation result ≡ words.found arithmetic (name_of text.now) }
+    ensures { option_map operation_view result ≡ words.found arithmetic (name_of text.now) }
 {
     if is_word(text, b"add") {
         Some(Operation::Operates(Operating::Applies(Operator::Add)))
@@ -97,7 +97,7 @@ fn arithmetic(text: &[u8]) -> Option<Operation>
 
 /// GT, GE, EQ, NE, LE, LT.
 fn comparison(text: &[u8]) -> Option<Operation>
-    ensures { option_map said_operation result ≡ words.found comparisons (name_of text.now) }
+    ensures { option_map operation_view result ≡ words.found comparisons (name_of text.now) }
 {
     if is_word(text, b"gt") {
         Some(Operation::Operates(Operating::Applies(Operator::Gt)))
@@ -118,7 +118,7 @@ fn comparison(text: &[u8]) -> Option<Operation>
 
 /// NOT, JMP, JMPC, JMPCN.
 fn negation_or_jump(text: &[u8]) -> Option<Operation>
-    ensures { option_map said_operation result ≡ words.found negation_and_jumps (name_of text.now) }
+    ensures { option_map operation_view result ≡ words.found negation_and_jumps (name_of text.now) }
 {
     if is_word(text, b"not") {
         Some(Operation::Negates)
@@ -135,7 +135,7 @@ fn negation_or_jump(text: &[u8]) -> Option<Operation>
 
 /// CAL, CALC, CALCN, RET, RETC, RETCN.
 fn call_or_return(text: &[u8]) -> Option<Operation>
-    ensures { option_map said_operation result ≡ words.found calls_and_returns (name_of text.now) }
+    ensures { option_map operation_view result ≡ words.found calls_and_returns (name_of text.now) }
 {
     if is_word(text, b"cal") {
         Some(Operation::Calls(Condition::Always))
@@ -156,7 +156,7 @@ fn call_or_return(text: &[u8]) -> Option<Operation>
 
 /// The operator that the word is.
 pub(crate) fn operation_named(text: &[u8]) -> Option<Operation>
-    ensures { option_map said_operation result ≡ words.found words.operations (name_of text.now) }
+    ensures { option_map operation_view result ≡ words.found words.operations (name_of text.now) }
 {
     load_or_store(text)
         .or(logic(text))
@@ -168,7 +168,7 @@ pub(crate) fn operation_named(text: &[u8]) -> Option<Operation>
 
 /// The operator that the token is.
 pub(crate) fn operation_of(token: Token) -> Option<Operation>
-    ensures { option_map said_operation result ≡ words.operation_of (symbol_in token.entry) }
+    ensures { option_map operation_view result ≡ words.operation_of (symbol_view token.entry) }
 {
     match token.shape {
         Shape::Identifier => operation_named(token.text),
@@ -180,7 +180,7 @@ pub(crate) fn operation_of(token: Token) -> Option<Operation>
 
 /// Whether it is a jump, a call or a return.
 pub(crate) fn is_transfer(operation: Operation) -> bool
-    ensures { result ≡ words.is_transfer (said_operation operation) }
+    ensures { result ≡ words.is_transfer (operation_view operation) }
 {
     !matches!(operation, Operation::Operates(_) | Operation::Negates)
 }

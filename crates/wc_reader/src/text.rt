@@ -1,15 +1,15 @@
 ghost use Rattle.std.specs.Prelude.{◌≡◌, ◌+◌, ◌==◌, ◌≤◌, ◌<◌, ◌∷◌, ℕ, IfErr, IfOk, List, Some, count_by, drop, false, length, option_map};
 ghost use Rattle.wc_grammar_laws.proofs.Moves as moves;
 ghost use Rattle.wc_grammar_laws.proofs.Moves.{at_first, colon_next};
-ghost use Rattle.wc_model.specs.Marks.{Mark};
-ghost use Rattle.wc_model.specs.Reading.{IsRead, last_line, mark_of_token};
-ghost use Rattle.wc_model.specs.Tokens.{most_bytes};
-ghost use Rattle.wc_model.specs.Views.{text_of};
-ghost use Rattle.wc_lexer.specs.Views.{said_token};
+ghost use Rattle.wc_model.specs.Text.Marks.{Mark};
+ghost use Rattle.wc_model.specs.Text.Reading.{IsRead, last_line, mark_of_token};
+ghost use Rattle.wc_model.specs.Text.Tokens.{most_bytes};
+ghost use Rattle.wc_model.specs.Language.Views.{text_view};
+ghost use Rattle.wc_lexer.specs.Views.{token_view};
 ghost use Rattle.wc_reader.specs.ReadTexts.{IsRefusedAs};
-ghost use Rattle.wc_reader.specs.TextViews.{IsPlaceCounted, said_reading};
-ghost use Rattle.wc_reader.specs.Told.{IsUnexpected, Tells, TellsFault};
-ghost use Rattle.wc_reader.specs.Words.{marks_of, symbol_in};
+ghost use Rattle.wc_reader.specs.TextViews.{IsPlaceCounted, reading_view};
+ghost use Rattle.wc_reader.specs.Told.{IsUnexpected, TellsReading, TellsFault};
+ghost use Rattle.wc_reader.specs.Words.{marks_of, symbol_view};
 
 use crate::ends::at_text_end;
 use crate::faults::fault_at;
@@ -32,7 +32,7 @@ fn is_colon_next(tokens: &[Token]) -> bool
 /// What stands behind a token of that line, which is unexpected where there is nothing.
 fn or_unexpected<'a>(next: Option<Reading<'a>>, line: u32) -> Result<Reading<'a>, Fault>
     ensures there { IfOk result (λ reading. next.entry ≡ Some reading) }
-    ensures nothing { IfErr result (λ fault. IsUnexpected (option_map said_reading next.entry) line fault) }
+    ensures nothing { IfErr result (λ fault. IsUnexpected (option_map reading_view next.entry) line fault) }
 {
     match next {
         Some(reading) => Ok(reading),
@@ -51,8 +51,8 @@ fn moved<'a>(
     colon: bool,
 ) -> Result<Reading<'a>, Fault>
     requires { IsPlaceCounted reading.place }
-    ensures goes_on { IfOk result (λ next. Some (said_reading next) ≡ moves.move (said_reading reading.entry) (symbol_in token.entry) token.entry.line colon) }
-    ensures stops { IfErr result (λ fault. IsUnexpected (moves.move (said_reading reading.entry) (symbol_in token.entry) token.entry.line colon) token.entry.line fault) }
+    ensures goes_on { IfOk result (λ next. Some (reading_view next) ≡ moves.move (reading_view reading.entry) (symbol_view token.entry) token.entry.line colon) }
+    ensures stops { IfErr result (λ fault. IsUnexpected (moves.move (reading_view reading.entry) (symbol_view token.entry) token.entry.line colon) token.entry.line fault) }
     ensures counted { IfOk result (λ next. IsPlaceCounted next.place) }
 {
     match text_move(alloc, reading, token, colon) {
@@ -69,8 +69,8 @@ fn next_reading<'a>(
     colon: bool,
 ) -> Result<Reading<'a>, Fault>
     requires { IsPlaceCounted reading.place }
-    ensures goes_on { IfOk result (λ next. (behind : List Mark) (last : ℕ) → colon_next behind false ≡ colon → moves.reading (said_reading reading.entry) (mark_of_token (said_token token.entry) ∷ behind) last ≡ moves.reading (said_reading next) behind last) }
-    ensures stops { IfErr result (λ fault. (behind : List Mark) (last : ℕ) → colon_next behind false ≡ colon → TellsFault (moves.reading (said_reading reading.entry) (mark_of_token (said_token token.entry) ∷ behind) last) fault) }
+    ensures goes_on { IfOk result (λ next. (behind : List Mark) (last : ℕ) → colon_next behind false ≡ colon → moves.reading (reading_view reading.entry) (mark_of_token (token_view token.entry) ∷ behind) last ≡ moves.reading (reading_view next) behind last) }
+    ensures stops { IfErr result (λ fault. (behind : List Mark) (last : ℕ) → colon_next behind false ≡ colon → TellsFault (moves.reading (reading_view reading.entry) (mark_of_token (token_view token.entry) ∷ behind) last) fault) }
     ensures counted { IfOk result (λ next. IsPlaceCounted next.place) }
 {
     match fault_at(&reading, token, colon) {
@@ -88,8 +88,8 @@ fn read_at<'a>(
 ) -> Result<Reading<'a>, Fault>
     requires counted { IsPlaceCounted reading.place }
     requires within { index < length tokens.now }
-    ensures goes_on { IfOk result (λ next. (last : ℕ) → moves.reading (said_reading reading.entry) (marks_of (drop index tokens.now)) last ≡ moves.reading (said_reading next) (marks_of (drop (index + 1) tokens.now)) last) }
-    ensures stops { IfErr result (λ fault. (last : ℕ) → TellsFault (moves.reading (said_reading reading.entry) (marks_of (drop index tokens.now)) last) fault) }
+    ensures goes_on { IfOk result (λ next. (last : ℕ) → moves.reading (reading_view reading.entry) (marks_of (drop index tokens.now)) last ≡ moves.reading (reading_view next) (marks_of (drop (index + 1) tokens.now)) last) }
+    ensures stops { IfErr result (λ fault. (last : ℕ) → TellsFault (moves.reading (reading_view reading.entry) (marks_of (drop index tokens.now)) last) fault) }
     ensures counted { IfOk result (λ next. IsPlaceCounted next.place) }
 {
     let (_, left) = tokens.split_at(index);
@@ -101,7 +101,7 @@ fn read_at<'a>(
 
 /// The text that the tokens spell, or the first fault in them.
 fn read_tokens<'a>(alloc: Global, tokens: &[Token<'a>], last_line: u32) -> Result<Source<'a>, Fault>
-    ensures { Tells (moves.reading at_first (marks_of tokens.now) last_line) result }
+    ensures { TellsReading (moves.reading at_first (marks_of tokens.now) last_line) result }
 {
     let mut reading = Reading {
         units: Vec::new(alloc),
@@ -136,7 +136,7 @@ fn last_line(text: &[u8]) -> u32
 /// first fault in text order, by the list of refusals: 101 to 107 of its tokens, 201 to 208 of what they spell; the text
 /// is then read as no tree. `Err(Memory)` is want of memory.
 pub fn read<'a>(alloc: Global, text: &'a [u8]) -> Result<Source<'a>, Fault>
-    ensures read { IfOk result (λ source. IsRead text.now (text_of source)) }
+    ensures read { IfOk result (λ source. IsRead text.now (text_view source)) }
     ensures refused { IfErr result (λ fault. IsRefusedAs text.now fault) }
 {
     match tokens(alloc, text) {

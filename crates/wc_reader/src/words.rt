@@ -1,9 +1,9 @@
 ghost use Rattle.std.specs.Prelude.{◌≡◌};
 ghost use Rattle.wc_grammar_laws.proofs.Words as words;
 ghost use Rattle.wc_model.proofs.Spelling.{same};
-ghost use Rattle.wc_model.specs.Keywords.{end_word};
-ghost use Rattle.wc_model.specs.Names.{name_of};
-ghost use Rattle.wc_reader.specs.Words.{symbol_in};
+ghost use Rattle.wc_model.specs.Text.Keywords.{end_word};
+ghost use Rattle.wc_model.specs.Language.Names.{name_of};
+ghost use Rattle.wc_reader.specs.Words.{symbol_view};
 
 use wc_lexer::{Shape, Token};
 use wc_model::{Section, UnitKind, Value, Word};
@@ -68,7 +68,7 @@ pub(crate) fn section(text: &[u8]) -> Option<Section>
 
 /// The literal that the token is, also TRUE and FALSE.
 pub(crate) fn literal(token: Token) -> Option<Value>
-    ensures { result ≡ words.literal_of (symbol_in token.entry) }
+    ensures { result ≡ words.literal_of (symbol_view token.entry) }
 {
     match token.shape {
         Shape::Identifier => truth(token.text).map(Value::Bool),

@@ -7,8 +7,8 @@ use Rattle.std.specs.Prelude.{nat_le, MatchResult, option_map}
 use Rattle.hex.specs.Hex.{hex_digit_value, pair_value, decode_pairs, decode_of, decode_sized, ◌>>=◌}
 use Rattle.hex.specs.declared.error.FromHexError.{FromHexError}
 use Rattle.hex.specs.declared.error.FromHexError.TheVariants.{OutOfMemory}
-use Rattle.wc_model.specs.Hex.{bytes_of_hex, byte_of_digits, with_byte}
-use Rattle.wc_model.specs.Log.{where_passes, line_piece_of, inputs_word_of}
+use Rattle.wc_model.specs.Run.Hex.{bytes_of_hex, byte_of_digits, with_byte}
+use Rattle.wc_model.specs.Run.Log.{where_passes, line_piece_of, inputs_word_of}
 
 -- the value of an answer
 abbrev pub ok_of : {A E : Type 0} → Result A E → Option A

@@ -4,10 +4,10 @@ use Rattle.std.proofs.lemmas.Bool.Decides.{nat_tests}
 use Rattle.std.proofs.lemmas.Slice.Eq.{bytes_eq-Decides}
 use Rattle.std.specs.Prelude.{codes, nat_le, nat_lt, IfSome}
 use Rattle.std.specs.Str.{bytes_eq}
-use Rattle.wc_model.specs.Log.{Record, LogOf, first_row, has_fields, last_moment, log_after, log_of, log_with, moment_of, number_within, refused_at, row_at, row_data_of, row_from, row_of, row_of_fields, where_passes, with_row}
-use Rattle.wc_model.specs.Rows.{LogRow, RowData}
+use Rattle.wc_model.specs.Run.Log.{Record, LogOf, first_row, has_fields, last_moment, log_after, log_of, log_with, moment_of, number_within, refused_at, row_at, row_data_of, row_from, row_of, row_of_fields, where_passes, with_row}
+use Rattle.wc_model.specs.Run.Rows.{LogRow, RowData}
 use Rattle.wc_record.specs.Left.{Answer, HasLeft, IsLeft, Takes, end_behind, log_behind, moment_or_zero}
-use Rattle.wc_record.specs.Steps.{Gives}
+use Rattle.wc_record.specs.Steps.{GivesRecord}
 use Rattle.wc_record.specs.Reading.{records_of}
 use Rattle.wc_record.specs.Source.{SourceHas}
 use Rattle.wc_record.specs.declared.log.LogEnd.{LogEnd}
@@ -104,7 +104,7 @@ pub first_read : (left rest : List Record) (fields : Record) → left ≡ fields
 first_read left rest fields e f = rw (e, ← f) refl
 
 -- what is given is taken, and the end is kept
-pub taken : {R : Type 0} (bytes_left : R → Option (List ℕ)) (log : LogOf) (answer : Answer) (given : Rows R) (end : Option LogEnd) → end ≡ end_behind answer → Gives bytes_left log answer given → Takes bytes_left log answer (record given { end = end })
+pub taken : {R : Type 0} (bytes_left : R → Option (List ℕ)) (log : LogOf) (answer : Answer) (given : Rows R) (end : Option LogEnd) → end ≡ end_behind answer → GivesRecord bytes_left log answer given → Takes bytes_left log answer (record given { end = end })
 taken bytes_left log (Ok (Some row)) given end e h = (log_behind h.0 h.1, h.2, rw e (h.0, h.1, record { has = h.3.has; number = h.3.number; last = h.3.last; few = h.3.few }, refl))
 taken bytes_left log (Ok None) given end e h = (h, rw e h)
 taken bytes_left log (Err (fault.Refused number place)) given end e h = (h, rw e h)

@@ -5,7 +5,7 @@ use Rattle.csv.specs.Reading.{AreRecords, NextIs, Reached, ReadRecord, ReadsNext
 use Rattle.csv.specs.declared.parser.Config.{Config}
 use Rattle.csv.specs.declared.parser.State.{State}
 use Rattle.csv.specs.declared.reader.Trim.TheVariants as trim
-use Rattle.wc_model.specs.Log.{Record}
+use Rattle.wc_model.specs.Run.Log.{Record}
 use Rattle.wc_record.specs.Reading.{HasRecords, TakesFirst, lent_bytes}
 use Rattle.wc_record.specs.declared.records.Records.{Records}
 

@@ -1,7 +1,7 @@
 -- Making the reader of records keeps what is left.
 use Rattle.std.proofs.Common.{◌≡◌, ℕ, false, List, Option, Some, None}
 use Rattle.std.specs.Option.{is_some}
-use Rattle.wc_model.specs.Log.{Record}
+use Rattle.wc_model.specs.Run.Log.{Record}
 use Rattle.wc_record.specs.Reading.{HasRecords, lent, records_of}
 use Rattle.wc_record.specs.Source.{AreIn}
 use Rattle.wc_record.specs.declared.bounded.Bounded.{Bounded}

@@ -1,6 +1,6 @@
 -- Six bits as one number.
 use Rattle.std.proofs.Common.{◌≡◌, ◌+◌, ◌*◌, ℕ, Bool, cond, [], ◌∷◌, refl, add-zero}
-use Rattle.wc_model.specs.ProcessImage.{number_of_bits}
+use Rattle.wc_model.specs.Run.ProcessImage.{number_of_bits}
 
 -- a bit as a number
 abbrev pub one : Bool → ℕ

@@ -3,8 +3,8 @@ use Rattle.std.proofs.Common.{◌≡◌, ◌≤◌, ℕ, true, List, [], ◌∷�
 use Rattle.std.proofs.lemmas.Bool.Decides.{nat_tests}
 use Rattle.std.specs.Prelude.{nat_le}
 use Rattle.csv.specs.Records.{field_at}
-use Rattle.wc_model.specs.Log.{Record, moment_of, row_data_of, row_of_fields}
-use Rattle.wc_model.specs.Rows.{RowData}
+use Rattle.wc_model.specs.Run.Log.{Record, moment_of, row_data_of, row_of_fields}
+use Rattle.wc_model.specs.Run.Rows.{RowData}
 use Rattle.wc_record.specs.Views.{SaysData, SaysRow, three_of}
 use Rattle.wc_record.specs.declared.row_data.RowFault.{RowFault}
 use Rattle.wc_record.specs.declared.row_data.RowFault.TheVariants.{Refused, Memory}

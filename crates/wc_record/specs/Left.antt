@@ -1,9 +1,9 @@
 -- What is left of a log: its rows and its refusal, where the bytes of the reader are known.
 use Rattle.std.specs.Prelude.{◌≡◌, ◌≤◌, ◌<◌, ◌^◌, ◌⊎◌, ⊤, ℕ, ◌-◌, true, List, [], ◌∷◌, length, Option, Some, None, Result, Ok, Err}
-use Rattle.wc_model.specs.Log.{Record, LogOf, log_of, log_after, last_moment, refused_at, with_row}
+use Rattle.wc_model.specs.Run.Log.{Record, LogOf, log_of, log_after, last_moment, refused_at, with_row}
 use Rattle.wc_record.specs.Bound.{is_used_up}
 use Rattle.wc_record.specs.Source.{SourceHas, counted_in}
-use Rattle.wc_record.specs.Views.{IsInRange, brought, log_row}
+use Rattle.wc_record.specs.Views.{IsDataInRange, data_view, row_view}
 use Rattle.wc_record.specs.declared.log.LogEnd.{LogEnd}
 use Rattle.wc_record.specs.declared.log.LogEnd.TheVariants.{AllRead, Met}
 use Rattle.wc_record.specs.declared.log.Rows.{Rows}
@@ -86,7 +86,7 @@ HasLeft bytes_left rows log = IsLeft bytes_left rows.end rows log
 -- an answer takes the first row that is left, or tells that none is left, or the refusal; a fault of the reader or of
 -- memory says nothing
 abbrev pub Takes : {R : Type 0} → (R → Option (List ℕ)) → LogOf → Answer → Rows R → Type 0
-Takes bytes_left log (Ok (Some row)) rows = (rest : LogOf) × (log ≡ with_row (log_row row) rest) × HasLeft bytes_left rows rest
+Takes bytes_left log (Ok (Some row)) rows = (rest : LogOf) × (log ≡ with_row (row_view row) rest) × HasLeft bytes_left rows rest
 Takes bytes_left log (Ok None) rows = (log ≡ nothing_left) × HasLeft bytes_left rows log
 Takes bytes_left log (Err (fault.Refused number place)) rows = (log ≡ refused_at number place) × HasLeft bytes_left rows log
 Takes bytes_left log (Err fault.Read) rows = ⊤
@@ -100,7 +100,7 @@ pub record IsNext {R : Type 0} (number ms : ℕ) (rows : Rows R) (row : Row) : T
   pub in_order : ms ≤ row.ms
   pub kept : last_ms rows ≡ row.ms
   pub early : row.ms < 2 ^ 40
-  pub in_range : IsInRange (brought row.kind)
+  pub in_range : IsDataInRange (data_view row.kind)
 
 -- a failed read has its cause in the reader: it has failed since, or its count of failures stands at its end, or as much
 -- was read as may be

@@ -2,7 +2,7 @@
 use Rattle.std.specs.Prelude.{◌≡◌, ◌∷◌, [], Bool, true, false, ℕ, List, Option, Some}
 use Rattle.csv.specs.Reading.{AreRecords, Ready, default_config, is_flexible, reader_config, reader_state, reader_trim, records, source_of, strip_bom}
 use Rattle.csv.specs.declared.reader.Trim.TheVariants as trim
-use Rattle.wc_model.specs.Log.{Record}
+use Rattle.wc_model.specs.Run.Log.{Record}
 use Rattle.wc_record.specs.declared.bounded.Bounded.{Bounded}
 use Rattle.wc_record.specs.declared.records.Records.{Records}
 

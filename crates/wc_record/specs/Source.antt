@@ -1,7 +1,7 @@
 -- What a source of records has still to give, where it is known.
 use Rattle.std.specs.Prelude.{◌≡◌, ℕ, List, Option, Some, None}
 use Rattle.csv.specs.Reading.{reader_source}
-use Rattle.wc_model.specs.Log.{Record}
+use Rattle.wc_model.specs.Run.Log.{Record}
 use Rattle.wc_record.specs.Reading.{HasRecords, lent, records_of}
 use Rattle.wc_record.specs.declared.bounded.Bounded.{Bounded}
 use Rattle.wc_record.specs.declared.records.Records.{Records}

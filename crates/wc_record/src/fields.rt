@@ -1,7 +1,7 @@
 ghost use Rattle.std.specs.Prelude.{◌≡◌, ◌∷◌, [], option_map, Some, IfOk};
 ghost use Rattle.csv.specs.Records.{fields_of};
-ghost use Rattle.wc_model.specs.Log.{first_row, has_fields, row_of_fields};
-ghost use Rattle.wc_record.specs.Views.{IsInRange, SaysRow, brought, three_of, fields_seen};
+ghost use Rattle.wc_model.specs.Run.Log.{first_row, has_fields, row_of_fields};
+ghost use Rattle.wc_record.specs.Views.{IsDataInRange, SaysRow, data_view, three_of, fields_view};
 
 use crate::numbers::moment;
 use crate::row_data::{RowFault, row_data};
@@ -19,7 +19,7 @@ struct RowFields<'f> {
 
 /// The fields of a record of three.
 fn three_fields(row: &ByteRecord) -> Option<RowFields<'_>>
-    ensures { option_map fields_seen result ≡ three_of (fields_of row.now) }
+    ensures { option_map fields_view result ≡ three_of (fields_of row.now) }
 {
     let moment = row.get(0)?;
     let kind = row.get(1)?;
@@ -55,7 +55,7 @@ pub(crate) fn row_in(
     last: u64,
 ) -> Result<Row, RowFault>
     ensures says { SaysRow result (row_of_fields number (Some last) (fields_of row.now)) }
-    ensures range { IfOk result (λ read. IsInRange (brought read.kind)) }
+    ensures range { IfOk result (λ read. IsDataInRange (data_view read.kind)) }
 {
     let Some(fields) = three_fields(row) else {
         return Err(RowFault::Refused(601));

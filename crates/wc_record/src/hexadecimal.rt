@@ -1,5 +1,5 @@
 ghost use Rattle.std.specs.Prelude.{◌≡◌, ◌≤◌, IfOk, IfSome, length, option_map};
-ghost use Rattle.wc_model.specs.Log.{line_piece_of, inputs_word_of};
+ghost use Rattle.wc_model.specs.Run.Log.{line_piece_of, inputs_word_of};
 
 use hex::FromHexError;
 use std::alloc::{AllocError, Global};

@@ -1,11 +1,11 @@
 ghost use Rattle.std.specs.Prelude.{◌≡◌, ◌⊎◌, ◌∷◌, [], suc, max, ℕ, List, Some, None, true, false, IfOk, IfErr, IfSome, OnOk, IsErrOf};
 ghost use Rattle.csv.specs.Records.{fields_of};
-ghost use Rattle.wc_model.specs.Log.{Record, LogOf, log_of, log_after};
+ghost use Rattle.wc_model.specs.Run.Log.{Record, LogOf, log_of, log_after};
 ghost use Rattle.wc_record.specs.Left.{HasCauseIn, HasLeft, IsNext, StandsBehind, Takes, count_in, ended, last_ms, log_behind, rows_read, started_at};
 ghost use Rattle.wc_record.specs.Left as left;
 ghost use Rattle.wc_record.specs.Reading.{TakesFirst, records_of};
 ghost use Rattle.wc_record.specs.Source.{SourceHas};
-ghost use Rattle.wc_record.specs.Steps.{Gives, IsBehindFirst, Keeps, KeepsRow, Refuses};
+ghost use Rattle.wc_record.specs.Steps.{GivesRecord, IsBehindFirst, Keeps, KeepsRow, RefusesRow};
 
 use crate::bounded::{Bounded, is_used_up};
 use crate::fields::{is_first_row, row_in};
@@ -116,7 +116,7 @@ impl<'r, R: ByteIn> Rows<'r, R> {
     /// Reads the first row, which is no row of the log.
     fn first_row(&mut self, failures_before: u64) -> Result<(), LogFault>
         ensures first { OnOk result ((left : List Record) → StandsBehind R.bytes_left self.old [] left → IsBehindFirst R.bytes_left self.new (log_of left)) }
-        ensures refused { IfErr result (λ met. (left : List Record) → StandsBehind R.bytes_left self.old [] left → Refuses met (log_of left)) }
+        ensures refused { IfErr result (λ met. (left : List Record) → StandsBehind R.bytes_left self.old [] left → RefusesRow met (log_of left)) }
         ensures cause { IsErrOf result LogFault.Read → HasCauseIn R.failure_count R.spent_count failures_before self.new }
         ensures counted { OnOk result ((rows_read self.new ≡ 1) × (last_ms self.new ≡ last_ms self.old)) }
         ensures keeps { Keeps self.old self.new }
@@ -139,7 +139,7 @@ impl<'r, R: ByteIn> Rows<'r, R> {
 
     /// The row that the record writes.
     fn judged(&mut self) -> Result<Option<Row>, LogFault>
-        ensures gives { (first : Record) (before rest : List Record) → StandsBehind R.bytes_left self.old (first ∷ before) rest → Gives R.bytes_left (log_after (first ∷ before) (fields_of self.old.row ∷ rest)) result self.new }
+        ensures gives { (first : Record) (before rest : List Record) → StandsBehind R.bytes_left self.old (first ∷ before) rest → GivesRecord R.bytes_left (log_after (first ∷ before) (fields_of self.old.row ∷ rest)) result self.new }
         ensures row { IfOk result (λ given. IfSome given (λ row. IsNext (suc (rows_read self.old)) (last_ms self.old) self.new row)) }
         ensures no_device { IfErr result (λ met. met ≡ LogFault.Read → ⊥) }
         ensures keeps { Keeps self.old self.new }
@@ -167,7 +167,7 @@ impl<'r, R: ByteIn> Rows<'r, R> {
 
     /// The next row behind the first.
     fn later_row(&mut self, failures_before: u64) -> Result<Option<Row>, LogFault>
-        ensures gives { (first : Record) (before left : List Record) → StandsBehind R.bytes_left self.old (first ∷ before) left → Gives R.bytes_left (log_after (first ∷ before) left) result self.new }
+        ensures gives { (first : Record) (before left : List Record) → StandsBehind R.bytes_left self.old (first ∷ before) left → GivesRecord R.bytes_left (log_after (first ∷ before) left) result self.new }
         ensures row { IfOk result (λ given. IfSome given (λ row. IsNext (suc (rows_read self.old)) (last_ms self.old) self.new row)) }
         ensures cause { IsErrOf result LogFault.Read → HasCauseIn R.failure_count R.spent_count failures_before self.new }
         ensures keeps { Keeps self.old self.new }
@@ -181,7 +181,7 @@ impl<'r, R: ByteIn> Rows<'r, R> {
 
     /// The next row, where nothing has ended the log.
     fn next_row(&mut self) -> Result<Option<Row>, LogFault>
-        ensures gives { (before left : List Record) → StandsBehind R.bytes_left self.old before left → Gives R.bytes_left (log_behind before left) result self.new }
+        ensures gives { (before left : List Record) → StandsBehind R.bytes_left self.old before left → GivesRecord R.bytes_left (log_behind before left) result self.new }
         ensures row { IfOk result (λ given. IfSome given (λ row. IsNext (suc (max 1 (rows_read self.old))) (last_ms self.old) self.new row)) }
         ensures cause { IsErrOf result LogFault.Read → HasCauseIn R.failure_count R.spent_count (count_in R.failure_count self.old) self.new }
         ensures keeps { Keeps self.old self.new }

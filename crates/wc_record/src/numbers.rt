@@ -2,8 +2,8 @@ ghost use Rattle.std.specs.Prelude.{◌≡◌, ◌≤◌, ◌≤ℤ◌, ◌<◌,
 ghost use Rattle.std.specs.Char.{is_ascii_digit};
 ghost use Rattle.std.specs.Int.Digits.{number_from_digits};
 ghost use Rattle.std.specs.List.{list_all};
-ghost use Rattle.wc_model.specs.Plates.{least_sample, greatest_sample};
-ghost use Rattle.wc_model.specs.Log.{number_within, moment_of, whole_of, counts_of};
+ghost use Rattle.wc_model.specs.Instrument.Plates.{least_sample, greatest_sample};
+ghost use Rattle.wc_model.specs.Run.Log.{number_within, moment_of, whole_of, counts_of};
 
 /// The number that at most thirteen digits write.
 fn value_of_digits(text: &[u8]) -> u64

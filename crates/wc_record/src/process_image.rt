@@ -1,6 +1,6 @@
 ghost use Rattle.std.specs.Prelude.{◌≡◌, ◌<◌, if◌then◌else◌};
 ghost use Rattle.wc_indicator.specs.Kept.{Tells};
-ghost use Rattle.wc_model.specs.ProcessImage.{image_with, status_of, weights_of};
+ghost use Rattle.wc_model.specs.Run.ProcessImage.{image_with, status_of, weights_of};
 
 use wc_indicator::Indicator;
 use wc_model::Image;

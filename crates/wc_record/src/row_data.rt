@@ -1,8 +1,8 @@
 ghost use Rattle.std.specs.Prelude.{IfOk};
-ghost use Rattle.wc_model.specs.Log.{row_data_of};
-ghost use Rattle.wc_model.specs.Log as log;
-ghost use Rattle.wc_model.specs.Rows as rows;
-ghost use Rattle.wc_record.specs.Views.{IsInRange, SaysData, brought};
+ghost use Rattle.wc_model.specs.Run.Log.{row_data_of};
+ghost use Rattle.wc_model.specs.Run.Log as log;
+ghost use Rattle.wc_model.specs.Run.Rows as rows;
+ghost use Rattle.wc_record.specs.Views.{IsDataInRange, SaysData, data_view};
 
 use crate::hexadecimal::{inputs_word, line_piece};
 use crate::numbers::counts;
@@ -20,7 +20,7 @@ pub(crate) enum RowFault {
 /// A sample.
 fn sample(text: &[u8]) -> Result<RowKind, RowFault>
     ensures says { SaysData result (log.brings_or 605 rows.Counts (log.counts_of text.now)) }
-    ensures range { IfOk result (λ kind. IsInRange (brought kind)) }
+    ensures range { IfOk result (λ kind. IsDataInRange (data_view kind)) }
 {
     match counts(text) {
         Some(counts) => Ok(RowKind::Counts(counts)),
@@ -31,7 +31,7 @@ fn sample(text: &[u8]) -> Result<RowKind, RowFault>
 /// Bytes on the line.
 fn line_bytes(alloc: Global, text: &[u8]) -> Result<RowKind, RowFault>
     ensures says { SaysData result (log.brings_or 606 rows.Bytes (log.line_piece_of text.now)) }
-    ensures range { IfOk result (λ kind. IsInRange (brought kind)) }
+    ensures range { IfOk result (λ kind. IsDataInRange (data_view kind)) }
 {
     match line_piece(alloc, text) {
         Ok(Some(bytes)) => Ok(RowKind::Bytes(bytes)),
@@ -43,7 +43,7 @@ fn line_bytes(alloc: Global, text: &[u8]) -> Result<RowKind, RowFault>
 /// Inputs.
 fn inputs(text: &[u8]) -> Result<RowKind, RowFault>
     ensures says { SaysData result (log.brings_or 606 rows.Inputs (log.inputs_word_of text.now)) }
-    ensures range { IfOk result (λ kind. IsInRange (brought kind)) }
+    ensures range { IfOk result (λ kind. IsDataInRange (data_view kind)) }
 {
     match inputs_word(text) {
         Some(inputs) => Ok(RowKind::Inputs(inputs)),
@@ -54,7 +54,7 @@ fn inputs(text: &[u8]) -> Result<RowKind, RowFault>
 /// A scan, which has no data.
 fn scan(text: &[u8]) -> Result<RowKind, RowFault>
     ensures says { SaysData result (log.scan_of_data text.now) }
-    ensures range { IfOk result (λ kind. IsInRange (brought kind)) }
+    ensures range { IfOk result (λ kind. IsDataInRange (data_view kind)) }
 {
     if text.is_empty() {
         Ok(RowKind::Scan)
@@ -66,7 +66,7 @@ fn scan(text: &[u8]) -> Result<RowKind, RowFault>
 /// What a kind and its data bring.
 pub(crate) fn row_data(alloc: Global, kind: &[u8], text: &[u8]) -> Result<RowKind, RowFault>
     ensures says { SaysData result (row_data_of kind.now text.now) }
-    ensures range { IfOk result (λ kind. IsInRange (brought kind)) }
+    ensures range { IfOk result (λ kind. IsDataInRange (data_view kind)) }
 {
     match kind {
         b"C" => sample(text),

@@ -1,6 +1,6 @@
 ghost use Rattle.std.specs.Prelude.{◌≡◌, ◌∷◌, [], ℕ, List, Some, true, false, IfOk, IfSome};
 ghost use Rattle.csv.specs.Records.{fields_of};
-ghost use Rattle.wc_model.specs.Log.{Record};
+ghost use Rattle.wc_model.specs.Run.Log.{Record};
 ghost use Rattle.wc_record.specs.Source.{SourceHas, counted_in};
 ghost use Rattle.wc_record.specs.Reading.{TakesFirst, records_of};
 

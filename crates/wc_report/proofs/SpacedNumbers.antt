@@ -3,7 +3,7 @@ use Rattle.std.proofs.Common.{◌≡◌, ◌<◌, ◌+◌, ℕ, suc, ℤ, List, 
 use Rattle.std.specs.Fmt.{signed_decimal}
 use Rattle.std.proofs.lemmas.List.{append_assoc, append-nil}
 use Rattle.std.proofs.Math.Seq.{take-suc}
-use Rattle.wc_model.specs.Report.{spaced_numbers}
+use Rattle.wc_model.specs.Say.Report.{spaced_numbers}
 
 -- numbers behind others
 spaced_behind : (front back : List ℤ) → spaced_numbers (front ++ back) ≡ spaced_numbers front ++ spaced_numbers back

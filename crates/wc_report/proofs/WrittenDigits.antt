@@ -3,7 +3,7 @@ use Rattle.std.proofs.Common.{◌≡◌, ◌<◌, ◌/◌, ◌%◌, ◌==◌, �
 use Rattle.std.specs.Char.{digit_char}
 use Rattle.std.proofs.lemmas.Bool.{and_parts, cases_lt, eqb-true}
 use Rattle.hex.specs.Hex.{IsBytes, encode_lower, encode_with, lower_digits}
-use Rattle.wc_model.specs.Hex.{hex_of_bytes}
+use Rattle.wc_model.specs.Run.Hex.{hex_of_bytes}
 
 -- whether the first so many digits are the same, which computes
 abbrev all_same : ℕ → Bool

@@ -1,6 +1,6 @@
 ghost use Rattle.std.specs.Prelude.{◌≡◌, IfOk, IsOkUnless};
 ghost use Rattle.std.specs.String.{string_bytes};
-ghost use Rattle.wc_model.specs.Hex.{hex_of_bytes, hex_of_word};
+ghost use Rattle.wc_model.specs.Run.Hex.{hex_of_bytes, hex_of_word};
 
 use crate::memory::or_memory;
 use std::alloc::Global;

@@ -1,7 +1,7 @@
 ghost use Rattle.std.specs.Prelude.{◌≡◌, IfOk, IsOkUnless};
-ghost use Rattle.wc_model.specs.Job.{refused_text};
-ghost use Rattle.wc_model.specs.Report.{AnswerLine, ScanLine, line_text};
-ghost use Rattle.wc_model.specs.UnitReport.{unit_line};
+ghost use Rattle.wc_model.specs.Say.Job.{refused_text};
+ghost use Rattle.wc_model.specs.Say.Report.{AnswerLine, ScanLine, line_text};
+ghost use Rattle.wc_model.specs.Say.UnitReport.{unit_line};
 
 use crate::digits::{digits_of_bytes, digits_of_word};
 use crate::memory::or_memory;

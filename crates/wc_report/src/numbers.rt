@@ -1,6 +1,6 @@
 ghost use Rattle.std.specs.Prelude.{◌≡◌, IfOk, IsOkUnless};
 ghost use Rattle.std.specs.String.{string_bytes};
-ghost use Rattle.wc_model.specs.Report.{spaced_numbers};
+ghost use Rattle.wc_model.specs.Say.Report.{spaced_numbers};
 
 use crate::memory::or_memory;
 use std::alloc::Global;

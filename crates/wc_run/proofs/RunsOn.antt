@@ -3,16 +3,16 @@ use Rattle.std.proofs.Common.{inl, inr, ◌≡◌, refl, ap, sym, subst, ◌∙�
 use Rattle.std.proofs.KnownBytes.{Appends-nil, Appends-trans}
 use Rattle.std.proofs.lemmas.List.{append_assoc}
 use Rattle.std.specs.Io.KnownBytes.{Appends}
-use Rattle.wc_model.specs.Log.{LogOf}
-use Rattle.wc_model.specs.Plates.{PlateData}
-use Rattle.wc_model.specs.Rows.{LogRow, Past}
+use Rattle.wc_model.specs.Run.Log.{LogOf}
+use Rattle.wc_model.specs.Instrument.Plates.{PlateData}
+use Rattle.wc_model.specs.Run.Rows.{LogRow, Past}
 use Rattle.wc_record.specs.Left.{HasLeft, Takes}
-use Rattle.wc_record.specs.Views.{log_row}
+use Rattle.wc_record.specs.Views.{row_view}
 use Rattle.wc_record.specs.declared.log.Rows.{Rows}
 use Rattle.wc_record.specs.declared.row_kind.LogFault.{LogFault}
 use Rattle.wc_record.specs.declared.row_kind.LogFault.TheVariants as fault
 use Rattle.wc_record.specs.declared.row_kind.Row.{Row}
-use Rattle.wc_run.specs.Doing.{IsCutShort, IsJudged, answer_to}
+use Rattle.wc_run.specs.Doing.{IsLineCutShort, IsJudged, answer_to}
 use Rattle.wc_run.specs.Logics.{Logic, run_report, text_of_row, text_of_rows}
 use Rattle.wc_run.specs.Runs.{AppendsFront, Reports}
 use Rattle.wc_run.specs.Standing.{Stands}
@@ -57,12 +57,12 @@ pub one_more : {R : Type 0} (bytes_left : R → Option (List ℕ)) (rows rows' :
     (log : LogOf) (count : ℕ) (old mid new : Option (List ℕ)) (row : Row)
     (r : Running bytes_left rows scale plate logic log count old mid)
     → Takes bytes_left r.left (Ok (Some row)) rows'
-    → Stands scale' plate logic (log_row row ∷ r.past) × Appends mid new (text_of_row plate logic r.past (log_row row))
+    → Stands scale' plate logic (row_view row ∷ r.past) × Appends mid new (text_of_row plate logic r.past (row_view row))
     → Running bytes_left rows' scale' plate logic log (count + 1) old new
 one_more bytes_left rows rows' scale scale' plate logic log count old mid new row r takes does =
-    let here : List ℕ = text_of_row plate logic r.past (log_row row) in
+    let here : List ℕ = text_of_row plate logic r.past (row_view row) in
     record {
-      past = log_row row ∷ r.past;
+      past = row_view row ∷ r.past;
       left = takes.0;
       has_left = takes.2;
       same_refusal = r.same_refusal ∙ ap (λ l. l.refusal) takes.1;
@@ -70,9 +70,9 @@ one_more bytes_left rows rows' scale scale' plate logic log count old mid new ro
       counted = omega (arith, r.counted);
       stands = does.0;
       done = r.done ++ here;
-      completes = λ more. r.completes (log_row row ∷ more)
-          ∙ ap (λ t. r.done ++ t) (one_row_more plate logic r.past (log_row row) more)
-          ∙ sym (append_assoc r.done here (text_of_rows plate logic (log_row row ∷ r.past) more));
+      completes = λ more. r.completes (row_view row ∷ more)
+          ∙ ap (λ t. r.done ++ t) (one_row_more plate logic r.past (row_view row) more)
+          ∙ sym (append_assoc r.done here (text_of_rows plate logic (row_view row ∷ r.past) more));
       written = Appends-trans old mid new r.done here r.written does.1;
     }
 
@@ -122,15 +122,15 @@ at_fault bytes_left rows rows' scale plate logic log count old new r fault.Memor
 front_of_row : {R : Type 0} (bytes_left : R → Option (List ℕ)) (rows rows' : Rows R) (scale : Scale) (plate : PlateData) (logic : Option Logic)
     (log : LogOf) (count : ℕ) (old mid new : Option (List ℕ)) (row : Row) (r : Running bytes_left rows scale plate logic log count old mid)
     → Takes bytes_left r.left (Ok (Some row)) rows'
-    → AppendsFront mid new (text_of_row plate logic r.past (log_row row)) → AppendsFront old new (run_report plate logic log.rows)
+    → AppendsFront mid new (text_of_row plate logic r.past (row_view row)) → AppendsFront old new (run_report plate logic log.rows)
 front_of_row bytes_left rows rows' scale plate logic log count old mid new row r takes cut =
-    let here : List ℕ = text_of_row plate logic r.past (log_row row) in
-    let behind : List ℕ = text_of_rows plate logic (log_row row ∷ r.past) takes.0.rows in (
+    let here : List ℕ = text_of_row plate logic r.past (row_view row) in
+    let behind : List ℕ = text_of_rows plate logic (row_view row ∷ r.past) takes.0.rows in (
       r.done ++ cut.0,
       cut.1 ++ behind,
       ap (λ l. run_report plate logic l) (r.in_all ∙ ap (λ l. onto r.past l.rows) takes.1)
-          ∙ r.completes (log_row row ∷ takes.0.rows)
-          ∙ ap (λ t. r.done ++ t) (one_row_more plate logic r.past (log_row row) takes.0.rows ∙ ap (λ t. t ++ behind) cut.2 ∙ append_assoc cut.0 cut.1 behind)
+          ∙ r.completes (row_view row ∷ takes.0.rows)
+          ∙ ap (λ t. r.done ++ t) (one_row_more plate logic r.past (row_view row) takes.0.rows ∙ ap (λ t. t ++ behind) cut.2 ∙ append_assoc cut.0 cut.1 behind)
           ∙ sym (append_assoc r.done cut.0 (cut.1 ++ behind)),
       Appends-trans old mid new r.done cut.0 r.written cut.3,
     )
@@ -139,7 +139,7 @@ front_of_row bytes_left rows rows' scale plate logic log count old mid new row r
 pub at_row : {R : Type 0} (bytes_left : R → Option (List ℕ)) (rows rows' : Rows R) (scale scale' : Scale) (plate : PlateData) (logic : Option Logic)
     (log : LogOf) (count : ℕ) (old mid new : Option (List ℕ)) (row : Row) (r : Running bytes_left rows scale plate logic log count old mid)
     → Takes bytes_left r.left (Ok (Some row)) rows'
-    → (met : RunFault) → IsCutShort met mid new (text_of_row plate logic r.past (log_row row)) → Reports plate logic log (Err met) old new
+    → (met : RunFault) → IsLineCutShort met mid new (text_of_row plate logic r.past (row_view row)) → Reports plate logic log (Err met) old new
 at_row bytes_left rows rows' scale scale' plate logic log count old mid new row r takes (Refused number place) does = absurd does
 at_row bytes_left rows rows' scale scale' plate logic log count old mid new row r takes Read does = absurd does
 at_row bytes_left rows rows' scale scale' plate logic log count old mid new row r takes Write does = front_of_row bytes_left rows rows' scale plate logic log count old mid new row r takes does

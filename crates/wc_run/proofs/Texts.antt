@@ -2,10 +2,10 @@
 use Rattle.std.proofs.Common.{◌≡◌, refl, ap, sym, ◌∙◌, arith, ℕ, ◌+◌, List, [], ◌∷◌, ◌++◌, length, Option, Some, None}
 use Rattle.std.proofs.lemmas.Grind.{flat_map-append}
 use Rattle.std.proofs.lemmas.List.{append_assoc}
-use Rattle.wc_model.specs.Plates.{PlateData}
-use Rattle.wc_model.specs.ProgramReport.{scans_of}
-use Rattle.wc_model.specs.Report.{answer_line, answer_lines, line_text, lines_with, report_lines}
-use Rattle.wc_model.specs.Rows.{LogRow, Past, answer_of_row}
+use Rattle.wc_model.specs.Instrument.Plates.{PlateData}
+use Rattle.wc_model.specs.Say.ProgramReport.{scans_of}
+use Rattle.wc_model.specs.Say.Report.{answer_line, answer_lines, line_text, lines_with, report_lines}
+use Rattle.wc_model.specs.Run.Rows.{LogRow, Past, answer_of_row}
 use Rattle.wc_run.specs.Logics.{Logic, run_report, text_of_row, text_of_rows}
 
 -- rows with those before them, the newest of which stands first

@@ -1,8 +1,8 @@
 -- What comes of one row, and of a log that gives no further row.
 use Rattle.std.specs.Prelude.{◌≡◌, ◌⊎◌, ℕ, List, ◌∷◌, Option, Result, Ok, Err}
 use Rattle.std.specs.Io.KnownBytes.{Appends}
-use Rattle.wc_model.specs.Plates.{PlateData}
-use Rattle.wc_model.specs.Rows.{LogRow, Past}
+use Rattle.wc_model.specs.Instrument.Plates.{PlateData}
+use Rattle.wc_model.specs.Run.Rows.{LogRow, Past}
 use Rattle.wc_record.specs.declared.row_kind.LogFault.{LogFault}
 use Rattle.wc_record.specs.declared.row_kind.LogFault.TheVariants as log
 use Rattle.wc_run.specs.Logics.{Logic, text_of_row}
@@ -13,16 +13,16 @@ use Rattle.wc_run.specs.declared.fault.RunFault.TheVariants.{Refused, Read, Writ
 use Rattle.wc_run.specs.declared.scale.Scale.{Scale}
 
 -- of the text of a row that is not done to its end a front is written
-abbrev pub IsCutShort : RunFault → Option (List ℕ) → Option (List ℕ) → List ℕ → Type 0
-IsCutShort (Refused number place) old new text = ⊥
-IsCutShort Read old new text = ⊥
-IsCutShort Write old new text = AppendsFront old new text
-IsCutShort Memory old new text = AppendsFront old new text
+abbrev pub IsLineCutShort : RunFault → Option (List ℕ) → Option (List ℕ) → List ℕ → Type 0
+IsLineCutShort (Refused number place) old new text = ⊥
+IsLineCutShort Read old new text = ⊥
+IsLineCutShort Write old new text = AppendsFront old new text
+IsLineCutShort Memory old new text = AppendsFront old new text
 
 -- the row is done and its text is written; or it is cut short
 abbrev pub Does : {X : Type 0} → PlateData → Option Logic → Past → LogRow → Scale → Result X RunFault → Option (List ℕ) → Option (List ℕ) → Type 0
 Does plate logic past row scale (Ok x) old new = Stands scale plate logic (row ∷ past) × Appends old new (text_of_row plate logic past row)
-Does plate logic past row scale (Err fault) old new = IsCutShort fault old new (text_of_row plate logic past row)
+Does plate logic past row scale (Err fault) old new = IsLineCutShort fault old new (text_of_row plate logic past row)
 
 -- what a run answers where the log gives no further row
 abbrev pub answer_to : LogFault → RunFault

@@ -1,13 +1,13 @@
 -- The logic beside a scale: none, or a program's text with the store from which its scans go on; and what a run with it
 -- writes.
 use Rattle.std.specs.Prelude.{⊤, ℕ, List, Option, Some, None}
-use Rattle.wc_machine.specs.Machines.{Kept, StandsFor}
-use Rattle.wc_model.specs.Plates.{PlateData}
-use Rattle.wc_model.specs.ProgramReport.{program_report, scans_of, store_after}
-use Rattle.wc_model.specs.Report.{ReportLine, answer_line, answer_lines, line_report, lines_with, report_lines, report_text}
-use Rattle.wc_model.specs.Rows.{LogRow, Past, answer_of_row}
-use Rattle.wc_model.specs.Store.{Store}
-use Rattle.wc_model.specs.Tree.{Text}
+use Rattle.wc_first.specs.Machines.{MachineState, StandsForProgram}
+use Rattle.wc_model.specs.Instrument.Plates.{PlateData}
+use Rattle.wc_model.specs.Say.ProgramReport.{program_report, scans_of, store_after}
+use Rattle.wc_model.specs.Say.Report.{ReportLine, answer_line, answer_lines, line_report, lines_with, report_lines, report_text}
+use Rattle.wc_model.specs.Run.Rows.{LogRow, Past, answer_of_row}
+use Rattle.wc_model.specs.Language.Store.{Store}
+use Rattle.wc_model.specs.Language.Tree.{Text}
 
 -- a text and a store
 pub record Logic : Type 0 where
@@ -15,11 +15,11 @@ pub record Logic : Type 0 where
   pub store : Store
 
 -- a machine stands for its logic, and no machine for none
-abbrev pub StandsAt : Option Kept → Option Logic → Type 0
+abbrev pub StandsAt : Option MachineState → Option Logic → Type 0
 StandsAt None None = ⊤
 StandsAt None (Some logic) = ⊥
 StandsAt (Some machine) None = ⊥
-StandsAt (Some machine) (Some logic) = StandsFor machine logic.text logic.store
+StandsAt (Some machine) (Some logic) = StandsForProgram machine logic.text logic.store
 
 -- what a run of rows writes: the report of the program, or with none the answers alone
 abbrev pub run_report : PlateData → Option Logic → List LogRow → List ℕ

@@ -1,9 +1,9 @@
 -- What an answer of a run says of the log and of what was written.
 use Rattle.std.specs.Prelude.{◌≡◌, ℕ, List, ◌++◌, length, Option, Some, None, Result, Ok, Err}
 use Rattle.std.specs.Io.KnownBytes.{Appends}
-use Rattle.wc_model.specs.Log.{LogOf}
-use Rattle.wc_model.specs.Plates.{PlateData}
-use Rattle.wc_model.specs.Rows.{LogRow}
+use Rattle.wc_model.specs.Run.Log.{LogOf}
+use Rattle.wc_model.specs.Instrument.Plates.{PlateData}
+use Rattle.wc_model.specs.Run.Rows.{LogRow}
 use Rattle.wc_run.specs.Logics.{Logic, run_report}
 use Rattle.wc_run.specs.declared.fault.RunFault.{RunFault}
 use Rattle.wc_run.specs.declared.fault.RunFault.TheVariants.{Refused, Read, Write, Memory}

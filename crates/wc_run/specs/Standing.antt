@@ -1,16 +1,16 @@
 -- What the parts of a scale stand for while a log is run.
 use Rattle.std.specs.Prelude.{◌≡◌, ℕ, ◌≤◌, Option, IfSome}
-use Rattle.wc_indicator.specs.Kept.{StandsFor}
-use Rattle.wc_model.specs.Plates.{PlateData}
-use Rattle.wc_model.specs.ProcessImage.{inputs_of}
-use Rattle.wc_model.specs.Rows.{Past, history_of, line_bytes}
+use Rattle.wc_indicator.specs.Kept.{StandsForHistory}
+use Rattle.wc_model.specs.Instrument.Plates.{PlateData}
+use Rattle.wc_model.specs.Run.ProcessImage.{inputs_of}
+use Rattle.wc_model.specs.Run.Rows.{Past, history_of, line_bytes}
 use Rattle.wc_run.specs.Logics.{Logic, StandsAt, logic_after}
 use Rattle.wc_run.specs.declared.scale.Scale.{Scale}
 use Rattle.wc_sma.specs.Standing.{StandsAfter}
 
 -- the scale stands for a plate, the logic with which it began, and the rows so far
 pub record Stands (scale : Scale) (plate : PlateData) (logic : Option Logic) (past : Past) : Type 0 where
-  pub indicator : StandsFor scale.indicator plate (history_of past)
+  pub indicator : StandsForHistory scale.indicator plate (history_of past)
   pub line : StandsAfter scale.line (line_bytes past)
   pub inputs : scale.inputs ≡ inputs_of past
   pub machine : StandsAt scale.machine (logic_after plate logic past)

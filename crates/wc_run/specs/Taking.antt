@@ -1,12 +1,12 @@
 -- What a row does to a scale, whatever the scale stands for: told of the row's moment and of what it brings.
 use Rattle.std.specs.Prelude.{◌≡◌, ℕ, List, ◌∷◌, Option}
-use Rattle.wc_machine.specs.Machines.{Kept, StandsFor}
-use Rattle.wc_model.specs.Plates.{PlateData}
-use Rattle.wc_model.specs.ProgramReport.{scans_of}
-use Rattle.wc_model.specs.Report.{report_text, scan_line}
-use Rattle.wc_model.specs.Rows.{RowData, LogRow, Past}
-use Rattle.wc_model.specs.Store.{Store}
-use Rattle.wc_model.specs.Tree.{Text}
+use Rattle.wc_first.specs.Machines.{MachineState, StandsForProgram}
+use Rattle.wc_model.specs.Instrument.Plates.{PlateData}
+use Rattle.wc_model.specs.Say.ProgramReport.{scans_of}
+use Rattle.wc_model.specs.Say.Report.{report_text, scan_line}
+use Rattle.wc_model.specs.Run.Rows.{RowData, LogRow, Past}
+use Rattle.wc_model.specs.Language.Store.{Store}
+use Rattle.wc_model.specs.Language.Tree.{Text}
 use Rattle.wc_model.specs.declared.image.Image.{Image}
 use Rattle.wc_run.specs.Logics.{Logic, text_of_row}
 use Rattle.wc_run.specs.Standing.{Stands}
@@ -17,17 +17,17 @@ abbrev pub row_at : ℕ → ℕ → RowData → LogRow
 row_at number ms brings = record { number = number; ms = ms; brings = brings }
 
 -- the scale stands for what it stood for, and one row more
-abbrev pub Takes : Scale → Scale → ℕ → RowData → Type 0
-Takes old new ms brings = (plate : PlateData) (logic : Option Logic) (past : Past) (number : ℕ) → Stands old plate logic past → Stands new plate logic (row_at number ms brings ∷ past)
+abbrev pub TakesRow : Scale → Scale → ℕ → RowData → Type 0
+TakesRow old new ms brings = (plate : PlateData) (logic : Option Logic) (past : Past) (number : ℕ) → Stands old plate logic past → Stands new plate logic (row_at number ms brings ∷ past)
 
 -- the text is what the report has of that row
 abbrev pub Prints : Scale → ℕ → RowData → List ℕ → Type 0
 Prints old ms brings text = (plate : PlateData) (logic : Option Logic) (past : Past) (number : ℕ) → Stands old plate logic past → text ≡ text_of_row plate logic past (row_at number ms brings)
 
 -- the machine stands for the store that the scan leaves
-abbrev pub TakesScan : Kept → Kept → ℕ → Image → Type 0
-TakesScan old new ms image = (text : Text) (store : Store) → StandsFor old text store → StandsFor new text (scans_of text store image ms).after
+abbrev pub TakesScan : MachineState → MachineState → ℕ → Image → Type 0
+TakesScan old new ms image = (text : Text) (store : Store) → StandsForProgram old text store → StandsForProgram new text (scans_of text store image ms).after
 
 -- the text is the scan's line
-abbrev pub PrintsScan : Kept → ℕ → Image → List ℕ → Type 0
-PrintsScan old ms image printed = (text : Text) (store : Store) → StandsFor old text store → printed ≡ report_text (scan_line ms (scans_of text store image ms))
+abbrev pub PrintsScan : MachineState → ℕ → Image → List ℕ → Type 0
+PrintsScan old ms image printed = (text : Text) (store : Store) → StandsForProgram old text store → printed ≡ report_text (scan_line ms (scans_of text store image ms))

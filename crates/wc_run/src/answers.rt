@@ -1,5 +1,5 @@
 ghost use Rattle.std.specs.Prelude.{◌≡◌, IfOk, IsOkUnless};
-ghost use Rattle.wc_model.specs.Report.{answer_line, report_text};
+ghost use Rattle.wc_model.specs.Say.Report.{answer_line, report_text};
 
 use crate::fault::RunFault;
 use std::alloc::Global;

@@ -1,25 +1,24 @@
 ghost use Rattle.std.specs.Prelude.{◌≡◌, ◌<◌, ◌≤◌, ◌^◌, [], Option, None, IfOk, IfSome, IsErrOf, IsOkUnless, OnOk};
-ghost use Rattle.wc_model.specs.Log.{LogOf, log_of};
-ghost use Rattle.wc_model.specs.Plates.{PlateData};
-ghost use Rattle.wc_model.specs.Rows.{Past};
+ghost use Rattle.wc_model.specs.Run.Log.{LogOf, log_of};
+ghost use Rattle.wc_model.specs.Instrument.Plates.{PlateData};
+ghost use Rattle.wc_model.specs.Run.Rows.{Past};
 ghost use Rattle.wc_record.specs.Left.{HasCause, HasLeft, ended, last_ms, rows_read};
 ghost use Rattle.wc_record.specs.Reading.{records_of};
-ghost use Rattle.wc_record.specs.Views.{IsInRange, brought, log_row};
+ghost use Rattle.wc_record.specs.Views.{IsDataInRange, data_view, row_view};
 ghost use Rattle.wc_run.specs.Logics.{Logic, StandsAt};
 ghost use Rattle.wc_run.specs.Doing.{Does, IsJudged};
 ghost use Rattle.wc_run.specs.Doing as doing;
 ghost use Rattle.wc_run.specs.Runs.{Reports};
 ghost use Rattle.wc_run.specs.Standing.{IsNotBehind, Stands};
-ghost use Rattle.wc_writing.specs.Writing.{HasFailedSince};
+ghost use Rattle.wc_model.specs.Run.Writing.{HasFailedSince};
 
 use crate::fault::RunFault;
 use crate::scale::Scale;
 use std::alloc::Global;
-use wc_machine::Machine;
-use wc_model::{ByteIn, ByteOut};
+use wc_first::Machine;
+use wc_model::{ByteIn, ByteOut, write_whole};
 use wc_plate::Plate;
 use wc_record::{LogFault, Row, Rows, is_used_up};
-use wc_writing::write_whole;
 
 /// Does a row and writes what is printed of it.
 fn run_row<W: ByteOut>(
@@ -28,10 +27,10 @@ fn run_row<W: ByteOut>(
     row: Row,
     writer: &mut W,
 ) -> Result<(), RunFault>
-    requires in_range { IsInRange (brought row.kind) }
+    requires in_range { IsDataInRange (data_view row.kind) }
     requires early { row.ms < 2 ^ 40 }
     requires in_order { IsNotBehind scale.old row.ms }
-    ensures does { (plate : PlateData) (logic : Option Logic) (past : Past) → Stands scale.old plate logic past → Does plate logic past (log_row row) scale.new result (W.bytes_taken writer.old) (W.bytes_taken writer.new) }
+    ensures does { (plate : PlateData) (logic : Option Logic) (past : Past) → Stands scale.old plate logic past → Does plate logic past (row_view row) scale.new result (W.bytes_taken writer.old) (W.bytes_taken writer.new) }
     ensures in_order { OnOk result (IsNotBehind scale.new row.ms) }
     ensures write { IsErrOf result RunFault.Write → HasFailedSince (W.failure_count writer.old) (W.failure_count writer.new) }
     ensures steady { ¬ IsErrOf result RunFault.Write → W.failure_count writer.new ≡ W.failure_count writer.old }

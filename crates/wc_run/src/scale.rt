@@ -1,17 +1,17 @@
 ghost use Rattle.std.specs.Prelude.{◌≡◌, ◌<◌, ◌^◌, ℕ, [], ◌∷◌, Option, IfOk, IsOkUnless, OnOk};
-ghost use Rattle.wc_model.specs.Plates.{PlateData};
-ghost use Rattle.wc_model.specs.Rows.{Past, Counts, Bytes, Inputs, Scan};
-ghost use Rattle.wc_record.specs.Views.{IsInRange, brought, log_row};
+ghost use Rattle.wc_model.specs.Instrument.Plates.{PlateData};
+ghost use Rattle.wc_model.specs.Run.Rows.{Past, Counts, Bytes, Inputs, Scan};
+ghost use Rattle.wc_record.specs.Views.{IsDataInRange, data_view, row_view};
 ghost use Rattle.wc_run.specs.Logics.{Logic, StandsAt, text_of_row};
 ghost use Rattle.wc_run.specs.Standing.{IsNotBehind, Stands};
-ghost use Rattle.wc_run.specs.Taking.{Prints, Takes};
+ghost use Rattle.wc_run.specs.Taking.{Prints, TakesRow};
 
 use crate::answers::answer_text;
 use crate::fault::RunFault;
 use crate::scans::scan_text;
 use std::alloc::Global;
 use wc_indicator::Indicator;
-use wc_machine::Machine;
+use wc_first::Machine;
 use wc_model::Device;
 use wc_plate::Plate;
 use wc_record::{Row, RowKind, image};
@@ -50,11 +50,11 @@ impl<'a> Scale<'a> {
 
     /// Does a row, and gives what is printed of it.
     pub(crate) fn take(&mut self, alloc: Global, row: &Row) -> Result<Vec<u8>, RunFault>
-        requires in_range { IsInRange (brought row.now.kind) }
+        requires in_range { IsDataInRange (data_view row.now.kind) }
         requires early { row.now.ms < 2 ^ 40 }
         requires in_order { IsNotBehind self.old row.now.ms }
-        ensures stands { OnOk result ((plate : PlateData) (logic : Option Logic) (past : Past) → Stands self.old plate logic past → Stands self.new plate logic (log_row row.now ∷ past)) }
-        ensures text { IfOk result (λ text. (plate : PlateData) (logic : Option Logic) (past : Past) → Stands self.old plate logic past → text.items ≡ text_of_row plate logic past (log_row row.now)) }
+        ensures stands { OnOk result ((plate : PlateData) (logic : Option Logic) (past : Past) → Stands self.old plate logic past → Stands self.new plate logic (row_view row.now ∷ past)) }
+        ensures text { IfOk result (λ text. (plate : PlateData) (logic : Option Logic) (past : Past) → Stands self.old plate logic past → text.items ≡ text_of_row plate logic past (row_view row.now)) }
         ensures in_order { OnOk result (IsNotBehind self.new row.now.ms) }
         ensures memory { IsOkUnless result RunFault.Memory }
     {
@@ -72,18 +72,18 @@ impl<'a> Scale<'a> {
         }
     }
 
-    /// Takes a sample. Nothing is printed of it.
+    /// TakesRow a sample. Nothing is printed of it.
     fn take_sample(&mut self, counts: i32)
-        requires { IsInRange (Counts counts) }
-        ensures stands { (ms : ℕ) → Takes self.old self.new ms (Counts counts) }
+        requires { IsDataInRange (Counts counts) }
+        ensures stands { (ms : ℕ) → TakesRow self.old self.new ms (Counts counts) }
         ensures machine { self.new.machine ≡ self.old.machine }
     {
         self.indicator.sample(counts);
     }
 
-    /// Takes bytes on the line, and gives the line of what was answered.
+    /// TakesRow bytes on the line, and gives the line of what was answered.
     fn take_bytes(&mut self, alloc: Global, ms: u64, bytes: &[u8]) -> Result<Vec<u8>, RunFault>
-        ensures stands { OnOk result (Takes self.old self.new ms (Bytes bytes.now)) }
+        ensures stands { OnOk result (TakesRow self.old self.new ms (Bytes bytes.now)) }
         ensures text { IfOk result (λ text. Prints self.old ms (Bytes bytes.now) text.items) }
         ensures machine { self.new.machine ≡ self.old.machine }
         ensures memory { IsOkUnless result RunFault.Memory }
@@ -95,9 +95,9 @@ impl<'a> Scale<'a> {
         }
     }
 
-    /// Takes the inputs from now on. Nothing is printed of them.
+    /// TakesRow the inputs from now on. Nothing is printed of them.
     fn take_inputs(&mut self, inputs: u16)
-        ensures stands { (ms : ℕ) → Takes self.old self.new ms (Inputs inputs) }
+        ensures stands { (ms : ℕ) → TakesRow self.old self.new ms (Inputs inputs) }
         ensures machine { self.new.machine ≡ self.old.machine }
     {
         self.inputs = inputs;
@@ -107,7 +107,7 @@ impl<'a> Scale<'a> {
     fn take_scan(&mut self, alloc: Global, ms: u64) -> Result<Vec<u8>, RunFault>
         requires early { ms < 2 ^ 40 }
         requires in_order { IsNotBehind self.old ms }
-        ensures stands { OnOk result (Takes self.old self.new ms Scan) }
+        ensures stands { OnOk result (TakesRow self.old self.new ms Scan) }
         ensures text { IfOk result (λ text. Prints self.old ms Scan text.items) }
         ensures in_order { OnOk result (IsNotBehind self.new ms) }
         ensures memory { IsOkUnless result RunFault.Memory }

@@ -3,7 +3,7 @@ ghost use Rattle.wc_run.specs.Taking.{PrintsScan, TakesScan};
 
 use crate::fault::RunFault;
 use std::alloc::Global;
-use wc_machine::Machine;
+use wc_first::Machine;
 use wc_model::Image;
 use wc_report::scan_line;
 

@@ -1,6 +1,6 @@
 ghost use Rattle.std.specs.Prelude.{◌≡◌, ◌≤◌, ◌≤ℤ◌, length, IsTrue, IfOk, None};
-ghost use Rattle.wc_model.specs.Plates.{least_sample, greatest_sample};
-ghost use Rattle.wc_record.specs.Views.{IsInRange, brought};
+ghost use Rattle.wc_model.specs.Instrument.Plates.{least_sample, greatest_sample};
+ghost use Rattle.wc_record.specs.Views.{IsDataInRange, data_view};
 ghost use Rattle.wc_run.specs.Standing.{IsNotBehind};
 
 use crate::fault::RunFault;
@@ -25,7 +25,7 @@ fn scale(alloc: Global) -> Result<Scale<'static>, RunFault>
 
 /// Whether a row of the moment 420 prints this text.
 fn prints(alloc: Global, scale: &mut Scale<'_>, kind: RowKind, text: &[u8]) -> bool
-    requires in_range { IsInRange (brought kind) }
+    requires in_range { IsDataInRange (data_view kind) }
     requires in_order { IsNotBehind scale.old 420 }
     ensures { IsTrue result → IsNotBehind scale.new 420 }
 {

@@ -4,7 +4,7 @@ use Rattle.std.proofs.Math.Nat.{mod-eq_of_lt}
 use Rattle.std.proofs.lemmas.Fmt.{decimal_step, decimal_digit}
 use Rattle.std.proofs.lemmas.Int.{ints}
 use Rattle.std.specs.Prelude.{ℤ, pos, negsuc, ◌<ℤ◌, decimal}
-use Rattle.wc_model.specs.Answers.{minus_of}
+use Rattle.wc_model.specs.Instrument.Answers.{minus_of}
 
 -- a number of several digits: its last, behind the others
 pub more_digits : (n : ℕ) (text : List ℕ) → 10 ≤ n → n < 2 ^ 64 → decimal (n / 10) ++ ((48 + n % 10) ∷ text) ≡ decimal n ++ text

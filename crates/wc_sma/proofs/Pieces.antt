@@ -3,31 +3,31 @@ use Rattle.std.proofs.Common.{ℕ, List, [], ◌∷◌, ◌++◌, ap, sym, ◌�
 use Rattle.std.specs.Prelude.{Option}
 use Rattle.std.specs.Io.KnownBytes.{Appends}
 use Rattle.std.proofs.KnownBytes.{Appends-nil, Appends-trans}
-use Rattle.wc_model.specs.Requests.{requests_in}
-use Rattle.wc_model.specs.Answers.{after_requests, answers_to, answer_to, command_of}
+use Rattle.wc_model.specs.Instrument.Requests.{requests_in}
+use Rattle.wc_model.specs.Instrument.Answers.{after_requests, answers_to, answer_to, command_of}
 use Rattle.wc_model.proofs.Requests.{in_piece, requests_in_again}
 use Rattle.wc_model.proofs.Answers.{after_more_requests, answers_to_more}
-use Rattle.wc_indicator.specs.Kept.{Kept, StandsFor}
+use Rattle.wc_indicator.specs.Kept.{IndicatorState, StandsForHistory}
 use Rattle.wc_sma.specs.declared.line.Line.{Line}
 use Rattle.wc_sma.specs.Standing.{StandsAfter}
 use Rattle.wc_sma.specs.Feeding.{Feeds, Fails, IsCutShort}
 
 -- no byte does nothing
-pub feeds_nothing : (line : Line) (indicator : Kept) (taken : Option (List ℕ)) → Feeds line indicator taken line indicator taken []
+pub feeds_nothing : (line : Line) (indicator : IndicatorState) (taken : Option (List ℕ)) → Feeds line indicator taken line indicator taken []
 feeds_nothing line indicator taken = record {
   stands = λ before s. subst (λ b. StandsAfter line b) (sym (append-nil before)) s;
-  acts = λ before p history s st. subst (λ r. StandsFor indicator p (after_requests r history)) (sym (in_piece before [])) st;
+  acts = λ before p history s st. subst (λ r. StandsForHistory indicator p (after_requests r history)) (sym (in_piece before [])) st;
   answers = λ before p history s st. subst (λ r. Appends taken taken (answers_to p r history)) (sym (in_piece before [])) (Appends-nil taken);
 }
 
-module _ (line middle line' : Line) (indicator between indicator' : Kept) (taken more taken' : Option (List ℕ)) (first second : List ℕ)
+module _ (line middle line' : Line) (indicator between indicator' : IndicatorState) (taken more taken' : Option (List ℕ)) (first second : List ℕ)
     (fed : Feeds line indicator taken middle between more first) where
   -- a piece behind a piece
   pub feeds_on : Feeds middle between more line' indicator' taken' second → Feeds line indicator taken line' indicator' taken' (first ++ second)
   feeds_on next = record {
     stands = λ before s. subst (λ b. StandsAfter line' b) (append_assoc before first second) (next.stands (before ++ first) (fed.stands before s));
     acts = λ before p history s st.
-        subst (λ h. StandsFor indicator' p h)
+        subst (λ h. StandsForHistory indicator' p h)
         (sym (after_more_requests (requests_in before first) (requests_in (before ++ first) second) history)
         ∙ ap (λ r. after_requests r history) (sym (requests_in_again before first second)))
         (next.acts (before ++ first) p (after_requests (requests_in before first) history) (fed.stands before s) (fed.acts before p history s st));
@@ -55,7 +55,7 @@ module _ (line middle line' : Line) (indicator between indicator' : Kept) (taken
           left = later.left;
           in_order = requests_in_again before first second ∙ ap (λ r. done ++ r) later.in_order
               ∙ sym (append_assoc done later.done (later.next ∷ later.left));
-          acts = subst (λ h. StandsFor indicator' p h)
+          acts = subst (λ h. StandsForHistory indicator' p h)
               (sym (after_more_requests done (later.done ++ (later.next ∷ [])) history)
               ∙ ap (λ r. after_requests r history) (sym (append_assoc done later.done (later.next ∷ [])))) later.acts;
           written = later.written;
@@ -71,7 +71,7 @@ module _ (line middle line' : Line) (indicator between indicator' : Kept) (taken
   }
 
 -- what stands behind a failed piece is not looked at
-pub fails_early : (line line' : Line) (indicator indicator' : Kept) (taken taken' : Option (List ℕ)) (first second : List ℕ) →
+pub fails_early : (line line' : Line) (indicator indicator' : IndicatorState) (taken taken' : Option (List ℕ)) (first second : List ℕ) →
     Fails line indicator taken line' indicator' taken' first → Fails line indicator taken line' indicator' taken' (first ++ second)
 fails_early line line' indicator indicator' taken taken' first second failing = record {
   failed = failing.failed;

@@ -4,18 +4,18 @@ use Rattle.std.specs.Prelude.{Option, Some, None, option_map, if◌then◌else�
 use Rattle.std.specs.Option.{option_to_list}
 use Rattle.std.specs.Io.KnownBytes.{Appends}
 use Rattle.std.proofs.KnownBytes.{Appends-nil}
-use Rattle.wc_model.specs.Plates.{PlateData}
-use Rattle.wc_model.specs.WeighingHistories.{History}
-use Rattle.wc_model.specs.Requests.{carriage_return, open_request, requests_in, completed_by, opened_by}
-use Rattle.wc_model.specs.Answers as told
+use Rattle.wc_model.specs.Instrument.Plates.{PlateData}
+use Rattle.wc_model.specs.Instrument.WeighingHistories.{History}
+use Rattle.wc_model.specs.Instrument.Requests.{carriage_return, open_request, requests_in, completed_by, opened_by}
+use Rattle.wc_model.specs.Instrument.Answers as told
 use Rattle.wc_model.proofs.Requests.{requests_in_byte, open_request_after}
-use Rattle.wc_indicator.specs.Kept.{Kept, StandsFor}
+use Rattle.wc_indicator.specs.Kept.{IndicatorState, StandsForHistory}
 use Rattle.wc_sma.specs.declared.command.Seen.{Seen}
 use Rattle.wc_sma.specs.declared.command.Command.{Command}
 use Rattle.wc_sma.specs.declared.line.Line.{Line}
 use Rattle.wc_sma.specs.Seen.{seen_in, command_told, completes}
 use Rattle.wc_sma.specs.Standing.{StandsAfter}
-use Rattle.wc_writing.specs.Writing.{TakesFront}
+use Rattle.wc_model.specs.Run.Writing.{TakesFront}
 use Rattle.wc_sma.specs.Feeding.{Feeds, Fails}
 
 -- what is seen is seen of a text
@@ -41,7 +41,7 @@ completed_behind : (before : List ℕ) (byte : ℕ) (o : Option (List ℕ)) → 
     requests_in before (byte ∷ []) ≡ option_to_list o
 completed_behind before byte o e = requests_in_byte before byte ∙ completed_list byte (open_request before) ∙ ap option_to_list e
 
-module _ (line line' : Line) (indicator indicator' : Kept) (taken taken' : Option (List ℕ)) (byte : ℕ) where
+module _ (line line' : Line) (indicator indicator' : IndicatorState) (taken taken' : Option (List ℕ)) (byte : ℕ) where
   -- what the line sees of a request is carried over a byte
   abbrev pub Carries : Type 0
   Carries = (text : Option (List ℕ)) → line.begun ≡ option_map seen_in text → line'.begun ≡ option_map seen_in (opened_by byte text)
@@ -56,7 +56,7 @@ module _ (line line' : Line) (indicator indicator' : Kept) (taken taken' : Optio
       Feeds line indicator taken line' indicator taken (byte ∷ [])
   feeds_without now works was = record {
     stands = stands_on now works;
-    acts = λ before p history s st. subst (λ r. StandsFor indicator p (told.after_requests r history)) (sym (none before s)) st;
+    acts = λ before p history s st. subst (λ r. StandsForHistory indicator p (told.after_requests r history)) (sym (none before s)) st;
     answers = λ before p history s st. subst (λ r. Appends taken taken (told.answers_to p r history)) (sym (none before s)) (Appends-nil taken);
   }
     where
@@ -66,7 +66,7 @@ module _ (line line' : Line) (indicator indicator' : Kept) (taken taken' : Optio
   module _ (seen : Seen) (command : Command)
       (was : (text : Option (List ℕ)) → line.begun ≡ option_map seen_in text → Some seen ≡ option_map seen_in (completes byte text))
       (asks : (text : List ℕ) → seen ≡ seen_in text → command_told command ≡ told.command_of text)
-      (acted : (p : PlateData) (history : History) → StandsFor indicator p history → StandsFor indicator' p (told.after_command (command_told command) history)) where
+      (acted : (p : PlateData) (history : History) → StandsForHistory indicator p history → StandsForHistory indicator' p (told.after_command (command_told command) history)) where
     -- the text of the request that is completed
     found : (before : List ℕ) → StandsAfter line before →
         (text : List ℕ) × (completes byte (open_request before) ≡ Some text) × (seen ≡ seen_in text)
@@ -77,19 +77,19 @@ module _ (line line' : Line) (indicator indicator' : Kept) (taken taken' : Optio
     one before s = completed_behind before byte (Some (found before s).0) (found before s).1
 
     -- what it asks is acted on
-    acts_on : (before : List ℕ) (p : PlateData) (history : History) (s : StandsAfter line before) → StandsFor indicator p history →
-        StandsFor indicator' p (told.after_command (told.command_of (found before s).0) history)
+    acts_on : (before : List ℕ) (p : PlateData) (history : History) (s : StandsAfter line before) → StandsForHistory indicator p history →
+        StandsForHistory indicator' p (told.after_command (told.command_of (found before s).0) history)
     acts_on before p history s st =
-        subst (λ k. StandsFor indicator' p (told.after_command k history)) (asks (found before s).0 (found before s).2) (acted p history st)
+        subst (λ k. StandsForHistory indicator' p (told.after_command k history)) (asks (found before s).0 (found before s).2) (acted p history st)
 
     -- a byte that completes a request, where its answer is written in full
     pub feeds_with : Carries → line'.failed ≡ false →
-        ((p : PlateData) (history : History) → StandsFor indicator p history → Appends taken taken' (told.answer_to p (command_told command) history)) →
+        ((p : PlateData) (history : History) → StandsForHistory indicator p history → Appends taken taken' (told.answer_to p (command_told command) history)) →
         Feeds line indicator taken line' indicator' taken' (byte ∷ [])
     feeds_with now works whole = record {
       stands = stands_on now works;
       acts = λ before p history s st.
-          subst (λ r. StandsFor indicator' p (told.after_requests r history)) (sym (one before s)) (acts_on before p history s st);
+          subst (λ r. StandsForHistory indicator' p (told.after_requests r history)) (sym (one before s)) (acts_on before p history s st);
       answers = λ before p history s st.
           subst (λ r. Appends taken taken' (told.answers_to p r history)) (sym (one before s))
           (subst (λ t. Appends taken taken' t) (sym (append-nil (told.answer_to p (told.command_of (found before s).0) history)))
@@ -98,7 +98,7 @@ module _ (line line' : Line) (indicator indicator' : Kept) (taken taken' : Optio
 
     -- and where it is not
     pub fails_with : line'.failed ≡ true →
-        ((p : PlateData) (history : History) → StandsFor indicator p history → TakesFront taken taken' (told.answer_to p (command_told command) history)) →
+        ((p : PlateData) (history : History) → StandsForHistory indicator p history → TakesFront taken taken' (told.answer_to p (command_told command) history)) →
         Fails line indicator taken line' indicator' taken' (byte ∷ [])
     fails_with failed part = record {
       failed = failed;

@@ -2,31 +2,31 @@
 -- indicator stands for.
 use Rattle.std.specs.Prelude.{◌≡◌, ℕ, ◌<◌, List, [], ◌∷◌, ◌++◌, length, Option}
 use Rattle.std.specs.Io.KnownBytes.{Appends}
-use Rattle.wc_model.specs.Plates.{PlateData}
-use Rattle.wc_model.specs.WeighingHistories.{History}
-use Rattle.wc_model.specs.Requests.{requests_in}
-use Rattle.wc_model.specs.Answers.{after_requests, answers_to, answer_to, command_of}
-use Rattle.wc_indicator.specs.Kept.{Kept, StandsFor}
+use Rattle.wc_model.specs.Instrument.Plates.{PlateData}
+use Rattle.wc_model.specs.Instrument.WeighingHistories.{History}
+use Rattle.wc_model.specs.Instrument.Requests.{requests_in}
+use Rattle.wc_model.specs.Instrument.Answers.{after_requests, answers_to, answer_to, command_of}
+use Rattle.wc_indicator.specs.Kept.{IndicatorState, StandsForHistory}
 use Rattle.wc_sma.specs.declared.line.Line.{Line}
 use Rattle.wc_sma.specs.Standing.{StandsAfter, HasFailed}
 
 -- The piece is taken: the requests that it completes are acted on, and the writer has taken their answers, in order.
-pub record Feeds (line : Line) (indicator : Kept) (taken : Option (List ℕ)) (line' : Line) (indicator' : Kept) (taken' : Option (List ℕ))
+pub record Feeds (line : Line) (indicator : IndicatorState) (taken : Option (List ℕ)) (line' : Line) (indicator' : IndicatorState) (taken' : Option (List ℕ))
     (piece : List ℕ) : Type 0 where
   pub stands : (before : List ℕ) → StandsAfter line before → StandsAfter line' (before ++ piece)
-  pub acts : (before : List ℕ) (p : PlateData) (history : History) → StandsAfter line before → StandsFor indicator p history →
-      StandsFor indicator' p (after_requests (requests_in before piece) history)
-  pub answers : (before : List ℕ) (p : PlateData) (history : History) → StandsAfter line before → StandsFor indicator p history →
+  pub acts : (before : List ℕ) (p : PlateData) (history : History) → StandsAfter line before → StandsForHistory indicator p history →
+      StandsForHistory indicator' p (after_requests (requests_in before piece) history)
+  pub answers : (before : List ℕ) (p : PlateData) (history : History) → StandsAfter line before → StandsForHistory indicator p history →
       Appends taken taken' (answers_to p (requests_in before piece) history)
 
 -- Of these requests those up to `next` are acted on and no more. The writer has taken the answers of those before it, and of
 -- its answer a front that is not all of it.
-pub record IsCutShort (p : PlateData) (texts : List (List ℕ)) (history : History) (indicator' : Kept) (taken taken' : Option (List ℕ)) : Type 0 where
+pub record IsCutShort (p : PlateData) (texts : List (List ℕ)) (history : History) (indicator' : IndicatorState) (taken taken' : Option (List ℕ)) : Type 0 where
   pub done : List (List ℕ)
   pub next : List ℕ
   pub left : List (List ℕ)
   pub in_order : texts ≡ done ++ (next ∷ left)
-  pub acts : StandsFor indicator' p (after_requests (done ++ (next ∷ [])) history)
+  pub acts : StandsForHistory indicator' p (after_requests (done ++ (next ∷ [])) history)
   pub written : List ℕ
   pub unwritten : List ℕ
   pub in_parts : answer_to p (command_of next) (after_requests done history) ≡ written ++ unwritten
@@ -34,8 +34,8 @@ pub record IsCutShort (p : PlateData) (texts : List (List ℕ)) (history : Histo
   pub answers : Appends taken taken' (answers_to p done history ++ written)
 
 -- The piece is not taken to its end, and the line has failed.
-pub record Fails (line : Line) (indicator : Kept) (taken : Option (List ℕ)) (line' : Line) (indicator' : Kept) (taken' : Option (List ℕ))
+pub record Fails (line : Line) (indicator : IndicatorState) (taken : Option (List ℕ)) (line' : Line) (indicator' : IndicatorState) (taken' : Option (List ℕ))
     (piece : List ℕ) : Type 0 where
   pub failed : HasFailed line'
-  pub cut : (before : List ℕ) (p : PlateData) (history : History) → StandsAfter line before → StandsFor indicator p history →
+  pub cut : (before : List ℕ) (p : PlateData) (history : History) → StandsAfter line before → StandsForHistory indicator p history →
       IsCutShort p (requests_in before piece) history indicator' taken taken'

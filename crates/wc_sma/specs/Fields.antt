@@ -3,8 +3,8 @@ use Rattle.std.specs.Prelude.{◌≡◌, ℕ, ◌≤◌, List, take, drop, repli
 use Rattle.wc_sma.specs.declared.weight.Field.TheInside.{Inside}
 
 -- its text is what stands from its place on
-abbrev pub text_in : Inside → List ℕ
-text_in a = drop a.at a.bytes
+abbrev pub request_view : Inside → List ℕ
+request_view a = drop a.at a.bytes
 
 -- before it stand spaces
 pub record IsFilled (a : Inside) : Type 0 where

@@ -1,7 +1,7 @@
 -- What the line keeps of a request's text so far, and the command of it.
 use Rattle.std.specs.Prelude.{ℕ, List, [], ◌∷◌, ◌==◌, Option, None, if◌then◌else◌}
-use Rattle.wc_model.specs.Requests.{carriage_return}
-use Rattle.wc_model.specs.Answers as told
+use Rattle.wc_model.specs.Instrument.Requests.{carriage_return}
+use Rattle.wc_model.specs.Instrument.Answers as told
 use Rattle.wc_sma.specs.declared.command.Seen.{Seen}
 use Rattle.wc_sma.specs.declared.command.Seen.TheVariants.{Nothing, One, More}
 use Rattle.wc_sma.specs.declared.command.Command.{Command}

@@ -1,6 +1,6 @@
 -- The bytes after which a line stands.
 use Rattle.std.specs.Prelude.{◌≡◌, ℕ, true, false, List, option_map}
-use Rattle.wc_model.specs.Requests.{open_request}
+use Rattle.wc_model.specs.Instrument.Requests.{open_request}
 use Rattle.wc_sma.specs.declared.line.Line.{Line}
 use Rattle.wc_sma.specs.Seen.{seen_in}
 

@@ -1,6 +1,6 @@
 ghost use Rattle.std.specs.Prelude.{◌≡◌, ℕ, List, [], ◌∷◌, ◌++◌, Option, option_map};
-ghost use Rattle.wc_model.specs.Requests.{opened_by};
-ghost use Rattle.wc_model.specs.Answers as told;
+ghost use Rattle.wc_model.specs.Instrument.Requests.{opened_by};
+ghost use Rattle.wc_model.specs.Instrument.Answers as told;
 ghost use Rattle.wc_sma.specs.Seen.{seen_in, asked_by, command_told};
 
 /// What the line knows of a request's text so far.

@@ -12,4 +12,4 @@ mod weight;
 
 pub use answers::{Asked, Mode, answer};
 pub use line::Line;
-pub use wc_writing::WriteFault;
+pub use wc_model::WriteFault;

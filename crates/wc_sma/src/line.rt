@@ -1,19 +1,18 @@
 ghost use Rattle.std.specs.Prelude.{◌≡◌, ◌⊎◌, ℕ, List, [], ◌∷◌, false, Option, option_map, IfOk, IfErr, IsErr};
-ghost use Rattle.wc_model.specs.Plates.{PlateData};
-ghost use Rattle.wc_model.specs.WeighingHistories.{History};
-ghost use Rattle.wc_model.specs.Answers as told;
+ghost use Rattle.wc_model.specs.Instrument.Plates.{PlateData};
+ghost use Rattle.wc_model.specs.Instrument.WeighingHistories.{History};
+ghost use Rattle.wc_model.specs.Instrument.Answers as told;
 ghost use Rattle.std.specs.Io.KnownBytes.{Appends};
-ghost use Rattle.wc_indicator.specs.Kept.{StandsFor};
+ghost use Rattle.wc_indicator.specs.Kept.{StandsForHistory};
 ghost use Rattle.wc_sma.specs.Seen.{seen_in, command_told, completes};
-ghost use Rattle.wc_writing.specs.Writing.{HasFailedSince, TakesFront};
+ghost use Rattle.wc_model.specs.Run.Writing.{HasFailedSince, TakesFront};
 ghost use Rattle.wc_sma.specs.Standing.{StandsAfter, HasFailed};
 ghost use Rattle.wc_sma.specs.Feeding.{Feeds, Fails};
 
 use crate::acting::act;
 use crate::command::{Command, Seen, after_byte, command_of};
 use wc_indicator::Indicator;
-use wc_model::ByteOut;
-use wc_writing::{WriteFault, write_whole};
+use wc_model::{ByteOut, WriteFault, write_whole};
 
 /// The line: what it knows of the request that is open, and whether it has failed.
 #[derive(Drop)]
@@ -35,10 +34,10 @@ fn serve<W: ByteOut>(
     indicator: &mut Indicator,
     writer: &mut W,
 ) -> Result<(), WriteFault>
-    ensures stands { (p : PlateData) (history : History) → StandsFor indicator.old p history → StandsFor indicator.new p (told.after_command (command_told command) history) }
-    ensures whole { IfOk result (λ done. (p : PlateData) (history : History) → StandsFor indicator.old p history → Appends (W.bytes_taken writer.old) (W.bytes_taken writer.new) (told.answer_to p (command_told command) history)) }
+    ensures stands { (p : PlateData) (history : History) → StandsForHistory indicator.old p history → StandsForHistory indicator.new p (told.after_command (command_told command) history) }
+    ensures whole { IfOk result (λ done. (p : PlateData) (history : History) → StandsForHistory indicator.old p history → Appends (W.bytes_taken writer.old) (W.bytes_taken writer.new) (told.answer_to p (command_told command) history)) }
     ensures steady { IfOk result (λ done. W.failure_count writer.new ≡ W.failure_count writer.old) }
-    ensures front { IfErr result (λ e. (p : PlateData) (history : History) → StandsFor indicator.old p history → TakesFront (W.bytes_taken writer.old) (W.bytes_taken writer.new) (told.answer_to p (command_told command) history)) }
+    ensures front { IfErr result (λ e. (p : PlateData) (history : History) → StandsForHistory indicator.old p history → TakesFront (W.bytes_taken writer.old) (W.bytes_taken writer.new) (told.answer_to p (command_told command) history)) }
     ensures device { IfErr result (λ e. HasFailedSince (W.failure_count writer.old) (W.failure_count writer.new)) }
 {
     let reply = act(command, indicator);

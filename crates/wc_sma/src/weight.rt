@@ -1,5 +1,5 @@
 ghost use Rattle.std.specs.Prelude.{◌≡◌, ℕ, ◌+◌, ◌<◌, ◌≤◌, [], ◌∷◌, ◌++◌, length, decimal, unsigned_abs, IfSome};
-ghost use Rattle.wc_model.specs.Answers.{last_digits, fraction_text, value_text, right_justified, weight_text};
+ghost use Rattle.wc_model.specs.Instrument.Answers.{last_digits, fraction_text, value_text, right_justified, weight_text};
 
 use std::marker::Model;
 
@@ -15,9 +15,9 @@ impl Model for Field {
 
     ghost Value = { List ℕ };
 
-    ghost use Rattle.wc_sma.specs.Fields.{text_in, IsFilled};
+    ghost use Rattle.wc_sma.specs.Fields.{request_view, IsFilled};
 
-    ghost view = { text_in };
+    ghost view = { request_view };
 
     ghost invariant = { IsFilled };
 }

@@ -2,17 +2,17 @@
 use Rattle.std.proofs.Common.{◌≡◌, ℕ, Bool, true, false, not, ◌||◌, List, [], ◌∷◌, ◌++◌, Option, Some, None, Result, Ok, Err, refl, sym, ap, subst, ◌∙◌, ◌⊎◌, inl, inr, ⊎_elim}
 use Rattle.std.specs.List.{list_all}
 use Rattle.std.specs.Prelude.{if◌then◌else◌}
-use Rattle.wc_model.specs.BodyRules.{takes, divides, is_ahead, step_rules, opening_operand_checks, is_no_instance, opening_checks, closing_checks, inside_rules, result_checks}
-use Rattle.wc_model.specs.Checks.{Check, asks}
-use Rattle.wc_model.specs.Kinds.{same_result, term_kind, kind_after_operator, kind_after_step, BodyLine, PlainLine, label_of, kind_after, leaves, jumps_to, Known, kinds_from_jumps, kinds_from_label, kinds_from_above, ways_in, agreed, known_kinds, kind_at, opening_kind, kind_behind}
-use Rattle.wc_model.specs.Meaning.{Outcome, Done, Stuck, Mode, Running, Seeking, Returned, Effect, Goes, Fails, Place, arriving, carries, after, continued, step_effect, closed, opened, nested_effect, means}
-use Rattle.wc_model.specs.Names.{Name}
-use Rattle.wc_model.specs.Operators.{apply}
-use Rattle.wc_model.specs.Reasons.{Reason}
-use Rattle.wc_model.specs.Scopes.{Scope, kind_of}
-use Rattle.wc_model.specs.Store.{Store}
-use Rattle.wc_model.specs.Traces.{At}
-use Rattle.wc_model.specs.Tree.{Word, Term, Step, Load, Store as StoreStep, Apply, Negate, Jump, Call, Return, Lines, End, Alone, Plain, Nested}
+use Rattle.wc_model.specs.Language.BodyRules.{takes, divides, is_ahead, step_rules, opening_operand_checks, is_no_instance, opening_checks, closing_checks, inside_rules, result_checks}
+use Rattle.wc_model.specs.Language.Checks.{Check, asks}
+use Rattle.wc_model.specs.Language.Kinds.{same_result, term_kind, kind_after_operator, kind_after_step, BodyLine, PlainLine, label_of, kind_after, leaves, jumps_to, Known, kinds_from_jumps, kinds_from_label, kinds_from_above, ways_in, agreed, known_kinds, kind_at, opening_kind, kind_behind}
+use Rattle.wc_model.specs.Language.Meaning.{Outcome, Done, Stuck, Mode, Running, Seeking, Returned, Effect, Goes, Fails, Context, arriving, carries, after, continued, step_effect, closed, opened, nested_effect, means}
+use Rattle.wc_model.specs.Language.Names.{Name}
+use Rattle.wc_model.specs.Language.Operators.{apply}
+use Rattle.wc_model.specs.Language.Reasons.{Reason}
+use Rattle.wc_model.specs.Language.Scopes.{Scope, kind_of}
+use Rattle.wc_model.specs.Language.Store.{Store}
+use Rattle.wc_model.specs.Language.Traces.{At}
+use Rattle.wc_model.specs.Language.Tree.{Word, Term, Step, Load, Store as StoreStep, Apply, Negate, Jump, Call, Return, Lines, End, Alone, Plain, Nested}
 use Rattle.wc_model.specs.declared.kind.Kind.{Kind}
 use Rattle.wc_model.specs.declared.operator.Operator.{Operator}
 use Rattle.wc_model.specs.declared.operator.Storing.TheVariants.{Result as StoreResult, Negation, Set, Reset}
@@ -27,7 +27,7 @@ use Rattle.wc_soundness.specs.Sound.{Clean, Agrees, GoesWell, EndsWell, step_jum
 use Rattle.wc_soundness.specs.Typing.{SameSlots, FitsScope}
 
 -- each step
-pub step_goes : (here : Place) (store : Store) → FitsScope store here.instance here.scope → CallsEndWell here.scope.before here.calls → (line : ℕ) (step : Step) (behind : List BodyLine) (kind : Option Kind) (result : Option Value) → Agrees kind result → Clean (step_rules here.scope line step behind kind) → GoesWell (LeadsTo here.scope step behind kind) store (step_effect here line step result store)
+pub step_goes : (here : Context) (store : Store) → FitsScope store here.instance here.scope → CallsEndWell here.scope.before here.calls → (line : ℕ) (step : Step) (behind : List BodyLine) (kind : Option Kind) (result : Option Value) → Agrees kind result → Clean (step_rules here.scope line step behind kind) → GoesWell (LeadsTo here.scope step behind kind) store (step_effect here line step result store)
 step_goes here store fits calls line (Load negation operand) behind kind result a c = load_goes here store fits line negation operand behind kind result c
 step_goes here store fits calls line (StoreStep StoreResult target) behind kind result a c = store_result_goes here store fits line target behind kind result a c
 step_goes here store fits calls line (StoreStep Negation target) behind kind result a c = store_truth_goes here store fits line Negation target behind kind result c.1.1.1.0 a c
@@ -90,7 +90,7 @@ closed_goes line close operator k outer inner_kind store (Done (Some value) new 
     value_goes (InsideMode (kind_after_operator operator (Some k))) store (apply operator outer value) (λ result. Goes (Running (Some result)) new (At line ∷ trace ++ At close ∷ [])) g.0 g.1 (subst (λ (x : Option Kind). Agrees x (Some g.0)) g.2 refl, h.1)
 
 -- the lines inside start with the operand, or with no result
-pub opened_ends : (here : Place) (store : Store) → FitsScope store here.instance here.scope → (line : ℕ) (operand : Option Term) (inside : Mode → Store → Outcome) (Q : Option Value → Type 0) → Clean (opening_operand_checks here.scope line operand) → is_no_instance here.scope operand ≡ true → ((result : Option Value) → Agrees (opening_kind here.scope operand) result → EndsWell Q store (inside (Running result) store)) → EndsWell Q store (opened here operand store inside)
+pub opened_ends : (here : Context) (store : Store) → FitsScope store here.instance here.scope → (line : ℕ) (operand : Option Term) (inside : Mode → Store → Outcome) (Q : Option Value → Type 0) → Clean (opening_operand_checks here.scope line operand) → is_no_instance here.scope operand ≡ true → ((result : Option Value) → Agrees (opening_kind here.scope operand) result → EndsWell Q store (inside (Running result) store)) → EndsWell Q store (opened here operand store inside)
 opened_ends here store fits line None inside Q c n h = h None tt
 opened_ends here store fits line (Some operand) inside Q c n h =
     let k = some_of (term_kind here.scope operand) n in
@@ -98,7 +98,7 @@ opened_ends here store fits line (Some operand) inside Q c n h =
     subst (λ (r : Result Value Reason). EndsWell Q store (elim r [ Ok value ↦ inside (Running (Some value)) store | Err reason ↦ Stuck reason ])) (sym v.1) (h (Some v.0) (subst (λ (x : Option Kind). Agrees x (Some v.0)) (sym k.1) v.2))
 
 -- a parenthesis, where the lines inside end well
-pub nested_goes : (here : Place) (store : Store) → FitsScope store here.instance here.scope → (line close : ℕ) (operator : Operator) (operand : Option Term) (inside : Mode → Store → Outcome) (inner_kind : Option Kind) (kind : Option Kind) (result : Option Value) → Agrees kind result → Clean (opening_checks here.scope line operator operand kind) → Clean (closing_checks close kind inner_kind) → ((start : Option Value) → Agrees (opening_kind here.scope operand) start → EndsWell (Agrees inner_kind) store (inside (Running start) store)) → GoesWell (InsideMode (kind_after_operator operator kind)) store (nested_effect here line operator operand close inside (Running result) store)
+pub nested_goes : (here : Context) (store : Store) → FitsScope store here.instance here.scope → (line close : ℕ) (operator : Operator) (operand : Option Term) (inside : Mode → Store → Outcome) (inner_kind : Option Kind) (kind : Option Kind) (result : Option Value) → Agrees kind result → Clean (opening_checks here.scope line operator operand kind) → Clean (closing_checks close kind inner_kind) → ((start : Option Value) → Agrees (opening_kind here.scope operand) start → EndsWell (Agrees inner_kind) store (inside (Running start) store)) → GoesWell (InsideMode (kind_after_operator operator kind)) store (nested_effect here line operator operand close inside (Running result) store)
 nested_goes here store fits line close operator operand inside inner_kind kind result a c d h = by_kind kind result a reads judged d
   where
     reads : Clean (opening_operand_checks here.scope line operand)
@@ -135,7 +135,7 @@ nested_parts a b c d h =
     (clean_first a b ab, clean_second a b ab, clean_second (a ++ b) c abc, clean_second ((a ++ b) ++ c) d h)
 
 -- the lines inside a parenthesis end well
-pub inside_ends : (here : Place) → CallsEndWell here.scope.before here.calls → (lines : Lines) (kind : Option Kind) (result : Option Value) (store : Store) → FitsScope store here.instance here.scope → IsSimple lines → Clean (inside_rules here.scope lines kind) → Agrees kind result → EndsWell (Agrees (kind_behind here.scope lines kind)) store (means here lines (Running result) store)
+pub inside_ends : (here : Context) → CallsEndWell here.scope.before here.calls → (lines : Lines) (kind : Option Kind) (result : Option Value) (store : Store) → FitsScope store here.instance here.scope → IsSimple lines → Clean (inside_rules here.scope lines kind) → Agrees kind result → EndsWell (Agrees (kind_behind here.scope lines kind)) store (means here lines (Running result) store)
 inside_ends here calls End kind result store fits simple c a = (a, SameSlots-refl store)
 inside_ends here calls (Alone word rest) kind result store fits simple c a = inside_ends here calls rest kind result store fits simple c a
 inside_ends here calls (Plain label line step rest) kind result store fits simple c a =

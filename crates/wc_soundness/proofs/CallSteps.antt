@@ -2,17 +2,17 @@
 use Rattle.std.proofs.Common.{◌≡◌, ℕ, Bool, true, false, ◌&&◌, ◌||◌, List, [], ◌∷◌, ◌++◌, map, Option, Some, None, Result, Ok, Err, append_assoc, refl, sym, ap, subst, ◌∙◌, inl, inr, ⊎_elim}
 use Rattle.std.specs.List.{flat_map}
 use Rattle.std.specs.Prelude.{if◌then◌else◌, is_some}
-use Rattle.wc_model.specs.BodyRules.{is_readable, is_of, is_bit_literal, input_named, suits_input, argument_checks, members_called, call_checks, condition_checks, is_instance}
-use Rattle.wc_model.specs.Checks.{Spot, spots_behind, spots_of}
-use Rattle.wc_model.specs.Declarations.{Variable, VariableType, Elementary, Standard, Block, Member, type_named, variable_named, members_of, member_named, block_named, named_in, elementary_types, standard_blocks, standard_type, block_type}
-use Rattle.wc_model.specs.Kinds.{BodyLine, is_kind, elementary_kind, term_kind}
-use Rattle.wc_model.specs.Meaning.{Outcome, Done, Stuck, Mode, Running, Goes, Fails, Place, value_of, input_kind, argument_term, assigned_input, assigned_one, assigned, body_outcome, made, called_type, call_effect, step_effect}
-use Rattle.wc_model.specs.Names.{Name}
-use Rattle.wc_model.specs.Reasons.{Reason, NoSuchPlace}
-use Rattle.wc_model.specs.Scopes.{Scope, kind_of, type_of, entity_of, is_input}
-use Rattle.wc_model.specs.Store.{Path, Content, Store, written, unit_places, variable_places, block_places}
-use Rattle.wc_model.specs.Traces.{At, StandardBody, Called}
-use Rattle.wc_model.specs.Tree.{Term, Assignment, Call, ProgramUnit}
+use Rattle.wc_model.specs.Language.BodyRules.{is_readable, is_of, is_bit_literal, input_named, suits_input, argument_checks, members_called, call_checks, condition_checks, is_instance}
+use Rattle.wc_model.specs.Language.Checks.{Spot, spots_behind, spots_of}
+use Rattle.wc_model.specs.Language.Declarations.{Variable, VariableType, Elementary, Standard, Block, Member, type_named, variable_named, members_of, member_named, block_named, named_in, elementary_types, standard_blocks, standard_type, block_type}
+use Rattle.wc_model.specs.Language.Kinds.{BodyLine, is_kind, elementary_kind, term_kind}
+use Rattle.wc_model.specs.Language.Meaning.{Outcome, Done, Stuck, Mode, Running, Goes, Fails, Context, value_of, input_kind, argument_term, assigned_input, assigned_one, assigned, body_outcome, made, called_type, call_effect, step_effect}
+use Rattle.wc_model.specs.Language.Names.{Name}
+use Rattle.wc_model.specs.Language.Reasons.{Reason, NoSuchPlace}
+use Rattle.wc_model.specs.Language.Scopes.{Scope, kind_of, type_of, entity_of, is_input}
+use Rattle.wc_model.specs.Language.Store.{Path, Content, Store, written, unit_places, variable_places, block_places}
+use Rattle.wc_model.specs.Language.Traces.{At, StandardBody, Called}
+use Rattle.wc_model.specs.Language.Tree.{Term, Assignment, Call, ProgramUnit}
 use Rattle.wc_model.specs.declared.block.StandardBlock.{StandardBlock}
 use Rattle.wc_model.specs.declared.kind.Kind.{Kind}
 use Rattle.wc_model.specs.declared.kind.Kind.TheVariants.{Bool as KindBool, Dint as KindDint, Time as KindTime}
@@ -51,7 +51,7 @@ input_found members name m e = go (member_named members name) refl e
     go (Some n) f g = step n (is_input n.section) refl g
 
 -- the value of an argument, of the input's kind
-pub argument_value : (here : Place) (store : Store) → FitsScope store here.instance here.scope → (m : Member) (term : Term) → is_readable (entity_of here.scope term) ≡ true → suits_input here.scope (Some m) term ≡ true → (kind : Kind) × (m.type ≡ Elementary kind) × GivesKind kind (value_of here store (argument_term m.type term))
+pub argument_value : (here : Context) (store : Store) → FitsScope store here.instance here.scope → (m : Member) (term : Term) → is_readable (entity_of here.scope term) ≡ true → suits_input here.scope (Some m) term ≡ true → (kind : Kind) × (m.type ≡ Elementary kind) × GivesKind kind (value_of here store (argument_term m.type term))
 argument_value here store fits m term r s = go (elementary_kind m.type) refl s
   where
     plain : (kind : Kind) → (is_of (is_kind kind) (term_kind here.scope term) || (is_kind KindBool kind && is_bit_literal term)) ≡ true → GivesKind kind (value_of here store (argument_term (Elementary kind) term))
@@ -66,7 +66,7 @@ argument_value here store fits m term r s = go (elementary_kind m.type) refl s
         (kind, is, subst (λ (type : VariableType). GivesKind kind (value_of here store (argument_term type term))) (sym is) (plain kind t))
 
 -- an argument is assigned
-pub argument_assigned : (here : Place) (store : Store) → FitsScope store here.instance here.scope → (instance : Name) (type : VariableType) → IsInstance here.scope instance type → (argument : Assignment) → is_some (input_named (members_of here.scope.before type) argument.input) ≡ true → is_readable (entity_of here.scope argument.value) ≡ true → suits_input here.scope (input_named (members_of here.scope.before type) argument.input) argument.value ≡ true → Writes store (assigned_one here store (members_of here.scope.before type) instance argument)
+pub argument_assigned : (here : Context) (store : Store) → FitsScope store here.instance here.scope → (instance : Name) (type : VariableType) → IsInstance here.scope instance type → (argument : Assignment) → is_some (input_named (members_of here.scope.before type) argument.input) ≡ true → is_readable (entity_of here.scope argument.value) ≡ true → suits_input here.scope (input_named (members_of here.scope.before type) argument.input) argument.value ≡ true → Writes store (assigned_one here store (members_of here.scope.before type) instance argument)
 argument_assigned here store fits instance type is argument found r s =
     let m = some_of (input_named (members_of here.scope.before type) argument.input) found in
     let both = input_found (members_of here.scope.before type) argument.input m.0 m.1 in
@@ -79,7 +79,7 @@ argument_assigned here store fits instance type is argument found r s =
     (subst (λ (x : Result Value Reason). Writes store (elim x [ Ok value ↦ written store (Path (here.instance ++ instance ∷ argument.input ∷ [])) value | Err reason ↦ Err reason ])) (sym v.2.1) w)
 
 -- all arguments are assigned, in order
-pub arguments_assigned : (here : Place) (instance : Name) (type : VariableType) → IsInstance here.scope instance type → (line : ℕ) (before arguments : List Assignment) (store : Store) → FitsScope store here.instance here.scope → Clean (flat_map (argument_checks here.scope line (members_of here.scope.before type)) (spots_behind before arguments)) → Writes store (assigned here (members_of here.scope.before type) instance arguments store)
+pub arguments_assigned : (here : Context) (instance : Name) (type : VariableType) → IsInstance here.scope instance type → (line : ℕ) (before arguments : List Assignment) (store : Store) → FitsScope store here.instance here.scope → Clean (flat_map (argument_checks here.scope line (members_of here.scope.before type)) (spots_behind before arguments)) → Writes store (assigned here (members_of here.scope.before type) instance arguments store)
 arguments_assigned here instance type is line before [] store fits c = (store, refl, SameSlots-refl store)
 arguments_assigned here instance type is line before (argument ∷ arguments) store fits c =
     let this : Spot Assignment = record { before = before; item = argument; behind = arguments } in
@@ -122,7 +122,7 @@ block_fits store names scope fits instance name is unit earlier b = record {
 }
 
 -- the body of an instance ends well
-pub body_ends : (here : Place) (store : Store) → FitsScope store here.instance here.scope → CallsEndWell here.scope.before here.calls → (type : VariableType) (instance : Name) → is_instance (Some type) ≡ true → IsInstance here.scope instance type → EndsWell (λ result. Unit {0}) store (body_outcome here type instance store)
+pub body_ends : (here : Context) (store : Store) → FitsScope store here.instance here.scope → CallsEndWell here.scope.before here.calls → (type : VariableType) (instance : Name) → is_instance (Some type) ≡ true → IsInstance here.scope instance type → EndsWell (λ result. Unit {0}) store (body_outcome here type instance store)
 body_ends here store fits calls (Elementary kind) instance i is = cc
 body_ends here store fits calls (Standard block) instance i is =
     let w = standard-safe block here.now store (here.instance ++ instance ∷ []) (block_held store here.instance here.scope fits instance is.variable is.found block is.typed) in
@@ -141,7 +141,7 @@ made_goes P old store same (Done inner new trace) h line arguments result p = (p
 made_goes P old store same (Stuck reason) h line arguments result p = h
 
 -- a call
-pub call_goes : (here : Place) (store : Store) → FitsScope store here.instance here.scope → CallsEndWell here.scope.before here.calls → (line : ℕ) (condition : Condition) (instance : Name) (arguments : List Assignment) (behind : List BodyLine) (kind : Option Kind) (result : Option Value) → Agrees kind result → Clean (call_checks here.scope line condition instance arguments kind) → GoesWell (LeadsTo here.scope (Call condition instance arguments) behind kind) store (step_effect here line (Call condition instance arguments) result store)
+pub call_goes : (here : Context) (store : Store) → FitsScope store here.instance here.scope → CallsEndWell here.scope.before here.calls → (line : ℕ) (condition : Condition) (instance : Name) (arguments : List Assignment) (behind : List BodyLine) (kind : Option Kind) (result : Option Value) → Agrees kind result → Clean (call_checks here.scope line condition instance arguments kind) → GoesWell (LeadsTo here.scope (Call condition instance arguments) behind kind) store (step_effect here line (Call condition instance arguments) result store)
 call_goes here store fits calls line condition instance arguments behind kind result a c =
     chosen_goes (LeadsTo here.scope (Call condition instance arguments) behind kind) store condition line kind result (call_effect here line instance arguments result store) (Goes (Running result) store (At line ∷ [])) a conditions called (λ n. ((a, refl), SameSlots-refl store))
   where

@@ -3,16 +3,16 @@ use Rattle.std.proofs.Common.{◌≡◌, Bool, true, false, ◌||◌, List, [], 
 use Rattle.std.specs.List.{flat_map, list_any, list_all}
 use Rattle.std.specs.Prelude.{find, if◌then◌else◌, is_some}
 use Rattle.std.specs.Str.{bytes_eq}
-use Rattle.wc_model.specs.BodyRules.{is_readable, is_writable}
-use Rattle.wc_model.specs.Declarations.{Variable, VariableType, Elementary, Standard, Block, Member, same_name, type_named, variables_of, variable_named, as_member, block_named, standard_members, members_of, member_named}
-use Rattle.wc_model.specs.DirectVariables.{DirectVariable, direct_variables, spellings, variable_at, kind_of_direct}
-use Rattle.wc_model.specs.Kinds.{elementary_kind, term_kind}
-use Rattle.wc_model.specs.Meaning.{Place, value_of, stored_value, written_to}
-use Rattle.wc_model.specs.Names.{Name}
-use Rattle.wc_model.specs.Reasons.{Reason, NoSuchPlace}
-use Rattle.wc_model.specs.Scopes.{Scope, Entity, kind_of, own_entity, type_of, member_entity, field_entity, entity_of, readable_place, writable_place, within}
-use Rattle.wc_model.specs.Store.{Location, Direct, Path, Content, Store, same_direct, value_at, written, below, variable_places, unit_places, block_places, first_content, standard_fields}
-use Rattle.wc_model.specs.Tree.{Word, Term, Constant, Address, Variable as NameOf, Field, ProgramUnit}
+use Rattle.wc_model.specs.Language.BodyRules.{is_readable, is_writable}
+use Rattle.wc_model.specs.Language.Declarations.{Variable, VariableType, Elementary, Standard, Block, Member, same_name, type_named, variables_of, variable_named, as_member, block_named, standard_members, members_of, member_named}
+use Rattle.wc_model.specs.Language.DirectVariables.{DirectVariable, direct_variables, spellings, variable_at, kind_of_direct}
+use Rattle.wc_model.specs.Language.Kinds.{elementary_kind, term_kind}
+use Rattle.wc_model.specs.Language.Meaning.{Context, value_of, stored_value, written_to}
+use Rattle.wc_model.specs.Language.Names.{Name}
+use Rattle.wc_model.specs.Language.Reasons.{Reason, NoSuchPlace}
+use Rattle.wc_model.specs.Language.Scopes.{Scope, Entity, kind_of, own_entity, type_of, member_entity, field_entity, entity_of, readable_place, writable_place, within}
+use Rattle.wc_model.specs.Language.Store.{Location, Direct, Path, Content, Store, same_direct, value_at, written, below, variable_places, unit_places, block_places, first_content, standard_fields}
+use Rattle.wc_model.specs.Language.Tree.{Word, Term, Constant, Address, Variable as NameOf, Field, ProgramUnit}
 use Rattle.wc_model.specs.declared.block.StandardBlock.{StandardBlock}
 use Rattle.wc_model.specs.declared.block.StandardBlock.TheVariants.{RTrig, Sr, Ctu, Ton, Tof}
 use Rattle.wc_model.specs.declared.kind.Kind.{Kind}
@@ -164,7 +164,7 @@ EntityTyped store names (Some e) = (kind : Kind) → elementary_kind e.type ≡ 
 pub address_typed : (store : Store) (names : List Name) (scope : Scope) → FitsScope store names scope → (word : Word) → EntityTyped store names (entity_of scope (Address word))
 address_typed store names scope fits word = go (variable_at word.name) refl
   where
-    go : (v : Option DirectVariable) → variable_at word.name ≡ v → EntityTyped store names (elim v [ Some d ↦ Some (record { type = Elementary (kind_of_direct d); readable = true; writable = Rattle.wc_model.specs.DirectVariables.is_output d; place = Some (Direct d) }) | None ↦ None ])
+    go : (v : Option DirectVariable) → variable_at word.name ≡ v → EntityTyped store names (elim v [ Some d ↦ Some (record { type = Elementary (kind_of_direct d); readable = true; writable = Rattle.wc_model.specs.Language.DirectVariables.is_output d; place = Some (Direct d) }) | None ↦ None ])
     go None e = tt
     go (Some d) e = λ kind k place p.
         let here = fits.direct d (found_direct direct_variables word.name d e) in
@@ -173,7 +173,7 @@ address_typed store names scope fits word = go (variable_at word.name) refl
 pub name_typed : (store : Store) (names : List Name) (scope : Scope) → FitsScope store names scope → (name : Name) → EntityTyped store names (entity_of scope (NameOf name))
 name_typed store names scope fits name = go (variable_named scope.unit name) refl
   where
-    typed : (v : Variable) → variable_named scope.unit name ≡ Some v → (t : Option VariableType) → type_named scope.before v.type_name ≡ t → EntityTyped store names (elim t [ Some type ↦ Some (record { type = type; readable = true; writable = Rattle.std.specs.Prelude.not (Rattle.wc_model.specs.Scopes.is_input v.section); place = Some (Path (v.name ∷ [])) }) | None ↦ None ])
+    typed : (v : Variable) → variable_named scope.unit name ≡ Some v → (t : Option VariableType) → type_named scope.before v.type_name ≡ t → EntityTyped store names (elim t [ Some type ↦ Some (record { type = type; readable = true; writable = Rattle.std.specs.Prelude.not (Rattle.wc_model.specs.Language.Scopes.is_input v.section); place = Some (Path (v.name ∷ [])) }) | None ↦ None ])
     typed v found None e = tt
     typed v found (Some type) e = λ kind k place p.
         let plain = plain_slot store names scope fits name v kind found (e ∙ ap Some (elementary-is type kind k)) in
@@ -222,12 +222,12 @@ pub entity_placed : (scope : Scope) (term : Term) → is_stored term ≡ true �
 entity_placed scope (Constant value) s = cc
 entity_placed scope (Address word) s = go (variable_at word.name)
   where
-    go : (v : Option DirectVariable) → PlacedEntity (elim v [ Some d ↦ Some (record { type = Elementary (kind_of_direct d); readable = true; writable = Rattle.wc_model.specs.DirectVariables.is_output d; place = Some (Direct d) }) | None ↦ None ])
+    go : (v : Option DirectVariable) → PlacedEntity (elim v [ Some d ↦ Some (record { type = Elementary (kind_of_direct d); readable = true; writable = Rattle.wc_model.specs.Language.DirectVariables.is_output d; place = Some (Direct d) }) | None ↦ None ])
     go None = tt
     go (Some d) = (Direct d, refl)
 entity_placed scope (NameOf name) s = go (variable_named scope.unit name)
   where
-    typed : (v : Variable) (t : Option VariableType) → PlacedEntity (elim t [ Some type ↦ Some (record { type = type; readable = true; writable = Rattle.std.specs.Prelude.not (Rattle.wc_model.specs.Scopes.is_input v.section); place = Some (Path (v.name ∷ [])) }) | None ↦ None ])
+    typed : (v : Variable) (t : Option VariableType) → PlacedEntity (elim t [ Some type ↦ Some (record { type = type; readable = true; writable = Rattle.std.specs.Prelude.not (Rattle.wc_model.specs.Language.Scopes.is_input v.section); place = Some (Path (v.name ∷ [])) }) | None ↦ None ])
     typed v None = tt
     typed v (Some type) = (Path (v.name ∷ []), refl)
 
@@ -249,7 +249,7 @@ abbrev pub GivesKind : Kind → Result Value Reason → Type 0
 GivesKind kind r = (value : Value) × (r ≡ Ok value) × (kind_of value ≡ kind)
 
 -- what may be read gives a value of its kind
-pub stored_read : (here : Place) (store : Store) → FitsScope store here.instance here.scope → (term : Term) (kind : Kind) → is_stored term ≡ true → term_kind here.scope term ≡ Some kind → is_readable (entity_of here.scope term) ≡ true → GivesKind kind (stored_value here store term)
+pub stored_read : (here : Context) (store : Store) → FitsScope store here.instance here.scope → (term : Term) (kind : Kind) → is_stored term ≡ true → term_kind here.scope term ≡ Some kind → is_readable (entity_of here.scope term) ≡ true → GivesKind kind (stored_value here store term)
 stored_read here store fits term kind s k r = go (entity_of here.scope term) (entity_typed store here.instance here.scope fits term) (entity_placed here.scope term s) k r
   where
     at_place : (found : Option Location) (place : Location) → found ≡ Some place → slot_at store (within here.instance place) ≡ Some (slot_of_kind kind) → GivesKind kind (elim found [ Some p ↦ value_at store (within here.instance p) | None ↦ Err NoSuchPlace ])
@@ -259,7 +259,7 @@ stored_read here store fits term kind s k r = go (entity_of here.scope term) (en
     go None typed placed_at k r = cc
     go (Some e) typed placed_at k r = at_place (if e.readable then e.place else None) placed_at.0 (ap (λ b. if b then e.place else None) r ∙ placed_at.1) (typed kind k placed_at.0 placed_at.1)
 
-pub term_read : (here : Place) (store : Store) → FitsScope store here.instance here.scope → (term : Term) (kind : Kind) → term_kind here.scope term ≡ Some kind → is_readable (entity_of here.scope term) ≡ true → GivesKind kind (value_of here store term)
+pub term_read : (here : Context) (store : Store) → FitsScope store here.instance here.scope → (term : Term) (kind : Kind) → term_kind here.scope term ≡ Some kind → is_readable (entity_of here.scope term) ≡ true → GivesKind kind (value_of here store term)
 term_read here store fits (Constant value) kind k r = (value, refl, Some-same kind (kind_of value) (sym k))
 term_read here store fits (Address word) kind k r = stored_read here store fits (Address word) kind refl k r
 term_read here store fits (NameOf name) kind k r = stored_read here store fits (NameOf name) kind refl k r
@@ -269,7 +269,7 @@ term_read here store fits (Field instance field) kind k r = stored_read here sto
 abbrev pub Writes : Store → Result Store Reason → Type 0
 Writes store r = (new : Store) × (r ≡ Ok new) × SameSlots store new
 
-pub term_written : (here : Place) (store : Store) → FitsScope store here.instance here.scope → (target : Term) (value : Value) → term_kind here.scope target ≡ Some (kind_of value) → is_writable (entity_of here.scope target) ≡ true → is_stored target ≡ true → Writes store (written_to here store target value)
+pub term_written : (here : Context) (store : Store) → FitsScope store here.instance here.scope → (target : Term) (value : Value) → term_kind here.scope target ≡ Some (kind_of value) → is_writable (entity_of here.scope target) ≡ true → is_stored target ≡ true → Writes store (written_to here store target value)
 term_written here store fits target value k w s = go (entity_of here.scope target) (entity_typed store here.instance here.scope fits target) (entity_placed here.scope target s) k w
   where
     at_place : (found : Option Location) (place : Location) → found ≡ Some place → slot_at store (within here.instance place) ≡ Some (slot_of_kind (kind_of value)) → Writes store (elim found [ Some p ↦ written store (within here.instance p) value | None ↦ Err NoSuchPlace ])

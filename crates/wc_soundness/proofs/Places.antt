@@ -2,12 +2,12 @@
 use Rattle.std.proofs.Common.{◌≡◌, Bool, true, false, List, [], ◌∷◌, ◌++◌, Option, Some, None, Result, Ok, Err, refl, sym, ap, subst, ◌∙◌}
 use Rattle.std.specs.List.{flat_map}
 use Rattle.std.specs.Prelude.{find, if◌then◌else◌}
-use Rattle.wc_model.specs.Declarations.{Variable, Elementary, same_name, type_named, variables_of, variable_named, is_block, block_named}
-use Rattle.wc_model.specs.Names.{Name}
-use Rattle.wc_model.specs.Reasons.{Reason, NoSuchPlace, WrongKind}
-use Rattle.wc_model.specs.Scopes.{Scope, kind_of}
-use Rattle.wc_model.specs.Store.{Location, Direct, Path, Content, Plain, Moment, Phase, Store, same_path, same_place, with_content, value_at, same_kind, written, below, variable_places, places_declared, unit_places, block_places, first_content, zero_of}
-use Rattle.wc_model.specs.Tree.{ProgramUnit}
+use Rattle.wc_model.specs.Language.Declarations.{Variable, Elementary, same_name, type_named, variables_of, variable_named, is_block, block_named}
+use Rattle.wc_model.specs.Language.Names.{Name}
+use Rattle.wc_model.specs.Language.Reasons.{Reason, NoSuchPlace, WrongKind}
+use Rattle.wc_model.specs.Language.Scopes.{Scope, kind_of}
+use Rattle.wc_model.specs.Language.Store.{Location, Direct, Path, Content, Plain, Moment, Phase, Store, same_path, same_place, with_content, value_at, same_kind, written, below, variable_places, places_declared, unit_places, block_places, first_content, zero_of}
+use Rattle.wc_model.specs.Language.Tree.{ProgramUnit}
 use Rattle.wc_model.specs.declared.kind.Kind.{Kind}
 use Rattle.wc_model.specs.declared.kind.Kind.TheVariants.{Bool as KindBool, Dint as KindDint, Time as KindTime}
 use Rattle.wc_model.specs.declared.kind.SlotKind.TheVariants.{Bool as SlotBool, Dint as SlotDint, Time as SlotTime}
@@ -131,19 +131,19 @@ first_content-slot KindDint None = refl
 first_content-slot KindTime None = refl
 first_content-slot KindBool (Some initial) = literal initial.value
   where
-    literal : (value : Value) → slot_of (Rattle.wc_model.specs.Store.literal_as KindBool value) ≡ SlotBool
+    literal : (value : Value) → slot_of (Rattle.wc_model.specs.Language.Store.literal_as KindBool value) ≡ SlotBool
     literal (Truth b) = refl
     literal (Dint n) = refl
     literal (Time t) = refl
 first_content-slot KindDint (Some initial) = literal initial.value
   where
-    literal : (value : Value) → slot_of (Rattle.wc_model.specs.Store.literal_as KindDint value) ≡ SlotDint
+    literal : (value : Value) → slot_of (Rattle.wc_model.specs.Language.Store.literal_as KindDint value) ≡ SlotDint
     literal (Truth b) = refl
     literal (Dint n) = refl
     literal (Time t) = refl
 first_content-slot KindTime (Some initial) = literal initial.value
   where
-    literal : (value : Value) → slot_of (Rattle.wc_model.specs.Store.literal_as KindTime value) ≡ SlotTime
+    literal : (value : Value) → slot_of (Rattle.wc_model.specs.Language.Store.literal_as KindTime value) ≡ SlotTime
     literal (Truth b) = refl
     literal (Dint n) = refl
     literal (Time t) = refl

@@ -3,17 +3,17 @@ use Rattle.std.proofs.Common.{◌≡◌, ℕ, Bool, true, false, ◌||◌, List,
 use Rattle.std.specs.List.{flat_map, list_any, list_all, AllByRecursion}
 use Rattle.std.specs.Option.{option_map}
 use Rattle.std.specs.Prelude.{MatchOption, if◌then◌else◌, reverse, slice_index_or, pos}
-use Rattle.wc_model.specs.BodyRules.{step_rules, label_rules, spot_rules, body_rules, opening_checks, closing_checks, inside_rules}
-use Rattle.wc_model.specs.Checks.{Check, Spot, spots_behind}
-use Rattle.wc_model.specs.Declarations.{same_name, block_named, is_block}
-use Rattle.wc_model.specs.DirectVariables.{DirectVariable, InputBit, StatusBit, Weight, direct_variables, numbers_below, kind_of_direct}
-use Rattle.wc_model.specs.Kinds.{BodyLine, AloneLine, PlainLine, NestedLine, lines_of, Known, known_kinds, kind_at, kind_after_operator, opening_kind, kind_behind}
-use Rattle.wc_model.specs.Meaning.{Outcome, Done, Stuck, Mode, Running, Seeking, Returned, Effect, Goes, Fails, Place, Calls, arriving, line_effect, nested_effect, means, body_means, called, program_means}
-use Rattle.wc_model.specs.Names.{Name}
-use Rattle.wc_model.specs.Scans.{is_bit_set, image_contents, overlaid, with_image}
-use Rattle.wc_model.specs.Scopes.{Scope}
-use Rattle.wc_model.specs.Store.{Location, Direct, Path, Content, Plain, Store, same_direct, same_path, same_place, zero_of, unit_places, store_of, initial_store}
-use Rattle.wc_model.specs.Tree.{Word, Term, Step, Lines, End, Alone, Plain as PlainLines, Nested, ProgramUnit}
+use Rattle.wc_model.specs.Language.BodyRules.{step_rules, label_rules, spot_rules, body_rules, opening_checks, closing_checks, inside_rules}
+use Rattle.wc_model.specs.Language.Checks.{Check, Spot, spots_behind}
+use Rattle.wc_model.specs.Language.Declarations.{same_name, block_named, is_block}
+use Rattle.wc_model.specs.Language.DirectVariables.{DirectVariable, InputBit, StatusBit, Weight, direct_variables, numbers_below, kind_of_direct}
+use Rattle.wc_model.specs.Language.Kinds.{BodyLine, AloneLine, PlainLine, NestedLine, lines_of, Known, known_kinds, kind_at, kind_after_operator, opening_kind, kind_behind}
+use Rattle.wc_model.specs.Language.Meaning.{Outcome, Done, Stuck, Mode, Running, Seeking, Returned, Effect, Goes, Fails, Context, Calls, arriving, line_effect, nested_effect, means, body_means, called, program_means}
+use Rattle.wc_model.specs.Language.Names.{Name}
+use Rattle.wc_model.specs.Language.Scans.{is_bit_set, image_contents, overlaid, with_image}
+use Rattle.wc_model.specs.Language.Scopes.{Scope}
+use Rattle.wc_model.specs.Language.Store.{Location, Direct, Path, Content, Plain, Store, same_direct, same_path, same_place, zero_of, unit_places, store_of, initial_store}
+use Rattle.wc_model.specs.Language.Tree.{Word, Term, Step, Lines, End, Alone, Plain as PlainLines, Nested, ProgramUnit}
 use Rattle.wc_model.specs.declared.image.Image.{Image}
 use Rattle.wc_model.specs.declared.kind.Kind.{Kind}
 use Rattle.wc_model.specs.declared.kind.Kind.TheVariants.{Bool as KindBool, Dint as KindDint, Time as KindTime}
@@ -37,7 +37,7 @@ abbrev pub Any : Option Value → Type 0
 Any result = Unit {0}
 
 -- a plain line goes well, executed or passed over
-pub line_goes : (here : Place) (store : Store) → FitsScope store here.instance here.scope → CallsEndWell here.scope.before here.calls → (earlier : List Known) (label : Option Word) (line : ℕ) (step : Step) (behind : List BodyLine) (kind : Option Kind) (mode : Mode) → ArrivedFits here.scope earlier (PlainLine label line step) behind kind mode → Clean (step_rules here.scope line step behind kind) → GoesWell (ModeFits here.scope (record { line = PlainLine label line step; before = kind } ∷ earlier) behind) store (line_effect here line step mode store)
+pub line_goes : (here : Context) (store : Store) → FitsScope store here.instance here.scope → CallsEndWell here.scope.before here.calls → (earlier : List Known) (label : Option Word) (line : ℕ) (step : Step) (behind : List BodyLine) (kind : Option Kind) (mode : Mode) → ArrivedFits here.scope earlier (PlainLine label line step) behind kind mode → Clean (step_rules here.scope line step behind kind) → GoesWell (ModeFits here.scope (record { line = PlainLine label line step; before = kind } ∷ earlier) behind) store (line_effect here line step mode store)
 line_goes here store fits calls earlier label line step behind kind (Running result) a c =
     goes_weaker (LeadsTo here.scope step behind kind) (ModeFits here.scope (record { line = PlainLine label line step; before = kind } ∷ earlier) behind) store (line_effect here line step (Running result) store)
     (λ mode h. led_fits here.scope earlier label line step behind kind mode h) (step_goes here store fits calls line step behind kind result a c)
@@ -51,7 +51,7 @@ ParenthesisRules scope line operator operand inside close kind = opening_checks 
 pub three_parts : (a b c : List Check) → Clean ((a ++ b) ++ c) → Clean a × Clean b × Clean c
 three_parts a b c h = (clean_first a b (clean_first (a ++ b) c h), clean_second a b (clean_first (a ++ b) c h), clean_second (a ++ b) c h)
 
-pub parenthesis_goes : (here : Place) (store : Store) → FitsScope store here.instance here.scope → CallsEndWell here.scope.before here.calls → (earlier : List Known) (label : Option Word) (line : ℕ) (operator : Operator) (operand : Option Term) (inside : Lines) (close : ℕ) (behind : List BodyLine) (kind : Option Kind) (mode : Mode) → IsSimple inside → ArrivedFits here.scope earlier (NestedLine label line operator operand inside close) behind kind mode → Clean (ParenthesisRules here.scope line operator operand inside close kind) → GoesWell (ModeFits here.scope (record { line = NestedLine label line operator operand inside close; before = kind } ∷ earlier) behind) store (nested_effect here line operator operand close (means here inside) mode store)
+pub parenthesis_goes : (here : Context) (store : Store) → FitsScope store here.instance here.scope → CallsEndWell here.scope.before here.calls → (earlier : List Known) (label : Option Word) (line : ℕ) (operator : Operator) (operand : Option Term) (inside : Lines) (close : ℕ) (behind : List BodyLine) (kind : Option Kind) (mode : Mode) → IsSimple inside → ArrivedFits here.scope earlier (NestedLine label line operator operand inside close) behind kind mode → Clean (ParenthesisRules here.scope line operator operand inside close kind) → GoesWell (ModeFits here.scope (record { line = NestedLine label line operator operand inside close; before = kind } ∷ earlier) behind) store (nested_effect here line operator operand close (means here inside) mode store)
 parenthesis_goes here store fits calls earlier label line operator operand inside close behind kind (Running result) simple a c =
     let inner = kind_behind here.scope inside (opening_kind here.scope operand) in
     let parts = three_parts (opening_checks here.scope line operator operand kind) (inside_rules here.scope inside (opening_kind here.scope operand)) (closing_checks close kind inner) c in
@@ -72,7 +72,7 @@ label_passed scope earlier word behind kind (Seeking name result) a = passes_ove
 label_passed scope earlier word behind kind (Returned result) a = tt
 
 -- the lines left end well
-pub lines_end : (here : Place) → CallsEndWell here.scope.before here.calls → (lines : Lines) (before : List BodyLine) (mode : Mode) (store : Store) → FitsScope store here.instance here.scope → NestsSimply lines → Clean (flat_map (spot_rules here.scope) (spots_behind before (lines_of lines))) → ModeFits here.scope (known_kinds here.scope before) (lines_of lines) mode → EndsWell Any store (means here lines mode store)
+pub lines_end : (here : Context) → CallsEndWell here.scope.before here.calls → (lines : Lines) (before : List BodyLine) (mode : Mode) (store : Store) → FitsScope store here.instance here.scope → NestsSimply lines → Clean (flat_map (spot_rules here.scope) (spots_behind before (lines_of lines))) → ModeFits here.scope (known_kinds here.scope before) (lines_of lines) mode → EndsWell Any store (means here lines mode store)
 lines_end here calls End before (Running result) store fits simple c m = (tt, SameSlots-refl store)
 lines_end here calls End before (Returned result) store fits simple c m = (tt, SameSlots-refl store)
 lines_end here calls End before (Seeking label result) store fits simple c m = absurd (let e = m.3 in cc)

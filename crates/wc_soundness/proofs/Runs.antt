@@ -1,15 +1,15 @@
 -- Whatever rows have come, no scan is stuck.
 use Rattle.std.proofs.Common.{ℕ, List, [], ◌∷◌}
-use Rattle.wc_model.specs.Loading.{IsLoaded}
-use Rattle.wc_model.specs.Meaning.{Outcome, Done, Stuck}
-use Rattle.wc_model.specs.Plates.{PlateData}
-use Rattle.wc_model.specs.ProcessImage.{image_after}
-use Rattle.wc_model.specs.ProgramReport.{result_of, scans_of, store_after}
-use Rattle.wc_model.specs.Report.{state_with}
-use Rattle.wc_model.specs.Rows.{RowData, Counts, Bytes, Inputs, Scan, Past}
-use Rattle.wc_model.specs.Scans.{scan_of, initial_of}
-use Rattle.wc_model.specs.Store.{Store}
-use Rattle.wc_model.specs.Tree.{Text}
+use Rattle.wc_model.specs.Language.Loading.{IsLoaded}
+use Rattle.wc_model.specs.Language.Meaning.{Outcome, Done, Stuck}
+use Rattle.wc_model.specs.Instrument.Plates.{PlateData}
+use Rattle.wc_model.specs.Run.ProcessImage.{image_after}
+use Rattle.wc_model.specs.Say.ProgramReport.{result_of, scans_of, store_after}
+use Rattle.wc_model.specs.Say.Report.{state_with}
+use Rattle.wc_model.specs.Run.Rows.{RowData, Counts, Bytes, Inputs, Scan, Past}
+use Rattle.wc_model.specs.Language.Scans.{scan_of, initial_of}
+use Rattle.wc_model.specs.Language.Store.{Store}
+use Rattle.wc_model.specs.Language.Tree.{Text}
 use Rattle.wc_soundness.proofs.Places.{SameSlots-refl}
 use Rattle.wc_soundness.proofs.Programs.{Any}
 use Rattle.wc_soundness.proofs.Spelled.{loaded_text_is_never_stuck}

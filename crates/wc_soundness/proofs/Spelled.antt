@@ -1,12 +1,12 @@
 -- What is spelled nests only simple instructions, so a text that is loaded is never stuck.
 use Rattle.std.proofs.Common.{◌≡◌, ℕ, true, List, [], ◌∷◌, None, refl}
-use Rattle.wc_model.specs.Faults.{body_fault}
-use Rattle.wc_model.specs.Grammar.{InBody, InParentheses, IsTransfer, IsProgramLast, lines, unit_of, units, line_ends}
-use Rattle.wc_model.specs.Languages.{◌then◌, each}
-use Rattle.wc_model.specs.Marks.{Mark}
-use Rattle.wc_model.specs.Scans.{scan_of, initial_of}
-use Rattle.wc_model.specs.Store.{Store}
-use Rattle.wc_model.specs.Tree.{Step, Load, Store as StoreStep, Apply, Negate, Jump, Call, Return, Lines, End, Alone, Plain, Nested, Text}
+use Rattle.wc_model.specs.Language.Faults.{body_fault}
+use Rattle.wc_model.specs.Text.Grammar.{InBody, InParentheses, IsTransfer, IsProgramLast, lines, unit_of, units, line_ends}
+use Rattle.wc_model.specs.Text.Languages.{◌then◌, each}
+use Rattle.wc_model.specs.Text.Marks.{Mark}
+use Rattle.wc_model.specs.Language.Scans.{scan_of, initial_of}
+use Rattle.wc_model.specs.Language.Store.{Store}
+use Rattle.wc_model.specs.Language.Tree.{Step, Load, Store as StoreStep, Apply, Negate, Jump, Call, Return, Lines, End, Alone, Plain, Nested, Text}
 use Rattle.wc_model.specs.declared.image.Image.{Image}
 use Rattle.wc_soundness.proofs.Programs.{Any}
 use Rattle.wc_soundness.proofs.Texts.{text_is_never_stuck}

@@ -2,13 +2,13 @@
 use Rattle.std.proofs.Common.{◌≡◌, ℕ, Bool, List, [], ◌∷◌, ◌++◌, map, Option, Some, None, Result, ℤ, append_assoc, refl, ap, ◌∙◌}
 use Rattle.std.specs.Option.{option_map}
 use Rattle.std.specs.Prelude.{codes}
-use Rattle.wc_model.specs.BlockCalls.{field_at, with_truth, with_dint, with_time, with_moment, with_phase, with_fields, r_trig_contents, r_trig_called, sr_contents, sr_called, ctu_contents, ctu_called, ton_contents, ton_called, tof_contents, tof_called, standard_called}
-use Rattle.wc_model.specs.Blocks.{RTrigFields, SrFields, CtuFields, TonFields, TofFields, r_trig_step, sr_step, ctu_step, ton_step, tof_step}
-use Rattle.wc_model.specs.Declarations.{Variable, VariableType, Standard, type_named, variable_named}
-use Rattle.wc_model.specs.Names.{Name}
-use Rattle.wc_model.specs.Reasons.{Reason}
-use Rattle.wc_model.specs.Scopes.{Scope}
-use Rattle.wc_model.specs.Store.{Path, Content, Plain, Moment, Phase, Store, with_content, standard_fields, variable_places, block_places}
+use Rattle.wc_model.specs.Language.BlockCalls.{field_at, with_truth, with_dint, with_time, with_moment, with_phase, with_fields, r_trig_contents, r_trig_called, sr_contents, sr_called, ctu_contents, ctu_called, ton_contents, ton_called, tof_contents, tof_called, standard_called}
+use Rattle.wc_model.specs.Language.Blocks.{RTrigFields, SrFields, CtuFields, TonFields, TofFields, r_trig_step, sr_step, ctu_step, ton_step, tof_step}
+use Rattle.wc_model.specs.Language.Declarations.{Variable, VariableType, Standard, type_named, variable_named}
+use Rattle.wc_model.specs.Language.Names.{Name}
+use Rattle.wc_model.specs.Language.Reasons.{Reason}
+use Rattle.wc_model.specs.Language.Scopes.{Scope}
+use Rattle.wc_model.specs.Language.Store.{Path, Content, Plain, Moment, Phase, Store, with_content, standard_fields, variable_places, block_places}
 use Rattle.wc_model.specs.declared.block.StandardBlock.{StandardBlock}
 use Rattle.wc_model.specs.declared.block.StandardBlock.TheVariants.{RTrig, Sr, Ctu, Ton, Tof}
 use Rattle.wc_model.specs.declared.kind.SlotKind.TheVariants.{Bool as SlotBool, Dint as SlotDint, Time as SlotTime, Moment as SlotMoment, Phase as SlotPhase}

@@ -4,12 +4,12 @@ use Rattle.std.proofs.lemmas.Grind.{reverse_onto}
 use Rattle.std.proofs.lemmas.List.{length-reverse, append-nil}
 use Rattle.std.specs.List.{flat_map}
 use Rattle.std.specs.Prelude.{reverse, if◌then◌else◌, length}
-use Rattle.wc_model.specs.BodyRules.{body_rules, text_body_checks}
-use Rattle.wc_model.specs.Checks.{Check, Spot, spots_behind, first_broken}
-use Rattle.wc_model.specs.Meaning.{program_means}
-use Rattle.wc_model.specs.Scans.{first_of_reversed, initial_of_reversed, with_image}
-use Rattle.wc_model.specs.Store.{Store}
-use Rattle.wc_model.specs.Tree.{ProgramUnit, Text}
+use Rattle.wc_model.specs.Language.BodyRules.{body_rules, text_body_checks}
+use Rattle.wc_model.specs.Language.Checks.{Check, Spot, spots_behind, first_broken}
+use Rattle.wc_model.specs.Language.Meaning.{program_means}
+use Rattle.wc_model.specs.Language.Scans.{first_of_reversed, initial_of_reversed, with_image}
+use Rattle.wc_model.specs.Language.Store.{Store}
+use Rattle.wc_model.specs.Language.Tree.{ProgramUnit, Text}
 use Rattle.wc_model.specs.declared.image.Image.{Image}
 use Rattle.wc_soundness.proofs.Programs.{Any, scan_ends}
 use Rattle.wc_soundness.proofs.Steps.{clean_first, clean_second}

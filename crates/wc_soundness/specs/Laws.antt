@@ -1,16 +1,16 @@
 -- Statements about the runs of texts that break no rule.
 use Rattle.std.specs.Prelude.{◌≡◌, ℕ, List, [], ◌∷◌, Option, None}
-use Rattle.wc_model.specs.Faults.{body_fault}
-use Rattle.wc_model.specs.Grammar.{Spells}
-use Rattle.wc_model.specs.Loading.{IsLoaded}
-use Rattle.wc_model.specs.Marks.{Mark}
-use Rattle.wc_model.specs.Plates.{PlateData}
-use Rattle.wc_model.specs.ProcessImage.{image_after}
-use Rattle.wc_model.specs.ProgramReport.{store_after}
-use Rattle.wc_model.specs.Rows.{Past}
-use Rattle.wc_model.specs.Scans.{scan_of, initial_of}
-use Rattle.wc_model.specs.Store.{Store}
-use Rattle.wc_model.specs.Tree.{ProgramUnit, Text}
+use Rattle.wc_model.specs.Language.Faults.{body_fault}
+use Rattle.wc_model.specs.Text.Grammar.{Spells}
+use Rattle.wc_model.specs.Language.Loading.{IsLoaded}
+use Rattle.wc_model.specs.Text.Marks.{Mark}
+use Rattle.wc_model.specs.Instrument.Plates.{PlateData}
+use Rattle.wc_model.specs.Run.ProcessImage.{image_after}
+use Rattle.wc_model.specs.Say.ProgramReport.{store_after}
+use Rattle.wc_model.specs.Run.Rows.{Past}
+use Rattle.wc_model.specs.Language.Scans.{scan_of, initial_of}
+use Rattle.wc_model.specs.Language.Store.{Store}
+use Rattle.wc_model.specs.Language.Tree.{ProgramUnit, Text}
 use Rattle.wc_model.specs.declared.image.Image.{Image}
 use Rattle.wc_model.specs.declared.value.Value.{Value}
 use Rattle.wc_soundness.specs.Sound.{EndsWell, NestsSimply}

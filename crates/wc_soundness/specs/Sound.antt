@@ -1,14 +1,14 @@
 -- What it means that a run goes well.
 use Rattle.std.specs.Prelude.{◌≡◌, Bool, true, false, List, [], ◌∷◌, Option, Some, None, ◌⊎◌}
-use Rattle.wc_model.specs.BodyRules.{is_ahead, body_rules}
-use Rattle.wc_model.specs.Checks.{Check}
-use Rattle.wc_model.specs.Declarations.{same_name, block_named}
-use Rattle.wc_model.specs.Kinds.{BodyLine, kind_after_step, step_leaves, label_of, Known, kinds_from_jumps, kinds_from_above}
-use Rattle.wc_model.specs.Meaning.{Outcome, Done, Stuck, Mode, Running, Seeking, Returned, Effect, Goes, Fails, Calls, carries}
-use Rattle.wc_model.specs.Names.{Name}
-use Rattle.wc_model.specs.Scopes.{Scope, kind_of}
-use Rattle.wc_model.specs.Store.{Store}
-use Rattle.wc_model.specs.Tree.{Step, Load, Store as StoreStep, Apply, Negate, Jump, Call, Return, Lines, End, Alone, Plain, Nested, ProgramUnit}
+use Rattle.wc_model.specs.Language.BodyRules.{is_ahead, body_rules}
+use Rattle.wc_model.specs.Language.Checks.{Check}
+use Rattle.wc_model.specs.Language.Declarations.{same_name, block_named}
+use Rattle.wc_model.specs.Language.Kinds.{BodyLine, kind_after_step, step_leaves, label_of, Known, kinds_from_jumps, kinds_from_above}
+use Rattle.wc_model.specs.Language.Meaning.{Outcome, Done, Stuck, Mode, Running, Seeking, Returned, Effect, Goes, Fails, Calls, carries}
+use Rattle.wc_model.specs.Language.Names.{Name}
+use Rattle.wc_model.specs.Language.Scopes.{Scope, kind_of}
+use Rattle.wc_model.specs.Language.Store.{Store}
+use Rattle.wc_model.specs.Language.Tree.{Step, Load, Store as StoreStep, Apply, Negate, Jump, Call, Return, Lines, End, Alone, Plain, Nested, ProgramUnit}
 use Rattle.wc_model.specs.declared.kind.Kind.{Kind}
 use Rattle.wc_model.specs.declared.value.Value.{Value}
 use Rattle.wc_soundness.specs.Typing.{SameSlots, FitsScope}

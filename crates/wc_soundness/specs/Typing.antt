@@ -2,10 +2,10 @@
 use Rattle.std.specs.Prelude.{◌≡◌, true, List, [], ◌∷◌, ◌++◌, Option, Some, None, if◌then◌else◌}
 use Rattle.std.specs.Option.{option_map}
 use Rattle.std.specs.List.{list_any}
-use Rattle.wc_model.specs.DirectVariables.{DirectVariable, direct_variables, kind_of_direct}
-use Rattle.wc_model.specs.Names.{Name}
-use Rattle.wc_model.specs.Scopes.{Scope, kind_of}
-use Rattle.wc_model.specs.Store.{Location, Direct, Path, Content, Plain, Moment, Phase, Store, same_path, same_direct, unit_places}
+use Rattle.wc_model.specs.Language.DirectVariables.{DirectVariable, direct_variables, kind_of_direct}
+use Rattle.wc_model.specs.Language.Names.{Name}
+use Rattle.wc_model.specs.Language.Scopes.{Scope, kind_of}
+use Rattle.wc_model.specs.Language.Store.{Location, Direct, Path, Content, Plain, Moment, Phase, Store, same_path, same_direct, unit_places}
 use Rattle.wc_model.specs.declared.kind.Kind.{Kind}
 use Rattle.wc_model.specs.declared.kind.Kind.TheVariants.{Bool as KindBool, Dint as KindDint, Time as KindTime}
 use Rattle.wc_model.specs.declared.kind.SlotKind.{SlotKind}

@@ -1,7 +1,7 @@
 //! Whole texts, cut into their tokens.
 ghost use Rattle.std.specs.Prelude.{codes, pos, negsuc, true, ◌++◌, ◌∷◌, []};
-ghost use Rattle.wc_model.specs.Shapes.{Address, And, AndNot, Assign, Arrow, Closing, Colon, Comma, Duration, Identifier, LineEnd, Opening, Point, Semicolon, Truth, Whole};
-ghost use Rattle.wc_model.specs.Tokens.{IsCut};
+ghost use Rattle.wc_model.specs.Text.Shapes.{Address, And, AndNot, Assign, Arrow, Closing, Colon, Comma, Duration, Identifier, LineEnd, Opening, Point, Semicolon, Truth, Whole};
+ghost use Rattle.wc_model.specs.Text.Tokens.{IsCut};
 ghost use Rattle.wc_token_examples.specs.Spelled.{lines, token};
 
 /// `&` directly followed by N is one operator where the identifier ends there, and else `&` and an identifier.

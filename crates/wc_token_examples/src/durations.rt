@@ -1,6 +1,6 @@
 //! Durations in milliseconds, and what has not their form.
 ghost use Rattle.std.specs.Prelude.{◌≡◌, codes, neg_ℤ, pos, Err, Ok};
-ghost use Rattle.wc_model.specs.Shapes.{Duration, shape_of};
+ghost use Rattle.wc_model.specs.Text.Shapes.{Duration, shape_of};
 
 /// Units fall, the first part may overflow, and one underscore may stand between parts.
 pub fn durations_are_the_sum_of_their_parts()

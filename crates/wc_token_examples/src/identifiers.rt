@@ -1,6 +1,6 @@
 //! Identifiers, and what has not their form.
 ghost use Rattle.std.specs.Prelude.{◌≡◌, codes, Err, Ok};
-ghost use Rattle.wc_model.specs.Shapes.{Identifier, shape_of};
+ghost use Rattle.wc_model.specs.Text.Shapes.{Identifier, shape_of};
 
 /// Letters, digits and single underscores, up to 32 of them.
 pub fn identifiers()

@@ -1,7 +1,7 @@
 //! Laws of all texts.
 ghost use Rattle.std.specs.Prelude.{◌≡◌, ℕ, List, length};
-ghost use Rattle.wc_model.specs.TokenLaws.{CutHasNoFault, CutIsUnique, CutOrFault, FirstFaultIsUnique, LongTextIsRefused, TokensAreInOrder, TokensAreSlices};
-ghost use Rattle.wc_model.specs.Tokens.{IsFirstFault};
+ghost use Rattle.wc_model.specs.Text.TokenLaws.{CutHasNoFault, CutIsUnique, CutOrFault, FirstFaultIsUnique, LongTextIsRefused, TokensAreInOrder, TokensAreSlices};
+ghost use Rattle.wc_model.specs.Text.Tokens.{IsFirstTokenFault};
 
 /// A text has one list of tokens.
 pub fn a_cut_is_unique()
@@ -26,7 +26,7 @@ pub fn a_text_has_tokens_or_a_fault()
 /// A text that is too long is refused at no line, whatever it holds.
 pub fn a_long_text_is_refused()
     ensures law { LongTextIsRefused }
-    ensures one_byte_too_many { (text : List ℕ) → length text ≡ 65537 → IsFirstFault text 107 0 }
+    ensures one_byte_too_many { (text : List ℕ) → length text ≡ 65537 → IsFirstTokenFault text 107 0 }
 {}
 
 /// The tokens of a text are its slices, each on the line of its first byte.

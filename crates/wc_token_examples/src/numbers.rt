@@ -1,6 +1,6 @@
 //! Whole-number literals, and what has none of their forms.
 ghost use Rattle.std.specs.Prelude.{◌≡◌, codes, pos, negsuc, neg_ℤ, Err, Ok, true, false};
-ghost use Rattle.wc_model.specs.Shapes.{Whole, Truth, shape_of};
+ghost use Rattle.wc_model.specs.Text.Shapes.{Whole, Truth, shape_of};
 
 /// Decimal digits, with a sign or without.
 pub fn decimal_numbers_have_their_value()

@@ -1,6 +1,6 @@
 use Rattle.std.proofs.Common.{sym, subst}
 use Rattle.wc_laws.proofs.Wrapping.{IsWrapped-unique, wrap_is_wrapped}
-use Rattle.wc_model.specs.Values.{IsWrapped, wrap}
+use Rattle.wc_model.specs.Language.Values.{IsWrapped, wrap}
 use Rattle.wc_laws.proofs.wrap_is_the_only_one.Goals as goal
 
 pub returns : goal.returns

@@ -2,7 +2,7 @@ use Rattle.std.proofs.Common.{subst}
 use Rattle.wc_controller.proofs.Allowing.{long_job, of_known}
 use Rattle.wc_controller.proofs.answering.job.Goals as goal
 use Rattle.wc_controller.specs.Jobs.{Allows, Gives}
-use Rattle.wc_job.specs.Reads.{IsTooLong}
+use Rattle.wc_job.specs.Reads.{IsOverTheLimit}
 
 pub returns-in-Ok-clause-gives : goal.returns-in-Ok-clause-gives
 returns-in-Ok-clause-gives g c =
@@ -15,4 +15,4 @@ pub returns-in-TooLong-clause-gives : goal.returns-in-TooLong-clause-gives
 returns-in-TooLong-clause-gives g c =
     let known = g.R.ByteIn.bytes_left c.args.reader.now in
     long_job known c.refuse.result (g.W.ByteOut.bytes_taken c.args.writer.now) (g.W.ByteOut.bytes_taken c.refuse.new.writer)
-    (subst (λ fault. IsTooLong known fault) c.in-TooLong.is c.in-Err.ensures.too_long) c.refuse.ensures.gives
+    (subst (λ fault. IsOverTheLimit known fault) c.in-TooLong.is c.in-Err.ensures.too_long) c.refuse.ensures.gives

@@ -3,9 +3,9 @@ use Rattle.std.specs.Prelude.{Option, Some}
 use Rattle.wc_controller.proofs.Givings.{front_told, ran, ran_refused, ran_short}
 use Rattle.wc_controller.proofs.answering.run_log.Goals as goal
 use Rattle.wc_controller.specs.Jobs.{Gives}
-use Rattle.wc_model.specs.Job.{run_answer}
-use Rattle.wc_model.specs.Log.{log_of}
-use Rattle.wc_model.specs.Scans.{initial_of}
+use Rattle.wc_model.specs.Say.Job.{run_answer}
+use Rattle.wc_model.specs.Run.Log.{log_of}
+use Rattle.wc_model.specs.Language.Scans.{initial_of}
 use Rattle.wc_record.specs.Reading.{records_of}
 use Rattle.wc_run.specs.Logics.{Logic}
 use Rattle.wc_run.specs.Runs.{Reports}

@@ -4,9 +4,9 @@ use Rattle.wc_controller.proofs.Givings.{gives_more}
 use Rattle.wc_controller.proofs.answering.run_program.Goals as goal
 use Rattle.wc_controller.specs.Jobs.{AllowsProgram}
 use Rattle.wc_controller.specs.Loads.{IsRefusedLoad}
-use Rattle.wc_machine.specs.Machines.{text_by_itself}
-use Rattle.wc_model.specs.Job.{refusing, run_answer, runs}
-use Rattle.wc_model.specs.Log.{log_of}
+use Rattle.wc_first.specs.Machines.{text_by_itself}
+use Rattle.wc_model.specs.Say.Job.{refusing, run_answer, runs}
+use Rattle.wc_model.specs.Run.Log.{log_of}
 use Rattle.wc_record.specs.Reading.{records_of}
 
 pub returns-in-Ok-clause-gives : goal.returns-in-Ok-clause-gives

@@ -2,7 +2,7 @@ use Rattle.std.proofs.Common.{subst}
 use Rattle.std.specs.Io.KnownBytes.{Appends}
 use Rattle.wc_controller.proofs.Givings.{refuses_in_part, refuses_whole}
 use Rattle.wc_controller.proofs.refusing.refuse.Goals as goal
-use Rattle.wc_writing.specs.Writing.{TakesFront}
+use Rattle.wc_model.specs.Run.Writing.{TakesFront}
 
 pub returns-in-Ok-write_whole-clause-gives : goal.returns-in-Ok-write_whole-clause-gives
 returns-in-Ok-write_whole-clause-gives g c =

@@ -1,7 +1,7 @@
 use Rattle.std.proofs.Common.{◌+◌, ◌++◌, List, ℕ, ap, sym, ◌∙◌, subst, arith}
 use Rattle.wc_controller.proofs.UnitReports.{Begins, begins_on, begins_to_end}
 use Rattle.wc_controller.proofs.unit_lines.unit_lines.Goals as goal
-use Rattle.wc_machine.specs.Machines.{text_by_itself}
+use Rattle.wc_first.specs.Machines.{text_by_itself}
 
 pub loop-unit-preserved : goal.loop-unit-preserved
 loop-unit-preserved c =

@@ -1,6 +1,6 @@
 use Rattle.std.proofs.Common.{refl, arith}
 use Rattle.std.specs.Prelude.{[], ◌∷◌}
-use Rattle.wc_model.specs.Tree.{End}
+use Rattle.wc_model.specs.Language.Tree.{End}
 use Rattle.wc_model.proofs.Spelling.{spelling}
 use Rattle.wc_model.specs.declared.source.UnitKind.TheVariants.{Program}
 use Rattle.wc_grammar_examples.specs.Texts.{program_of}

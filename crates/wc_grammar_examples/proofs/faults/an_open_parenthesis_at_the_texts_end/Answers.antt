@@ -1,11 +1,11 @@
 use Rattle.std.proofs.Common.{refl, inl, inr}
 use Rattle.std.specs.Prelude.{[], ◌∷◌, codes, None}
-use Rattle.wc_model.specs.Tree.{Negate, End}
+use Rattle.wc_model.specs.Language.Tree.{Negate, End}
 use Rattle.wc_model.proofs.Spelling.{spelling}
 use Rattle.wc_grammar_examples.specs.Texts.{ident, end_of, program_of}
 use Rattle.wc_grammar_examples.specs.Faulty.{short_opening}
-use Rattle.wc_model.specs.Grammar.{InParentheses}
-use Rattle.wc_model.specs.Positions.{part_of_line}
+use Rattle.wc_model.specs.Text.Grammar.{InParentheses}
+use Rattle.wc_model.specs.Text.Positions.{part_of_line}
 use Rattle.wc_grammar_examples.proofs.faults.an_open_parenthesis_at_the_texts_end.Goals as goal
 
 -- before a line, some instruction has still to come

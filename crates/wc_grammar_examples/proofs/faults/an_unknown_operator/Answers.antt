@@ -1,10 +1,10 @@
 use Rattle.std.proofs.Common.{◌≡◌, ◌≤◌, ◌<◌, ℕ, List, [], ◌∷◌, ◌++◌, ap, refl, inl, inr, arith}
 use Rattle.std.specs.Prelude.{codes, length, Any}
-use Rattle.wc_model.specs.Tree.{Step, End, Alone, ProgramUnit, Text}
-use Rattle.wc_model.specs.Marks.{Mark, Colon, OpeningBracket, ClosingBracket, IsNamed, IsSymbol}
-use Rattle.wc_model.specs.Keywords.{unit_word, end_word}
-use Rattle.wc_model.specs.Grammar.{IsFront, IsOperatorOf, Spells, units}
-use Rattle.wc_model.specs.ReadingFaults.{ReadingFault, UnexpectedToken, UnitNotClosed, NotOneProgramLast, EmptyParentheses, NotAllowedInParentheses, ParenthesisNotPaired, TooDeep, TooMany, rank_of, BeginsUnit, MetAtToken, IsMet, ColonFollows, IsFaultFree}
+use Rattle.wc_model.specs.Language.Tree.{Step, End, Alone, ProgramUnit, Text}
+use Rattle.wc_model.specs.Text.Marks.{Mark, Colon, OpeningBracket, ClosingBracket, IsNamed, IsSymbol}
+use Rattle.wc_model.specs.Text.Keywords.{unit_word, end_word}
+use Rattle.wc_model.specs.Text.Grammar.{IsFront, IsOperatorOf, Spells, units}
+use Rattle.wc_model.specs.Text.ReadingFaults.{ReadingFault, UnexpectedToken, UnitNotClosed, NotOneProgramLast, EmptyParentheses, NotAllowedInParentheses, ParenthesisNotPaired, TooDeep, TooMany, rank_of, BeginsUnit, MetAtToken, IsMet, ColonFollows, IsFaultFree}
 use Rattle.wc_model.specs.declared.source.UnitKind.{UnitKind}
 use Rattle.wc_model.specs.declared.source.UnitKind.TheVariants.{FunctionBlock, Program}
 use Rattle.wc_model.proofs.Languages.{ungroup, both_empty}

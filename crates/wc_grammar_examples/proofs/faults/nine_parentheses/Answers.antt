@@ -1,16 +1,16 @@
 use Rattle.std.proofs.Common.{refl, inl, inr, arith}
 use Rattle.std.specs.Prelude.{[], ◌∷◌, ◌++◌, codes, None, map}
-use Rattle.wc_model.specs.Tree.{End}
-use Rattle.wc_model.specs.Marks.{Mark}
+use Rattle.wc_model.specs.Language.Tree.{End}
+use Rattle.wc_model.specs.Text.Marks.{Mark}
 use Rattle.wc_model.proofs.Languages.{next, pass, cut_at, joined}
 use Rattle.wc_model.proofs.Spelling.{spelling}
 use Rattle.wc_model.specs.declared.operator.Operator.TheVariants.{And}
 use Rattle.wc_grammar_examples.specs.Texts.{ident, end_of}
 use Rattle.wc_grammar_examples.specs.Faulty.{behind_eight_openings, empty_opening, inner_opening, opening_line}
 use Rattle.std.proofs.Common.{ℕ, List}
-use Rattle.wc_model.specs.Languages.{◌then◌}
-use Rattle.wc_model.specs.Grammar.{InParentheses, lines, label_in, opening}
-use Rattle.wc_model.specs.Positions.{openings_of}
+use Rattle.wc_model.specs.Text.Languages.{◌then◌}
+use Rattle.wc_model.specs.Text.Grammar.{InParentheses, lines, label_in, opening}
+use Rattle.wc_model.specs.Text.Positions.{openings_of}
 use Rattle.wc_grammar_examples.proofs.faults.nine_parentheses.Goals as goal
 
 -- the tokens of a body up to these openings, innermost first, behind that of line 3

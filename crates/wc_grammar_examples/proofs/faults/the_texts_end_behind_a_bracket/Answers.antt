@@ -1,12 +1,12 @@
 use Rattle.std.proofs.Common.{refl, inl, inr}
 use Rattle.std.specs.Prelude.{[], ◌∷◌, codes}
-use Rattle.wc_model.specs.Tree.{End}
-use Rattle.wc_model.specs.Marks.{LineEnd}
+use Rattle.wc_model.specs.Language.Tree.{End}
+use Rattle.wc_model.specs.Text.Marks.{LineEnd}
 use Rattle.wc_model.proofs.Spelling.{spelling}
 use Rattle.wc_grammar_examples.specs.Texts.{ident, end_of, program_of}
 use Rattle.wc_grammar_examples.specs.Faulty.{short_opening}
-use Rattle.wc_model.specs.Languages.{unfinished, optional, ◌then◌}
-use Rattle.wc_model.specs.Grammar.{symbol, operand}
+use Rattle.wc_model.specs.Text.Languages.{unfinished, optional, ◌then◌}
+use Rattle.wc_model.specs.Text.Grammar.{symbol, operand}
 use Rattle.wc_grammar_examples.proofs.faults.the_texts_end_behind_a_bracket.Goals as goal
 
 -- behind the bracket an operand has still to come, or the end of the line

@@ -4,7 +4,7 @@ use Rattle.wc_grammar_examples.proofs.faults.the_texts_end_behind_an_operator.Go
 use Rattle.wc_grammar_examples.specs.Faulty.{loaded}
 use Rattle.wc_grammar_examples.specs.Texts.{ident}
 use Rattle.wc_grammar_laws.proofs.FaultLaws.{met_at_end}
-use Rattle.wc_model.specs.ReadingFaults.{UnitNotClosed}
+use Rattle.wc_model.specs.Text.ReadingFaults.{UnitNotClosed}
 
 pub returns : goal.returns
 returns c = met_at_end (loaded ++ ident (codes "AND") 3 ∷ []) 3 (record { fault = UnitNotClosed; line = 1 }) _ refl (tt, tt) refl

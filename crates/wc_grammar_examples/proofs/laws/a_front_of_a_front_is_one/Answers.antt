@@ -1,5 +1,5 @@
-use Rattle.wc_model.specs.Tree.{Text}
-use Rattle.wc_model.specs.Grammar.{Spells}
+use Rattle.wc_model.specs.Language.Tree.{Text}
+use Rattle.wc_model.specs.Text.Grammar.{Spells}
 use Rattle.wc_model.proofs.Fronts.{front_of_front}
 use Rattle.wc_grammar_examples.proofs.laws.a_front_of_a_front_is_one.Goals as goal
 

@@ -1,5 +1,5 @@
-use Rattle.wc_model.specs.Tree.{Text}
-use Rattle.wc_model.specs.Grammar.{Spells}
+use Rattle.wc_model.specs.Language.Tree.{Text}
+use Rattle.wc_model.specs.Text.Grammar.{Spells}
 use Rattle.wc_model.proofs.Fronts.{whole_is_front}
 use Rattle.wc_grammar_examples.proofs.laws.a_text_is_a_front.Goals as goal
 

@@ -1,8 +1,8 @@
 use Rattle.std.proofs.Common.{◌≡◌, ℕ, List, [], ◌∷◌, ◌++◌, ◌∙◌, sym, append_assoc}
-use Rattle.wc_model.specs.Tree.{Text}
-use Rattle.wc_model.specs.Marks.{Mark}
-use Rattle.wc_model.specs.Grammar.{Spells}
-use Rattle.wc_model.specs.ReadingFaults.{UnexpectedToken, IsMet}
+use Rattle.wc_model.specs.Language.Tree.{Text}
+use Rattle.wc_model.specs.Text.Marks.{Mark}
+use Rattle.wc_model.specs.Text.Grammar.{Spells}
+use Rattle.wc_model.specs.Text.ReadingFaults.{UnexpectedToken, IsMet}
 use Rattle.wc_grammar_examples.proofs.laws.an_unexpected_token_spells_nothing.Goals as goal
 
 -- the token that is met, and the tokens before it, begin the text

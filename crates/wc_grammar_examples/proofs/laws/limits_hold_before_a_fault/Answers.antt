@@ -1,4 +1,4 @@
-use Rattle.wc_model.specs.ReadingFaults.{TooDeep, TooMany}
+use Rattle.wc_model.specs.Text.ReadingFaults.{TooDeep, TooMany}
 use Rattle.wc_grammar_examples.proofs.laws.limits_hold_before_a_fault.Goals as goal
 
 pub returns : goal.returns

@@ -3,11 +3,11 @@ use Rattle.std.specs.Prelude.{drop}
 use Rattle.wc_model.proofs.Languages.{cut_at}
 use Rattle.wc_model.proofs.Spelling.{spelling}
 use Rattle.wc_grammar_examples.specs.Texts.{program_text, call_tokens, call_arguments}
-use Rattle.wc_model.specs.Marks.{ClosingBracket, Comma, LineEnd, is_line_end}
-use Rattle.wc_model.specs.Languages.{◌then◌, separated, skipping, empty}
-use Rattle.wc_model.specs.Keywords.{end_word}
-use Rattle.wc_model.specs.Tree.{End}
-use Rattle.wc_model.specs.Grammar.{InBody, symbol, argument, identifier, lines, line_ends}
+use Rattle.wc_model.specs.Text.Marks.{ClosingBracket, Comma, LineEnd, is_line_end}
+use Rattle.wc_model.specs.Text.Languages.{◌then◌, separated, skipping, empty}
+use Rattle.wc_model.specs.Text.Keywords.{end_word}
+use Rattle.wc_model.specs.Language.Tree.{End}
+use Rattle.wc_model.specs.Text.Grammar.{InBody, symbol, argument, identifier, lines, line_ends}
 use Rattle.wc_model.specs.declared.source.UnitKind.TheVariants.{Program}
 use Rattle.wc_grammar_examples.proofs.spelled.a_call_on_two_lines.Goals as goal
 

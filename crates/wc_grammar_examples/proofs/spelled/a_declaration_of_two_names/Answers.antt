@@ -3,11 +3,11 @@ use Rattle.std.specs.Prelude.{[], ◌∷◌, drop}
 use Rattle.wc_model.proofs.Languages.{next, cut_at}
 use Rattle.wc_model.proofs.Spelling.{spelling, one_unit, sections_by}
 use Rattle.wc_grammar_examples.specs.Texts.{program_text, body_then_end, declaration_tokens, declared_group, declaring_program}
-use Rattle.wc_model.specs.Marks.{is_line_end}
-use Rattle.wc_model.specs.Languages.{◌then◌, each, skipping, empty}
-use Rattle.wc_model.specs.Keywords.{end_var}
-use Rattle.wc_model.specs.Tree.{End}
-use Rattle.wc_model.specs.Grammar.{declaration, identifier}
+use Rattle.wc_model.specs.Text.Marks.{is_line_end}
+use Rattle.wc_model.specs.Text.Languages.{◌then◌, each, skipping, empty}
+use Rattle.wc_model.specs.Text.Keywords.{end_var}
+use Rattle.wc_model.specs.Language.Tree.{End}
+use Rattle.wc_model.specs.Text.Grammar.{declaration, identifier}
 use Rattle.wc_model.specs.declared.source.Section.TheVariants.{Own}
 use Rattle.wc_grammar_examples.proofs.spelled.a_declaration_of_two_names.Goals as goal
 

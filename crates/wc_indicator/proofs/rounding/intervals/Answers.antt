@@ -1,7 +1,7 @@
 use Rattle.std.proofs.Common.{◌≡◌, ◌*◌, ap, ◌∙◌, arith, to_z, of_z, w32}
 use Rattle.std.proofs.lemmas.Int.{ints}
 use Rattle.std.specs.Prelude.{pos, ◌<ℤ◌, unsigned_abs}
-use Rattle.wc_model.specs.Rounding.{nearest_above_zero}
+use Rattle.wc_model.specs.Instrument.Rounding.{nearest_above_zero}
 use borrow.Author.Differences.{neg_is}
 use Rattle.wc_indicator.proofs.Near.{no_more, below_zero}
 use Rattle.wc_indicator.proofs.rounding.intervals.Goals as goal

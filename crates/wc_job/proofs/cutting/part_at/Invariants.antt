@@ -1,12 +1,12 @@
 use Rattle.std.proofs.Common.{◌≤◌, ◌-◌, length}
 use Rattle.wc_job.proofs.Partings.{IsFoundFrom}
 use Rattle.wc_job.proofs.cutting.part_at.Given as goal
-use Rattle.wc_job.specs.Views.{word_of}
+use Rattle.wc_job.specs.Views.{heading_view}
 
 abbrev pub invariant-loop-start : goal.invariant-loop-start
 invariant-loop-start l = record {
   within : l.start ≤ length l.text;
-  found : IsFoundFrom (word_of l.heading) l.text l.start;
+  found : IsFoundFrom (heading_view l.heading) l.text l.start;
 }
 
 abbrev pub decreases-loop-start : goal.decreases-loop-start

@@ -1,6 +1,6 @@
 use Rattle.wc_job.proofs.Partings.{both_found}
 use Rattle.wc_job.proofs.cutting.sections_behind.Goals as goal
-use Rattle.wc_model.specs.JobSections.{whole_lines}
+use Rattle.wc_model.specs.Run.JobSections.{whole_lines}
 
 pub returns-in-Some-part_at : goal.returns-in-Some-part_at
 returns-in-Some-part_at c =

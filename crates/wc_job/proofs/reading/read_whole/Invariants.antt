@@ -1,7 +1,7 @@
 use Rattle.std.proofs.Common.{◌≡◌, ◌≤◌, ◌+◌, ◌-◌, length}
 use Rattle.std.specs.Io.KnownBytes.{Consumes}
 use Rattle.wc_job.proofs.reading.read_whole.Given as goal
-use Rattle.wc_model.specs.JobSections.{longest_job}
+use Rattle.wc_model.specs.Run.JobSections.{longest_job}
 
 abbrev pub invariant-loop-reader : goal.invariant-loop-reader
 invariant-loop-reader g l = record {

@@ -2,7 +2,7 @@ use Rattle.std.proofs.Common.{subst}
 use Rattle.wc_lexer.proofs.PartSums.{no_milliseconds}
 use Rattle.wc_lexer.proofs.durations.milliseconds.Goals as goal
 use Rattle.wc_lexer.specs.Parts.{IsSumTold}
-use Rattle.wc_model.specs.Durations.{are_duration_parts, billionths, duration_parts}
+use Rattle.wc_model.specs.Text.Durations.{are_duration_parts, billionths, duration_parts}
 
 pub returns-in_default : goal.returns-in_default
 returns-in_default c =

@@ -2,7 +2,7 @@ use Rattle.std.proofs.Common.{◌≡◌, string_bytes}
 use Rattle.std.specs.List.{list_all, list_any}
 use Rattle.std.specs.Str.{bytes_eq}
 use Rattle.toml.specs.View.{table_view}
-use Rattle.wc_model.specs.PlateTable.{plate_keys, has_no_other_key}
+use Rattle.wc_model.specs.Instrument.PlateTable.{plate_keys, has_no_other_key}
 use Rattle.wc_plate.specs.TomlTable.{entries_of}
 use Rattle.wc_plate.proofs.keys.has_no_other_key.Given as goal
 

@@ -1,8 +1,8 @@
 use Rattle.std.proofs.Common.{[], refl, arith}
-use Rattle.wc_model.specs.Limits.{lines_before}
+use Rattle.wc_model.specs.Text.Limits.{lines_before}
 use Rattle.wc_reader.proofs.Counting.{counted_more}
 use Rattle.wc_reader.proofs.Openings.{opened-append}
-use Rattle.wc_reader.specs.TextViews.{said_body}
+use Rattle.wc_reader.specs.TextViews.{position_view}
 use Rattle.wc_reader.proofs.body.behind_opening.Goals as goal
 
 pub returns-clause-behind : goal.returns-clause-behind
@@ -10,7 +10,7 @@ returns-clause-behind c = λ units. rw (c.in_ok-push.ensures.items, opened-appen
 
 pub returns-clause-counted : goal.returns-clause-counted
 returns-clause-counted c =
-    let more = counted_more (lines_before (said_body [] c.args.body)) c.args.body.count c.one_more.result c.requires.count c.one_more.ensures in record {
+    let more = counted_more (lines_before (position_view [] c.args.body)) c.args.body.count c.one_more.result c.requires.count c.one_more.ensures in record {
       count = rw (c.in_ok-push.ensures.items, opened-append, c.new.ensures.items) (omega (arith, more));
       seen = rw c.new.ensures.items refl;
     }

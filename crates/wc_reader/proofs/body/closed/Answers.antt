@@ -1,5 +1,5 @@
 use Rattle.std.proofs.Common.{refl}
-use Rattle.wc_model.specs.Tree.{End}
+use Rattle.wc_model.specs.Language.Tree.{End}
 use Rattle.wc_reader.proofs.LineLists.{lines_view-push, seen-push}
 use Rattle.wc_reader.proofs.body.closed.Goals as goal
 

@@ -1,13 +1,13 @@
 use Rattle.std.proofs.Common.{true, map, ap, ◌∙◌}
 use Rattle.wc_grammar_laws.proofs.LineMoves.{Start, line_move}
 use Rattle.wc_grammar_laws.proofs.Moves.{begun_line}
-use Rattle.wc_model.specs.Grammar.{InBody}
-use Rattle.wc_model.specs.Views.{unit_of}
-use Rattle.wc_reader.specs.TextViews.{said_body}
+use Rattle.wc_model.specs.Text.Grammar.{InBody}
+use Rattle.wc_model.specs.Language.Views.{unit_view}
+use Rattle.wc_reader.specs.TextViews.{position_view}
 use Rattle.wc_reader.proofs.body_moves.at_body_identifier.Goals as goal
 
 pub returns-in_ok-place-clause-behind : goal.returns-in_ok-place-clause-behind
 returns-in_ok-place-clause-behind c =
-    let units = map unit_of c.args.units.items in
+    let units = map unit_view c.args.units.items in
     rw c.if-colon.true (c.with_units.ensures.behind ∙ (c.in_ok-place.ensures.behind units
-    ∙ ap (begun_line (said_body units c.args.body)) (c.at_start.ensures ∙ ap (λ s. line_move InBody Start s c.args.token.line true) c.requires.identifier)))
+    ∙ ap (begun_line (position_view units c.args.body)) (c.at_start.ensures ∙ ap (λ s. line_move InBody Start s c.args.token.line true) c.requires.identifier)))

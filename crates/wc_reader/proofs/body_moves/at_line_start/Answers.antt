@@ -1,16 +1,16 @@
 use Rattle.std.proofs.Common.{◌≡◌, ◌==◌, false, length, map, sym, ap, ◌∙◌, arith}
 use Rattle.std.proofs.lemmas.Bool.Decides.{nat_tests}
 use Rattle.wc_grammar_laws.proofs.Moves.{start_move}
-use Rattle.wc_model.specs.Views.{unit_of}
+use Rattle.wc_model.specs.Language.Views.{unit_view}
 use Rattle.wc_reader.proofs.Openings.{innermost_of}
-use Rattle.wc_reader.specs.TextViews.{said_body}
-use Rattle.wc_reader.specs.Words.{symbol_in}
+use Rattle.wc_reader.specs.TextViews.{position_view}
+use Rattle.wc_reader.specs.Words.{symbol_view}
 use Rattle.wc_reader.proofs.body_moves.at_line_start.Goals as goal
 
 pub returns-in_ok-place-clause-behind : goal.returns-in_ok-place-clause-behind
 returns-in_ok-place-clause-behind c =
-    let units = map unit_of c.args.units.items in
+    let units = map unit_view c.args.units.items in
     let more : (length c.args.body.openings.items == 0) ≡ false = grind (arith, nat_tests, c.args.body.openings.ok.0) in
     let some = innermost_of c.args.body.openings.items more in
     c.with_units.ensures.behind ∙ (c.in_ok-place.ensures.behind units some.innermost some.outer some.same
-    ∙ sym (ap (λ os. start_move (said_body units c.args.body) os (symbol_in c.args.token) c.args.token.line c.args.colon) some.same))
+    ∙ sym (ap (λ os. start_move (position_view units c.args.body) os (symbol_view c.args.token) c.args.token.line c.args.colon) some.same))

@@ -1,4 +1,4 @@
-use Rattle.wc_model.specs.Names.{name_of}
+use Rattle.wc_model.specs.Language.Names.{name_of}
 use Rattle.wc_reader.proofs.FoundGroups.{chosen}
 use Rattle.wc_reader.proofs.operators.operation_named.Goals as goal
 

@@ -1,4 +1,4 @@
-use Rattle.wc_model.specs.Names.{name_of}
+use Rattle.wc_model.specs.Language.Names.{name_of}
 use Rattle.wc_reader.proofs.SameNames.{test-same}
 use Rattle.wc_reader.proofs.words.is_word.Goals as goal
 

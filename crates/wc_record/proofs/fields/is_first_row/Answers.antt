@@ -1,5 +1,5 @@
 use Rattle.std.proofs.Common.{sym, ap, ◌∙◌}
-use Rattle.wc_model.specs.Log.{first_row, has_fields}
+use Rattle.wc_model.specs.Run.Log.{first_row, has_fields}
 use Rattle.wc_record.proofs.ThreeFields.{three_are}
 use Rattle.wc_record.proofs.fields.is_first_row.Goals as goal
 

@@ -1,16 +1,16 @@
 use Rattle.std.proofs.Common.{ap, ◌∙◌, option_map}
 use Rattle.wc_record.proofs.ThreeFields.{no_first, no_second, no_third, a_fourth, just_three}
 use Rattle.wc_record.proofs.fields.three_fields.Goals as goal
-use Rattle.wc_record.specs.Views.{fields_seen}
+use Rattle.wc_record.specs.Views.{fields_view}
 
 pub returns-in_err-moment : goal.returns-in_err-moment
-returns-in_err-moment c = ap (option_map fields_seen) c.from_residual.ensures ∙ no_first _ c.in_err-moment.ensures.value
+returns-in_err-moment c = ap (option_map fields_view) c.from_residual.ensures ∙ no_first _ c.in_err-moment.ensures.value
 
 pub returns-in_err-kind : goal.returns-in_err-kind
-returns-in_err-kind c = ap (option_map fields_seen) c.from_residual-in_err-kind.ensures ∙ no_second _ c.in_err-kind.ensures.value
+returns-in_err-kind c = ap (option_map fields_view) c.from_residual-in_err-kind.ensures ∙ no_second _ c.in_err-kind.ensures.value
 
 pub returns-in_err-text : goal.returns-in_err-text
-returns-in_err-text c = ap (option_map fields_seen) c.from_residual-in_err-text.ensures ∙ no_third _ c.in_err-text.ensures.value
+returns-in_err-text c = ap (option_map fields_view) c.from_residual-in_err-text.ensures ∙ no_third _ c.in_err-text.ensures.value
 
 pub returns-in-Some : goal.returns-in-Some
 returns-in-Some c = a_fourth _ c.in-Some.field-0.now c.in-Some.ensures.value

@@ -2,7 +2,7 @@ use Rattle.std.proofs.Common.{◌≡◌, ◌∙◌, arith}
 use Rattle.std.specs.String.{string_bytes}
 use Rattle.std.proofs.lemmas.Result.{IfOk-weaker}
 use Rattle.hex.specs.Hex.{IsBytes}
-use Rattle.wc_model.specs.Hex.{hex_of_bytes}
+use Rattle.wc_model.specs.Run.Hex.{hex_of_bytes}
 use Rattle.wc_report.proofs.Made.{still_holds}
 use Rattle.wc_report.proofs.WrittenDigits.{digits_same}
 use Rattle.wc_report.proofs.digits.digits_of_bytes.Goals as goal

@@ -1,6 +1,6 @@
 use Rattle.std.proofs.Common.{◌≡◌, take}
 use Rattle.std.specs.String.{string_bytes}
-use Rattle.wc_model.specs.Report.{spaced_numbers}
+use Rattle.wc_model.specs.Say.Report.{spaced_numbers}
 use Rattle.wc_report.proofs.numbers.spaced.Given as goal
 
 -- the numbers passed so far are written

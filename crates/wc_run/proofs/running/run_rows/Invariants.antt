@@ -1,7 +1,7 @@
 use Rattle.std.proofs.Common.{◌≡◌, ◌≤◌, ◌+◌, ◌-◌, [], Option}
 use Rattle.std.specs.Prelude.{max}
-use Rattle.wc_model.specs.Log.{LogOf}
-use Rattle.wc_model.specs.Plates.{PlateData}
+use Rattle.wc_model.specs.Run.Log.{LogOf}
+use Rattle.wc_model.specs.Instrument.Plates.{PlateData}
 use Rattle.wc_record.specs.Left.{HasLeft, last_ms, rows_read}
 use Rattle.wc_run.specs.Logics.{Logic}
 use Rattle.wc_run.specs.Standing.{IsNotBehind, Stands}

@@ -1,5 +1,5 @@
 use Rattle.std.proofs.lemmas.Option.{IfSome_then}
-use Rattle.wc_model.specs.Log.{log_of}
+use Rattle.wc_model.specs.Run.Log.{log_of}
 use Rattle.wc_record.specs.Reading.{records_of}
 use Rattle.wc_run.proofs.RunsOn.{judged_says}
 use Rattle.wc_run.proofs.running.run_scale.Goals as goal

@@ -1,5 +1,5 @@
 use Rattle.std.proofs.Common.{◌∷◌}
-use Rattle.wc_model.specs.WeighingHistories.{ClearTare}
+use Rattle.wc_model.specs.Instrument.WeighingHistories.{ClearTare}
 use Rattle.wc_sma.proofs.acting.clear.Goals as goal
 
 pub returns-clause-answer : goal.returns-clause-answer

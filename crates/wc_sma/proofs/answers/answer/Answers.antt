@@ -1,10 +1,10 @@
 use Rattle.std.proofs.Common.{◌≡◌, ap, sym, ◌∙◌, subst, arith, to_z, of_z, w32, get_or, length}
 use Rattle.std.proofs.lemmas.Int.{ints}
 use Rattle.std.specs.Prelude.{◌<◌, unsigned_abs, IfSome}
-use Rattle.wc_model.specs.Plates.{IsPlate}
-use Rattle.wc_model.specs.Answers as told
+use Rattle.wc_model.specs.Instrument.Plates.{IsPlate}
+use Rattle.wc_model.specs.Instrument.Answers as told
 use Rattle.wc_model.proofs.Answers.{short_weight, length_unit}
-use Rattle.wc_sma.specs.Asking.{mode_told}
+use Rattle.wc_sma.specs.Asking.{mode_view}
 use Rattle.wc_sma.proofs.Joining.{three_of, parts_joined, short_where_some}
 use Rattle.wc_sma.proofs.answers.answer.Goals as goal
 
@@ -14,7 +14,7 @@ returns c = λ p history st.
     let asked = c.weight_asked.ensures p history st in
     let short : IfSome c.weight_asked.result (λ value. unsigned_abs value < 10000000) =
     subst (λ w. IfSome w (λ value. unsigned_abs value < 10000000)) (sym asked)
-    (short_where_some (told.weight_asked p history (mode_told c.args.mode)) (short_weight p history (mode_told c.args.mode) plate)) in
+    (short_where_some (told.weight_asked p history (mode_view c.args.mode)) (short_weight p history (mode_view c.args.mode) plate)) in
     let decimals : unsigned_abs (to_z w32 (of_z w32 c.decimals.result)) ≡ p.decimals =
     (omega (arith, ints, c.decimals.ensures.decimals, c.decimals.ensures.ranges.few_decimals)) ∙ ap (λ q. q.decimals) (c.plate.ensures p history st) in
     let weight = c.copy_from_slice.ensures.after ∙ c.weight_field-weight.ensures short ∙ (λ i. told.weight_text (decimals i) (asked i)) in

@@ -1,13 +1,13 @@
 use Rattle.std.proofs.Common.{sym, subst, arith}
-use Rattle.wc_model.specs.Indication.{present_counts, zero_point}
-use Rattle.wc_indicator.specs.Kept.{StandsFor}
-use Rattle.wc_indicator.specs.Fields.{kept_in}
+use Rattle.wc_model.specs.Instrument.Indication.{present_counts, zero_point}
+use Rattle.wc_indicator.specs.Kept.{StandsForHistory}
+use Rattle.wc_indicator.specs.Fields.{kept_view}
 use Rattle.wc_indicator.proofs.Units.{difference_kept, difference_range}
 use Rattle.wc_indicator.proofs.indicator.Indicator.from_zero.Goals as goal
 
 pub returns-clause-told : goal.returns-clause-told
 returns-clause-told c = λ p history st.
-    let before : StandsFor (kept_in c.self.inside) p history = subst (λ k. StandsFor k p history) (sym c.self.view_is) st in
+    let before : StandsForHistory (kept_view c.self.inside) p history = subst (λ k. StandsForHistory k p history) (sym c.self.view_is) st in
     difference_kept c.present_counts.result c.self.inside.zero (present_counts p history) (zero_point p history)
     (omega (arith, c.present_counts.ensures.range)) (omega (arith, c.self.invariant.ranges.zero)) (c.present_counts.ensures.told p history st) before.same_zero
 

@@ -1,15 +1,15 @@
 use Rattle.std.proofs.Common.{◌≡◌, ◌*◌, ap, sym, ◌∙◌, subst, arith, to_z, of_z, w32}
 use Rattle.std.proofs.lemmas.Int.{ints}
 use Rattle.std.specs.Prelude.{◌-ℤ◌, unsigned_abs, nat_le}
-use Rattle.wc_model.specs.Indication.{present_counts}
-use Rattle.wc_indicator.specs.Kept.{StandsFor}
-use Rattle.wc_indicator.specs.Fields.{kept_in}
+use Rattle.wc_model.specs.Instrument.Indication.{present_counts}
+use Rattle.wc_indicator.specs.Kept.{StandsForHistory}
+use Rattle.wc_indicator.specs.Fields.{kept_view}
 use Rattle.wc_indicator.proofs.Units.{difference_kept}
 use Rattle.wc_indicator.proofs.indicator.Indicator.near_zero.Goals as goal
 
 pub returns : goal.returns
 returns c = λ p history st.
-    let before : StandsFor (kept_in c.self.inside) p history = subst (λ k. StandsFor k p history) (sym c.self.view_is) st in
+    let before : StandsForHistory (kept_view c.self.inside) p history = subst (λ k. StandsForHistory k p history) (sym c.self.view_is) st in
     let zero : c.zero_counts.result ≡ p.zero_counts = c.zero_counts.ensures.zero_counts ∙ ap (λ q. q.zero_counts) before.same_plate in
     let load : to_z w32 (of_z w32 (to_z w32 (of_z w32 c.present_counts.result) -ℤ to_z w32 (of_z w32 c.zero_counts.result))) ≡ present_counts p history -ℤ p.zero_counts =
     difference_kept c.present_counts.result c.zero_counts.result (present_counts p history) p.zero_counts

@@ -1,29 +1,29 @@
 use Rattle.std.proofs.Common.{◌≡◌, ap, ◌∙◌, sym, subst, to_z, of_z, w32, arith}
 use Rattle.std.proofs.lemmas.Int.{ints}
-use Rattle.wc_model.specs.Rows.{Bytes, Counts, Inputs, Scan}
-use Rattle.wc_record.specs.Views.{brought, IsInRange}
-use Rattle.wc_run.specs.Taking.{Takes}
+use Rattle.wc_model.specs.Run.Rows.{Bytes, Counts, Inputs, Scan}
+use Rattle.wc_record.specs.Views.{data_view, IsDataInRange}
+use Rattle.wc_run.specs.Taking.{TakesRow}
 use Rattle.wc_run.proofs.ScaleRows.{on_ok_of, takes_row}
 use Rattle.wc_run.proofs.scale.Scale.take.Goals as goal
 
 pub returns-in-Counts-clause-stands : goal.returns-in-Counts-clause-stands
 returns-in-Counts-clause-stands c =
-    let range : IsInRange (Counts c.in-Counts.counts) = subst IsInRange (ap brought c.in-Counts.is) c.requires.in_range in
+    let range : IsDataInRange (Counts c.in-Counts.counts) = subst IsDataInRange (ap data_view c.in-Counts.is) c.requires.in_range in
     let raw : to_z w32 (of_z w32 c.in-Counts.counts) ≡ c.in-Counts.counts = omega (arith, ints, range.0, range.1) in
-    takes_row c.args.self.now c.take_sample.new.self c.args.row.now (Counts c.in-Counts.counts) (ap brought c.in-Counts.is)
-    (subst (λ counts. Takes c.args.self.now c.take_sample.new.self c.args.row.now.ms (Counts counts)) raw (c.take_sample.ensures.stands c.args.row.now.ms))
+    takes_row c.args.self.now c.take_sample.new.self c.args.row.now (Counts c.in-Counts.counts) (ap data_view c.in-Counts.is)
+    (subst (λ counts. TakesRow c.args.self.now c.take_sample.new.self c.args.row.now.ms (Counts counts)) raw (c.take_sample.ensures.stands c.args.row.now.ms))
 
 pub returns-in-Bytes-clause-stands : goal.returns-in-Bytes-clause-stands
 returns-in-Bytes-clause-stands c =
     on_ok_of _ _ c.take_bytes.result
     (takes_row c.args.self.now c.take_bytes.new.self c.args.row.now (Bytes c.deref.result.now)
-    (ap brought c.in-Bytes.is ∙ ap Bytes (sym c.deref.ensures.value))) c.take_bytes.ensures.stands
+    (ap data_view c.in-Bytes.is ∙ ap Bytes (sym c.deref.ensures.value))) c.take_bytes.ensures.stands
 
 pub returns-in-Inputs-clause-stands : goal.returns-in-Inputs-clause-stands
 returns-in-Inputs-clause-stands c =
-    takes_row c.args.self.now c.take_inputs.new.self c.args.row.now (Inputs c.in-Inputs.inputs) (ap brought c.in-Inputs.is)
+    takes_row c.args.self.now c.take_inputs.new.self c.args.row.now (Inputs c.in-Inputs.inputs) (ap data_view c.in-Inputs.is)
     (c.take_inputs.ensures.stands c.args.row.now.ms)
 
 pub returns-in-Scan-clause-stands : goal.returns-in-Scan-clause-stands
 returns-in-Scan-clause-stands c =
-    on_ok_of _ _ c.take_scan.result (takes_row c.args.self.now c.take_scan.new.self c.args.row.now Scan (ap brought c.in-Scan.is)) c.take_scan.ensures.stands
+    on_ok_of _ _ c.take_scan.result (takes_row c.args.self.now c.take_scan.new.self c.args.row.now Scan (ap data_view c.in-Scan.is)) c.take_scan.ensures.stands

@@ -1,5 +1,5 @@
 use Rattle.std.proofs.Common.{length, ap, length-append, arith}
-use Rattle.wc_model.specs.Answers.{last_digits}
+use Rattle.wc_model.specs.Instrument.Answers.{last_digits}
 use Rattle.wc_model.proofs.Answers.{length_last_digits}
 use Rattle.wc_sma.proofs.weight.Field.put_fraction.Goals as goal
 

@@ -1,7 +1,7 @@
 use Rattle.std.proofs.Common.{◌≡◌, ◌/◌, ◌^◌, ◌<◌, ◌++◌, length, ap, ◌∙◌, subst, sym, append-nil, length-append, arith, to_z, of_z, w32}
 use Rattle.std.proofs.lemmas.Int.{ints}
 use Rattle.std.specs.Prelude.{pos, ◌<ℤ◌, unsigned_abs, decimal}
-use Rattle.wc_model.specs.Answers.{fraction_text, minus_of}
+use Rattle.wc_model.specs.Instrument.Answers.{fraction_text, minus_of}
 use Rattle.wc_model.proofs.Answers.{length_value, length_three}
 use Rattle.wc_sma.proofs.Digits.{power_some, minus_below_zero}
 use Rattle.wc_sma.proofs.weight.Field.put_value.Goals as goal

@@ -1,0 +1,27 @@
+-- The language: the tree, its rules and its meaning.
+pub mod Names
+pub mod Tree
+pub mod Values
+pub mod Reasons
+pub mod Operators
+pub mod Blocks
+pub mod Histories
+pub mod DirectVariables
+pub mod Declarations
+pub mod Store
+pub mod Traces
+pub mod Scopes
+pub mod BlockCalls
+pub mod Meaning
+pub mod Scans
+pub mod Paths
+pub mod WorstPaths
+pub mod Kinds
+pub mod Checks
+pub mod Frames
+pub mod DeclarationRules
+pub mod BodyRules
+pub mod Faults
+pub mod Views
+pub mod Loading
+pub mod Carried

@@ -1,0 +1,141 @@
+-- What the outputs of the standard blocks are after a history of calls, told without any field (IEC 61131-3:2003,
+-- 2.5.2.3: the timing diagrams of table 38 and the bodies of tables 34 to 36). A history has the newest call first.
+use Rattle.std.specs.Prelude.{◌≡◌, ℕ, ◌-◌, min, Bool, true, false, not, ◌&&◌, ◌||◌, ℤ, pos, int_le, nat_le, nat_lt, List, [], ◌∷◌, Some, None, find, count_by, take_while}
+use Rattle.wc_model.specs.Language.Blocks.{RTrigFields, SrFields, CtuFields, TonFields, TofFields, preset}
+
+-- a call of SR, of CTU, and of a timer with its moment; a call of R_TRIG is its CLK
+pub record SrCall : Type 0 where
+  pub s1 : Bool
+  pub r : Bool
+
+pub record CtuCall : Type 0 where
+  pub cu : Bool
+  pub r : Bool
+  pub pv : ℤ
+
+pub record TimerCall : Type 0 where
+  pub moment : ℕ
+  pub input : Bool
+  pub pt : ℤ
+
+-- the first of a list, or what is given
+abbrev pub first_or : {X : Type 0} → X → List X → X
+first_or given [] = given
+first_or given (x ∷ xs) = x
+
+-- the last of a list, or what is given
+abbrev pub last_or : {X : Type 0} → X → List X → X
+last_or given [] = given
+last_or given (x ∷ xs) = last_or x xs
+
+-- each call with all that came before it
+abbrev pub with_past : {X : Type 0} → List X → List (List X)
+with_past [] = []
+with_past (x ∷ xs) = (x ∷ xs) ∷ with_past xs
+
+-- the last of these is TRUE, and there is none before it or that is FALSE
+abbrev pub is_rise : List Bool → Bool
+is_rise [] = false
+is_rise (now ∷ []) = now
+is_rise (now ∷ before ∷ earlier) = now && not before
+
+-- R_TRIG: Q is TRUE where the last call has an edge; `m` is its CLK
+pub record FitsRTrig (clks : List Bool) (f : RTrigFields) : Type 0 where
+  pub q : f.q ≡ is_rise clks
+  pub m : f.m ≡ first_or false clks
+
+-- the S1 of the last call with S1 or R TRUE
+abbrev pub latched : List SrCall → Bool
+latched calls = elim (find (λ c. c.s1 || c.r) calls) [ Some c ↦ c.s1 | None ↦ false ]
+
+-- SR: Q1 is the S1 of the last call with S1 or R TRUE
+pub record FitsSr (calls : List SrCall) (f : SrFields) : Type 0 where
+  pub q1 : f.q1 ≡ latched calls
+
+-- the CU of each call
+abbrev pub cus : List CtuCall → List Bool
+cus [] = []
+cus (c ∷ calls) = c.cu ∷ cus calls
+
+-- whether the last call resets
+abbrev pub is_reset : List CtuCall → Bool
+is_reset [] = false
+is_reset (c ∷ calls) = c.r
+
+-- the calls after the last with R TRUE, each with its past
+abbrev pub after_reset : List CtuCall → List (List CtuCall)
+after_reset calls = take_while (λ past. not (is_reset past)) (with_past calls)
+
+-- the number of edges of CU after the last call with R TRUE, up to the greatest DINT
+abbrev pub edges : List CtuCall → ℕ
+edges calls = min (count_by (λ past. is_rise (cus past)) (after_reset calls)) 2147483647
+
+-- whether a count has come to the PV of the last call
+abbrev pub has_counted : List CtuCall → Bool
+has_counted [] = false
+has_counted (c ∷ calls) = int_le c.pv (pos (edges (c ∷ calls)))
+
+-- CTU: CV is that number, and Q says that it has come to PV; `m` is the last CU
+pub record FitsCtu (calls : List CtuCall) (f : CtuFields) : Type 0 where
+  pub cv : f.cv ≡ pos (edges calls)
+  pub q : f.q ≡ has_counted calls
+  pub m : f.m ≡ first_or false (cus calls)
+
+-- the moment of the oldest of these calls, or the given one
+abbrev pub oldest_moment : ℕ → List TimerCall → ℕ
+oldest_moment given [] = given
+oldest_moment given (c ∷ calls) = oldest_moment c.moment calls
+
+-- TON: with IN FALSE nothing; else the time since the first call of the unbroken run of TRUE that ends the history
+pub record FitsTonRun (c : TimerCall) (start : ℕ) (f : TonFields) : Type 0 where
+  pub run : f.run ≡ true
+  pub start_is : f.start ≡ start
+  pub q : f.q ≡ nat_le (preset c.pt) (c.moment - start)
+  pub et : f.et ≡ pos (min (c.moment - start) (preset c.pt))
+
+pub record FitsTonIdle (f : TonFields) : Type 0 where
+  pub run : f.run ≡ false
+  pub q : f.q ≡ false
+  pub et : f.et ≡ pos 0
+
+-- the moment of the first call of the unbroken run of TRUE that ends the history
+abbrev pub run_start : TimerCall → List TimerCall → ℕ
+run_start c earlier = oldest_moment c.moment (take_while (λ d. d.input) earlier)
+
+abbrev pub FitsTon : List TimerCall → TonFields → Type 0
+FitsTon [] f = FitsTonIdle f
+FitsTon (c ∷ earlier) f = elim c.input [ true ↦ FitsTonRun c (run_start c earlier) f | false ↦ FitsTonIdle f ]
+
+-- TOF, where no call had IN TRUE; where the last call has; and where it had before: the time since the first call after
+-- the last TRUE
+pub record FitsTofNever (f : TofFields) : Type 0 where
+  pub phase : f.phase ≡ 0
+  pub q : f.q ≡ false
+  pub et : f.et ≡ pos 0
+
+pub record FitsTofHeld (f : TofFields) : Type 0 where
+  pub phase : f.phase ≡ 1
+  pub q : f.q ≡ true
+  pub et : f.et ≡ pos 0
+
+pub record FitsTofFalling (c : TimerCall) (start : ℕ) (f : TofFields) : Type 0 where
+  pub phase : f.phase ≡ 2
+  pub start_is : f.start ≡ start
+  pub q : f.q ≡ nat_lt (c.moment - start) (preset c.pt)
+  pub et : f.et ≡ pos (min (c.moment - start) (preset c.pt))
+
+-- some call has IN TRUE
+abbrev pub was_held : List TimerCall → Bool
+was_held [] = false
+was_held (c ∷ calls) = c.input || was_held calls
+
+-- the moment of the first call after the last TRUE
+abbrev pub fall_start : TimerCall → List TimerCall → ℕ
+fall_start c earlier = oldest_moment c.moment (take_while (λ d. not d.input) earlier)
+
+abbrev pub FitsTofReleased : TimerCall → List TimerCall → TofFields → Type 0
+FitsTofReleased c earlier f = elim (was_held earlier) [ true ↦ FitsTofFalling c (fall_start c earlier) f | false ↦ FitsTofNever f ]
+
+abbrev pub FitsTof : List TimerCall → TofFields → Type 0
+FitsTof [] f = FitsTofNever f
+FitsTof (c ∷ earlier) f = elim c.input [ true ↦ FitsTofHeld f | false ↦ FitsTofReleased c earlier f ]

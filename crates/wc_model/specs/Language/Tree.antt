@@ -1,0 +1,65 @@
+-- A program text as a tree (IEC 61131-3:2003, 2.5 and 3.2), with the lines at which its parts stand.
+use Rattle.std.specs.Prelude.{ℕ, Bool, List, Option}
+use Rattle.wc_model.specs.Language.Names.{Name}
+use Rattle.wc_model.specs.declared.operator.Condition.{Condition}
+use Rattle.wc_model.specs.declared.operator.Operator.{Operator}
+use Rattle.wc_model.specs.declared.operator.Storing.{Storing}
+use Rattle.wc_model.specs.declared.source.Initial.{Initial}
+use Rattle.wc_model.specs.declared.source.Section.{Section}
+use Rattle.wc_model.specs.declared.source.UnitKind.{UnitKind}
+use Rattle.wc_model.specs.declared.value.Value.{Value}
+
+-- a name and the line of its token
+pub record Word : Type 0 where
+  pub line : ℕ
+  pub name : Name
+
+-- an operand; an address keeps the line of its token
+pub data Term : Type 0 where
+  Constant : (value : Value) → Term
+  Address : (word : Word) → Term
+  Variable : (name : Name) → Term
+  Field : (instance field : Name) → Term
+
+-- `input := value` in a call
+pub record Assignment : Type 0 where
+  pub input : Name
+  pub value : Term
+
+-- what a line does that opens no parenthesis
+pub data Step : Type 0 where
+  Load : (negated : Bool) (operand : Term) → Step
+  Store : (storing : Storing) (target : Term) → Step
+  Apply : (operator : Operator) (operand : Term) → Step
+  Negate : Step
+  Jump : (condition : Condition) (label : Name) → Step
+  Call : (condition : Condition) (instance : Name) (arguments : List Assignment) → Step
+  Return : (condition : Condition) → Step
+
+-- The lines of a body: none left; a label alone; a line with an instruction; and a deferred operator with the
+-- lines inside its parentheses. `line` is that of the instruction's first token, `close` that of the `)`.
+pub data Lines : Type 0 where
+  End : Lines
+  Alone : (label : Word) (rest : Lines) → Lines
+  Plain : (label : Option Word) (line : ℕ) (step : Step) (rest : Lines) → Lines
+  Nested : (label : Option Word) (line : ℕ) (operator : Operator) (operand : Option Term) (inside : Lines) (close : ℕ) (rest : Lines) → Lines
+
+-- names of one type, with their first value where one is written
+pub record Declaration : Type 0 where
+  pub section : Section
+  pub names : List Word
+  pub type_name : Word
+  pub initial : Option Initial
+
+-- A program organisation unit. `line` is that of its first keyword, and `spelled` its name as it is written.
+pub record ProgramUnit : Type 0 where
+  pub kind : UnitKind
+  pub line : ℕ
+  pub name : Word
+  pub spelled : List ℕ
+  pub declarations : List Declaration
+  pub body : Lines
+
+-- a program text: its units in text order
+abbrev pub Text : Type 0
+Text = List ProgramUnit

@@ -1,0 +1,5 @@
+-- What is answered: the report of a run, of a check, of a job.
+pub mod Report
+pub mod ProgramReport
+pub mod Job
+pub mod UnitReport

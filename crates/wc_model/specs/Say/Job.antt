@@ -1,0 +1,48 @@
+-- What a job answers: its output and its status. (The profile's own.) What `toml` and `csv` read of bytes is given.
+use Rattle.std.specs.Prelude.{◌≡◌, ℕ, List, [], ◌∷◌, ◌++◌, Option, Some, None, Result, Ok, Err, codes, decimal}
+use Rattle.wc_model.specs.Run.JobSections.{Sections, sections_of}
+use Rattle.wc_model.specs.Language.Loading.{IsLoaded, IsRefused}
+use Rattle.wc_model.specs.Run.Log.{Record, LogOf, LogRefusal, log_of}
+use Rattle.wc_model.specs.Instrument.PlateTable.{Table, plate_of}
+use Rattle.wc_model.specs.Instrument.Plates.{PlateData}
+use Rattle.wc_model.specs.Say.ProgramReport.{program_report}
+use Rattle.wc_model.specs.Language.Scans.{initial_of}
+use Rattle.wc_model.specs.Language.Tree.{Text}
+
+-- `refused`, the number and the place
+abbrev pub refused_text : ℕ → ℕ → List ℕ
+refused_text number place = codes "refused " ++ decimal number ++ codes " " ++ decimal place ++ (10 ∷ [])
+
+-- an output with its exit status
+pub record JobAnswer : Type 0 where
+  pub output : List ℕ
+  pub status : ℕ
+
+-- nothing but the refusal
+abbrev pub refusing : ℕ → ℕ → JobAnswer
+refusing number place = record { output = refused_text number place; status = 1 }
+
+-- the report of the rows up to the first refused one, and the refusal behind it
+abbrev pub behind_report : List ℕ → Option LogRefusal → JobAnswer
+behind_report text None = record { output = text; status = 0 }
+behind_report text (Some refusal) = record { output = text ++ refused_text refusal.number refusal.row; status = 1 }
+
+abbrev pub run_answer : PlateData → Text → LogOf → JobAnswer
+run_answer plate text log = behind_report (program_report plate text (initial_of text) log.rows) log.refusal
+
+-- the plate is read first, then the program, then the log
+pub data AnswersProgram (plate : PlateData) (program : List ℕ) (log : LogOf) (answer : JobAnswer) : Type 0 where
+  refuses_program : (number line : ℕ) → IsRefused program number line → answer ≡ refusing number line → AnswersProgram plate program log answer
+  runs : (text : Text) → IsLoaded program text → answer ≡ run_answer plate text log → AnswersProgram plate program log answer
+
+abbrev pub AnswersPlate : (List ℕ → List Record) → Sections → Result PlateData ℕ → JobAnswer → Type 0
+AnswersPlate records_of sections (Err number) answer = answer ≡ refusing number 0
+AnswersPlate records_of sections (Ok plate) answer = AnswersProgram plate sections.program (log_of (records_of sections.log)) answer
+
+abbrev pub AnswersSections : (List ℕ → Option Table) → (List ℕ → List Record) → Result Sections ℕ → JobAnswer → Type 0
+AnswersSections table_of records_of (Err number) answer = answer ≡ refusing number 0
+AnswersSections table_of records_of (Ok sections) answer = AnswersPlate records_of sections (plate_of (table_of sections.plate)) answer
+
+-- what the job of these bytes answers
+abbrev pub AnswersJob : (List ℕ → Option Table) → (List ℕ → List Record) → List ℕ → JobAnswer → Type 0
+AnswersJob table_of records_of bytes answer = AnswersSections table_of records_of (sections_of bytes) answer

@@ -1,0 +1,92 @@
+-- The words of the language, in small letters (IEC 61131-3:2003, tables 51, 52 and C.2). Letter case is not significant.
+use Rattle.std.specs.Prelude.{Bool, true, false, codes}
+use Rattle.wc_model.specs.Language.Names.{Name}
+use Rattle.wc_model.specs.declared.operator.Condition.{Condition}
+use Rattle.wc_model.specs.declared.operator.Condition.TheVariants.{Always, IfTrue, IfFalse}
+use Rattle.wc_model.specs.declared.operator.Operator.{Operator}
+use Rattle.wc_model.specs.declared.operator.Operator.TheVariants.{And, Andn, Or, Orn, Xor, Xorn, Add, Sub, Mul, Div, Mod, Gt, Ge, Eq, Ne, Le, Lt}
+use Rattle.wc_model.specs.declared.operator.Storing.{Storing}
+use Rattle.wc_model.specs.declared.operator.Storing.TheVariants.{Result, Negation, Set, Reset}
+use Rattle.wc_model.specs.declared.source.Section.{Section}
+use Rattle.wc_model.specs.declared.source.Section.TheVariants.{Input, Output, Own}
+use Rattle.wc_model.specs.declared.source.UnitKind.{UnitKind}
+use Rattle.wc_model.specs.declared.source.UnitKind.TheVariants.{FunctionBlock, Program}
+
+-- the word that begins a unit
+abbrev pub unit_word : UnitKind → Name
+unit_word FunctionBlock = codes "function_block"
+unit_word Program = codes "program"
+
+-- the word that ends it
+abbrev pub end_word : UnitKind → Name
+end_word FunctionBlock = codes "end_function_block"
+end_word Program = codes "end_program"
+
+-- the word that begins a section of declarations
+abbrev pub section_word : Section → Name
+section_word Input = codes "var_input"
+section_word Output = codes "var_output"
+section_word Own = codes "var"
+
+-- the word that ends each section
+abbrev pub end_var : Name
+end_var = codes "end_var"
+
+-- the word that is a literal of BOOL
+abbrev pub truth_word : Bool → Name
+truth_word true = codes "true"
+truth_word false = codes "false"
+
+-- LD, and LDN where negated
+abbrev pub load_word : Bool → Name
+load_word false = codes "ld"
+load_word true = codes "ldn"
+
+-- ST, STN, S, R
+abbrev pub store_word : Storing → Name
+store_word Result = codes "st"
+store_word Negation = codes "stn"
+store_word Set = codes "s"
+store_word Reset = codes "r"
+
+-- the operators that a parenthesis may defer
+abbrev pub operator_word : Operator → Name
+operator_word And = codes "and"
+operator_word Andn = codes "andn"
+operator_word Or = codes "or"
+operator_word Orn = codes "orn"
+operator_word Xor = codes "xor"
+operator_word Xorn = codes "xorn"
+operator_word Add = codes "add"
+operator_word Sub = codes "sub"
+operator_word Mul = codes "mul"
+operator_word Div = codes "div"
+operator_word Mod = codes "mod"
+operator_word Gt = codes "gt"
+operator_word Ge = codes "ge"
+operator_word Eq = codes "eq"
+operator_word Ne = codes "ne"
+operator_word Le = codes "le"
+operator_word Lt = codes "lt"
+
+-- NOT
+abbrev pub not_word : Name
+not_word = codes "not"
+
+-- JMP, JMPC, JMPCN
+abbrev pub jump_word : Condition → Name
+jump_word Always = codes "jmp"
+jump_word IfTrue = codes "jmpc"
+jump_word IfFalse = codes "jmpcn"
+
+-- CAL, CALC, CALCN
+abbrev pub call_word : Condition → Name
+call_word Always = codes "cal"
+call_word IfTrue = codes "calc"
+call_word IfFalse = codes "calcn"
+
+-- RET, RETC, RETCN
+abbrev pub return_word : Condition → Name
+return_word Always = codes "ret"
+return_word IfTrue = codes "retc"
+return_word IfFalse = codes "retcn"

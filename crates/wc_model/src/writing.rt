@@ -1,0 +1,42 @@
+ghost use Rattle.std.specs.Prelude.{◌≡◌, ◌<◌, ◌≤◌, length, take, IfOk, IfErr};
+ghost use Rattle.std.specs.Io.KnownBytes.{Appends, Keeps};
+ghost use Rattle.wc_model.specs.Run.Writing.{HasFailedSince, TakesFront};
+
+use crate::byte_out::ByteOut;
+
+/// The writer failed, or took nothing of what it was given.
+#[derive(Clone, Copy, Debug, PartialEq, Eq)]
+pub struct WriteFault;
+
+/// Has the writer take a front of a piece that has bytes, and answers how many.
+fn write_some<W: ByteOut>(writer: &mut W, piece: &[u8]) -> Result<usize, WriteFault>
+    requires { 0 < length piece.now }
+    ensures some { IfOk result (λ n. (0 < n) × (n ≤ length piece.now)) }
+    ensures taken { IfOk result (λ n. Appends (W.bytes_taken writer.old) (W.bytes_taken writer.new) (take n piece.now)) }
+    ensures steady { IfOk result (λ n. W.failure_count writer.new ≡ W.failure_count writer.old) }
+    ensures kept { IfErr result (λ e. Keeps (W.bytes_taken writer.old) (W.bytes_taken writer.new)) }
+    ensures device { IfErr result (λ e. HasFailedSince (W.failure_count writer.old) (W.failure_count writer.new)) }
+{
+    match writer.write(piece) {
+        Ok(0) | Err(_) => Err(WriteFault),
+        Ok(count) => Ok(count),
+    }
+}
+
+/// Has the writer take all of a text, in as many calls as it needs. `WriteFault` comes where a call failed; the writer has
+/// then taken a front of the text, not all of it, and is asked no further. It takes no memory.
+pub fn write_whole<W: ByteOut>(writer: &mut W, text: &[u8]) -> Result<(), WriteFault>
+    ensures whole { IfOk result (λ done. Appends (W.bytes_taken writer.old) (W.bytes_taken writer.new) text.now) }
+    ensures steady { IfOk result (λ done. W.failure_count writer.new ≡ W.failure_count writer.old) }
+    ensures front { IfErr result (λ e. TakesFront (W.bytes_taken writer.old) (W.bytes_taken writer.new) text.now) }
+    ensures device { IfErr result (λ e. HasFailedSince (W.failure_count writer.old) (W.failure_count writer.new)) }
+{
+    let mut at = 0;
+    while at < text.len() {
+        match write_some(writer, &text[at..]) {
+            Ok(count) => at += count,
+            Err(fault) => return Err(fault),
+        }
+    }
+    Ok(())
+}
