@@ -1,7 +1,7 @@
 -- A scan that is never stuck, and whose trace is a path, ends within the bound.
 use Rattle.std.proofs.Common.{ℕ, List, [], ◌∷◌, Option}
 use Rattle.wc_controller.specs.Headline.{EndsWithin, IsBoundOfLast}
-use Rattle.wc_laws.proofs.TracesArePaths.{TraceIs, program_trace_is_path}
+use Rattle.wc_language_laws.proofs.TracesArePaths.{TraceIs, program_trace_is_path}
 use Rattle.wc_model.specs.Language.Meaning.{Outcome, Done, Stuck, program_means}
 use Rattle.wc_model.specs.Language.Paths.{IsLongest, IsPath}
 use Rattle.wc_model.specs.Language.Scans.{first_of_reversed}

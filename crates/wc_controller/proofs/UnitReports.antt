@@ -26,9 +26,6 @@ one_line (spot ∷ spots) (suc place) name bound others spelled is_bound rest = 
 abbrev pub Begins : Text → ℕ → List ℕ → Type 0
 Begins text place lines = (others : List ℕ) → AreUnitLines (drop place (spots_of text)) others → IsUnitReport text (lines ++ others)
 
-pub begins_with_none : (text : Text) → Begins text 0 []
-begins_with_none text = λ others h. h
-
 -- one line more
 pub begins_on : (text : Text) (place : ℕ) (lines line : List ℕ) → Begins text place lines → IsLineAt text place line → Begins text (place + 1) (lines ++ line)
 begins_on text place lines line h l = λ others rest.

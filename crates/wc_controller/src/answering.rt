@@ -28,9 +28,12 @@ fn run_log<W: ByteOut>(
     writer: &mut W,
 ) -> u8
     requires { machine.last ≡ 0 }
-    ensures gives { (text : Text) → StandsForProgram machine.entry text (initial_of text) → Gives (λ answer. answer ≡ run_answer plate.now text (log_of (records_of log.now))) result (W.bytes_taken writer.old) (W.bytes_taken writer.new) }
+    ensures gives { (text : Text) → StandsForProgram machine.entry text (initial_of text)
+        → Gives (λ answer. answer ≡ run_answer plate.now text (log_of (records_of log.now))) result
+        (W.bytes_taken writer.old) (W.bytes_taken writer.new) }
     ensures status { IsStatus result }
-    ensures device { result ≡ 3 → HasFailedSince (W.failure_count writer.old) (W.failure_count writer.new) }
+    ensures device { result ≡ 3
+        → HasFailedSince (W.failure_count writer.old) (W.failure_count writer.new) }
 {
     let mut reader = Device::new(log);
     match run(alloc, plate, Some(machine), &mut reader, writer) {
@@ -52,9 +55,13 @@ fn run_loaded<W: ByteOut>(
     log: &[u8],
     writer: &mut W,
 ) -> u8
-    ensures gives { Gives (λ answer. answer ≡ run_answer plate.now (text_by_itself loaded.entry) (log_of (records_of log.now))) result (W.bytes_taken writer.old) (W.bytes_taken writer.new) }
+    ensures gives { Gives
+        (λ answer.
+        answer ≡ run_answer plate.now (text_by_itself loaded.entry) (log_of (records_of log.now)))
+        result (W.bytes_taken writer.old) (W.bytes_taken writer.new) }
     ensures status { IsStatus result }
-    ensures device { result ≡ 3 → HasFailedSince (W.failure_count writer.old) (W.failure_count writer.new) }
+    ensures device { result ≡ 3
+        → HasFailedSince (W.failure_count writer.old) (W.failure_count writer.new) }
 {
     match Machine::new(alloc, loaded) {
         Ok(machine) => run_log(alloc, plate, machine, log, writer),
@@ -70,9 +77,11 @@ fn run_program<W: ByteOut>(
     log: &[u8],
     writer: &mut W,
 ) -> u8
-    ensures gives { Gives (AllowsProgram plate.now program.now (log_of (records_of log.now))) result (W.bytes_taken writer.old) (W.bytes_taken writer.new) }
+    ensures gives { Gives (AllowsProgram plate.now program.now (log_of (records_of log.now))) result
+        (W.bytes_taken writer.old) (W.bytes_taken writer.new) }
     ensures status { IsStatus result }
-    ensures device { result ≡ 3 → HasFailedSince (W.failure_count writer.old) (W.failure_count writer.new) }
+    ensures device { result ≡ 3
+        → HasFailedSince (W.failure_count writer.old) (W.failure_count writer.new) }
 {
     match load(alloc, program) {
         Ok(loaded) => run_loaded(alloc, plate, loaded, log, writer),
@@ -85,9 +94,11 @@ fn run_program<W: ByteOut>(
 
 /// Answers a job by its sections.
 fn answer_sections<W: ByteOut>(alloc: Global, sections: Sections<'_>, writer: &mut W) -> u8
-    ensures gives { Gives (AllowsSections (sections_view sections.entry)) result (W.bytes_taken writer.old) (W.bytes_taken writer.new) }
+    ensures gives { Gives (AllowsSections (sections_view sections.entry)) result
+        (W.bytes_taken writer.old) (W.bytes_taken writer.new) }
     ensures status { IsStatus result }
-    ensures device { result ≡ 3 → HasFailedSince (W.failure_count writer.old) (W.failure_count writer.new) }
+    ensures device { result ≡ 3
+        → HasFailedSince (W.failure_count writer.old) (W.failure_count writer.new) }
 {
     match plate(alloc, sections.plate) {
         Ok(plate) => run_program(alloc, &plate, sections.program, sections.log, writer),
@@ -100,9 +111,11 @@ fn answer_sections<W: ByteOut>(alloc: Global, sections: Sections<'_>, writer: &m
 
 /// Answers a job by its bytes.
 fn answer_bytes<W: ByteOut>(alloc: Global, bytes: &[u8], writer: &mut W) -> u8
-    ensures gives { Gives (Allows bytes.now) result (W.bytes_taken writer.old) (W.bytes_taken writer.new) }
+    ensures gives { Gives (Allows bytes.now) result (W.bytes_taken writer.old)
+        (W.bytes_taken writer.new) }
     ensures status { IsStatus result }
-    ensures device { result ≡ 3 → HasFailedSince (W.failure_count writer.old) (W.failure_count writer.new) }
+    ensures device { result ≡ 3
+        → HasFailedSince (W.failure_count writer.old) (W.failure_count writer.new) }
 {
     match sections(bytes) {
         Ok(sections) => answer_sections(alloc, sections, writer),
@@ -115,9 +128,13 @@ fn answer_bytes<W: ByteOut>(alloc: Global, bytes: &[u8], writer: &mut W) -> u8
 /// refusal, with its number and its place, is then written behind the lines of the rows before it. It is 3 where the reader or
 /// the writer failed in this call, and 4 for want of memory: a front of the output is then written, or nothing.
 pub fn job<R: ByteIn, W: ByteOut>(alloc: Global, reader: &mut R, writer: &mut W) -> u8
-    ensures gives { IfSome (R.bytes_left reader.old) (λ bytes. Gives (Allows bytes) result (W.bytes_taken writer.old) (W.bytes_taken writer.new)) }
+    ensures gives { IfSome (R.bytes_left reader.old)
+        (λ bytes.
+        Gives (Allows bytes) result (W.bytes_taken writer.old) (W.bytes_taken writer.new)) }
     ensures status { IsStatus result }
-    ensures device { result ≡ 3 → HasFailedSince (R.failure_count reader.old) (R.failure_count reader.new) ⊎ HasFailedSince (W.failure_count writer.old) (W.failure_count writer.new) }
+    ensures device { result ≡ 3
+        → HasFailedSince (R.failure_count reader.old) (R.failure_count reader.new)
+        ⊎ HasFailedSince (W.failure_count writer.old) (W.failure_count writer.new) }
 {
     match read_whole(alloc, reader) {
         Ok(bytes) => answer_bytes(alloc, &bytes, writer),

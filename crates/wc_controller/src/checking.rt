@@ -16,8 +16,10 @@ fn write_report<W: ByteOut>(
     loaded: &Loaded<'_>,
     writer: &mut W,
 ) -> Result<(), RunFault>
-    ensures report { WritesReport (text_by_itself loaded.now) result (W.bytes_taken writer.old) (W.bytes_taken writer.new) }
-    ensures write { IsErrOf result RunFault.Write → HasFailedSince (W.failure_count writer.old) (W.failure_count writer.new) }
+    ensures report { WritesReport (text_by_itself loaded.now) result (W.bytes_taken writer.old)
+        (W.bytes_taken writer.new) }
+    ensures write { IsErrOf result RunFault.Write
+        → HasFailedSince (W.failure_count writer.old) (W.failure_count writer.new) }
 {
     let lines = match unit_lines(alloc, loaded) {
         Ok(lines) => lines,
@@ -35,7 +37,8 @@ fn write_report<W: ByteOut>(
 /// is written. `Read` never comes.
 pub fn check<W: ByteOut>(alloc: Global, text: &[u8], writer: &mut W) -> Result<(), RunFault>
     ensures checks { Checks text.now result (W.bytes_taken writer.old) (W.bytes_taken writer.new) }
-    ensures write { IsErrOf result RunFault.Write → HasFailedSince (W.failure_count writer.old) (W.failure_count writer.new) }
+    ensures write { IsErrOf result RunFault.Write
+        → HasFailedSince (W.failure_count writer.old) (W.failure_count writer.new) }
 {
     match load(alloc, text) {
         Ok(loaded) => write_report(alloc, &loaded, writer),

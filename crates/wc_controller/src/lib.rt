@@ -6,8 +6,6 @@ mod checking;
 mod headline;
 mod loading;
 mod refusing;
-#[cfg(test)]
-mod tests;
 mod unit_lines;
 
 pub use answering::job;

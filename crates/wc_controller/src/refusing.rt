@@ -22,9 +22,11 @@ pub(crate) const NO_MEMORY: u8 = 4;
 /// Writes the line of a refusal behind what stands, and answers the exit status: 1; 3 where the writer failed in this call,
 /// which then took a front of the line; 4 for want of memory, with nothing written.
 pub fn refuse<W: ByteOut>(alloc: Global, number: u16, place: u32, writer: &mut W) -> u8
-    ensures gives { Gives (λ answer. answer ≡ refusing number place) result (W.bytes_taken writer.old) (W.bytes_taken writer.new) }
+    ensures gives { Gives (λ answer. answer ≡ refusing number place) result
+        (W.bytes_taken writer.old) (W.bytes_taken writer.new) }
     ensures status { IsStatus result }
-    ensures device { result ≡ 3 → HasFailedSince (W.failure_count writer.old) (W.failure_count writer.new) }
+    ensures device { result ≡ 3
+        → HasFailedSince (W.failure_count writer.old) (W.failure_count writer.new) }
 {
     let line = match refused_line(alloc, number, place) {
         Ok(line) => line,

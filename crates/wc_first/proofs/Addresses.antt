@@ -28,11 +28,6 @@ first_among p i (suc n) none passes =
     ap (λ m. find p (numbers_below m)) e ∙ find-append p (numbers_below (suc i + n)) ((suc i + n) ∷ [])
     ∙ ap (λ o. option_or o (cond (p (suc i + n)) (Some (suc i + n)) None)) (first_among p i n none passes)
 
-pub first_found : (p : ℕ → Bool) (i n : ℕ) → i < n → find p (numbers_below i) ≡ None → p i ≡ true → find p (numbers_below n) ≡ Some i
-first_found p i n below none passes =
-    let e : suc i + (n - suc i) ≡ n = omega arith in
-    ap (λ m. find p (numbers_below m)) (sym e) ∙ first_among p i (n - suc i) none passes
-
 -- what is found passes, and any test that all pass
 found_here : (p q : ℕ → Bool) (x y : ℕ) (rest : Option ℕ) (b : Bool) → p x ≡ b → cond b (Some x) rest ≡ Some y → q x ≡ true → (rest ≡ Some y → (p y ≡ true) × (q y ≡ true)) →
     (p y ≡ true) × (q y ≡ true)

@@ -19,29 +19,6 @@ pub record Seen (line : Line) (rest : Lines) : Type 0 where
   pub opened : Opened
   pub is : line_view line rest ≡ instruction_view opened (option_map word_view line.label) rest
 
-view_some : (label : Option Spelled) (instr : Instr) (rest : Lines) → Seen (record { label = label; instr = Some instr }) rest
-view_some label instr rest = record {
-  opened = _;
-  is = ap (λ (f : Lines → Lines). f rest) (fold_out-Line (Option Word → Lines → Lines) (Lines → Lines) instruction_view line_step_view (record { label = label; instr = Some instr }))
-      ∙ ap (λ (f : Option Word → Lines → Lines). f (option_map word_view label) rest) (fold_out-Instr (Option Word → Lines → Lines) (Lines → Lines) instruction_view line_step_view instr);
-}
-
-pub seen_some : (line : Line) (instr : Instr) (rest : Lines) → line.instr ≡ Some instr → Seen line rest
-seen_some line instr rest e =
-    let h = view_some line.label instr rest in
-    record { opened = h.opened; is = ap (λ i. line_view (record { label = line.label; instr = i }) rest) e ∙ h.is }
-
--- a label is refused before anything behind it
-pub labelled_first : (x : Opened) (label : Word) (rest : Lines) → first_broken (body_language (instruction_view x (Some label) rest)) ≡ Some (record { number = 201; line = label.line })
-labelled_first (Instr-F.Load negated operand line) label rest = refl
-labelled_first (Instr-F.Store storing target line) label rest = refl
-labelled_first (Instr-F.Apply operator operand line) label rest = refl
-labelled_first (Instr-F.Defer operator operand inside line close) label rest = refl
-labelled_first (Instr-F.Not line) label rest = refl
-labelled_first (Instr-F.Jump condition target line) label rest = refl
-labelled_first (Instr-F.Call condition instance arguments line) label rest = refl
-labelled_first (Instr-F.Return condition line) label rest = refl
-
 -- each instruction is one line
 pub one_line : (x : Opened) (label : Option Word) (rest : Lines) → instruction_count (instruction_view x label rest) ≡ suc (instruction_count rest)
 one_line (Instr-F.Load negated operand line) label rest = refl

@@ -36,12 +36,6 @@ something_found [] b found e = cc
 something_found (check ∷ checks) b found e =
     found_in check.holds (record { number = check.number; line = check.line }) (first_broken checks) (first_broken (checks ++ b)) found e (something_found checks b found)
 
--- a line with no label: its rules, and then those of the lines behind it
-pub line_found : (unit : ProgramUnit) (before : List BodyLine) (line : ℕ) (step : Step) (rest : Lines) →
-    found_behind unit before (Plain None line step rest)
-    ≡ first_broken (step_rules (scope_in unit) line step (lines_of rest) (kind_handed (scope_in unit) before) ++ flat_map (spot_rules (scope_in unit)) (spots_behind (PlainLine None line step ∷ before) (lines_of rest)))
-line_found unit before line step rest = refl
-
 -- what a line that does not leave hands on
 pub line_hands : (unit : ProgramUnit) (before : List BodyLine) (line : ℕ) (step : Step) → step_leaves step ≡ false →
     kind_handed (scope_in unit) (PlainLine None line step ∷ before) ≡ kind_after_step (scope_in unit) step (kind_handed (scope_in unit) before)

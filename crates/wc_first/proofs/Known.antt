@@ -157,7 +157,3 @@ pub address_writable : (unit : ProgramUnit) (line : ℕ) (operand : Operand) (wo
 address_writable unit line operand word e holds =
     subst (λ o. first_broken (operand_language line (term_view o)) ≡ None → not (is_some (bit_behind (codes "%ix0.") (name_view word))) ≡ is_writable (entity_of (scope_in unit) (term_view o))) (sym e)
     (λ h. sym (ap is_writable (address_known unit line (word_view word) h).1)) holds
-
--- one of two answers
-pub not_there : (b : Bool) → b ≡ true → b ≡ false → ⊥
-not_there b p q = cc

@@ -18,9 +18,3 @@ five p a b c d e =
     list_any-append p (((a ++ b) ++ c) ++ d) e
     ∙ ap (λ t. t || list_any p e) (list_any-append p ((a ++ b) ++ c) d
     ∙ ap (λ t. t || list_any p d) (list_any-append p (a ++ b) c ∙ ap (λ t. t || list_any p c) (list_any-append p a b)))
-
-pub reserved_groups : (name : Name) →
-    ((is_among operator_words name || is_among leaving_words name) || (is_among unit_words name || is_among type_words name)) || is_among kept_words name ≡ is_among reserved_words name
-reserved_groups name =
-    sym (five (same_name name) operator_words leaving_words unit_words type_words kept_words
-    ∙ regrouped (is_among operator_words name) (is_among leaving_words name) (is_among unit_words name) (is_among type_words name) (is_among kept_words name))

@@ -15,7 +15,9 @@ use wc_model::Operand;
 /// Whether the text is `%`, the letter, `X0.` and the bit.
 fn is_bit(text: &[u8], letter: u8, bit: u8) -> bool
     requires { bit < 16 }
-    ensures { result ≡ bytes_eq (name_of text.now) (37 ∷ to_ascii_lowercase letter ∷ 120 ∷ 48 ∷ 46 ∷ numeral bit) }
+    ensures { result
+        ≡ bytes_eq (name_of text.now)
+        (37 ∷ to_ascii_lowercase letter ∷ 120 ∷ 48 ∷ 46 ∷ numeral bit) }
 {
     if bit < 10 {
         text.eq_ignore_ascii_case(&[b'%', letter, b'X', b'0', b'.', b'0' + bit])
@@ -26,7 +28,8 @@ fn is_bit(text: &[u8], letter: u8, bit: u8) -> bool
 
 /// The bit that an address with this letter names.
 fn bit_behind(text: &[u8], letter: u8) -> Option<u8>
-    ensures { result ≡ bit_behind (37 ∷ to_ascii_lowercase letter ∷ 120 ∷ 48 ∷ 46 ∷ []) (name_of text.now) }
+    ensures { result
+        ≡ bit_behind (37 ∷ to_ascii_lowercase letter ∷ 120 ∷ 48 ∷ 46 ∷ []) (name_of text.now) }
 {
     for bit in 0..16 {
         if is_bit(text, letter, bit) {
@@ -45,7 +48,8 @@ pub(crate) fn is_input(text: &[u8]) -> bool
 
 /// The variable that an address of the first language names.
 pub(crate) fn variable_at<'a>(text: &[u8]) -> Option<Key<'a>>
-    ensures place { option_map location_of result ≡ option_map Direct (first_variable_at (name_of text.now)) }
+    ensures place { option_map location_of result
+        ≡ option_map Direct (first_variable_at (name_of text.now)) }
     ensures found { is_some result ≡ is_some (first_variable_at (name_of text.now)) }
 {
     match bit_behind(text, b'I') {

@@ -15,8 +15,13 @@ use wc_model::{Fault, Instr, Line, Unit};
 
 /// Judges a line behind others: whether there is a result behind it.
 fn judge_line<'a>(own: &Places<'a>, line: &Line<'a>, has_result: bool) -> Result<bool, Fault>
-    ensures judged { (unit : ProgramUnit) (before : List BodyLine) (rest : Lines) → IsFrameOf (store_of own.now) unit → first_broken (body_language (line_view line.now rest)) ≡ None → kind_handed (scope_in unit) before ≡ result_kind has_result → JudgesOn (found_behind unit before (line_view line.now rest)) unit rest result }
-    ensures asks { (rest : Lines) → first_broken (body_language (line_view line.now rest)) ≡ None → first_broken (body_language rest) ≡ None }
+    ensures judged { (unit : ProgramUnit) (before : List BodyLine) (rest : Lines)
+        → IsFrameOf (store_of own.now) unit
+        → first_broken (body_language (line_view line.now rest)) ≡ None
+        → kind_handed (scope_in unit) before ≡ result_kind has_result
+        → JudgesOn (found_behind unit before (line_view line.now rest)) unit rest result }
+    ensures asks { (rest : Lines) → first_broken (body_language (line_view line.now rest)) ≡ None
+        → first_broken (body_language rest) ≡ None }
 {
     let Some(instr) = &line.instr else {
         return Ok(has_result);

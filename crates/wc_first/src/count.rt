@@ -7,7 +7,9 @@ use wc_model::{Line, Unit};
 
 /// Whether a line has an instruction.
 fn is_counted<'a>(line: &Line<'a>) -> bool
-    ensures { (rest : Lines) → instruction_count (line_view line.now rest) ≡ (if result then 1 else 0) + instruction_count rest }
+    ensures { (rest : Lines)
+        → instruction_count (line_view line.now rest)
+        ≡ (if result then 1 else 0) + instruction_count rest }
 {
     line.instr.is_some()
 }

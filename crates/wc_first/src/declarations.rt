@@ -22,7 +22,10 @@ const MOST_VARIABLES: usize = 256;
 /// Judges the names of a declaration of BOOLs by 306, behind so many variables.
 fn judge_room<'a>(declaration: &Decl<'a>, taken: usize) -> Result<(), Fault>
     requires { taken ≤ 256 }
-    ensures judged { (t : Taken) (rest : List Check) → HasTaken t taken → Judges (first_broken (room_checks t 1 (map word_view declaration.now.names.items) ++ rest)) (first_broken rest) result }
+    ensures judged { (t : Taken) (rest : List Check) → HasTaken t taken
+        → Judges
+        (first_broken (room_checks t 1 (map word_view declaration.now.names.items) ++ rest))
+        (first_broken rest) result }
     ensures few { OnOk result (taken + length declaration.now.names.items ≤ 256) }
 {
     match declaration.names.get(MOST_VARIABLES - taken) {
@@ -38,9 +41,19 @@ fn judge_declaration<'a>(
     taken: usize,
 ) -> Result<usize, Fault>
     requires { taken ≤ 256 }
-    ensures judged { (unit : ProgramUnit) (names : List Name) (t : Taken) (rest : List Check) → is_block unit ≡ false → HoldsNames (store_of own.old) names → HasTaken t taken → first_broken (declaration_language (declaration_view declaration.now)) ≡ None → Judges (first_broken (declaration_checks (unit ∷ []) [] names t (declaration_view declaration.now) ++ rest)) (first_broken rest) result }
-    ensures added { OnOk result ((names : List Name) → HoldsNames (store_of own.old) names → HoldsNames (store_of own.new) (map name_of_word (map word_view declaration.now.names.items) ++ names)) }
-    ensures counted { IfOk result (λ count. (count ≡ taken + length declaration.now.names.items) × (count ≤ 256)) }
+    ensures judged { (unit : ProgramUnit) (names : List Name) (t : Taken) (rest : List Check)
+        → is_block unit ≡ false → HoldsNames (store_of own.old) names → HasTaken t taken
+        → first_broken (declaration_language (declaration_view declaration.now)) ≡ None
+        → Judges
+        (first_broken
+        (declaration_checks (unit ∷ []) [] names t (declaration_view declaration.now) ++ rest))
+        (first_broken rest) result }
+    ensures added { OnOk result
+        ((names : List Name) → HoldsNames (store_of own.old) names
+        → HoldsNames (store_of own.new)
+        (map name_of_word (map word_view declaration.now.names.items) ++ names)) }
+    ensures counted { IfOk result
+        (λ count. (count ≡ taken + length declaration.now.names.items) × (count ≤ 256)) }
 {
     if let Err(fault) = declare_names(own, declaration) {
         return Err(fault);
@@ -57,10 +70,16 @@ fn judge_declaration<'a>(
 /// Judges the declarations of the language, and collects their names.
 pub(crate) fn judge_declarations<'a>(own: &mut Places<'a>, program: &Unit<'a>) -> Result<(), Fault>
     requires program { is_block (unit_view program.now) ≡ false }
-    requires language { first_broken (flat_map declaration_language (unit_view program.now).declarations) ≡ None }
+    requires language { first_broken
+        (flat_map declaration_language (unit_view program.now).declarations) ≡ None }
     requires none { HoldsNames (store_of own.old) [] }
-    ensures judged { (rest : List Check) → Judges (first_broken (unit_declaration_checks (unit_view program.now ∷ []) [] (unit_view program.now) ++ rest)) (first_broken rest) result }
-    ensures held { OnOk result (HoldsNames (store_of own.new) (names_declared (unit_view program.now).declarations)) }
+    ensures judged { (rest : List Check)
+        → Judges
+        (first_broken
+        (unit_declaration_checks (unit_view program.now ∷ []) [] (unit_view program.now) ++ rest))
+        (first_broken rest) result }
+    ensures held { OnOk result
+        (HoldsNames (store_of own.new) (names_declared (unit_view program.now).declarations)) }
 {
     let mut taken = 0;
     for declaration in &program.declarations {

@@ -5,7 +5,7 @@ ghost use Rattle.wc_first.specs.Passes.{IsAccepted, IsFit, Refuses};
 ghost use Rattle.wc_model.specs.Say.UnitReport.{IsBoundAt};
 ghost use Rattle.wc_first.specs.Machines.{text_by_itself};
 
-use crate::count::line_count;
+use crate::count::instruction_count;
 use crate::program::{judge_program, single};
 use std::alloc::Global;
 use std::marker::Model;
@@ -48,7 +48,8 @@ impl<'a> Loaded<'a> {
     /// The name of a unit, as it is spelled.
     pub fn name(&self, unit: usize) -> &'a [u8]
         requires { unit < length (text_by_itself self.now) }
-        ensures { option_map (λ u. u.spelled) (slice_get (text_by_itself self.now) unit) ≡ Some result.now }
+        ensures { option_map (λ u. u.spelled) (slice_get (text_by_itself self.now) unit)
+            ≡ Some result.now }
     {
         self.program.name.text
     }
@@ -59,7 +60,7 @@ impl<'a> Loaded<'a> {
         ensures { IsBoundAt (text_by_itself self.now) unit result }
     {
         let _unit = unit;
-        line_count(&self.program) as u32
+        instruction_count(&self.program) as u32
     }
 
     /// The program, by itself.

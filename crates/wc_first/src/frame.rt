@@ -31,7 +31,8 @@ fn direct<'a>(number: u8) -> (Key<'a>, Value)
 
 /// Adds the directly represented variables.
 pub(crate) fn declare_direct<'a>(places: &mut Places<'a>) -> Result<(), Fault>
-    ensures added { OnOk result (SameStore (store_of places.new) (store_of (places.old ++ map first_at direct_variables))) }
+    ensures added { OnOk result
+        (SameStore (store_of places.new) (store_of (places.old ++ map first_at direct_variables))) }
     ensures memory { IsOkUnless result Fault.Memory }
 {
     for number in 0..45 {
@@ -43,7 +44,9 @@ pub(crate) fn declare_direct<'a>(places: &mut Places<'a>) -> Result<(), Fault>
 
 /// Adds the variables of a declaration, each with FALSE.
 fn declare_names<'a>(places: &mut Places<'a>, declaration: &Decl<'a>) -> Result<(), Fault>
-    ensures added { OnOk result (SameStore (store_of places.new) (store_of (places.old ++ names_contents (declaration_view declaration.now).names))) }
+    ensures added { OnOk result
+        (SameStore (store_of places.new)
+        (store_of (places.old ++ names_contents (declaration_view declaration.now).names))) }
     ensures memory { IsOkUnless result Fault.Memory }
 {
     for word in &declaration.names {
@@ -54,7 +57,9 @@ fn declare_names<'a>(places: &mut Places<'a>, declaration: &Decl<'a>) -> Result<
 
 /// Adds the variables of a program, each with FALSE.
 pub(crate) fn declare_own<'a>(places: &mut Places<'a>, program: &Unit<'a>) -> Result<(), Fault>
-    ensures added { OnOk result (SameStore (store_of places.new) (store_of (places.old ++ own_contents (unit_view program.now).declarations))) }
+    ensures added { OnOk result
+        (SameStore (store_of places.new)
+        (store_of (places.old ++ own_contents (unit_view program.now).declarations))) }
     ensures memory { IsOkUnless result Fault.Memory }
 {
     for declaration in &program.declarations {

@@ -18,7 +18,8 @@ fn is_set(bits: u16, bit: u8) -> bool
 /// Copies the inputs to `%IX0.0` and its like.
 fn copy_inputs<'a>(places: &mut Places<'a>, inputs: u16)
     requires { HasDirect (store_of places.old) }
-    ensures { SameStore (store_of places.new) (overlaid (input_contents inputs 16) (store_of places.old)) }
+    ensures { SameStore (store_of places.new)
+        (overlaid (input_contents inputs 16) (store_of places.old)) }
 {
     for bit in 0..16 {
         places.write(Key::InputBit(bit), Value::Bool(is_set(inputs, bit)));
@@ -28,7 +29,8 @@ fn copy_inputs<'a>(places: &mut Places<'a>, inputs: u16)
 /// Copies the status of the indicator to `%IX1.0` and its like.
 fn copy_status<'a>(places: &mut Places<'a>, status: u8)
     requires { HasDirect (store_of places.old) }
-    ensures { SameStore (store_of places.new) (overlaid (status_contents status 6) (store_of places.old)) }
+    ensures { SameStore (store_of places.new)
+        (overlaid (status_contents status 6) (store_of places.old)) }
 {
     for bit in 0..6 {
         places.write(
@@ -49,7 +51,8 @@ fn weight(weights: &[i32; 3], number: u8) -> Value
 /// Copies the weights to `%ID0` and its like.
 fn copy_weights<'a>(places: &mut Places<'a>, weights: &[i32; 3])
     requires { HasDirect (store_of places.old) }
-    ensures { SameStore (store_of places.new) (overlaid (weight_contents weights.now 3) (store_of places.old)) }
+    ensures { SameStore (store_of places.new)
+        (overlaid (weight_contents weights.now 3) (store_of places.old)) }
 {
     for number in 0..3 {
         places.write(Key::Weight(number), weight(weights, number));

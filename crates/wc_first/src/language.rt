@@ -76,7 +76,9 @@ fn is_standard_block(text: &[u8]) -> bool
 
 /// Judges whether an operand is of the language.
 fn judge_operand<'a>(operand: &Operand<'a>, line: u32) -> Result<(), Fault>
-    ensures { (rest : List Check) → Judges (first_broken (operand_language line (term_view operand.now) ++ rest)) (first_broken rest) result }
+    ensures { (rest : List Check)
+        → Judges (first_broken (operand_language line (term_view operand.now) ++ rest))
+        (first_broken rest) result }
 {
     match operand {
         Operand::Name(_) => Ok(()),
@@ -93,7 +95,9 @@ fn judge_operand<'a>(operand: &Operand<'a>, line: u32) -> Result<(), Fault>
 
 /// Judges whether a line is of the language.
 fn judge_line<'a>(line: &Line<'a>) -> Result<(), Fault>
-    ensures { (rest : Lines) → Judges (first_broken (body_language (line_view line.now rest))) (first_broken (body_language rest)) result }
+    ensures { (rest : Lines)
+        → Judges (first_broken (body_language (line_view line.now rest)))
+        (first_broken (body_language rest)) result }
 {
     if let Some(label) = line.label {
         return Err(refused(201, label.line));
@@ -133,7 +137,9 @@ fn judge_line<'a>(line: &Line<'a>) -> Result<(), Fault>
 
 /// Judges whether a declaration is of the language.
 fn judge_declaration<'a>(declaration: &Decl<'a>) -> Result<(), Fault>
-    ensures { (rest : List Check) → Judges (first_broken (declaration_language (declaration_view declaration.now) ++ rest)) (first_broken rest) result }
+    ensures { (rest : List Check)
+        → Judges (first_broken (declaration_language (declaration_view declaration.now) ++ rest))
+        (first_broken rest) result }
 {
     let word = declaration.type_name;
     if !is_own(declaration.section) || is_other_elementary(word.text) {
@@ -150,7 +156,10 @@ fn judge_declaration<'a>(declaration: &Decl<'a>) -> Result<(), Fault>
 
 /// Judges whether the declarations are of the language.
 fn judge_declarations<'a>(program: &Unit<'a>) -> Result<(), Fault>
-    ensures { (rest : List Check) → Judges (first_broken (flat_map declaration_language (unit_view program.now).declarations ++ rest)) (first_broken rest) result }
+    ensures { (rest : List Check)
+        → Judges
+        (first_broken (flat_map declaration_language (unit_view program.now).declarations ++ rest))
+        (first_broken rest) result }
 {
     for declaration in &program.declarations {
         if let Err(fault) = judge_declaration(declaration) {
@@ -162,7 +171,8 @@ fn judge_declarations<'a>(program: &Unit<'a>) -> Result<(), Fault>
 
 /// Judges whether the body is of the language.
 fn judge_body<'a>(program: &Unit<'a>) -> Result<(), Fault>
-    ensures { Judges (first_broken (body_language (lines_view program.now.body.items))) None result }
+    ensures { Judges
+        (first_broken (body_language (lines_view program.now.body.items))) None result }
 {
     for line in &program.body {
         if let Err(fault) = judge_line(line) {

@@ -19,8 +19,6 @@ mod outputs;
 mod places;
 mod program;
 mod reserved;
-#[cfg(test)]
-mod tests;
 mod verdict;
 
 pub use machine::Machine;

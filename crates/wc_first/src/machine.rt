@@ -5,7 +5,7 @@ ghost use Rattle.wc_model.specs.Language.Tree.{Text};
 ghost use Rattle.wc_first.specs.Machines.{text_by_itself, StandsForProgram, Leaves, IsProgramBound};
 
 use crate::body::run;
-use crate::count::line_count;
+use crate::count::instruction_count;
 use crate::first::Loaded;
 use crate::frame::{declare_direct, declare_own};
 use crate::image::copy_image;
@@ -27,11 +27,11 @@ impl<'a> Model for Machine<'a> {
     ghost use Rattle.std.specs.Coded.{codes};
     ghost use Rattle.std.specs.Prelude.{[]};
     ghost use Rattle.wc_first.specs.Accepted.{kept_view, IsMachineSound};
-    ghost use Rattle.wc_first.specs.Machines.{Kept};
+    ghost use Rattle.wc_first.specs.Machines.{MachineState};
     ghost use Rattle.wc_model.specs.contracts.tree.Line as line;
     ghost use mir.Syntax;
 
-    ghost Value = { Kept };
+    ghost Value = { MachineState };
 
     ghost coded = { Prim.hlevel (codes, (line.the_row (record { mir = Syntax.named 1; lft = [] })).coded) };
 
@@ -43,7 +43,10 @@ impl<'a> Model for Machine<'a> {
 impl<'a> Machine<'a> {
     /// A machine at the store of the declarations, before its first scan. `Memory` is its only fault.
     pub fn new(alloc: Global, loaded: Loaded<'a>) -> Result<Machine<'a>, Fault>
-        ensures stands { IfOk result (λ machine. StandsForProgram machine (text_by_itself loaded.entry) (initial_of (text_by_itself loaded.entry))) }
+        ensures stands { IfOk result
+            (λ machine.
+            StandsForProgram machine (text_by_itself loaded.entry)
+            (initial_of (text_by_itself loaded.entry))) }
         ensures last { IfOk result (λ machine. machine.last ≡ 0) }
         ensures memory { IsOkUnless result Fault.Memory }
     {
@@ -64,9 +67,11 @@ impl<'a> Machine<'a> {
         requires not_before { self.old.last ≤ now }
         requires in_range { now ≤ 1099511627775 }
         requires status { image.now.status < 64 }
-        ensures means { (text : Text) (store : Store) → StandsForProgram self.old text store → Leaves self.new text result.0 (scan_of text store image.now now) }
+        ensures means { (text : Text) (store : Store) → StandsForProgram self.old text store
+            → Leaves self.new text result.0 (scan_of text store image.now now) }
         ensures last { self.new.last ≡ now }
-        ensures within { (n : ℕ) → IsProgramBound (text_by_itself self.old.program) n → result.0 ≤ n }
+        ensures within { (n : ℕ) → IsProgramBound (text_by_itself self.old.program) n
+            → result.0 ≤ n }
     {
         copy_image(&mut self.places, image);
         let steps = run(&mut self.places, &self.program);
@@ -76,7 +81,8 @@ impl<'a> Machine<'a> {
 
     /// What the last scan left at the outputs.
     pub fn outputs(&self) -> Outputs
-        ensures { (text : Text) (store : Store) → StandsForProgram self.now text store → result ≡ outputs_of store }
+        ensures { (text : Text) (store : Store) → StandsForProgram self.now text store
+            → result ≡ outputs_of store }
     {
         outputs(&self.places)
     }
@@ -92,6 +98,6 @@ impl<'a> Machine<'a> {
     pub fn bound(&self) -> u32
         ensures { IsProgramBound (text_by_itself self.now.program) result }
     {
-        line_count(&self.program) as u32
+        instruction_count(&self.program) as u32
     }
 }

@@ -15,8 +15,14 @@ use wc_model::{Decl, Fault, Value, Word};
 
 /// Judges a name by 307 and 301, and adds it to those that are declared.
 fn declare_name<'a>(own: &mut Places<'a>, word: Word<'a>) -> Result<(), Fault>
-    ensures judged { (names : List Name) (rest : List Check) → HoldsNames (store_of own.old) names → Judges (first_broken (not_reserved (word_view word.entry) ∷ is_new names (word_view word.entry) ∷ rest)) (first_broken rest) result }
-    ensures added { OnOk result ((names : List Name) → HoldsNames (store_of own.old) names → HoldsNames (store_of own.new) (name_view word.entry ∷ names)) }
+    ensures judged { (names : List Name) (rest : List Check) → HoldsNames (store_of own.old) names
+        → Judges
+        (first_broken
+        (not_reserved (word_view word.entry) ∷ is_new names (word_view word.entry) ∷ rest))
+        (first_broken rest) result }
+    ensures added { OnOk result
+        ((names : List Name) → HoldsNames (store_of own.old) names
+        → HoldsNames (store_of own.new) (name_view word.entry ∷ names)) }
 {
     if is_reserved(word.text) {
         return Err(refused(307, word.line));
@@ -29,8 +35,14 @@ fn declare_name<'a>(own: &mut Places<'a>, word: Word<'a>) -> Result<(), Fault>
 
 /// Judges the names of a declaration by 307 and 301, and adds them to those that are declared.
 pub(crate) fn declare_names<'a>(own: &mut Places<'a>, declaration: &Decl<'a>) -> Result<(), Fault>
-    ensures judged { (names : List Name) (rest : List Check) → HoldsNames (store_of own.old) names → Judges (first_broken (names_are_new names (map word_view declaration.now.names.items) ++ rest)) (first_broken rest) result }
-    ensures added { OnOk result ((names : List Name) → HoldsNames (store_of own.old) names → HoldsNames (store_of own.new) (map name_of_word (map word_view declaration.now.names.items) ++ names)) }
+    ensures judged { (names : List Name) (rest : List Check) → HoldsNames (store_of own.old) names
+        → Judges
+        (first_broken (names_are_new names (map word_view declaration.now.names.items) ++ rest))
+        (first_broken rest) result }
+    ensures added { OnOk result
+        ((names : List Name) → HoldsNames (store_of own.old) names
+        → HoldsNames (store_of own.new)
+        (map name_of_word (map word_view declaration.now.names.items) ++ names)) }
 {
     for word in &declaration.names {
         if let Err(fault) = declare_name(own, *word) {

@@ -9,7 +9,8 @@ use wc_model::{Outputs, Value};
 
 /// Whether an output bit is TRUE.
 fn is_on<'a>(places: &Places<'a>, bit: u8) -> bool
-    ensures { bit_of (value_at (store_of places.now) (Direct (OutputBit bit))) ≡ (if result then 1 else 0) }
+    ensures { bit_of (value_at (store_of places.now) (Direct (OutputBit bit)))
+        ≡ (if result then 1 else 0) }
 {
     match places.value(Key::OutputBit(bit)) {
         Some(Value::Bool(on)) => on,

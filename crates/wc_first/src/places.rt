@@ -33,7 +33,9 @@ impl<'a> Places<'a> {
 
     /// Adds a place with its first value; one that is there already keeps its own.
     pub(crate) fn declare(&mut self, key: Key<'a>, value: Value) -> Result<(), Fault>
-        ensures added { OnOk result (SameStore (store_of self.new) (store_of (self.old ++ (location_of key.entry, Plain value) ∷ []))) }
+        ensures added { OnOk result
+            (SameStore (store_of self.new)
+            (store_of (self.old ++ (location_of key.entry, Plain value) ∷ []))) }
         ensures memory { IsOkUnless result Fault.Memory }
     {
         if self.values.get(&key).is_some() {
@@ -54,7 +56,9 @@ impl<'a> Places<'a> {
 
     /// Overwrites the value at a place that is there. It takes no memory.
     pub(crate) fn write(&mut self, key: Key<'a>, value: Value)
-        ensures { is_some (store_of self.old (location_of key.entry)) ≡ true → SameStore (store_of self.new) (with_content (store_of self.old) (location_of key.entry) (Plain value)) }
+        ensures { is_some (store_of self.old (location_of key.entry)) ≡ true
+            → SameStore (store_of self.new)
+            (with_content (store_of self.old) (location_of key.entry) (Plain value)) }
     {
         if let Some(place) = self.values.get_mut(&key) {
             *place = value;

@@ -6,7 +6,7 @@ ghost use Rattle.wc_first.specs.Machines.{Judges};
 ghost use Rattle.wc_first.specs.Passes.{IsFit, Refuses};
 
 use crate::bodies::judge_body;
-use crate::count::line_count;
+use crate::count::instruction_count;
 use crate::declarations::judge_declarations;
 use crate::language::{judge_unit, refused};
 use crate::places::Places;
@@ -29,8 +29,11 @@ fn is_block<'a>(unit: &Unit<'a>) -> bool
 
 /// The program of a text that has no other unit.
 pub(crate) fn single<'a>(source: Source<'a>) -> Result<Unit<'a>, Fault>
-    ensures ok { IfOk result (λ program. (text_view source.entry ≡ unit_view program ∷ []) × (is_block (unit_view program) ≡ false)) }
-    ensures err { Judges (language_fault (text_view source.entry)) (language_fault (text_view source.entry)) result }
+    ensures ok { IfOk result
+        (λ program. (text_view source.entry ≡ unit_view program ∷ [])
+        × (is_block (unit_view program) ≡ false)) }
+    ensures err { Judges (language_fault (text_view source.entry))
+        (language_fault (text_view source.entry)) result }
 {
     let Source { mut units } = source;
     let Some(first) = units.first() else {
@@ -67,7 +70,7 @@ pub(crate) fn judge_program<'a>(alloc: Global, program: &Unit<'a>) -> Result<(),
     if let Err(fault) = judge_body(&own, program) {
         return Err(fault);
     }
-    if line_count(program) > MOST_STEPS {
+    if instruction_count(program) > MOST_STEPS {
         return Err(refused(411, program.line));
     }
     Ok(())

@@ -17,7 +17,9 @@ use wc_model::{Fault, Operand, Operator, Storing};
 
 /// Whether there is what an operand names.
 fn is_known<'a>(own: &Places<'a>, operand: &Operand<'a>) -> bool
-    ensures { (unit : ProgramUnit) (line : ℕ) → IsFrameOf (store_of own.now) unit → first_broken (operand_language line (term_view operand.now)) ≡ None → result ≡ is_some (entity_of (scope_in unit) (term_view operand.now)) }
+    ensures { (unit : ProgramUnit) (line : ℕ) → IsFrameOf (store_of own.now) unit
+        → first_broken (operand_language line (term_view operand.now)) ≡ None
+        → result ≡ is_some (entity_of (scope_in unit) (term_view operand.now)) }
 {
     match operand {
         Operand::Name(word) => own.value(Key::Name(word.text)).is_some(),
@@ -27,7 +29,9 @@ fn is_known<'a>(own: &Places<'a>, operand: &Operand<'a>) -> bool
 
 /// Whether an operand may be written.
 fn is_writable<'a>(operand: &Operand<'a>) -> bool
-    ensures { (store : Contents) (unit : ProgramUnit) (line : ℕ) → IsFrameOf store unit → first_broken (operand_language line (term_view operand.now)) ≡ None → result ≡ is_writable (entity_of (scope_in unit) (term_view operand.now)) }
+    ensures { (store : Contents) (unit : ProgramUnit) (line : ℕ) → IsFrameOf store unit
+        → first_broken (operand_language line (term_view operand.now)) ≡ None
+        → result ≡ is_writable (entity_of (scope_in unit) (term_view operand.now)) }
 {
     match operand {
         Operand::Address(word) => !is_input(word.text),
@@ -42,7 +46,11 @@ pub(crate) fn judge_load<'a>(
     line: u32,
     negated: bool,
 ) -> Result<(), Fault>
-    ensures { (unit : ProgramUnit) → IsFrameOf (store_of own.now) unit → first_broken (operand_language line (term_view operand.now)) ≡ None → Judges (first_broken (load_checks (scope_in unit) line negated (term_view operand.now))) None result }
+    ensures { (unit : ProgramUnit) → IsFrameOf (store_of own.now) unit
+        → first_broken (operand_language line (term_view operand.now)) ≡ None
+        → Judges
+        (first_broken (load_checks (scope_in unit) line negated (term_view operand.now)))
+        None result }
 {
     let _is_negated = negated;
     if is_known(own, operand) {
@@ -60,7 +68,13 @@ pub(crate) fn judge_store<'a>(
     storing: Storing,
     has_result: bool,
 ) -> Result<(), Fault>
-    ensures { (unit : ProgramUnit) → IsFrameOf (store_of own.now) unit → is_plain_storing storing ≡ true → first_broken (operand_language line (term_view target.now)) ≡ None → Judges (first_broken (store_checks (scope_in unit) line storing (term_view target.now) (result_kind has_result))) None result }
+    ensures { (unit : ProgramUnit) → IsFrameOf (store_of own.now) unit
+        → is_plain_storing storing ≡ true
+        → first_broken (operand_language line (term_view target.now)) ≡ None
+        → Judges
+        (first_broken
+        (store_checks (scope_in unit) line storing (term_view target.now) (result_kind has_result)))
+        None result }
 {
     let _storing = storing;
     if !is_known(own, target) {
@@ -83,7 +97,13 @@ pub(crate) fn judge_apply<'a>(
     operator: Operator,
     has_result: bool,
 ) -> Result<(), Fault>
-    ensures { (unit : ProgramUnit) → IsFrameOf (store_of own.now) unit → is_plain_operator operator ≡ true → first_broken (operand_language line (term_view operand.now)) ≡ None → Judges (first_broken (apply_checks (scope_in unit) line operator (term_view operand.now) (result_kind has_result))) None result }
+    ensures { (unit : ProgramUnit) → IsFrameOf (store_of own.now) unit
+        → is_plain_operator operator ≡ true
+        → first_broken (operand_language line (term_view operand.now)) ≡ None
+        → Judges
+        (first_broken
+        (apply_checks (scope_in unit) line operator (term_view operand.now)
+        (result_kind has_result))) None result }
 {
     let _operator = operator;
     if !is_known(own, operand) {

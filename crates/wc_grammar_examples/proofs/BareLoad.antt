@@ -15,8 +15,8 @@ use Rattle.wc_model.specs.declared.source.Section.TheVariants.{Input, Output, Ow
 use Rattle.wc_model.specs.declared.source.UnitKind.{UnitKind}
 use Rattle.wc_model.specs.declared.source.UnitKind.TheVariants.{FunctionBlock, Program}
 use Rattle.wc_model.specs.declared.value.Value.TheVariants.{Bool as BoolValue, Dint, Time}
-use Rattle.wc_model.proofs.Languages.{next_is, passed, given_are, ungroup}
-use Rattle.wc_model.proofs.LineStarts.{starting}
+use Rattle.wc_grammar_laws.proofs.Languages.{next_is, passed, given_are, ungroup}
+use Rattle.wc_grammar_laws.proofs.LineStarts.{starting}
 use Rattle.wc_grammar_examples.specs.Texts.{ident, end_of}
 use Rattle.wc_grammar_examples.proofs.Bodies.{apart, ending, no_front}
 use Rattle.wc_grammar_examples.specs.Faulty.{bare_load_before}

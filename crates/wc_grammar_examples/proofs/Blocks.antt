@@ -5,7 +5,7 @@ use Rattle.wc_model.specs.Language.Tree.{ProgramUnit}
 use Rattle.wc_model.specs.Text.Grammar.{units}
 use Rattle.wc_model.specs.Text.ReadingFaults.{IsMet, TooMany}
 use Rattle.wc_model.specs.declared.source.UnitKind.TheVariants.{Program}
-use Rattle.wc_model.proofs.Languages.{next, pass, regroup}
+use Rattle.wc_grammar_laws.proofs.Languages.{next, pass, regroup}
 use Rattle.wc_grammar_examples.specs.Texts.{ident, block_b}
 use Rattle.wc_grammar_examples.specs.Faulty.{blocks}
 

@@ -11,10 +11,11 @@ use Rattle.wc_model.specs.declared.operator.Operator.{Operator}
 use Rattle.wc_model.specs.declared.operator.Operator.TheVariants.{And, Andn}
 use Rattle.wc_model.specs.declared.source.Section.{Section}
 use Rattle.wc_model.specs.declared.source.UnitKind.{UnitKind}
-use Rattle.wc_model.proofs.Languages.{next_is, passed, many_are, ungroup}
-use Rattle.wc_model.proofs.LineStarts.{starting, lines_start}
-use Rattle.wc_model.proofs.OperatorWords.{is_operator_word, operator_is_word, operator_of_is_word}
-use Rattle.wc_model.proofs.Spelling.{same, differ}
+use Rattle.wc_grammar_laws.proofs.Languages.{next_is, passed, many_are, ungroup}
+use Rattle.wc_grammar_laws.proofs.LineStarts.{starting, lines_start}
+use Rattle.wc_grammar_laws.proofs.OperatorWords.{is_operator_word, operator_is_word, operator_of_is_word}
+use Rattle.wc_grammar_laws.specs.Words.{same}
+use Rattle.wc_grammar_laws.proofs.Spelling.{differ}
 use Rattle.wc_grammar_examples.specs.Texts.{ident, end_of, program_p}
 
 -- two names that a test tells apart

@@ -9,8 +9,8 @@ use Rattle.wc_model.specs.declared.source.Section.{Section}
 use Rattle.wc_model.specs.declared.source.Section.TheVariants.{Input, Output, Own}
 use Rattle.wc_model.specs.declared.source.UnitKind.{UnitKind}
 use Rattle.wc_model.specs.declared.source.UnitKind.TheVariants.{FunctionBlock, Program}
-use Rattle.wc_model.proofs.Languages.{next_is, passed, ungroup}
-use Rattle.wc_model.proofs.LineStarts.{starting}
+use Rattle.wc_grammar_laws.proofs.Languages.{next_is, passed, ungroup}
+use Rattle.wc_grammar_laws.proofs.LineStarts.{starting}
 use Rattle.wc_grammar_examples.specs.Texts.{ident}
 use Rattle.wc_grammar_examples.proofs.Bodies.{apart, no_operator, no_operator_of, ending, BeginsNothing, no_front}
 use Rattle.wc_grammar_examples.specs.Faulty.{jmpnc_before}

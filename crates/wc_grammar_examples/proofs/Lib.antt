@@ -3,4 +3,3 @@ pub mod Jmpnc
 pub mod BareLoad
 pub mod Loads
 pub mod Blocks
-pub mod Unique

@@ -6,7 +6,7 @@ use Rattle.wc_model.specs.Text.Limits.{line_count, depth, IsWithinLimits}
 use Rattle.wc_model.specs.Text.Grammar.{InBody, lines}
 use Rattle.wc_model.specs.Text.Positions.{Position, at_line, at_instruction}
 use Rattle.wc_model.specs.Text.ReadingFaults.{IsMet, TooMany}
-use Rattle.wc_model.proofs.Languages.{next, pass, more, regroup}
+use Rattle.wc_grammar_laws.proofs.Languages.{next, pass, more, regroup}
 use Rattle.wc_grammar_examples.specs.Texts.{ident, end_of, program_of}
 use Rattle.wc_grammar_examples.specs.Faulty.{load_true, loads, load_lines, program_of_loads}
 

@@ -3,7 +3,7 @@
 #![tactic(auto)]
 
 mod faults;
-mod laws;
+mod limits;
 mod spelled;
 
 pub use faults::{
@@ -14,10 +14,7 @@ pub use faults::{
     the_texts_end_behind_a_bracket, the_texts_end_behind_a_units_first_word,
     the_texts_end_behind_an_operator,
 };
-pub use laws::{
-    a_front_of_a_front_is_one, a_text_is_a_front, an_unexpected_token_spells_nothing,
-    as_many_lines_as_may_be, limits_hold_before_a_fault, lines_and_depth, one_first_fault,
-};
+pub use limits::{as_many_lines_as_may_be, lines_and_depth};
 pub use spelled::{
     a_call_on_two_lines, a_copy_of_one_bit, a_declaration_of_two_names, ampersands,
     calls_without_arguments, end_behind_the_name, labels_jumps_and_parentheses,

@@ -10,7 +10,9 @@ pub fn a_copy_of_one_bit()
 
 /// `PROGRAM P END_PROGRAM` on one line.
 pub fn end_behind_the_name()
-    ensures { Spells (ident (codes "PROGRAM") 1 ∷ ident (codes "P") 1 ∷ ident (codes "END_PROGRAM") 1 ∷ []) (program_of End ∷ []) }
+    ensures { Spells
+        (ident (codes "PROGRAM") 1 ∷ ident (codes "P") 1 ∷ ident (codes "END_PROGRAM") 1 ∷ [])
+        (program_of End ∷ []) }
 {}
 
 /// A jump, a parenthesis in the long and in the short form, a labelled line, and a label alone.
@@ -35,7 +37,10 @@ pub fn ampersands()
 
 /// `FUNCTION_BLOCK B END_FUNCTION_BLOCK PROGRAM P END_PROGRAM`: two units on one line.
 pub fn two_units_on_one_line()
-    ensures { Spells (block_tokens ++ ident (codes "PROGRAM") 1 ∷ ident (codes "P") 1 ∷ ident (codes "END_PROGRAM") 1 ∷ []) (block_b ∷ program_of End ∷ []) }
+    ensures { Spells
+        (block_tokens
+        ++ ident (codes "PROGRAM") 1 ∷ ident (codes "P") 1 ∷ ident (codes "END_PROGRAM") 1 ∷ [])
+        (block_b ∷ program_of End ∷ []) }
 {}
 
 /// `CAL t / / CAL t()`: without arguments the list may be left out, and an empty line is no line.

@@ -1,9 +1,9 @@
 -- Tokens that are put behind others: lines behind lines, a line behind a position, and the end of a parenthesis.
 use Rattle.std.proofs.Common.{◌≡◌, ℕ, List, [], ◌∷◌, ◌++◌, Option, ap, subst, append_assoc, append-nil, ◌∙◌, sym}
-use Rattle.wc_grammar_laws.proofs.LineMoves.{LineForm, LabelAlone, Instructs, Opens}
+use Rattle.wc_grammar_laws.specs.LineMoves.{LineForm, LabelAlone, Instructs, Opens}
 use Rattle.wc_grammar_laws.proofs.LineRests.{line_of}
-use Rattle.wc_grammar_laws.proofs.Moves.{behind_line, behind_closing, lines_and}
-use Rattle.wc_model.proofs.Languages.{joined, pass, ungroup, after}
+use Rattle.wc_grammar_laws.specs.Moves.{behind_line, behind_closing, lines_and}
+use Rattle.wc_grammar_laws.proofs.Languages.{joined, pass, ungroup, after}
 use Rattle.wc_model.specs.Text.Grammar.{Setting, InParentheses, HasContent, IsOn, label_in, line_ends, lines, opening, symbol}
 use Rattle.wc_model.specs.Text.Languages.{◌then◌, one}
 use Rattle.wc_model.specs.Text.Marks.{Mark, ClosingBracket, LineEnd, IsSymbol}

@@ -6,16 +6,16 @@ use Rattle.wc_grammar_laws.proofs.Exits.{Completed, IsOpening, NoOpens, complete
 use Rattle.wc_grammar_laws.proofs.InParentheses.{inside_is_told}
 use Rattle.wc_grammar_laws.proofs.InUnit.{Split, split_closed, split_line, split_on, split_section, split_unnamed, stops_in_unit}
 use Rattle.wc_grammar_laws.proofs.Judged.{same_end}
-use Rattle.wc_grammar_laws.proofs.LineMoves.{LineForm, LabelAlone, Instructs, Opens, Begun, OfStep, OfOpening, OfArgument, LineState, Bracketed, Named, Pointed, BracketedWith}
+use Rattle.wc_grammar_laws.specs.LineMoves.{LineForm, LabelAlone, Instructs, Opens, Begun, OfStep, OfOpening, OfArgument, LineState, Bracketed, Named, Pointed, BracketedWith}
 use Rattle.wc_grammar_laws.proofs.LineRests.{line_of, rest_of}
 use Rattle.wc_grammar_laws.proofs.LineSound.{mark_on}
-use Rattle.wc_grammar_laws.proofs.Moves.{State, Outside, Unnamed, Declaring, AtLine, OnLine, Closed, Met, at_end, at_first, has_program, open_in, open_on, walk}
+use Rattle.wc_grammar_laws.specs.Moves.{State, Outside, Unnamed, Declaring, AtLine, OnLine, Closed, Met, at_end, at_first, has_program, open_in, open_on, walk}
 use Rattle.wc_grammar_laws.proofs.Orders.{IsOpen, Ordered, all_blocks, open_is}
 use Rattle.wc_grammar_laws.proofs.Stops.{opening_ends}
 use Rattle.wc_grammar_laws.proofs.Told.{BehindClosing, Exact, InLine, PartOpened, Told}
 use Rattle.wc_grammar_laws.proofs.WalkedLines.{not_complete}
 use Rattle.wc_grammar_laws.proofs.WalkedUnits.{units_walked}
-use Rattle.wc_model.proofs.Languages.{joined, next, pass, ungroup}
+use Rattle.wc_grammar_laws.proofs.Languages.{joined, next, pass, ungroup}
 use Rattle.wc_model.specs.Text.Grammar.{InParentheses, IsOn, bracket, head, label_in, lines, operand, symbol, units}
 use Rattle.wc_model.specs.Text.Keywords.{not_word}
 use Rattle.wc_model.specs.Text.Languages.{◌then◌, ◌or◌, begun, one, optional, unfinished}

@@ -1,6 +1,6 @@
 -- What tokens complete a section of declarations from a place in it. Line ends are passed over, and stand in none of these.
 use Rattle.std.specs.Prelude.{◌≡◌, List, [], ◌∷◌, ◌++◌, Some}
-use Rattle.wc_grammar_laws.proofs.Moves.{InDeclaration, Undeclared, BehindNames, BehindComma, BehindColon, BehindType, BehindAssign, BehindValue}
+use Rattle.wc_grammar_laws.specs.Moves.{InDeclaration, Undeclared, BehindNames, BehindComma, BehindColon, BehindType, BehindAssign, BehindValue}
 use Rattle.wc_model.specs.Text.Grammar.{symbol, declaration, initial_value, IsLiteral, IsOn}
 use Rattle.wc_model.specs.Text.Languages.{Language, nothing, one, ◌then◌, optional, each}
 use Rattle.wc_model.specs.Text.Marks.{Mark, Comma, Colon, Semicolon, IsWord}

@@ -2,12 +2,12 @@
 use Rattle.std.proofs.Common.{◌≡◌, ◌≢◌, ℕ, Bool, true, false, List, [], ◌∷◌, ◌++◌, Option, Some, None, refl, ap, subst, append_assoc, append-nil, if◌then◌else◌, ◌∙◌, sym, inl, inr}
 use Rattle.wc_grammar_laws.proofs.DeclarationRests.{declarations_of, from_end, from_type, declared_rest}
 use Rattle.wc_grammar_laws.proofs.LineSound.{mark_on}
-use Rattle.wc_grammar_laws.proofs.Moves.{InDeclaration, Undeclared, BehindNames, BehindComma, BehindColon, BehindType, BehindAssign, BehindValue, State, AtLine, Declaring, at_value, body_start, declaration_move}
+use Rattle.wc_grammar_laws.specs.Moves.{InDeclaration, Undeclared, BehindNames, BehindComma, BehindColon, BehindType, BehindAssign, BehindValue, State, AtLine, Declaring, at_value, body_start, declaration_move}
 use Rattle.wc_grammar_laws.proofs.WalkedDeclarations.{unit_and}
 use Rattle.wc_grammar_laws.proofs.WordLaws.{same_is, truth_found}
-use Rattle.wc_grammar_laws.proofs.Words.{found, literal_of, truth_value, truths}
-use Rattle.wc_model.proofs.Languages.{next, pass, regroup, after}
-use Rattle.wc_model.proofs.Spelling.{same}
+use Rattle.wc_grammar_laws.specs.Words.{found, literal_of, truth_value, truths}
+use Rattle.wc_grammar_laws.proofs.Languages.{next, pass, regroup, after}
+use Rattle.wc_grammar_laws.specs.Words.{same}
 use Rattle.wc_model.specs.Text.Grammar.{declared_names, identifier, initial_value, symbol, IsLiteral}
 use Rattle.wc_model.specs.Text.Keywords.{end_var}
 use Rattle.wc_model.specs.Text.Languages.{◌then◌, optional}

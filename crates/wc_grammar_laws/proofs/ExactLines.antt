@@ -1,12 +1,12 @@
 -- The walk on a line keeps what stands before and behind its operator.
 use Rattle.std.proofs.Common.{◌≡◌, ℕ, Bool, true, false, List, [], ◌∷◌, ◌++◌, Option, Some, None, refl, ap, append_assoc, append-nil, subst, if◌then◌else◌, ◌∙◌, sym}
-use Rattle.wc_grammar_laws.proofs.LineMoves.{Begun, Listed, OperandOf, OfStep, OfOpening, OfArgument, InList, AtFirst, AtNext, AtAssign, AtValue, AtEnd, LineState, Start, Worded, Labelled, Operated, Jumped, Called, Instanced, Listing, Bracketed, Named, Pointed, Stepped, BracketedWith, Ended, at_bracketed, at_field, at_labelled, at_list, at_operand, at_operated, at_operator, at_start, at_start_in, behind_name, behind_operand, behind_operator, line_move, name_or_literal, operator_or_label, simple_operator}
+use Rattle.wc_grammar_laws.specs.LineMoves.{Begun, Listed, OperandOf, OfStep, OfOpening, OfArgument, InList, AtFirst, AtNext, AtAssign, AtValue, AtEnd, LineState, Start, Worded, Labelled, Operated, Jumped, Called, Instanced, Listing, Bracketed, Named, Pointed, Stepped, BracketedWith, Ended, at_bracketed, at_field, at_labelled, at_list, at_operand, at_operated, at_operator, at_start, at_start_in, behind_name, behind_operand, behind_operator, line_move, name_or_literal, operator_or_label, simple_operator}
 use Rattle.wc_grammar_laws.proofs.Appending.{append_last}
 use Rattle.wc_grammar_laws.proofs.LineSound.{AllowsFrom, mark_on}
 use Rattle.wc_grammar_laws.proofs.Told.{Exact, PartOpened}
 use Rattle.wc_grammar_laws.proofs.WordLaws.{is_operator}
-use Rattle.wc_grammar_laws.proofs.Words.{Operating, Applies, Operation, Operates, Negates, Jumps, Calls, Returns, found, is_transfer, operation_of, operations, truths}
-use Rattle.wc_model.proofs.Languages.{joined}
+use Rattle.wc_grammar_laws.specs.Words.{Operating, Applies, Operation, Operates, Negates, Jumps, Calls, Returns, found, is_transfer, operation_of, operations, truths}
+use Rattle.wc_grammar_laws.proofs.Languages.{joined}
 use Rattle.wc_model.specs.Text.Grammar as grammar
 use Rattle.wc_model.specs.Text.Grammar.{IsOn, IsOperator, Setting, InBody, InParentheses, label_in, operand}
 use Rattle.wc_model.specs.Text.Languages.{◌then◌, one, optional}

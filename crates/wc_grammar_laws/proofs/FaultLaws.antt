@@ -5,7 +5,7 @@ use Rattle.wc_grammar_laws.proofs.AtEnds.{at_end_met}
 use Rattle.wc_grammar_laws.proofs.Orders.{Ordered}
 use Rattle.wc_grammar_laws.proofs.InParentheses.{inside_is_told}
 use Rattle.wc_grammar_laws.proofs.Judged.{Judged, judged, same_end}
-use Rattle.wc_grammar_laws.proofs.Moves.{State, Outside, Met, at_end, at_first, colon_next, has_program, is_colon, judge, move, reading, walk}
+use Rattle.wc_grammar_laws.specs.Moves.{State, Outside, Met, at_end, at_first, colon_next, has_program, is_colon, judge, move, reading, walk}
 use Rattle.wc_grammar_laws.proofs.Readings.{ended_at, outcome, program_in, read_all, read_is_spelled, refused_is_first, walk_parts}
 use Rattle.wc_grammar_laws.proofs.Told.{Told}
 use Rattle.wc_grammar_laws.proofs.ToldOn.{told_behind, told_first}

@@ -2,15 +2,15 @@
 use Rattle.std.proofs.Common.{◌≡◌, ℕ, false, List, [], ◌∷◌, ◌++◌, Option, Some, refl, ap, subst, if◌then◌else◌, ◌∙◌, sym, inl, inr}
 use Rattle.std.specs.Prelude.{◌⊎◌, Err}
 use Rattle.wc_grammar_laws.proofs.Judged.{operator_walked, same_end}
-use Rattle.wc_grammar_laws.proofs.LineMoves.{LineForm, Instructs, Opens, Begun, Bracketed, Operated}
+use Rattle.wc_grammar_laws.specs.LineMoves.{LineForm, Instructs, Opens, Begun, Bracketed, Operated}
 use Rattle.wc_grammar_laws.proofs.LineRests.{line_of}
 use Rattle.wc_grammar_laws.proofs.LineStart.{bracket_no_colon}
-use Rattle.wc_grammar_laws.proofs.Moves.{State, AtLine, OnLine, Closed, at_first, behind_closing, behind_line, colon_next, move, open_in, walk}
+use Rattle.wc_grammar_laws.specs.Moves.{State, AtLine, OnLine, Closed, at_first, behind_closing, behind_line, colon_next, move, open_in, walk}
 use Rattle.wc_grammar_laws.proofs.Stops.{EndsInParentheses, inside_begins, line_stays, on_line_ends, opening_ends, opening_stays}
 use Rattle.wc_grammar_laws.proofs.WalkedLines.{closing_walked, line_walked, lines_walked, walk_on, walk_then, with_lines}
 use Rattle.wc_grammar_laws.proofs.WalkedUnits.{at_line_walked, plain}
-use Rattle.wc_grammar_laws.proofs.Words.{Applies}
-use Rattle.wc_model.proofs.Languages.{after, next_is, both_empty, regroup, ungroup}
+use Rattle.wc_grammar_laws.specs.Words.{Applies}
+use Rattle.wc_grammar_laws.proofs.Languages.{after, next_is, both_empty, regroup, ungroup}
 use Rattle.wc_model.specs.Text.Grammar.{InParentheses, IsOn, IsOperator, bracket, head, label_in, lines, operand, symbol, units}
 use Rattle.wc_model.specs.Text.Languages.{◌then◌, one, optional, unfinished}
 use Rattle.wc_model.specs.Text.Marks.{ClosingBracket, IsSymbol, LineEnd, Mark, OpeningBracket}

@@ -2,13 +2,13 @@
 use Rattle.std.proofs.Common.{◌≡◌, ℕ, false, List, [], ◌∷◌, ◌++◌, Some, refl, ap, subst, append_assoc, append-nil, ◌∙◌, sym, inl, inr}
 use Rattle.wc_grammar_laws.proofs.Appending.{append_last}
 use Rattle.wc_grammar_laws.proofs.Exits.{Exits, exits_closed, exits_line, exits_on, exits_unnamed, section_exits}
-use Rattle.wc_grammar_laws.proofs.LineMoves.{LineState}
+use Rattle.wc_grammar_laws.specs.LineMoves.{LineState}
 use Rattle.wc_grammar_laws.proofs.LineSound.{mark_on}
-use Rattle.wc_grammar_laws.proofs.Moves.{InDeclaration, State, Unnamed, Declaring, AtLine, OnLine, Closed, body_start}
+use Rattle.wc_grammar_laws.specs.Moves.{InDeclaration, State, Unnamed, Declaring, AtLine, OnLine, Closed, body_start}
 use Rattle.wc_grammar_laws.proofs.Orders.{IsOpen, open_is}
 use Rattle.wc_grammar_laws.proofs.Told.{BehindClosing, Exact, InLine, InSection, Told}
 use Rattle.wc_grammar_laws.proofs.ToldOn.{told_behind}
-use Rattle.wc_model.proofs.Languages.{joined, many_are, next_is, pass, passed, both_empty, ungroup}
+use Rattle.wc_grammar_laws.proofs.Languages.{joined, many_are, next_is, pass, passed, both_empty, ungroup}
 use Rattle.wc_model.specs.Text.Grammar.{IsOn, head, identifier, lines, unit_of, units}
 use Rattle.wc_model.specs.Text.Keywords.{end_word, unit_word}
 use Rattle.wc_model.specs.Text.Languages.{◌then◌, one}

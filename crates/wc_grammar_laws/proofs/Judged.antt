@@ -4,16 +4,16 @@ use Rattle.std.proofs.lemmas.Bool.Decides.{nat_tests}
 use Rattle.std.proofs.lemmas.List.Folds.{list_any-from_Any}
 use Rattle.std.specs.Prelude.{◌⊎◌, ◌&&◌, Any, nat_le, is_some}
 use Rattle.wc_grammar_laws.proofs.LineComplete.{Leads, labelled_operator, named, word_is}
-use Rattle.wc_grammar_laws.proofs.LineMoves.{Opens, Labelled, Operated, Worded}
+use Rattle.wc_grammar_laws.specs.LineMoves.{Opens, Labelled, Operated, Worded}
 use Rattle.wc_grammar_laws.proofs.LineSound.{mark_on}
 use Rattle.wc_grammar_laws.proofs.LineStart.{taken}
-use Rattle.wc_grammar_laws.proofs.Moves.{State, Outside, AtLine, OnLine, at_first, begins_transfer, begun_line, colon_next, has_content, has_name, has_program, is_colon, is_full, is_identifier, is_program, judge, judge_closing, judge_line, judge_operator, judge_unit, Met, met_if, met_or, move, start_move, walk}
+use Rattle.wc_grammar_laws.specs.Moves.{State, Outside, AtLine, OnLine, at_first, begins_transfer, begun_line, colon_next, has_content, has_name, has_program, is_colon, is_full, is_identifier, is_program, judge, judge_closing, judge_line, judge_operator, judge_unit, Met, met_if, met_or, move, start_move, walk}
 use Rattle.wc_grammar_laws.proofs.WalkedLines.{begins, walk_on, walk_then}
 use Rattle.wc_grammar_laws.proofs.WalkedUnits.{at_line_walked, plain, units_walked, unit_found}
 use Rattle.wc_grammar_laws.proofs.WordLaws.{is_same, operator_is, step_begins, operation_in}
-use Rattle.wc_grammar_laws.proofs.Words.{Applies, Operation, Operates, found, is_transfer, operation_of, unit_kinds}
-use Rattle.wc_model.proofs.Languages.{both_empty, next, next_is, pass}
-use Rattle.wc_model.proofs.Spelling.{same}
+use Rattle.wc_grammar_laws.specs.Words.{Applies, Operation, Operates, found, is_transfer, operation_of, unit_kinds}
+use Rattle.wc_grammar_laws.proofs.Languages.{both_empty, next, next_is, pass}
+use Rattle.wc_grammar_laws.specs.Words.{same}
 use Rattle.wc_model.specs.Text.Grammar.{HasContent, InBody, IsOn, IsOperator, IsTransfer, label_in, units}
 use Rattle.wc_model.specs.Text.Keywords.{end_word, unit_word}
 use Rattle.wc_model.specs.Text.Languages.{◌then◌, one}

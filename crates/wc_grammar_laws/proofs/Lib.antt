@@ -1,7 +1,9 @@
-pub mod Words
+pub mod Languages
+pub mod Spelling
+pub mod LineStarts
+pub mod OperatorWords
+pub mod FrontLaws
 pub mod WordLaws
-pub mod LineMoves
-pub mod Moves
 pub mod LineRests
 pub mod Skipping
 pub mod LineSound
@@ -30,3 +32,4 @@ pub mod WithinOn
 pub mod WithinBack
 pub mod Readings
 pub mod FaultLaws
+pub mod Unique

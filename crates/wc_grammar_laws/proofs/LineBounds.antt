@@ -2,9 +2,9 @@
 use Rattle.std.proofs.Common.{◌≡◌, ◌≢◌, ℕ, Bool, true, false, List, Option, Some, None, refl, ap, subst, if◌then◌else◌, sym, inl, inr, arith, ◌⊎◌}
 use Rattle.std.specs.Prelude.{is_some}
 use Rattle.wc_grammar_laws.proofs.Bounds.{Within, PositionWithin, counted, ended_was_within, ended_within, opened}
-use Rattle.wc_grammar_laws.proofs.LineMoves.{Begun, Listed, InList, AtFirst, AtNext, AtAssign, AtValue, AtEnd, OperandOf, OfStep, OfOpening, OfArgument, LineState, Start, Worded, Labelled, Operated, Jumped, Called, Instanced, Listing, Bracketed, Named, Pointed, Stepped, BracketedWith, Ended, at_bracketed, at_field, at_labelled, at_list, at_operand, at_operated, at_operator, at_start, behind_name, behind_operand, behind_operator, line_move, name_or_literal, operator_or_label, simple_operator}
-use Rattle.wc_grammar_laws.proofs.Moves.{State, begun_line}
-use Rattle.wc_grammar_laws.proofs.Words.{Operating, Loads, Stores, Applies, Operation, Operates, Negates, Jumps, Calls, Returns, found, is_transfer, operation_of, operations, truths}
+use Rattle.wc_grammar_laws.specs.LineMoves.{Begun, Listed, InList, AtFirst, AtNext, AtAssign, AtValue, AtEnd, OperandOf, OfStep, OfOpening, OfArgument, LineState, Start, Worded, Labelled, Operated, Jumped, Called, Instanced, Listing, Bracketed, Named, Pointed, Stepped, BracketedWith, Ended, at_bracketed, at_field, at_labelled, at_list, at_operand, at_operated, at_operator, at_start, behind_name, behind_operand, behind_operator, line_move, name_or_literal, operator_or_label, simple_operator}
+use Rattle.wc_grammar_laws.specs.Moves.{State, begun_line}
+use Rattle.wc_grammar_laws.specs.Words.{Operating, Loads, Stores, Applies, Operation, Operates, Negates, Jumps, Calls, Returns, found, is_transfer, operation_of, operations, truths}
 use Rattle.wc_model.specs.Text.Grammar.{Setting}
 use Rattle.wc_model.specs.Text.Marks.{Symbol, Identifier, Whole, Duration, Truth, Direct, OpeningBracket, ClosingBracket, Comma, Colon, Point, Assign, LineEnd}
 use Rattle.wc_model.specs.Language.Names.{Name, name_of}

@@ -1,7 +1,7 @@
 -- What tokens complete a line that has begun: for each place of the walk on a line, the token lists that go on from there to a form.
 use Rattle.std.specs.Prelude.{◌≡◌, List, [], ◌∷◌, ◌++◌, Option, Some, ◌⊎◌}
-use Rattle.wc_grammar_laws.proofs.LineMoves.{LineForm, LabelAlone, Instructs, Opens, Begun, Listed, OperandOf, OfStep, OfOpening, OfArgument, InList, AtFirst, AtNext, AtAssign, AtValue, AtEnd, LineState, Start, Worded, Labelled, Operated, Jumped, Called, Instanced, Listing, Bracketed, Named, Pointed, Stepped, BracketedWith, Ended}
-use Rattle.wc_grammar_laws.proofs.Words.{Applies, step_of}
+use Rattle.wc_grammar_laws.specs.LineMoves.{LineForm, LabelAlone, Instructs, Opens, Begun, Listed, OperandOf, OfStep, OfOpening, OfArgument, InList, AtFirst, AtNext, AtAssign, AtValue, AtEnd, LineState, Start, Worded, Labelled, Operated, Jumped, Called, Instanced, Listing, Bracketed, Named, Pointed, Stepped, BracketedWith, Ended}
+use Rattle.wc_grammar_laws.specs.Words.{Applies, step_of}
 use Rattle.wc_model.specs.Text.Grammar.{symbol, identifier, operand, argument, call_list, instruction, opening, Setting, MayStand, label_in}
 use Rattle.wc_model.specs.Text.Languages.{Language, nothing, empty, ◌then◌, ◌given◌, optional, each, separated, skipping}
 use Rattle.wc_model.specs.Text.Marks.{Mark, OpeningBracket, ClosingBracket, Comma, Colon, Point, Assign, LineEnd, is_line_end}

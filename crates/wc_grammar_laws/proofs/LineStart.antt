@@ -1,13 +1,13 @@
 -- The first token of a line is taken by the walk.
 use Rattle.std.proofs.Common.{◌≡◌, ℕ, Bool, false, List, [], ◌∷◌, Some, None, refl, ap, subst, if◌then◌else◌, ◌∙◌, sym, inl, inr}
 use Rattle.wc_grammar_laws.proofs.LineComplete.{Leads, end_is, behind_step, step_parts, opening_parts}
-use Rattle.wc_grammar_laws.proofs.LineMoves.{LineForm, LabelAlone, Instructs, Opens, Worded, at_operator, behind_operator, operator_or_label, at_start, simple_operator, at_start_in}
+use Rattle.wc_grammar_laws.specs.LineMoves.{LineForm, LabelAlone, Instructs, Opens, Worded, at_operator, behind_operator, operator_or_label, at_start, simple_operator, at_start_in}
 use Rattle.wc_grammar_laws.proofs.LineRests.{line_of, labelled_rest, rest_of}
 use Rattle.wc_grammar_laws.proofs.LineSound.{mark_on}
-use Rattle.wc_grammar_laws.proofs.Moves.{is_colon, colon_next}
+use Rattle.wc_grammar_laws.specs.Moves.{is_colon, colon_next}
 use Rattle.wc_grammar_laws.proofs.WordLaws.{operation_in}
-use Rattle.wc_grammar_laws.proofs.Words.{Applies, Operation, Operates, is_transfer, operation_of}
-use Rattle.wc_model.proofs.Languages.{next_is, passed, both_empty, given_are, ungroup, after}
+use Rattle.wc_grammar_laws.specs.Words.{Applies, Operation, Operates, is_transfer, operation_of}
+use Rattle.wc_grammar_laws.proofs.Languages.{next_is, passed, both_empty, given_are, ungroup, after}
 use Rattle.wc_model.specs.Text.Grammar as grammar
 use Rattle.wc_model.specs.Text.Grammar.{operand, call_list, instruction, operands_of, IsLiteral, Setting, InBody, InParentheses, MayStand}
 use Rattle.wc_model.specs.Text.Languages.{◌then◌}

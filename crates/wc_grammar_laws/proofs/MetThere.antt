@@ -5,14 +5,14 @@ use Rattle.std.proofs.lemmas.List.Folds.{Any-from_list_any}
 use Rattle.std.specs.Prelude.{◌&&◌, Any, nat_le, is_some}
 use Rattle.wc_grammar_laws.proofs.Appending.{with_nothing}
 use Rattle.wc_grammar_laws.proofs.ExactLines.{one_operator}
-use Rattle.wc_grammar_laws.proofs.LineMoves.{Begun, LineState, Labelled, Operated}
+use Rattle.wc_grammar_laws.specs.LineMoves.{Begun, LineState, Labelled, Operated}
 use Rattle.wc_grammar_laws.proofs.LineSound.{mark_on}
-use Rattle.wc_grammar_laws.proofs.Moves.{State, Outside, AtLine, OnLine, begins_transfer, colon_next, has_content, has_name, has_program, is_colon, is_full, is_identifier, is_program, judge, judge_closing, judge_line, judge_on_line, judge_operator, judge_unit, Met, met_if, met_or}
+use Rattle.wc_grammar_laws.specs.Moves.{State, Outside, AtLine, OnLine, begins_transfer, colon_next, has_content, has_name, has_program, is_colon, is_full, is_identifier, is_program, judge, judge_closing, judge_line, judge_on_line, judge_operator, judge_unit, Met, met_if, met_or}
 use Rattle.wc_grammar_laws.proofs.Told.{InLine, Told}
 use Rattle.wc_grammar_laws.proofs.WalkedUnits.{colon_is}
 use Rattle.wc_grammar_laws.proofs.WordLaws.{found_unit_kind, is_operator_of, operation_in, same_is}
-use Rattle.wc_grammar_laws.proofs.Words.{Loads, Stores, Applies, Operation, Operates, Negates, Jumps, Calls, Returns, found, is_transfer, operation_of, unit_kinds}
-use Rattle.wc_model.proofs.Languages.{before, joined}
+use Rattle.wc_grammar_laws.specs.Words.{Loads, Stores, Applies, Operation, Operates, Negates, Jumps, Calls, Returns, found, is_transfer, operation_of, unit_kinds}
+use Rattle.wc_grammar_laws.proofs.Languages.{before, joined}
 use Rattle.wc_model.specs.Text.Grammar.{HasContent, IsOn, IsOperator, IsOperatorOf, IsTransfer, label_in, units}
 use Rattle.wc_model.specs.Text.Keywords.{end_word, unit_word}
 use Rattle.wc_model.specs.Text.Languages.{◌then◌, one}

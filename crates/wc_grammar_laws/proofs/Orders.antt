@@ -2,12 +2,12 @@
 use Rattle.std.proofs.Common.{◌≡◌, ◌≢◌, ℕ, Bool, true, false, List, [], ◌∷◌, length, Option, Some, None, refl, subst, if◌then◌else◌, inl, inr}
 use Rattle.std.specs.Prelude.{◌⊎◌, option_map, ◌||◌, nat_le}
 use Rattle.wc_grammar_laws.proofs.Exits.{AreBlocks, Finishing, blocks_and, exits_closed, exits_line, exits_on, exits_unnamed, finishes_blocks, finishes_text, finishing_exit, program_last, section_exits}
-use Rattle.wc_grammar_laws.proofs.LineMoves.{LineForm, LabelAlone, Instructs, Opens, LineState, Start, Ended, line_move}
-use Rattle.wc_grammar_laws.proofs.Moves.{State, Outside, Unnamed, Declaring, AtLine, OnLine, Closed, InDeclaration, Undeclared, BehindNames, BehindComma, BehindColon, BehindType, BehindAssign, BehindValue, Met, at_value, begun_line, behind_closing, behind_line, behind_unit, body_move, body_start, declaration_move, has_content, has_program, is_program, judge, judge_unit, met_if, met_or, move, section_begun, section_or_line, start_move, unit_with}
+use Rattle.wc_grammar_laws.specs.LineMoves.{LineForm, LabelAlone, Instructs, Opens, LineState, Start, Ended, line_move}
+use Rattle.wc_grammar_laws.specs.Moves.{State, Outside, Unnamed, Declaring, AtLine, OnLine, Closed, InDeclaration, Undeclared, BehindNames, BehindComma, BehindColon, BehindType, BehindAssign, BehindValue, Met, at_value, begun_line, behind_closing, behind_line, behind_unit, body_move, body_start, declaration_move, has_content, has_program, is_program, judge, judge_unit, met_if, met_or, move, section_begun, section_or_line, start_move, unit_with}
 use Rattle.wc_grammar_laws.proofs.Told.{Exact, Told}
 use Rattle.wc_grammar_laws.proofs.ToldOn.{told_behind}
-use Rattle.wc_grammar_laws.proofs.Words.{found, literal_of, unit_kinds}
-use Rattle.wc_model.proofs.Spelling.{same}
+use Rattle.wc_grammar_laws.specs.Words.{found, literal_of, unit_kinds}
+use Rattle.wc_grammar_laws.specs.Words.{same}
 use Rattle.wc_model.specs.Text.Grammar.{InBody, InParentheses, IsFront, IsProgramLast}
 use Rattle.wc_model.specs.Text.Keywords.{end_var, end_word}
 use Rattle.wc_model.specs.Text.Marks.{ClosingBracket, Identifier, LineEnd, Mark, Symbol, Comma, Colon, Semicolon, Assign}

@@ -5,9 +5,9 @@ use Rattle.wc_grammar_laws.proofs.AtEnds.{at_end_met}
 use Rattle.wc_grammar_laws.proofs.Bounds.{Within}
 use Rattle.wc_grammar_laws.proofs.Exits.{AreBlocks}
 use Rattle.wc_grammar_laws.proofs.Judged.{Judged, judged, same_end}
-use Rattle.wc_grammar_laws.proofs.LineMoves.{LineState, Start, Worded, Labelled, Operated, Jumped, Called, Instanced, Listing, Bracketed, Named, Pointed, Stepped, BracketedWith, line_move}
+use Rattle.wc_grammar_laws.specs.LineMoves.{LineState, Start, Worded, Labelled, Operated, Jumped, Called, Instanced, Listing, Bracketed, Named, Pointed, Stepped, BracketedWith, line_move}
 use Rattle.wc_grammar_laws.proofs.MetThere.{IsThere, there}
-use Rattle.wc_grammar_laws.proofs.Moves.{State, Outside, Unnamed, Declaring, AtLine, OnLine, Closed, Met, at_end, at_first, begun_line, body_move, colon_next, has_program, is_colon, is_program, judge, move, reading, start_move, walk, section_or_line, section_begun, behind_unit}
+use Rattle.wc_grammar_laws.specs.Moves.{State, Outside, Unnamed, Declaring, AtLine, OnLine, Closed, Met, at_end, at_first, begun_line, body_move, colon_next, has_program, is_colon, is_program, judge, move, reading, start_move, walk, section_or_line, section_begun, behind_unit}
 use Rattle.wc_grammar_laws.proofs.Orders.{Ordered, OrderedNext, front, ordered_on}
 use Rattle.wc_grammar_laws.proofs.Told.{Exact, Keeps, Told}
 use Rattle.wc_grammar_laws.proofs.ToldOn.{told_first, told_on}
@@ -15,7 +15,7 @@ use Rattle.wc_grammar_laws.proofs.WalkedLines.{next_of_both, walk_on, walk_then}
 use Rattle.wc_grammar_laws.proofs.WalkedUnits.{colon_is, units_walked}
 use Rattle.wc_grammar_laws.proofs.WithinBack.{Good, WasGood, no_program, was_good}
 use Rattle.wc_grammar_laws.proofs.WithinOn.{GoesWithin, HasBegun, RejectsColon, within_on}
-use Rattle.wc_model.proofs.Spelling.{same}
+use Rattle.wc_grammar_laws.specs.Words.{same}
 use Rattle.wc_model.specs.Text.Grammar.{IsFront, IsProgramLast, Setting, Spells, units}
 use Rattle.wc_model.specs.Text.Keywords.{end_word}
 use Rattle.wc_model.specs.Text.Limits.{IsWithinLimits}

@@ -3,13 +3,13 @@ use Rattle.std.proofs.Common.{◌≡◌, ◌≢◌, ℕ, Bool, false, List, [], 
 use Rattle.std.specs.Prelude.{Err}
 use Rattle.wc_grammar_laws.proofs.Exits.{IsOpening}
 use Rattle.wc_grammar_laws.proofs.LineComplete.{Leads, move_led}
-use Rattle.wc_grammar_laws.proofs.LineMoves.{at_bracketed, at_field, at_operand, name_or_literal, LineForm, Begun, OfStep, OfOpening, OfArgument, LineState, Bracketed, Named, Pointed, BracketedWith, Ended, at_start_in, line_move}
+use Rattle.wc_grammar_laws.specs.LineMoves.{at_bracketed, at_field, at_operand, name_or_literal, LineForm, Begun, OfStep, OfOpening, OfArgument, LineState, Bracketed, Named, Pointed, BracketedWith, Ended, at_start_in, line_move}
 use Rattle.wc_grammar_laws.proofs.LineRests.{line_of, rest_of}
 use Rattle.wc_grammar_laws.proofs.LineStart.{start_led}
-use Rattle.wc_grammar_laws.proofs.Moves.{State, AtLine, OnLine, begun_line, at_end, colon_next, move, on_line, open_in, start_move}
+use Rattle.wc_grammar_laws.specs.Moves.{State, AtLine, OnLine, begun_line, at_end, colon_next, move, on_line, open_in, start_move}
 use Rattle.wc_grammar_laws.proofs.Orders.{IsOpen}
 use Rattle.wc_grammar_laws.proofs.WalkedLines.{begins, walk_on}
-use Rattle.wc_grammar_laws.proofs.Words.{found, truths}
+use Rattle.wc_grammar_laws.specs.Words.{found, truths}
 use Rattle.wc_model.specs.Text.Grammar.{Setting}
 use Rattle.wc_model.specs.Text.Marks.{Direct, Duration, Identifier, LineEnd, Mark, Point, Symbol, Truth, Whole}
 use Rattle.wc_model.specs.Language.Names.{Name, name_of}

@@ -3,13 +3,13 @@ use Rattle.std.proofs.Common.{◌≡◌, ℕ, List, [], ◌∷◌, ◌++◌, Opt
 use Rattle.std.specs.Prelude.{flat_map, option_map}
 use Rattle.wc_grammar_laws.proofs.Appending.{append_last, with_nothing}
 use Rattle.wc_grammar_laws.proofs.DeclarationRests.{declarations_of, declared_rest}
-use Rattle.wc_grammar_laws.proofs.LineMoves.{LineForm, Begun, OfOpening, LineState, Start, Worded, Labelled, Operated, Bracketed, Named, Pointed, BracketedWith}
+use Rattle.wc_grammar_laws.specs.LineMoves.{LineForm, Begun, OfOpening, LineState, Start, Worded, Labelled, Operated, Bracketed, Named, Pointed, BracketedWith}
 use Rattle.wc_grammar_laws.proofs.LineRests.{line_of, rest_of}
 use Rattle.wc_grammar_laws.proofs.LineSound.{mark_on}
-use Rattle.wc_grammar_laws.proofs.Moves.{InDeclaration, Undeclared, State, Outside, Unnamed, Declaring, AtLine, OnLine, Closed, behind_closing, body_start, named_unit}
+use Rattle.wc_grammar_laws.specs.Moves.{InDeclaration, Undeclared, State, Outside, Unnamed, Declaring, AtLine, OnLine, Closed, behind_closing, body_start, named_unit}
 use Rattle.wc_grammar_laws.proofs.WordLaws.{found_unit_kind}
-use Rattle.wc_grammar_laws.proofs.Words.{Operates, found, operation_of, unit_kinds}
-use Rattle.wc_model.proofs.Languages.{joined, pass, ungroup, after}
+use Rattle.wc_grammar_laws.specs.Words.{Operates, found, operation_of, unit_kinds}
+use Rattle.wc_grammar_laws.proofs.Languages.{joined, pass, ungroup, after}
 use Rattle.wc_model.specs.Text.Grammar.{Group, HasContent, InBody, IsOn, Setting, bracket, head, identifier, label_in, line_ends, operand, section_of, sections, symbol, units}
 use Rattle.wc_model.specs.Text.Keywords.{end_var, section_word, unit_word}
 use Rattle.wc_model.specs.Text.Languages.{◌then◌, each, one, optional, skipping}

@@ -4,17 +4,17 @@ use Rattle.wc_grammar_laws.proofs.Appending.{append_last, position_behind_closin
 use Rattle.wc_grammar_laws.proofs.DeclarationRests.{declarations_of, declared_rest}
 use Rattle.wc_grammar_laws.proofs.DeclarationSound.{DeclarationAllows, SectionAllows, section_allowed}
 use Rattle.wc_grammar_laws.proofs.ExactLines.{ExactNext, exact_at_start, exact_move}
-use Rattle.wc_grammar_laws.proofs.LineMoves.{LineState, Start, Ended, line_move}
+use Rattle.wc_grammar_laws.specs.LineMoves.{LineState, Start, Ended, line_move}
 use Rattle.wc_grammar_laws.proofs.LineRests.{line_of}
 use Rattle.wc_grammar_laws.proofs.LineSound.{Allows, AllowsFrom, FromStart, mark_on, move_allowed, start_move_allowed}
-use Rattle.wc_grammar_laws.proofs.Moves.{InDeclaration, State, Outside, Unnamed, Declaring, AtLine, OnLine, Closed, at_first, begun_line, behind_closing, behind_line, behind_unit, body_move, colon_next, declaration_move, has_content, inside_move, move, section_begun, section_or_line, start_move, unit_with, walk}
+use Rattle.wc_grammar_laws.specs.Moves.{InDeclaration, State, Outside, Unnamed, Declaring, AtLine, OnLine, Closed, at_first, begun_line, behind_closing, behind_line, behind_unit, body_move, colon_next, declaration_move, has_content, inside_move, move, section_begun, section_or_line, start_move, unit_with, walk}
 use Rattle.wc_grammar_laws.proofs.Skipping.{kept}
 use Rattle.wc_grammar_laws.proofs.Told.{BehindClosing, Exact, InLine, InSection, Keeps, Told, name_kept, outside_end, section_done, unit_kept}
 use Rattle.wc_grammar_laws.proofs.WalkedLines.{walk_on}
 use Rattle.wc_grammar_laws.proofs.WordLaws.{found_section, same_is}
-use Rattle.wc_grammar_laws.proofs.Words.{found, unit_kinds}
-use Rattle.wc_model.proofs.Languages.{joined, pass, passed, ungroup}
-use Rattle.wc_model.proofs.Spelling.{same}
+use Rattle.wc_grammar_laws.specs.Words.{found, unit_kinds}
+use Rattle.wc_grammar_laws.proofs.Languages.{joined, pass, passed, ungroup}
+use Rattle.wc_grammar_laws.specs.Words.{same}
 use Rattle.wc_model.specs.Text.Grammar.{HasContent, InBody, InParentheses, Setting, identifier, line_ends, lines, unit_of, units}
 use Rattle.wc_model.specs.Text.Keywords.{end_word}
 use Rattle.wc_model.specs.Text.Languages.{◌then◌, each, skipping}

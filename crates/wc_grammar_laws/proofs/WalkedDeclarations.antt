@@ -3,13 +3,13 @@ use Rattle.std.proofs.Common.{◌≡◌, ◌≢◌, ℕ, Bool, true, false, List
 use Rattle.wc_grammar_laws.proofs.DeclarationRests.{declarations_of, from_end, from_type, from_names, declared_rest}
 use Rattle.wc_grammar_laws.proofs.LineComplete.{named, word_is}
 use Rattle.wc_grammar_laws.proofs.LineSound.{mark_on}
-use Rattle.wc_grammar_laws.proofs.Moves.{InDeclaration, Undeclared, BehindNames, BehindComma, BehindColon, BehindType, BehindAssign, BehindValue, State, AtLine, Declaring, body_start, at_value, declaration_move, with_declaration, walk}
+use Rattle.wc_grammar_laws.specs.Moves.{InDeclaration, Undeclared, BehindNames, BehindComma, BehindColon, BehindType, BehindAssign, BehindValue, State, AtLine, Declaring, body_start, at_value, declaration_move, with_declaration, walk}
 use Rattle.wc_grammar_laws.proofs.Skipping.{kept, passed_over}
 use Rattle.wc_grammar_laws.proofs.WalkedLines.{walk_on}
 use Rattle.wc_grammar_laws.proofs.WordLaws.{told_apart, truth_is_found}
-use Rattle.wc_grammar_laws.proofs.Words.{found, literal_of, truth_value, truths}
-use Rattle.wc_model.proofs.Languages.{next_is, passed, both_empty, given_are, ungroup, after}
-use Rattle.wc_model.proofs.Spelling.{same}
+use Rattle.wc_grammar_laws.specs.Words.{found, literal_of, truth_value, truths}
+use Rattle.wc_grammar_laws.proofs.Languages.{next_is, passed, both_empty, given_are, ungroup, after}
+use Rattle.wc_grammar_laws.specs.Words.{same}
 use Rattle.wc_model.specs.Text.Grammar as grammar
 use Rattle.wc_model.specs.Text.Grammar.{declaration, declared_names, initial_value, IsLiteral, IsOn}
 use Rattle.wc_model.specs.Text.Keywords.{end_var, truth_word}
@@ -195,9 +195,6 @@ all_declared section (BehindValue names type_name initial) (d ∷ more) h = absu
 pub line_end_is : (symbol : Symbol) → is_line_end_symbol symbol ≡ true → symbol ≡ LineEnd
 line_end_is LineEnd e = refl
 line_end_is _ e = absurd (cc)
-
-line_end_moves : (units : List ProgramUnit) (unit : ProgramUnit) (section : Section) (place : InDeclaration) (line : ℕ) → declaration_move units unit section place LineEnd line ≡ Some (Declaring units unit section place)
-line_end_moves units unit section place line = refl
 
 -- a section's declarations are walked
 pub declarations_walked : (units : List ProgramUnit) (unit : ProgramUnit) (section : Section) (place : InDeclaration) (ds : List Declaration) (tokens : List Mark) (colon : Bool)

@@ -1,14 +1,14 @@
 -- The lines of a body are walked.
 use Rattle.std.proofs.Common.{◌≡◌, ◌≢◌, ℕ, Bool, true, false, List, [], ◌∷◌, ◌++◌, Option, Some, None, refl, ap, subst, if◌then◌else◌, ◌∙◌, sym, inl, inr}
 use Rattle.wc_grammar_laws.proofs.LineComplete.{Leads, move_led}
-use Rattle.wc_grammar_laws.proofs.LineMoves.{LineForm, LabelAlone, Instructs, Opens, OfStep, OfOpening, OfArgument, LineState, Start, Worded, Labelled, Operated, Jumped, Called, Instanced, Listing, Bracketed, Named, Pointed, Stepped, BracketedWith, Ended, at_start, at_start_in, line_move, operator_or_label}
+use Rattle.wc_grammar_laws.specs.LineMoves.{LineForm, LabelAlone, Instructs, Opens, OfStep, OfOpening, OfArgument, LineState, Start, Worded, Labelled, Operated, Jumped, Called, Instanced, Listing, Bracketed, Named, Pointed, Stepped, BracketedWith, Ended, at_start, at_start_in, line_move, operator_or_label}
 use Rattle.wc_grammar_laws.proofs.LineRests.{line_of, rest_of}
 use Rattle.wc_grammar_laws.proofs.LineStart.{start_led}
-use Rattle.wc_grammar_laws.proofs.Moves.{State, AtLine, Closed, behind_line, behind_closing, begun_line, body_move, colon_next, is_colon, lines_and, has_content, move, on_line, behind_unit, section_begun, start_move, section_or_line, walk, word_move}
+use Rattle.wc_grammar_laws.specs.Moves.{State, AtLine, Closed, behind_line, behind_closing, begun_line, body_move, colon_next, is_colon, lines_and, has_content, move, on_line, behind_unit, section_begun, start_move, section_or_line, walk, word_move}
 use Rattle.wc_grammar_laws.proofs.WordLaws.{found_operation}
-use Rattle.wc_grammar_laws.proofs.Words.{Loads, Stores, Applies, Operation, Operates, Negates, Jumps, Calls, Returns, found, operations, operation_word, section_words}
-use Rattle.wc_model.proofs.Languages.{next_is, both_empty, regroup, after, given_first}
-use Rattle.wc_model.proofs.Spelling.{same}
+use Rattle.wc_grammar_laws.specs.Words.{Loads, Stores, Applies, Operation, Operates, Negates, Jumps, Calls, Returns, found, operations, operation_word, section_words}
+use Rattle.wc_grammar_laws.proofs.Languages.{next_is, both_empty, regroup, after, given_first}
+use Rattle.wc_grammar_laws.specs.Words.{same}
 use Rattle.wc_model.specs.Text.Grammar as grammar
 use Rattle.wc_model.specs.Text.Grammar.{IsOn, Setting, InBody, InParentheses, HasContent, lines, line_ends, label_in, opening, instruction}
 use Rattle.wc_model.specs.Text.Keywords.{end_word}

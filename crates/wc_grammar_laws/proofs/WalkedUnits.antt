@@ -3,16 +3,16 @@ use Rattle.std.proofs.Common.{◌≡◌, ◌≢◌, ℕ, Bool, true, false, List
 use Rattle.std.specs.Prelude.{flat_map, option_map}
 use Rattle.wc_grammar_laws.proofs.DeclarationRests.{declarations_of}
 use Rattle.wc_grammar_laws.proofs.LineComplete.{named}
-use Rattle.wc_grammar_laws.proofs.LineMoves.{Opens}
+use Rattle.wc_grammar_laws.specs.LineMoves.{Opens}
 use Rattle.wc_grammar_laws.proofs.LineStart.{no_colon, no_colon_name}
-use Rattle.wc_grammar_laws.proofs.Moves.{State, Outside, Unnamed, Declaring, AtLine, Undeclared, at_first, at_first_name, behind_unit, body_start, colon_next, declaration_move, is_colon, move, section_or_line, section_begun, start_move, walk}
+use Rattle.wc_grammar_laws.specs.Moves.{State, Outside, Unnamed, Declaring, AtLine, Undeclared, at_first, at_first_name, behind_unit, body_start, colon_next, declaration_move, is_colon, move, section_or_line, section_begun, start_move, walk}
 use Rattle.wc_grammar_laws.proofs.Skipping.{skip_next_is}
 use Rattle.wc_grammar_laws.proofs.WalkedDeclarations.{declared_led, declarations_walked, unit_and}
 use Rattle.wc_grammar_laws.proofs.WalkedLines.{line_walked, line_ends_walked, lines_walked, parts_walked, walk_on, walk_then, with_lines}
 use Rattle.wc_grammar_laws.proofs.WordLaws.{is_same}
-use Rattle.wc_grammar_laws.proofs.Words.{found, section_words, unit_kinds}
-use Rattle.wc_model.proofs.Languages.{next_is, many_are, passed, both_empty, ungroup}
-use Rattle.wc_model.proofs.Spelling.{same}
+use Rattle.wc_grammar_laws.specs.Words.{found, section_words, unit_kinds}
+use Rattle.wc_grammar_laws.proofs.Languages.{next_is, many_are, passed, both_empty, ungroup}
+use Rattle.wc_grammar_laws.specs.Words.{same}
 use Rattle.wc_model.specs.Text.Grammar.{Group, InBody, IsNameOf, IsOn, head, identifier, label_in, line_ends, lines, opening, section_of, sections, unit_of, units}
 use Rattle.wc_model.specs.Text.Keywords.{end_var, end_word, section_word, unit_word}
 use Rattle.wc_model.specs.Text.Languages.{◌then◌, each, one, skipping}

@@ -8,14 +8,14 @@ use Rattle.wc_grammar_laws.proofs.Bounds.{IsDeepEnough, PositionWithin, Within, 
 use Rattle.wc_grammar_laws.proofs.Exits.{AreBlocks}
 use Rattle.wc_grammar_laws.proofs.LineBounds.{Counts, IsSteady, count_operator, fitted, fitted_by, operated_counts, steady}
 use Rattle.wc_grammar_laws.proofs.LineComplete.{labelled_operator}
-use Rattle.wc_grammar_laws.proofs.LineMoves.{LineForm, LabelAlone, Instructs, Opens, operator_or_label, Begun, LineState, Start, Labelled, Operated, Bracketed, Ended, at_labelled, at_operated, at_operator, at_start, behind_operator, line_move, simple_operator}
+use Rattle.wc_grammar_laws.specs.LineMoves.{LineForm, LabelAlone, Instructs, Opens, operator_or_label, Begun, LineState, Start, Labelled, Operated, Bracketed, Ended, at_labelled, at_operated, at_operator, at_start, behind_operator, line_move, simple_operator}
 use Rattle.wc_grammar_laws.proofs.LineStart.{operator_taken}
-use Rattle.wc_grammar_laws.proofs.Moves.{InDeclaration, Undeclared, BehindNames, BehindComma, BehindColon, BehindType, BehindAssign, BehindValue, State, Outside, Unnamed, Declaring, AtLine, OnLine, Closed, Met, at_value, begins_transfer, begun_line, behind_closing, behind_line, behind_unit, body_move, body_start, declaration_move, has_content, has_name, has_program, inside_move, is_full, is_identifier, is_program, judge, judge_closing, judge_line, judge_on_line, judge_operator, judge_unit, met_if, met_or, move, on_line, section_begun, section_or_line, start_move, unit_with}
+use Rattle.wc_grammar_laws.specs.Moves.{InDeclaration, Undeclared, BehindNames, BehindComma, BehindColon, BehindType, BehindAssign, BehindValue, State, Outside, Unnamed, Declaring, AtLine, OnLine, Closed, Met, at_value, begins_transfer, begun_line, behind_closing, behind_line, behind_unit, body_move, body_start, declaration_move, has_content, has_name, has_program, inside_move, is_full, is_identifier, is_program, judge, judge_closing, judge_line, judge_on_line, judge_operator, judge_unit, met_if, met_or, move, on_line, section_begun, section_or_line, start_move, unit_with}
 use Rattle.wc_grammar_laws.proofs.WalkedLines.{ends_no_unit}
 use Rattle.wc_grammar_laws.proofs.WithinOn.{HasBegun, RejectsColon, simple_rejects}
 use Rattle.wc_grammar_laws.proofs.WordLaws.{found_operation, found_section, same_is}
-use Rattle.wc_grammar_laws.proofs.Words.{Applies, Operating, Loads, Stores, Operation, found, is_transfer, literal_of, operation_of, operations, unit_kinds}
-use Rattle.wc_model.proofs.Spelling.{same}
+use Rattle.wc_grammar_laws.specs.Words.{Applies, Operating, Loads, Stores, Operation, found, is_transfer, literal_of, operation_of, operations, unit_kinds}
+use Rattle.wc_grammar_laws.specs.Words.{same}
 use Rattle.wc_model.specs.Text.Grammar.{IsProgramLast}
 use Rattle.wc_model.specs.Text.Keywords.{end_var, end_word, section_word}
 use Rattle.wc_model.specs.Text.Limits.{IsBodyWithinLimits, depth, line_count, lines_before, lines_opened, most_depth, most_lines, most_units}

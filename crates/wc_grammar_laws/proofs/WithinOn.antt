@@ -6,10 +6,10 @@ use Rattle.std.specs.List.{AllByRecursion}
 use Rattle.std.specs.Prelude.{◌&&◌, is_some, nat_le, option_map}
 use Rattle.wc_grammar_laws.proofs.Bounds.{HasRoom, IsDeepEnough, Within, closed_within, counted, opened}
 use Rattle.wc_grammar_laws.proofs.LineBounds.{CountsOnce, Fits, IsSteady, WithinNext, fits_by, fits_on, labelled_once, operated_counts, simple_once, start_once, steady}
-use Rattle.wc_grammar_laws.proofs.LineMoves.{Begun, LineState, Start, Worded, Labelled, Operated, at_labelled, at_operated, at_operator, at_start, behind_operator, line_move, simple_operator}
-use Rattle.wc_grammar_laws.proofs.Moves.{InDeclaration, Undeclared, BehindNames, BehindComma, BehindColon, BehindType, BehindAssign, BehindValue, State, Outside, Unnamed, Declaring, AtLine, OnLine, Closed, Met, at_value, begins_transfer, begun_line, behind_closing, behind_unit, body_move, body_start, declaration_move, has_content, has_name, has_program, inside_move, is_full, is_identifier, judge, judge_closing, judge_line, judge_on_line, judge_operator, judge_unit, met_if, met_or, move, named_unit, section_begun, section_or_line, start_move, unit_with}
-use Rattle.wc_grammar_laws.proofs.Words.{Applies, Operating, Loads, Stores, Operation, Operates, Negates, Jumps, Calls, Returns, found, is_transfer, literal_of, operation_of, unit_kinds}
-use Rattle.wc_model.proofs.Spelling.{same}
+use Rattle.wc_grammar_laws.specs.LineMoves.{Begun, LineState, Start, Worded, Labelled, Operated, at_labelled, at_operated, at_operator, at_start, behind_operator, line_move, simple_operator}
+use Rattle.wc_grammar_laws.specs.Moves.{InDeclaration, Undeclared, BehindNames, BehindComma, BehindColon, BehindType, BehindAssign, BehindValue, State, Outside, Unnamed, Declaring, AtLine, OnLine, Closed, Met, at_value, begins_transfer, begun_line, behind_closing, behind_unit, body_move, body_start, declaration_move, has_content, has_name, has_program, inside_move, is_full, is_identifier, judge, judge_closing, judge_line, judge_on_line, judge_operator, judge_unit, met_if, met_or, move, named_unit, section_begun, section_or_line, start_move, unit_with}
+use Rattle.wc_grammar_laws.specs.Words.{Applies, Operating, Loads, Stores, Operation, Operates, Negates, Jumps, Calls, Returns, found, is_transfer, literal_of, operation_of, unit_kinds}
+use Rattle.wc_grammar_laws.specs.Words.{same}
 use Rattle.wc_model.specs.Text.Keywords.{end_var, end_word}
 use Rattle.wc_model.specs.Text.Limits.{IsBodyWithinLimits, lines_before, lines_opened, most_depth, most_lines, most_units}
 use Rattle.wc_model.specs.Text.Marks.{Symbol, Identifier, ClosingBracket, OpeningBracket, Colon, Comma, Semicolon, Assign, LineEnd}

@@ -3,8 +3,8 @@ use Rattle.std.proofs.Common.{◌≡◌, ℕ, Bool, true, false, List, [], ◌�
 use Rattle.std.proofs.lemmas.Bool.Decides.{nat_tests}
 use Rattle.std.specs.Prelude.{◌≢◌, if◌then◌else◌, ◌&&◌, eqb}
 use Rattle.std.specs.List.{AllByRecursion}
-use Rattle.wc_grammar_laws.proofs.Words.{found, Operating, Loads, Stores, Applies, Operation, Operates, Negates, Jumps, Calls, Returns, operation_word, all_operations, operations, worded, step_of, operation_of, unit_kinds, section_words, truths}
-use Rattle.wc_model.proofs.Spelling.{same}
+use Rattle.wc_grammar_laws.specs.Words.{found, Operating, Loads, Stores, Applies, Operation, Operates, Negates, Jumps, Calls, Returns, operation_word, all_operations, operations, worded, step_of, operation_of, unit_kinds, section_words, truths}
+use Rattle.wc_grammar_laws.specs.Words.{same}
 use Rattle.wc_model.specs.Text.Keywords.{truth_word, unit_word, section_word}
 use Rattle.wc_model.specs.Text.Marks.{Symbol, Identifier, Ampersand, AmpersandN, Mark, name_in}
 use Rattle.wc_model.specs.Language.Names.{Name, name_of}
@@ -118,10 +118,6 @@ found_unit_kind name kind e = found_is (λ n k. n ≡ unit_word k) unit_kinds (r
 -- the section that is found under a name has that word
 pub found_section : (name : Name) (section : Section) → found section_words name ≡ Some section → name ≡ section_word section
 found_section name section e = found_is (λ n s. n ≡ section_word s) section_words (refl, (refl, (refl, tt))) name section e
-
--- the token is this operator
-abbrev pub IsOperation : Operation → Mark → Type 0
-IsOperation operation mark = operation_of mark.symbol ≡ Some operation
 
 from_word : (name : Name) (operation : Operation) → found operations name ≡ Some operation → Some name ≡ Some (operation_word operation)
 from_word name operation e = ap (λ n. Some n) (found_operation name operation e)

@@ -1,1 +1,4 @@
+pub mod Words
+pub mod LineMoves
+pub mod Moves
 pub mod Laws

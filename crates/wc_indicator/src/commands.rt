@@ -42,7 +42,8 @@ impl Indicator {
     /// Sets zero at the present load, and ends the tare. `Motion` where the scale is not stable, else `Range` where
     /// the load is farther than 2 % of the greatest load from the calibrated zero (OIML R 76-1:2006, 4.5.1 and 4.5.4).
     pub fn set_zero(&mut self) -> Result<(), Refused>
-        ensures stands { (p : PlateData) (history : History) → StandsForHistory self.old p history → StandsForHistory self.new p (SetZero ∷ history) }
+        ensures stands { (p : PlateData) (history : History) → StandsForHistory self.old p history
+            → StandsForHistory self.new p (SetZero ∷ history) }
         ensures refused { Tells told.zero_refusal self.old (refusal_view result) }
         // A refused command changes nothing.
         ensures same { IfErr result (λ refused. self.new ≡ self.old) }
@@ -61,7 +62,8 @@ impl Indicator {
     /// scale is not stable, else `Range` where the gross weight is below one interval or above the greatest load
     /// (OIML R 76-1:2006, 4.6.4, 4.6.8 and 4.6.10).
     pub fn set_tare(&mut self) -> Result<(), Refused>
-        ensures stands { (p : PlateData) (history : History) → StandsForHistory self.old p history → StandsForHistory self.new p (SetTare ∷ history) }
+        ensures stands { (p : PlateData) (history : History) → StandsForHistory self.old p history
+            → StandsForHistory self.new p (SetTare ∷ history) }
         ensures refused { Tells told.tare_refusal self.old (refusal_view result) }
         // A refused command changes nothing.
         ensures same { IfErr result (λ refused. self.new ≡ self.old) }
@@ -77,7 +79,8 @@ impl Indicator {
 
     /// Ends the tare, also in motion.
     pub fn clear_tare(&mut self)
-        ensures { (p : PlateData) (history : History) → StandsForHistory self.old p history → StandsForHistory self.new p (ClearTare ∷ history) }
+        ensures { (p : PlateData) (history : History) → StandsForHistory self.old p history
+            → StandsForHistory self.new p (ClearTare ∷ history) }
     {
         self.tare = None;
     }

@@ -23,9 +23,9 @@ pub struct Indicator {
 }
 
 impl Model for Indicator {
-    ghost use Rattle.wc_indicator.specs.Kept.{Kept};
+    ghost use Rattle.wc_indicator.specs.Kept.{IndicatorState};
 
-    ghost Value = { Kept };
+    ghost Value = { IndicatorState };
 
     ghost use Rattle.wc_indicator.specs.Fields.{kept_view, IsIndicatorSound};
 
@@ -57,7 +57,8 @@ impl Indicator {
     /// Takes a sample of the sensor.
     pub fn sample(&mut self, counts: i32)
         requires { (least_sample ≤ℤ counts) × (counts ≤ℤ greatest_sample) }
-        ensures { (p : PlateData) (history : History) → StandsForHistory self.old p history → StandsForHistory self.new p (Sample counts ∷ history) }
+        ensures { (p : PlateData) (history : History) → StandsForHistory self.old p history
+            → StandsForHistory self.new p (Sample counts ∷ history) }
     {
         self.latest.push_back(counts);
         self.last = Some(counts);
@@ -65,7 +66,8 @@ impl Indicator {
 
     /// The plate.
     pub fn plate(&self) -> &Plate
-        ensures { (p : PlateData) (history : History) → StandsForHistory self.now p history → result.now ≡ p }
+        ensures { (p : PlateData) (history : History) → StandsForHistory self.now p history
+            → result.now ≡ p }
     {
         &self.plate
     }

@@ -8,8 +8,6 @@ mod indicator;
 mod refused;
 mod rounding;
 mod spread;
-#[cfg(test)]
-mod tests;
 
 pub use indicator::Indicator;
 pub use refused::Refused;

@@ -6,18 +6,24 @@ ghost use Rattle.wc_instrument_examples.specs.Worked.{lines_text, plate_text};
 
 /// The first job: a plate, a program, a log, each with the line ends of its lines.
 pub fn first_job()
-    ensures { sections_of (lines_text (codes "@plate" ∷ []) ++ plate_text ++ lines_text (codes "@program" ∷ codes "PROGRAM P"
-        ∷ codes "LD %IX0.0" ∷ codes "ST %QX0.0" ∷ codes "END_PROGRAM" ∷ codes "@log" ∷ codes "ms,kind,data" ∷ codes "0,I,0001" ∷ codes "0,S," ∷ []))
+    ensures { sections_of
+        (lines_text (codes "@plate" ∷ []) ++ plate_text
+        ++ lines_text (codes "@program" ∷ codes "PROGRAM P"
+        ∷ codes "LD %IX0.0" ∷ codes "ST %QX0.0" ∷ codes "END_PROGRAM" ∷ codes "@log"
+        ∷ codes "ms,kind,data" ∷ codes "0,I,0001" ∷ codes "0,S," ∷ []))
         ≡ Ok (record {
           plate = plate_text;
-          program = lines_text (codes "PROGRAM P" ∷ codes "LD %IX0.0" ∷ codes "ST %QX0.0" ∷ codes "END_PROGRAM" ∷ []);
+          program = lines_text (codes "PROGRAM P" ∷ codes "LD %IX0.0" ∷ codes "ST %QX0.0"
+          ∷ codes "END_PROGRAM" ∷ []);
           log = lines_text (codes "ms,kind,data" ∷ codes "0,I,0001" ∷ codes "0,S," ∷ []);
         }) }
 {}
 
 /// A heading may end in CRLF; a later heading of the same word is a line of its section; empty sections are sections.
 pub fn headings()
-    ensures crlf { sections_of (codes "@plate" ++ 13 ∷ 10 ∷ codes "@program" ++ 10 ∷ codes "@plate" ++ 10 ∷ codes "@log" ++ 10 ∷ codes "x")
+    ensures crlf { sections_of
+        (codes "@plate" ++ 13 ∷ 10 ∷ codes "@program" ++ 10 ∷ codes "@plate" ++ 10 ∷ codes "@log"
+        ++ 10 ∷ codes "x")
         ≡ Ok (record { plate = []; program = lines_text (codes "@plate" ∷ []); log = codes "x" }) }
 {}
 
@@ -25,7 +31,10 @@ pub fn headings()
 pub fn headings_missing()
     ensures empty { sections_of [] ≡ Err 701 }
     ensures no_log { sections_of (lines_text (codes "@plate" ∷ codes "@program" ∷ [])) ≡ Err 701 }
-    ensures no_line_end { sections_of (codes "@plate" ++ 10 ∷ codes "@program" ++ 10 ∷ codes "@log") ≡ Err 701 }
-    ensures not_first { sections_of (lines_text ([] ∷ codes "@plate" ∷ codes "@program" ∷ codes "@log" ∷ [])) ≡ Err 701 }
-    ensures beside { sections_of (lines_text (codes "@plate" ∷ codes "@program x" ∷ codes "@log" ∷ [])) ≡ Err 701 }
+    ensures no_line_end { sections_of (codes "@plate" ++ 10 ∷ codes "@program" ++ 10 ∷ codes "@log")
+        ≡ Err 701 }
+    ensures not_first { sections_of
+        (lines_text ([] ∷ codes "@plate" ∷ codes "@program" ∷ codes "@log" ∷ [])) ≡ Err 701 }
+    ensures beside { sections_of
+        (lines_text (codes "@plate" ∷ codes "@program x" ∷ codes "@log" ∷ [])) ≡ Err 701 }
 {}

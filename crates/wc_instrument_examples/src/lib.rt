@@ -5,7 +5,6 @@
 pub mod edges;
 pub mod images;
 pub mod jobs;
-pub mod laws;
 pub mod logs;
 pub mod plates;
 pub mod reports;

@@ -7,7 +7,9 @@ ghost use Rattle.wc_instrument_examples.specs.Worked.{plate_of_15_kg, four_rows,
 
 /// A scan's line: moment, steps, four digits of bits, four words.
 pub fn scan_line()
-    ensures { line_text (ScanLine 600 10 (record { bits = 41394; words = pos 5000 ∷ negsuc 2147483647 ∷ pos 0 ∷ negsuc 0 ∷ [] }))
+    ensures { line_text
+        (ScanLine 600 10
+        (record { bits = 41394; words = pos 5000 ∷ negsuc 2147483647 ∷ pos 0 ∷ negsuc 0 ∷ [] }))
         ≡ codes "S 600 10 a1b2 5000 -2147483648 0 -1" ++ 10 ∷ [] }
 {}
 
@@ -24,38 +26,52 @@ pub fn first_report()
 
 /// A zero command cut over two rows with a scan between: the scan's line, then the answer's.
 pub fn cut_request_and_scan()
-    ensures with_program { report plate_of_15_kg copies_first_input tt (rows_from 2 (four_rows (pos 10100))
+    ensures with_program { report plate_of_15_kg copies_first_input tt
+        (rows_from 2 (four_rows (pos 10100))
         ++ record { number = 6; ms = 400; brings = Bytes (10 ∷ 90 ∷ []) } ∷ scan_row 7 410
         ∷ record { number = 8; ms = 420; brings = Bytes (13 ∷ []) } ∷ [])
-        ≡ lines_text (codes "S 410 2 0000 0 0 0 0" ∷ codes "L 420 0a5a314720202020202020302e3030306b67200d" ∷ []) }
+        ≡ lines_text (codes "S 410 2 0000 0 0 0 0"
+        ∷ codes "L 420 0a5a314720202020202020302e3030306b67200d" ∷ []) }
     ensures without { line_report plate_of_15_kg (rows_from 2 (four_rows (pos 10100))
         ++ record { number = 6; ms = 400; brings = Bytes (10 ∷ 90 ∷ []) } ∷ scan_row 7 410
         ∷ record { number = 8; ms = 420; brings = Bytes (13 ∷ []) } ∷ [])
         ≡ lines_text (codes "L 420 0a5a314720202020202020302e3030306b67200d" ∷ []) }
-    ensures last_scan { report_last 1 plate_of_15_kg copies_first_input tt (rows_from 2 (four_rows (pos 10100))
+    ensures last_scan { report_last 1 plate_of_15_kg copies_first_input tt
+        (rows_from 2 (four_rows (pos 10100))
         ++ record { number = 6; ms = 400; brings = Bytes (10 ∷ 90 ∷ []) } ∷ scan_row 7 410
         ∷ record { number = 8; ms = 420; brings = Bytes (13 ∷ []) } ∷ [])
-        ≡ lines_text (codes "L 420 0a5a314720202020202020302e3030306b67200d" ∷ codes "S 410 2 0000 0 0 0 0" ∷ []) }
+        ≡ lines_text (codes "L 420 0a5a314720202020202020302e3030306b67200d"
+        ∷ codes "S 410 2 0000 0 0 0 0" ∷ []) }
 {}
 
 /// A log of one sample and four pieces on the line, from its records to its report.
 pub fn unknown_texts()
-    ensures { line_report plate_of_15_kg (log_with_rows (three_fields (codes "0") (codes "C") (codes "60000")
-        ∷ three_fields (codes "0") (codes "L") (codes "0a5a1b0d") ∷ three_fields (codes "0") (codes "L") (codes "0a0d")
-        ∷ three_fields (codes "0") (codes "L") (codes "0a770d") ∷ three_fields (codes "0") (codes "L") (codes "410a0a570d") ∷ [])).rows
-        ≡ lines_text (codes "L 0 0a3f0d" ∷ codes "L 0 0a3f0d" ∷ codes "L 0 0a2031474d202020202020312e3235306b67200d" ∷ []) }
+    ensures { line_report plate_of_15_kg
+        (log_with_rows (three_fields (codes "0") (codes "C") (codes "60000")
+        ∷ three_fields (codes "0") (codes "L") (codes "0a5a1b0d")
+        ∷ three_fields (codes "0") (codes "L") (codes "0a0d")
+        ∷ three_fields (codes "0") (codes "L") (codes "0a770d")
+        ∷ three_fields (codes "0") (codes "L") (codes "410a0a570d") ∷ [])).rows
+        ≡ lines_text (codes "L 0 0a3f0d" ∷ codes "L 0 0a3f0d"
+        ∷ codes "L 0 0a2031474d202020202020312e3235306b67200d" ∷ []) }
 {}
 
 /// The rows before a refused one are run.
 pub fn rows_before_a_refusal()
-    ensures { report plate_of_15_kg copies_first_input tt (log_with_rows (three_fields (codes "5") (codes "S") [] ∷ three_fields (codes "4") (codes "S") [] ∷ [])).rows
+    ensures { report plate_of_15_kg copies_first_input tt
+        (log_with_rows
+        (three_fields (codes "5") (codes "S") [] ∷ three_fields (codes "4")
+        (codes "S") [] ∷ [])).rows
         ≡ lines_text (codes "S 5 2 0000 0 0 0 0" ∷ []) }
 {}
 
 /// The state goes from scan to scan, and a ring of two keeps the last two.
 pub fn scans_in_a_row()
-    ensures all { report plate_of_15_kg counts_scans 0 (scan_row 2 0 ∷ scan_row 3 5 ∷ scan_row 4 5 ∷ [])
-        ≡ lines_text (codes "S 0 1 0000 1 0 0 0" ∷ codes "S 5 1 0000 2 0 0 0" ∷ codes "S 5 1 0000 3 0 0 0" ∷ []) }
-    ensures last_two { report_last 2 plate_of_15_kg counts_scans 0 (scan_row 2 0 ∷ scan_row 3 5 ∷ scan_row 4 5 ∷ [])
+    ensures all { report plate_of_15_kg counts_scans 0
+        (scan_row 2 0 ∷ scan_row 3 5 ∷ scan_row 4 5 ∷ [])
+        ≡ lines_text (codes "S 0 1 0000 1 0 0 0" ∷ codes "S 5 1 0000 2 0 0 0"
+        ∷ codes "S 5 1 0000 3 0 0 0" ∷ []) }
+    ensures last_two { report_last 2 plate_of_15_kg counts_scans 0
+        (scan_row 2 0 ∷ scan_row 3 5 ∷ scan_row 4 5 ∷ [])
         ≡ lines_text (codes "S 5 1 0000 2 0 0 0" ∷ codes "S 5 1 0000 3 0 0 0" ∷ []) }
 {}

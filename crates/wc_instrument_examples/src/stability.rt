@@ -14,7 +14,8 @@ pub fn spread_of_101_counts()
 /// A fifth sample of 10000 puts 10101 out of the window.
 pub fn fifth_sample()
     ensures { IsTrue (is_stable plate_of_15_kg
-        (Sample (pos 10000) ∷ Sample (pos 10000) ∷ Sample (pos 10000) ∷ Sample (pos 10000) ∷ Sample (pos 10101) ∷ [])) }
+        (Sample (pos 10000) ∷ Sample (pos 10000) ∷ Sample (pos 10000) ∷ Sample (pos 10000)
+        ∷ Sample (pos 10101) ∷ [])) }
 {}
 
 /// 10100, 10000, 10050, 10020: a spread of 100 counts is stable.

@@ -27,7 +27,8 @@ fn part_at<'a>(heading: Heading, text: &'a [u8]) -> Option<Parting<'a>>
 
 /// The sections behind the first heading.
 fn sections_behind<'a>(text: &'a [u8]) -> Option<Sections<'a>>
-    ensures { found_view result ≡ sections_with_program (part_at (codes "@program") (whole_lines text.now)) }
+    ensures { found_view result
+        ≡ sections_with_program (part_at (codes "@program") (whole_lines text.now)) }
 {
     match part_at(Heading::Program, text) {
         None => None,

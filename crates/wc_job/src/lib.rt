@@ -6,8 +6,6 @@ mod headings;
 mod lines;
 mod parts;
 mod reading;
-#[cfg(test)]
-mod tests;
 
 pub use cutting::sections;
 pub use parts::Sections;

@@ -21,8 +21,10 @@ pub enum ReadFault {
 /// Reads into the front of the buffer, at most so many bytes.
 fn read_up_to<R: ByteIn>(reader: &mut R, buffer: &mut [u8], most: usize) -> io::Result<usize>
     requires { most ≤ length buffer.old }
-    ensures bytes { ReadsInto most (R.bytes_left reader.old) (R.bytes_left reader.new) result buffer.new }
-    ensures failures { R.failure_count reader.new ≡ failures_after_read (R.failure_count reader.old) result }
+    ensures bytes { ReadsInto most (R.bytes_left reader.old)
+        (R.bytes_left reader.new) result buffer.new }
+    ensures failures { R.failure_count reader.new
+        ≡ failures_after_read (R.failure_count reader.old) result }
 {
     reader.read(&mut buffer[..most])
 }
@@ -30,8 +32,10 @@ fn read_up_to<R: ByteIn>(reader: &mut R, buffer: &mut [u8], most: usize) -> io::
 /// Reads once, and adds what it gave. False is the end.
 fn read_more<R: ByteIn>(reader: &mut R, bytes: &mut Vec<u8>) -> Result<bool, ReadFault>
     requires { length bytes.old.items ≤ longest_job }
-    ensures added { Adds (R.bytes_left reader.old) (R.bytes_left reader.new) result bytes.old.items bytes.new.items }
-    ensures failures { R.failure_count reader.new ≡ failures_after (R.failure_count reader.old) result }
+    ensures added { Adds (R.bytes_left reader.old)
+        (R.bytes_left reader.new) result bytes.old.items bytes.new.items }
+    ensures failures { R.failure_count reader.new
+        ≡ failures_after (R.failure_count reader.old) result }
 {
     let mut buffer = [0_u8; 4096];
     let most = (1048577 - bytes.len()).min(4096);
@@ -50,8 +54,10 @@ fn read_more<R: ByteIn>(reader: &mut R, bytes: &mut Vec<u8>) -> Result<bool, Rea
 pub fn read_whole<R: ByteIn>(alloc: Global, reader: &mut R) -> Result<Vec<u8>, ReadFault>
     ensures whole { IfOk result (λ bytes. IsWhole (R.bytes_left reader.old) bytes.items) }
     ensures too_long { IfErr result (λ fault. IsOverTheLimit (R.bytes_left reader.old) fault) }
-    ensures taken { TakesAtMost (longest_job + 1) (R.bytes_left reader.old) (R.bytes_left reader.new) }
-    ensures failures { R.failure_count reader.new ≡ failures_after (R.failure_count reader.old) result }
+    ensures taken { TakesAtMost (longest_job + 1) (R.bytes_left reader.old)
+        (R.bytes_left reader.new) }
+    ensures failures { R.failure_count reader.new
+        ≡ failures_after (R.failure_count reader.old) result }
 {
     let mut bytes = Vec::new(alloc);
     while bytes.len() <= 1048576 {

@@ -5,9 +5,9 @@ use Rattle.std.specs.Prelude.{Option, codes, ◌++◌}
 use Rattle.wc_instrument_examples.specs.Worked.{plate_text, plate_of_15_kg}
 use Rattle.wc_job_examples.specs.FirstJob.{program_bytes, program_tokens, log_bytes, log_records, table, job_bytes}
 use Rattle.wc_language_examples.specs.BoolPrograms.{copies_an_input, first_unit}
-use Rattle.wc_laws.proofs.Longest.{computed_is_worst, longest_of_worst}
-use Rattle.wc_model.proofs.FoundTokens.{found_cut}
-use Rattle.wc_model.proofs.Spelling.{spelling}
+use Rattle.wc_language_laws.proofs.Longest.{computed_is_worst, longest_of_worst}
+use Rattle.wc_token_laws.proofs.FoundTokens.{found_cut}
+use Rattle.wc_grammar_laws.proofs.Spelling.{spelling}
 use Rattle.wc_model.specs.Language.Faults.{IsCostFault}
 use Rattle.wc_model.specs.Say.Job.{JobAnswer, AnswersProgram, runs, AnswersPlate, AnswersJob}
 use Rattle.wc_model.specs.Run.JobSections.{Sections}

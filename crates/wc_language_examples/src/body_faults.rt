@@ -19,53 +19,73 @@ pub fn ways_in_must_agree()
 pub fn simple_bodies_are_refused()
     ensures no_result { body_fault (doing (op 2 And (at 2 "%ix0.0") End)) ≡ refused 403 2 }
     ensures unknown_name { body_fault (doing (ld 2 (var "x") End)) ≡ refused 401 2 }
-    ensures not_writable { body_fault (doing (ld 2 (at 2 "%ix0.0") (st 3 (at 3 "%ix0.1") End))) ≡ refused 404 3 }
-    ensures other_kind { body_fault (doing (ld 2 (num (pos 1)) (st 3 (at 3 "%qx0.0") End))) ≡ refused 402 3 }
+    ensures not_writable { body_fault (doing (ld 2 (at 2 "%ix0.0") (st 3 (at 3 "%ix0.1") End)))
+        ≡ refused 404 3 }
+    ensures other_kind { body_fault (doing (ld 2 (num (pos 1)) (st 3 (at 3 "%qx0.0") End)))
+        ≡ refused 402 3 }
 {}
 
 /// Divisors are literals other than 0, and the name comes before the divisor.
 pub fn divisors_are_refused()
-    ensures variable_divisor { body_fault (with_number (ld 3 (num (pos 7)) (op 4 Div (var "d") End))) ≡ refused 408 4 }
-    ensures zero_divisor { body_fault (with_number (ld 3 (num (pos 7)) (op 4 Div (num (pos 0)) End))) ≡ refused 408 4 }
-    ensures unknown_divisor { body_fault (with_number (ld 3 (num (pos 7)) (op 4 Div (var "x") End))) ≡ refused 401 4 }
-    ensures deferred { body_fault (doing (ld 2 (num (pos 5)) (Nested None 3 Div None (ld 4 (num (pos 2)) End) 5 End))) ≡ refused 408 3 }
+    ensures variable_divisor { body_fault
+        (with_number (ld 3 (num (pos 7)) (op 4 Div (var "d") End))) ≡ refused 408 4 }
+    ensures zero_divisor { body_fault
+        (with_number (ld 3 (num (pos 7)) (op 4 Div (num (pos 0)) End))) ≡ refused 408 4 }
+    ensures unknown_divisor { body_fault (with_number (ld 3 (num (pos 7)) (op 4 Div (var "x") End)))
+        ≡ refused 401 4 }
+    ensures deferred { body_fault
+        (doing (ld 2 (num (pos 5)) (Nested None 3 Div None (ld 4 (num (pos 2)) End) 5 End)))
+        ≡ refused 408 3 }
 {}
 
 /// 0 and 1 are BOOLs beside a BOOL, and nowhere else.
 pub fn literals_are_judged_by_their_place()
-    ensures beside_a_dint { body_fault (doing (ld 2 (num (pos 1)) (op 3 And yes' End))) ≡ refused 402 3 }
-    ensures equal_to_a_bool { body_fault (doing (ld 2 (num (pos 1)) (op 3 Eq yes' End))) ≡ refused 402 3 }
-    ensures two_is_no_bool { body_fault (doing (ld 2 yes' (op 3 Eq (num (pos 2)) End))) ≡ refused 402 3 }
+    ensures beside_a_dint { body_fault (doing (ld 2 (num (pos 1)) (op 3 And yes' End)))
+        ≡ refused 402 3 }
+    ensures equal_to_a_bool { body_fault (doing (ld 2 (num (pos 1)) (op 3 Eq yes' End)))
+        ≡ refused 402 3 }
+    ensures two_is_no_bool { body_fault (doing (ld 2 yes' (op 3 Eq (num (pos 2)) End)))
+        ≡ refused 402 3 }
     ensures one_is_one { body_fault (doing (ld 2 yes' (op 3 And (num (pos 1)) End))) ≡ None }
 {}
 
 /// A jump goes ahead, to a label that comes later in the body.
 pub fn jumps_go_ahead()
-    ensures backward { body_fault (doing (labelled 2 "l" (Load false yes') (jump 3 Always "l" End))) ≡ refused 406 3 }
-    ensures unreached { body_fault (doing (jump 2 Always "l" (st 3 (at 3 "%qx0.0") (labelled 4 "l" (Load false yes') End)))) ≡ refused 403 3 }
-    ensures given_twice { body_fault (doing (labelled 2 "l" (Load false yes') (labelled 3 "l" (Load false yes') End))) ≡ refused 407 3 }
+    ensures backward { body_fault (doing (labelled 2 "l" (Load false yes') (jump 3 Always "l" End)))
+        ≡ refused 406 3 }
+    ensures unreached { body_fault
+        (doing (jump 2 Always "l" (st 3 (at 3 "%qx0.0") (labelled 4 "l" (Load false yes') End))))
+        ≡ refused 403 3 }
+    ensures given_twice { body_fault
+        (doing (labelled 2 "l" (Load false yes') (labelled 3 "l" (Load false yes') End)))
+        ≡ refused 407 3 }
 {}
 
 /// The fields of an instance: inputs are written, outputs read, the others have no name here.
 pub fn fields_are_guarded()
     ensures input_read { body_fault (with_timer (ld 3 (dot "t" "in") End)) ≡ refused 405 3 }
-    ensures output_written { body_fault (with_timer (ld 3 yes' (st 4 (dot "t" "q") End))) ≡ refused 404 4 }
+    ensures output_written { body_fault (with_timer (ld 3 yes' (st 4 (dot "t" "q") End)))
+        ≡ refused 404 4 }
     ensures hidden { body_fault (with_timer (ld 3 (dot "t" "run") End)) ≡ refused 401 3 }
     ensures whole_instance { body_fault (with_timer (ld 3 (var "t") End)) ≡ refused 402 3 }
     ensures inner_instance { body_fault (with_counter (ld 14 (dot "a" "e") End)) ≡ refused 405 14 }
-    ensures block_output { body_fault (with_counter (ld 14 (num (pos 1)) (st 15 (dot "a" "n") End))) ≡ refused 404 15 }
+    ensures block_output { body_fault (with_counter (ld 14 (num (pos 1)) (st 15 (dot "a" "n") End)))
+        ≡ refused 404 15 }
 {}
 
 /// Arguments name inputs, each once.
 pub fn arguments_are_guarded()
-    ensures no_input { body_fault (with_timer (call 3 "t" (arg "q" yes' ∷ []) End)) ≡ refused 409 3 }
-    ensures twice { body_fault (with_timer (call 3 "t" (arg "in" yes' ∷ arg "in" yes' ∷ []) End)) ≡ refused 410 3 }
+    ensures no_input { body_fault (with_timer (call 3 "t" (arg "q" yes' ∷ []) End))
+        ≡ refused 409 3 }
+    ensures twice { body_fault (with_timer (call 3 "t" (arg "in" yes' ∷ arg "in" yes' ∷ []) End))
+        ≡ refused 410 3 }
     ensures no_instance { body_fault (with_number (call 3 "d" [] End)) ≡ refused 402 3 }
 {}
 
 /// The inner result at a `)` is of the outer kind: 1 is a DINT there.
 pub fn inner_result_is_of_the_outer_kind()
-    ensures { body_fault (doing (ld 2 yes' (Nested None 3 And (Some (num (pos 1))) End 4 End))) ≡ refused 402 4 }
+    ensures { body_fault (doing (ld 2 yes' (Nested None 3 And (Some (num (pos 1))) End 4 End)))
+        ≡ refused 402 4 }
 {}
 
 /// The larger programs break no rule on bodies.

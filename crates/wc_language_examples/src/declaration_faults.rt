@@ -9,17 +9,23 @@ ghost use Rattle.std.specs.Prelude.{false};
 
 /// Names: a variable declared twice in either letter case, a reserved word, a reserved label.
 pub fn names_are_refused()
-    ensures twice { declaration_fault (declaring (declares Own 2 "d" "dint" ∷ declares Own 3 "d" "bool" ∷ [])) ≡ refused 301 3 }
-    ensures reserved { declaration_fault (declaring (declares Own 2 "add" "dint" ∷ [])) ≡ refused 307 2 }
-    ensures reserved_label { declaration_fault (doing (labelled 2 "ld" (Load false yes') End)) ≡ refused 307 2 }
+    ensures twice { declaration_fault
+        (declaring (declares Own 2 "d" "dint" ∷ declares Own 3 "d" "bool" ∷ [])) ≡ refused 301 3 }
+    ensures reserved { declaration_fault (declaring (declares Own 2 "add" "dint" ∷ []))
+        ≡ refused 307 2 }
+    ensures reserved_label { declaration_fault (doing (labelled 2 "ld" (Load false yes') End))
+        ≡ refused 307 2 }
 {}
 
 /// Types: one that there is not, an instance that is no own variable, a first value of another kind.
 pub fn types_are_refused()
-    ensures unknown { declaration_fault (declaring (declares Own 2 "d" "foo" ∷ [])) ≡ refused 302 2 }
-    ensures not_own { declaration_fault (declaring (declares Input 2 "t" "ton" ∷ [])) ≡ refused 302 2 }
+    ensures unknown { declaration_fault (declaring (declares Own 2 "d" "foo" ∷ []))
+        ≡ refused 302 2 }
+    ensures not_own { declaration_fault (declaring (declares Input 2 "t" "ton" ∷ []))
+        ≡ refused 302 2 }
     ensures no_bit { declaration_fault (declaring (starts_at_two ∷ [])) ≡ refused 303 2 }
-    ensures names_come_first { declaration_fault (declaring (declares Own 2 "d" "dint" ∷ declares Own 3 "d" "foo" ∷ [])) ≡ refused 301 3 }
+    ensures names_come_first { declaration_fault
+        (declaring (declares Own 2 "d" "dint" ∷ declares Own 3 "d" "foo" ∷ [])) ≡ refused 301 3 }
 {}
 
 /// Addresses: one that there is not.

@@ -31,7 +31,8 @@ pub fn minus_seven_is_divided()
 
 /// A sum above the greatest number wraps to the least, and so does the least divided by -1.
 pub fn greatest_is_passed()
-    ensures { shown_by passes_the_greatest (scan 0 0 ∷ []) ≡ shows 6 0 (negsuc 2147483647) (negsuc 2147483647) ∷ [] }
+    ensures { shown_by passes_the_greatest (scan 0 0 ∷ [])
+        ≡ shows 6 0 (negsuc 2147483647) (negsuc 2147483647) ∷ [] }
 {}
 
 /// A TIME wraps as a DINT does.
@@ -65,17 +66,20 @@ pub fn jump_passes_over()
 /// A timer is TRUE from 500 ms on, until its preset time is raised to 1 s.
 pub fn timer_delays()
     ensures { shown_by on_delay (scan 0 1 ∷ scan 499 1 ∷ scan 500 1 ∷ scan 600 3 ∷ [])
-        ≡ shows 8 0 (pos 0) (pos 0) ∷ shows 8 0 (pos 0) (pos 0) ∷ shows 8 1 (pos 0) (pos 0) ∷ shows 10 0 (pos 0) (pos 0) ∷ [] }
+        ≡ shows 8 0 (pos 0) (pos 0) ∷ shows 8 0 (pos 0) (pos 0) ∷ shows 8 1 (pos 0) (pos 0)
+        ∷ shows 10 0 (pos 0) (pos 0) ∷ [] }
 {}
 
 /// A counter counts edges to its preset value, and is reset.
 pub fn counter_counts()
     ensures { shown_by counts_to_two (scan 0 1 ∷ scan 1 1 ∷ scan 2 0 ∷ scan 3 1 ∷ scan 4 3 ∷ [])
-        ≡ shows 9 0 (pos 1) (pos 0) ∷ shows 9 0 (pos 1) (pos 0) ∷ shows 9 0 (pos 1) (pos 0) ∷ shows 9 1 (pos 2) (pos 0) ∷ shows 9 0 (pos 0) (pos 0) ∷ [] }
+        ≡ shows 9 0 (pos 1) (pos 0) ∷ shows 9 0 (pos 1) (pos 0) ∷ shows 9 0 (pos 1) (pos 0)
+        ∷ shows 9 1 (pos 2) (pos 0) ∷ shows 9 0 (pos 0) (pos 0) ∷ [] }
 {}
 
 /// Two instances of a block keep their own variables.
 pub fn instances_are_apart()
     ensures { shown_by two_counters (scan 0 1 ∷ scan 10 1 ∷ scan 20 2 ∷ [])
-        ≡ shows 21 0 (pos 1) (pos 0) ∷ shows 18 0 (pos 1) (pos 0) ∷ shows 21 0 (pos 1) (pos 1) ∷ [] }
+        ≡ shows 21 0 (pos 1) (pos 0) ∷ shows 18 0 (pos 1) (pos 0) ∷ shows 21 0 (pos 1) (pos 1)
+        ∷ [] }
 {}

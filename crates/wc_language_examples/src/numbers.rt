@@ -19,7 +19,10 @@ pub fn negatives_are_divided()
     ensures quotient { apply Div (Dint (negsuc 6)) (Dint (pos 2)) ≡ Ok (Dint (negsuc 2)) }
     ensures remainder { apply Mod (Dint (negsuc 6)) (Dint (pos 2)) ≡ Ok (Dint (negsuc 0)) }
     ensures by_a_negative { apply Div (Dint (pos 7)) (Dint (negsuc 1)) ≡ Ok (Dint (negsuc 2)) }
-    ensures with_the_dividends_sign { apply Mod (Dint (pos 7)) (Dint (negsuc 1)) ≡ Ok (Dint (pos 1)) }
-    ensures least_by_minus_one { apply Div (Dint (negsuc 2147483647)) (Dint (negsuc 0)) ≡ Ok (Dint (negsuc 2147483647)) }
-    ensures no_rest_of_the_least { apply Mod (Dint (negsuc 2147483647)) (Dint (negsuc 0)) ≡ Ok (Dint (pos 0)) }
+    ensures with_the_dividends_sign { apply Mod (Dint (pos 7)) (Dint (negsuc 1))
+        ≡ Ok (Dint (pos 1)) }
+    ensures least_by_minus_one { apply Div (Dint (negsuc 2147483647)) (Dint (negsuc 0))
+        ≡ Ok (Dint (negsuc 2147483647)) }
+    ensures no_rest_of_the_least { apply Mod (Dint (negsuc 2147483647)) (Dint (negsuc 0))
+        ≡ Ok (Dint (pos 0)) }
 {}

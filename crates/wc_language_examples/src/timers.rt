@@ -5,8 +5,10 @@ ghost use Rattle.wc_model.specs.Language.Histories.{FitsTof};
 
 /// TOF by its step: TRUE until the preset time has passed since IN fell.
 pub fn off_delay_steps()
-    ensures outputs { map (λ f. f.q) (tof_run new_tof five_calls) ≡ false ∷ true ∷ true ∷ true ∷ false ∷ [] }
-    ensures times { map (λ f. f.et) (tof_run new_tof five_calls) ≡ pos 0 ∷ pos 0 ∷ pos 0 ∷ pos 99 ∷ pos 100 ∷ [] }
+    ensures outputs { map (λ f. f.q) (tof_run new_tof five_calls)
+        ≡ false ∷ true ∷ true ∷ true ∷ false ∷ [] }
+    ensures times { map (λ f. f.et) (tof_run new_tof five_calls)
+        ≡ pos 0 ∷ pos 0 ∷ pos 0 ∷ pos 99 ∷ pos 100 ∷ [] }
 {}
 
 /// TOF by its history: the fields that fit the same five calls have these outputs.

@@ -9,7 +9,7 @@ use Rattle.std.specs.Option.{option_and_then, option_map_or}
 use Rattle.std.specs.Str.Parse.{digits_value}
 use Rattle.wc_lexer.proofs.Cuts.{some_passes}
 use Rattle.wc_lexer.proofs.FirstParts.{is_no_letter, text_parts}
-use Rattle.wc_model.proofs.DurationParts.{part}
+use Rattle.wc_token_laws.proofs.DurationParts.{part}
 use Rattle.wc_lexer.proofs.Fractions.{wide_product}
 use Rattle.wc_lexer.proofs.Widths.{from_wide, narrow, wide, wide_for_32_bits}
 use Rattle.wc_lexer.specs.Parts.{IsPartTold, IsSumTold, TellsPart, are_later, are_none, fraction_told, part_by}
@@ -162,15 +162,6 @@ told_form above part parts one tells =
 pub first_sum : (part : Part) (parts : List Part) → billionths_of part + billionths parts ≡ billionths (part ∷ parts)
 first_sum part parts = sym (sum_by-cons billionths_of part parts)
 
--- where a part tells nothing
-pub later_none : (above : ℕ) (part : Part) (parts : List Part) → IsPartTold part None → IsSumTold (are_later above (part ∷ parts)) (billionths (part ∷ parts)) None
-later_none above part parts (inl h) = inl (ap (λ v. v && nat_lt (whole_of part) (unit_below part) && nat_lt (unit_milliseconds part) above && (not (has_point part) || are_none parts) && are_later (unit_milliseconds part) parts) h)
-later_none above part parts (inr h) = inr (omega (arith, first_sum part parts))
-
--- where a part may not stand
-pub later_unfit : (above : ℕ) (part : Part) (parts : List Part) (one : told.Part) → TellsPart part one → may_stand one above (are_none parts) ≡ false → IsSumTold (are_later above (part ∷ parts)) (billionths (part ∷ parts)) None
-later_unfit above part parts one tells h = inl (told_form above part parts one tells ∙ ap (λ v. v && are_later one.milliseconds parts) h)
-
 -- a sum with a part before it
 pub sum_told : (form whole : Bool) (one sum total first : ℕ) (later answer : Option ℕ) → whole ≡ form → one ≡ first → first + sum ≡ total → IsSumTold form sum later → answer ≡ option_and_then (λ more. within_64_bits (one + more)) later → IsSumTold whole total answer
 sum_told form whole one sum total first None answer f e all (inl h) a = subst (IsSumTold whole total) (sym a) (inl (f ∙ h))
@@ -220,16 +211,6 @@ same_form first later one tells =
     ∙ ap (λ v. (not v || are_none later) && are_later (unit_milliseconds first) later) (sym tells.point)
     ∙ ap (λ v. (not one.has_point || are_none later) && are_later v later) (sym tells.milliseconds)
 
--- where the first part tells nothing
-pub all_none : (first : Part) (later : List Part) → IsPartTold first None → IsSumTold (are_duration_parts (first ∷ later)) (billionths (first ∷ later)) None
-all_none first later (inl h) = inl (ap (λ v. v && list_all is_later_part later && is_falling (map unit_milliseconds (first ∷ later)) && not (list_any has_point (take (length later) (first ∷ later)))) h)
-all_none first later (inr h) = inr (omega (arith, first_sum first later))
-
--- where the first part has a point and another follows
-pub all_unfit : (first : Part) (later : List Part) (one : told.Part) → TellsPart first one → one.has_point ≡ true → are_none later ≡ false → IsSumTold (are_duration_parts (first ∷ later)) (billionths (first ∷ later)) None
-all_unfit first later one tells point none =
-    inl (same_form first later one tells ∙ ap (λ v. (not v || are_none later) && are_later one.milliseconds later) point ∙ ap (λ v. (false || v) && are_later one.milliseconds later) none)
-
 -- the sum of all parts
 pub all_sum : (first : Part) (parts : List Part) (one : told.Part) (later answer : Option ℕ) → TellsPart first one → (not one.has_point || are_none parts) ≡ true → IsSumTold (are_later one.milliseconds parts) (billionths parts) later → answer ≡ option_and_then (λ more. within_64_bits (one.billionths + more)) later → IsSumTold (are_duration_parts (first ∷ parts)) (billionths (first ∷ parts)) answer
 all_sum first parts one later answer tells h told a =
@@ -243,14 +224,6 @@ no_milliseconds negative parts (inl h) = sym (ap (λ v. cond (v && (billionths p
 no_milliseconds negative parts (inr h) =
     let over = wide_for_32_bits negative (billionths parts / 10 ^ 9) (omega arith) in
     elim (are_duration_parts parts && (billionths parts % 10 ^ 9 == 0)) as (λ v. None ≡ cond v (within_32_bits (cond negative (neg_ℤ (pos (billionths parts / 10 ^ 9))) (pos (billionths parts / 10 ^ 9)))) None) [ true ↦ sym over | false ↦ refl ]
-
--- the milliseconds by the form and the sum
-abbrev pub milliseconds_by : Bool → Bool → ℕ → Option ℤ
-milliseconds_by negative form sum = cond (form && (sum % 10 ^ 9 == 0)) (within_32_bits (cond negative (neg_ℤ (pos (sum / 10 ^ 9))) (pos (sum / 10 ^ 9)))) None
-
--- where a sum is told
-pub sum_milliseconds : (negative : Bool) (parts : List Part) (sum : ℕ) → IsSumTold (are_duration_parts parts) (billionths parts) (Some sum) → milliseconds_by negative true sum ≡ milliseconds_of negative parts
-sum_milliseconds negative parts sum h = sym (ap (λ v. milliseconds_by negative v (billionths parts)) h.0 ∙ ap (λ n. milliseconds_by negative true n) (sym h.1))
 
 -- ---- the text of parts
 

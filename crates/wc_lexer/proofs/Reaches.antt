@@ -1,19 +1,13 @@
 -- What the look ahead finds lies within the text, and what it says of its place.
 use Rattle.std.proofs.Common.{true, false, cond, ◌≡◌, ℕ, zero, suc, ◌≤◌, List, [], ◌∷◌, length, take, Ok, Err, refl, ap, ◌∙◌, ⊎_elim, arith, length-append}
 use Rattle.std.proofs.lemmas.Bool.{cases_lt}
-use Rattle.wc_model.proofs.Attained.{attained}
-use Rattle.wc_model.proofs.FoundTokens.{Take, Refuse, sight_by_reach, sight_of_lexeme}
-use Rattle.wc_model.proofs.Reach.{reach}
+use Rattle.wc_token_laws.proofs.Attained.{attained}
+use Rattle.wc_token_laws.specs.Sights.{Take, Refuse, sight_by_reach, sight_of_lexeme}
+use Rattle.wc_token_laws.specs.Reaches.{reach}
 use Rattle.std.proofs.lemmas.Bool.{or_cases}
 use Rattle.std.specs.Cmp.Lexicographic.{bytes_decides}
 use Rattle.wc_model.specs.Text.Blanks.{comment_closing, comment_opening, from_bracket, starts_with_bracket}
 use Rattle.wc_model.specs.Text.Shapes.{Shape, shape_of}
-
--- the longest lexeme is no longer than the text
-pub reach_within : (text : List ℕ) → reach text ≤ length text
-reach_within [] = omega arith
-reach_within (b ∷ rest) =
-    ⊎_elim (λ none. omega arith) (λ some. let here = attained b rest some in omega (arith, here.full, length-append here.piece here.after, ap length here.whole)) (cases_lt (reach (b ∷ rest)) 1)
 
 -- a lexeme with a shape
 pub sees_token : (count : ℕ) (text : List ℕ) (shape : Shape) → count ≡ reach text → ¬ (count ≡ 0) → Ok shape ≡ shape_of (take count text) → Take count shape ≡ sight_by_reach (reach text) text

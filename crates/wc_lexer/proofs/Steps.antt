@@ -4,8 +4,9 @@ use Rattle.std.proofs.Math.Seq.{take-add}
 use Rattle.std.proofs.lemmas.List.{append-nil, drop-drop}
 use Rattle.std.proofs.lemmas.List.Sums.{sum_by-append}
 use Rattle.wc_lexer.proofs.PartSums.{empty}
-use Rattle.wc_model.proofs.FoundTokens.{Holds, Pass, Refuse, Sight, Take, sight, sight_holds}
-use Rattle.wc_model.proofs.TokenSteps.{blank_is_filled, lexeme_is_filled}
+use Rattle.wc_token_laws.specs.Sights.{Pass, Refuse, Sight, Take, sight}
+use Rattle.wc_token_laws.proofs.FoundTokens.{Holds, sight_holds}
+use Rattle.wc_token_laws.proofs.TokenSteps.{blank_is_filled, lexeme_is_filled}
 use Rattle.wc_model.specs.Text.Blanks.{Blank}
 use Rattle.wc_model.specs.Text.Characters.{is_line_feed}
 use Rattle.wc_model.specs.Text.Lexemes.{IsLongestLexeme}
@@ -20,10 +21,6 @@ Goes Ends text n tokens = (more : List Token) → Cuts Ends (take n text) (drop 
 pub record Going (text : List ℕ) (n : ℕ) (tokens : List Token) : Type 0 where
   pub at_end : Goes AtEnd text n tokens
   pub at_fault : (number line : ℕ) → Goes (Faulty number line) text n tokens
-
--- nothing is read at first
-pub going_first : (text : List ℕ) → Going text 0 []
-going_first text = record { at_end = λ more cuts. cuts; at_fault = λ number line more cuts. cuts }
 
 -- a cut from a later place is one from behind a piece
 pub moved : (Ends : List ℕ → List ℕ → Type 0) (text : List ℕ) (n count : ℕ) (more : List Token) → Cuts Ends (take (n + count) text) (drop (n + count) text) more → Cuts Ends (take n text ++ take count (drop n text)) (drop count (drop n text)) more

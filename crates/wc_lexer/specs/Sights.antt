@@ -3,8 +3,8 @@ use Rattle.std.specs.Prelude.{ℕ, ◌≤◌, List, [], ◌∷◌}
 use Rattle.wc_lexer.specs.Views.{shape_view}
 use Rattle.wc_lexer.specs.declared.piece.Piece.{Piece}
 use Rattle.wc_lexer.specs.declared.piece.Piece.TheVariants.{Blank, Lexeme, Fault}
-use Rattle.wc_model.proofs.FoundTokens.{Sight, Pass, Take, Refuse}
-use Rattle.wc_model.proofs.Reach.{mark_reach}
+use Rattle.wc_token_laws.specs.Sights.{Sight, Pass, Take, Refuse}
+use Rattle.wc_token_laws.specs.Reaches.{mark_reach}
 
 -- how long the mark is that stands here
 abbrev pub mark_reach_of : List ℕ → ℕ

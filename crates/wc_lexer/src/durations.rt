@@ -40,7 +40,9 @@ struct Part {
 
 /// The unit with these letters, in either case.
 fn unit_named(letters: &[u8]) -> Option<TimeUnit>
-    ensures named { result ≡ option_map (λ unit. record { milliseconds = unit.milliseconds; below = unit.below }) (unit_named letters.now) }
+    ensures named { result
+        ≡ option_map (λ unit. record { milliseconds = unit.milliseconds; below = unit.below })
+        (unit_named letters.now) }
     ensures positive { IfSome result (λ unit. 1 ≤ unit.milliseconds) }
 {
     if is_word(letters, b"d") {
@@ -82,7 +84,11 @@ fn digit_count(text: &[u8]) -> usize
 
 /// The whole number of a part, where it has 64 bits.
 fn whole(text: &[u8]) -> Option<u64>
-    ensures { result ≡ option_and_then within_64_bits (then_some (are_digits 10 text.now && nat_le (count_by (λ byte. not (is_underscore byte)) text.now) 12) (value_of_digits 10 text.now)) }
+    ensures { result
+        ≡ option_and_then within_64_bits
+        (then_some
+        (are_digits 10 text.now && nat_le (count_by (λ byte. not (is_underscore byte)) text.now) 12)
+        (value_of_digits 10 text.now)) }
 {
     if are_digits(10, text) && digit_count(text) <= 12 {
         value_of_digits(10, text)
@@ -133,7 +139,12 @@ fn sum(number: u64, more: u64) -> Option<u64>
 
 /// The billionths that the digits behind a point write, where they have 64 bits.
 fn fraction(text: &[u8]) -> Option<u64>
-    ensures { result ≡ option_and_then within_64_bits (then_some (nat_le 1 (length text.now) && nat_le (length text.now) 9 && list_all is_ascii_digit text.now) (digits_value 10 text.now * 10 ^ (9 - length text.now))) }
+    ensures { result
+        ≡ option_and_then within_64_bits
+        (then_some
+        (nat_le 1 (length text.now) && nat_le
+        (length text.now) 9 && list_all is_ascii_digit text.now)
+        (digits_value 10 text.now * 10 ^ (9 - length text.now))) }
 {
     if 1 <= text.len() && text.len() <= 9 && has_digits_alone(text) {
         match value_of_digits(10, text) {
@@ -148,7 +159,8 @@ fn fraction(text: &[u8]) -> Option<u64>
 /// A duration's first part, as its number and its letters, and what stands behind it.
 fn first_part(text: &[u8]) -> (&[u8], &[u8], &[u8])
     requires { 1 ≤ length text.now }
-    ensures first { parts_of text.now ≡ record { number = result.0.now; letters = result.1.now } ∷ parts_of result.2.now }
+    ensures first { parts_of text.now
+        ≡ record { number = result.0.now; letters = result.1.now } ∷ parts_of result.2.now }
     ensures shorter { length result.2.now < length text.now }
 {
     let (number, behind) = text.split_at(letterless_length(text));
@@ -266,7 +278,10 @@ fn is_last(rest: &[u8]) -> bool
 
 /// The part may stand behind a part with a unit so long.
 fn may_stand_behind(part: Part, above: u64, is_last: bool) -> bool
-    ensures { result ≡ (nat_lt part.whole part.below && nat_lt part.milliseconds above && (not part.has_point || is_last)) }
+    ensures { result
+        ≡
+        (nat_lt part.whole part.below && nat_lt part.milliseconds above &&
+        (not part.has_point || is_last)) }
 {
     part.whole < part.below && part.milliseconds < above && (!part.has_point || is_last)
 }
@@ -290,7 +305,8 @@ fn with_part(first: u64, later: Option<u64>) -> Option<u64>
 
 /// The billionths of the parts behind a part with a unit so long.
 fn later_billionths(text: &[u8], above: u64) -> Option<u64>
-    ensures { IsSumTold (are_later above (map without_separator (parts_of text.now))) (billionths (map without_separator (parts_of text.now))) result }
+    ensures { IsSumTold (are_later above (map without_separator (parts_of text.now)))
+        (billionths (map without_separator (parts_of text.now))) result }
 {
     if text.is_empty() {
         return Some(0);
@@ -307,7 +323,8 @@ fn later_billionths(text: &[u8], above: u64) -> Option<u64>
 
 /// The billionths of all parts.
 fn all_billionths(text: &[u8]) -> Option<u64>
-    ensures { IsSumTold (are_duration_parts (duration_parts text.now)) (billionths (duration_parts text.now)) result }
+    ensures { IsSumTold (are_duration_parts (duration_parts text.now))
+        (billionths (duration_parts text.now)) result }
 {
     if text.is_empty() {
         return None;

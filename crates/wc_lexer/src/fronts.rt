@@ -67,7 +67,10 @@ pub(crate) fn length_before(text: &[u8], mark: u8) -> usize
 #[tactic(auto, using(crate::proofs::Cuts::cut_none, crate::proofs::Cuts::cut_some))]
 /// What stands before the first such byte and what stands behind it, where there is one.
 pub(crate) fn cut_at(text: &[u8], mark: u8) -> Option<(&[u8], &[u8])>
-    ensures { MatchOption result (list_any (λ byte. byte == mark) text.now ≡ false) (λ cut. (list_any (λ byte. byte == mark) text.now ≡ true) × (cut.0.now ≡ before_first (λ byte. byte == mark) text.now) × (cut.1.now ≡ after_first (λ byte. byte == mark) text.now)) }
+    ensures { MatchOption result (list_any (λ byte. byte == mark) text.now ≡ false)
+        (λ cut. (list_any (λ byte. byte == mark) text.now ≡ true)
+        × (cut.0.now ≡ before_first (λ byte. byte == mark) text.now)
+        × (cut.1.now ≡ after_first (λ byte. byte == mark) text.now)) }
 {
     let (before, rest) = text.split_at(length_before(text, mark));
     match rest {

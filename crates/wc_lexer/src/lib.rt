@@ -11,8 +11,6 @@ mod piece;
 mod shape;
 mod shapes;
 mod spaces;
-#[cfg(test)]
-mod tests;
 mod text;
 
 pub use shape::{Shape, Token};

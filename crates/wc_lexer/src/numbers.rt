@@ -145,7 +145,9 @@ pub(crate) fn signed(negative: bool, size: u64) -> Option<i32>
 
 /// The number of that size and sign, where there is one and it has 32 bits.
 pub(crate) fn narrowed(negative: bool, size: Option<u64>) -> Option<i32>
-    ensures { result ≡ option_and_then (λ number. within_32_bits (if negative then neg_ℤ (pos number) else pos number)) size }
+    ensures { result
+        ≡ option_and_then
+        (λ number. within_32_bits (if negative then neg_ℤ (pos number) else pos number)) size }
 {
     match size {
         Some(size) => signed(negative, size),

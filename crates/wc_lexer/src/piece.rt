@@ -1,7 +1,7 @@
 ghost use Rattle.std.specs.Prelude.{◌≡◌, ◌+◌, ◌≤◌, length};
 ghost use Rattle.wc_lexer.specs.Sights.{IsWithin, said_sight};
-ghost use Rattle.wc_model.proofs.FoundTokens.{sight, sight_by_reach, sight_in_comment};
-ghost use Rattle.wc_model.proofs.Reach.{reach};
+ghost use Rattle.wc_token_laws.specs.Sights.{sight, sight_by_reach, sight_in_comment};
+ghost use Rattle.wc_token_laws.specs.Reaches.{reach};
 ghost use Rattle.wc_model.specs.Text.Blanks.{from_bracket};
 
 use crate::Shape;

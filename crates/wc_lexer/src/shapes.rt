@@ -69,7 +69,10 @@ fn typed_shape(name: &[u8], value: &[u8]) -> Result<Shape, u16>
 
 /// An identifier, or a typed literal where it holds a `#`.
 fn word_shape(lexeme: &[u8]) -> Result<Shape, u16>
-    ensures { judgement_view result ≡ (if list_any is_hash lexeme.now then literal_shape lexeme.now else identifier_shape lexeme.now) }
+    ensures { judgement_view result
+        ≡
+        (if list_any is_hash lexeme.now then literal_shape lexeme.now
+        else identifier_shape lexeme.now) }
 {
     match cut_at(lexeme, b'#') {
         Some((name, value)) => typed_shape(name, value),

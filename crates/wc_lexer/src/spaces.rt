@@ -1,5 +1,5 @@
 ghost use Rattle.std.specs.Prelude.{◌≡◌, ◌≤◌, count_by, length};
-ghost use Rattle.wc_model.proofs.FoundTokens.{opens_comment, starts_space};
+ghost use Rattle.wc_token_laws.specs.Sights.{opens_comment, starts_space};
 ghost use Rattle.wc_model.specs.Text.Blanks.{from_bracket, starts_with_bracket};
 ghost use Rattle.wc_model.specs.Text.Characters.{is_line_feed};
 

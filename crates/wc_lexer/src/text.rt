@@ -11,7 +11,8 @@ use wc_model::Fault;
 
 /// The tokens of a text, or its first fault.
 pub fn tokens<'a>(alloc: Global, text: &'a [u8]) -> Result<Vec<Token<'a>>, Fault>
-    ensures cut { IfOk result (λ tokens. (length text.now ≤ most_bytes) × IsCut text.now (map token_view tokens.items)) }
+    ensures cut { IfOk result
+        (λ tokens. (length text.now ≤ most_bytes) × IsCut text.now (map token_view tokens.items)) }
     ensures refused { IfErr result (λ fault. Names text.now fault) }
 {
     if text.len() > 65536 {

@@ -1,5 +1,6 @@
 -- What is read and written: rows, image, job, devices.
 pub mod Devices
+pub mod Fuses
 pub mod Rows
 pub mod ProcessImage
 pub mod Hex

@@ -21,7 +21,8 @@ pub trait ByteIn {
         ensures bound { ReadsAtMost result buffer.new }
         // A failed call takes none.
         ensures bytes { ReadConsumes (bytes_left self.old) (bytes_left self.new) result buffer.new }
-        ensures failures { failure_count self.new ≡ failures_after_read (failure_count self.old) result }
+        ensures failures { failure_count self.new
+            ≡ failures_after_read (failure_count self.old) result }
         ensures spent { spent_count self.new ≡ spent_after_read (spent_count self.old) result };
 
     /// How many calls of `read` failed. It stops at the greatest value.

@@ -18,8 +18,10 @@ pub trait ByteOut {
     fn write(&mut self, piece: &[u8]) -> io::Result<usize>
         ensures bound { WritesAtMost result piece.now }
         // A failed call takes none.
-        ensures bytes { WriteAppends (bytes_taken self.old) (bytes_taken self.new) result piece.now }
-        ensures failures { failure_count self.new ≡ failures_after_write (failure_count self.old) result piece.now };
+        ensures bytes { WriteAppends (bytes_taken self.old)
+            (bytes_taken self.new) result piece.now }
+        ensures failures { failure_count self.new
+            ≡ failures_after_write (failure_count self.old) result piece.now };
 
     /// How many calls of `write` failed. It stops at the greatest value.
     fn failures(&self) -> u64

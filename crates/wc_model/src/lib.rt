@@ -10,19 +10,18 @@ mod device;
 mod device_in;
 mod device_out;
 mod fault;
+mod fuse_in;
+mod fuse_out;
+mod fuse_writes;
 mod image;
 mod kind;
 mod operand;
 mod operator;
 mod place;
 mod source;
-#[cfg(test)]
-mod tests;
 mod tree;
 mod value;
 mod writing;
-#[cfg(test)]
-mod writing_tests;
 
 pub use block::StandardBlock;
 pub use byte_in::ByteIn;
@@ -30,6 +29,8 @@ pub use byte_out::ByteOut;
 pub use code::{Code, CodeOperand};
 pub use device::Device;
 pub use fault::Fault;
+pub use fuse_in::FuseIn;
+pub use fuse_out::FuseOut;
 pub use image::{Image, Outputs, Steps};
 pub use kind::{Kind, SlotKind};
 pub use operand::{Operand, Word};

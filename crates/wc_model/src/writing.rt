@@ -12,10 +12,12 @@ pub struct WriteFault;
 fn write_some<W: ByteOut>(writer: &mut W, piece: &[u8]) -> Result<usize, WriteFault>
     requires { 0 < length piece.now }
     ensures some { IfOk result (λ n. (0 < n) × (n ≤ length piece.now)) }
-    ensures taken { IfOk result (λ n. Appends (W.bytes_taken writer.old) (W.bytes_taken writer.new) (take n piece.now)) }
+    ensures taken { IfOk result
+        (λ n. Appends (W.bytes_taken writer.old) (W.bytes_taken writer.new) (take n piece.now)) }
     ensures steady { IfOk result (λ n. W.failure_count writer.new ≡ W.failure_count writer.old) }
     ensures kept { IfErr result (λ e. Keeps (W.bytes_taken writer.old) (W.bytes_taken writer.new)) }
-    ensures device { IfErr result (λ e. HasFailedSince (W.failure_count writer.old) (W.failure_count writer.new)) }
+    ensures device { IfErr result
+        (λ e. HasFailedSince (W.failure_count writer.old) (W.failure_count writer.new)) }
 {
     match writer.write(piece) {
         Ok(0) | Err(_) => Err(WriteFault),
@@ -26,10 +28,13 @@ fn write_some<W: ByteOut>(writer: &mut W, piece: &[u8]) -> Result<usize, WriteFa
 /// Has the writer take all of a text, in as many calls as it needs. `WriteFault` comes where a call failed; the writer has
 /// then taken a front of the text, not all of it, and is asked no further. It takes no memory.
 pub fn write_whole<W: ByteOut>(writer: &mut W, text: &[u8]) -> Result<(), WriteFault>
-    ensures whole { IfOk result (λ done. Appends (W.bytes_taken writer.old) (W.bytes_taken writer.new) text.now) }
+    ensures whole { IfOk result
+        (λ done. Appends (W.bytes_taken writer.old) (W.bytes_taken writer.new) text.now) }
     ensures steady { IfOk result (λ done. W.failure_count writer.new ≡ W.failure_count writer.old) }
-    ensures front { IfErr result (λ e. TakesFront (W.bytes_taken writer.old) (W.bytes_taken writer.new) text.now) }
-    ensures device { IfErr result (λ e. HasFailedSince (W.failure_count writer.old) (W.failure_count writer.new)) }
+    ensures front { IfErr result
+        (λ e. TakesFront (W.bytes_taken writer.old) (W.bytes_taken writer.new) text.now) }
+    ensures device { IfErr result
+        (λ e. HasFailedSince (W.failure_count writer.old) (W.failure_count writer.new)) }
 {
     let mut at = 0;
     while at < text.len() {

@@ -3,7 +3,7 @@ use Rattle.std.proofs.Common.{◌≡◌, [], ◌∷◌, codes}
 use Rattle.std.specs.Prelude.{Some, Ok}
 use Rattle.wc_model.specs.Instrument.Plates.{PlateData, IsPlate}
 use Rattle.wc_model.specs.Instrument.PlateTable.{Table, Written, Text, Whole, judged, line_unit}
-use Rattle.wc_model.proofs.PlateTable.{accepted_is_plate}
+use Rattle.wc_instrument_laws.proofs.PlateTable.{accepted_is_plate}
 
 -- the table in which this is written
 seven_keys : Written → Table

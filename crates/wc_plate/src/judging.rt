@@ -45,7 +45,9 @@ fn sample(counts: i64) -> Option<i32>
 
 /// Whether this number of decimals allows the scale interval.
 fn is_allowed(decimals: u32, e: i64) -> bool
-    ensures allowed { result ≡ list_any (λ allowed. int_le e (pos allowed) && int_le (pos allowed) e) (allowed_intervals decimals) }
+    ensures allowed { result
+        ≡ list_any (λ allowed. int_le e (pos allowed) && int_le (pos allowed) e)
+        (allowed_intervals decimals) }
     ensures few { IsTrue result → (pos 1 ≤ℤ e) × (e ≤ℤ pos 50) }
 {
     match e {
@@ -85,7 +87,8 @@ fn interval(unit: [u8; 3], decimals: u32, e: i64) -> Option<u32>
 fn count(max: i64, e: u32) -> Option<u32>
     requires { 1 ≤ e }
     ensures fits { is_some result ≡ plate.is_count max (pos e) }
-    ensures same { IfSome result (λ n. (max ≡ pos (n * e)) × (int_div max (pos e) ≡ pos n) × (n ≤ 10000)) }
+    ensures same { IfSome result
+        (λ n. (max ≡ pos (n * e)) × (int_div max (pos e) ≡ pos n) × (n ≤ 10000)) }
 {
     let (e, n) = (e as i64, max / e as i64);
     if max % e <= 0 && n >= 500 && n <= 10000 {
@@ -97,7 +100,8 @@ fn count(max: i64, e: u32) -> Option<u32>
 
 /// The plate of what is written, or the number of the first rule that it breaks.
 pub(crate) fn judged(written: &Written) -> Result<Plate, u16>
-    ensures { result ≡ plate.judged (written_seen written.now) (plate.line_unit written.now.unit.now) }
+    ensures { result
+        ≡ plate.judged (written_seen written.now) (plate.line_unit written.now.unit.now) }
 {
     let Some(unit) = line_unit(written.unit) else {
         return Err(503);

@@ -45,7 +45,8 @@ fn has_no_other_key(table: &Table) -> bool
 
 /// The text behind a key.
 fn text_at<'t>(table: &'t Table, key: &str) -> Option<&'t str>
-    ensures { option_map (λ s. s.now) result ≡ plate.text_at (entries_of (table_view table.now)) key.now }
+    ensures { option_map (λ s. s.now) result
+        ≡ plate.text_at (entries_of (table_view table.now)) key.now }
 {
     match table.get(key) {
         Some(value) => value.as_str(),
@@ -65,7 +66,8 @@ fn number_at(table: &Table, key: &str) -> Option<i64>
 
 /// What stands behind the seven keys, where each is there in its kind and there is no other.
 pub(crate) fn written_in(table: &Table) -> Option<Written<'_>>
-    ensures { option_map written_seen result ≡ plate.written_of (entries_of (table_view table.now)) }
+    ensures { option_map written_seen result
+        ≡ plate.written_of (entries_of (table_view table.now)) }
 {
     if !has_no_other_key(table) {
         return None;

@@ -6,8 +6,6 @@ mod judging;
 mod kept;
 mod keys;
 mod reading;
-#[cfg(test)]
-mod tests;
 
 pub use kept::Plate;
 pub use reading::plate;

@@ -1,9 +1,9 @@
 -- A word's operator is found in the groups, one after the other.
 use Rattle.std.proofs.Common.{◌≡◌, true, false, List, [], ◌∷◌, ◌++◌, Option, Some, None, option_map, refl, sym, ◌∙◌, if◌then◌else◌}
 use Rattle.std.specs.Option.{option_or}
-use Rattle.wc_grammar_laws.proofs.Words as words
-use Rattle.wc_grammar_laws.proofs.Words.{found, operations}
-use Rattle.wc_model.proofs.Spelling.{same}
+use Rattle.wc_grammar_laws.specs.Words as words
+use Rattle.wc_grammar_laws.specs.Words.{found, operations}
+use Rattle.wc_grammar_laws.specs.Words.{same}
 use Rattle.wc_model.specs.Language.Names.{Name}
 use Rattle.wc_reader.specs.OperatorGroups.{loads_and_stores, logic, arithmetic, comparisons, negation_and_jumps, calls_and_returns}
 use Rattle.wc_reader.specs.Words.{operation_view}

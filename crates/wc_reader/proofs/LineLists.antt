@@ -2,7 +2,7 @@
 use Rattle.std.proofs.Common.{◌≡◌, ◌+◌, List, [], ◌∷◌, ◌++◌, Option, Some, None, option_map, length, false, refl, ap, ◌∙◌, ◌==◌, arith}
 use Rattle.std.proofs.lemmas.Bool.Decides.{nat_tests}
 use Rattle.std.proofs.lemmas.List.{length_push}
-use Rattle.wc_grammar_laws.proofs.Moves.{are_no_lines, lines_and}
+use Rattle.wc_grammar_laws.specs.Moves.{are_no_lines, lines_and}
 use Rattle.wc_model.specs.Text.Limits.{line_count}
 use Rattle.wc_model.specs.Language.Tree.{Word, Lines, End, Alone, Plain, Nested}
 use Rattle.wc_model.specs.Language.Views.{line_view, lines_view, instruction_view, line_step_view, word_view}

@@ -1,6 +1,6 @@
 -- A fault where a test holds, as it is told.
 use Rattle.std.proofs.Common.{◌≡◌, ℕ, Bool, true, false, Option, Some, None, option_map, if◌then◌else◌, refl}
-use Rattle.wc_grammar_laws.proofs.Moves.{met_if}
+use Rattle.wc_grammar_laws.specs.Moves.{met_if}
 use Rattle.wc_model.specs.Text.ReadingFaults.{ReadingFault, number_of}
 use Rattle.wc_model.specs.declared.fault.Fault.{Fault}
 use Rattle.wc_model.specs.declared.fault.Fault.TheVariants.{Refused}

@@ -1,10 +1,10 @@
 -- What the walk over a text's tokens says of the text.
 use Rattle.std.proofs.Common.{◌≡◌, ◌≤◌, ℕ, List, map, length, subst, sym, inl, inr}
 use Rattle.std.specs.Prelude.{Ok, Err, Result, IfOk, IfErr}
-use Rattle.wc_grammar_laws.proofs.Moves.{Met, at_first, reading}
+use Rattle.wc_grammar_laws.specs.Moves.{Met, at_first, reading}
 use Rattle.wc_grammar_laws.proofs.Readings.{read_is_spelled, refused_is_first, refused_spells_nothing}
 use Rattle.wc_lexer.specs.Refusals.{Names}
-use Rattle.wc_model.proofs.TokenLaws.{cut_has_no_fault, cut_is_unique}
+use Rattle.wc_token_laws.proofs.TokenLaws.{cut_has_no_fault, cut_is_unique}
 use Rattle.wc_model.specs.Text.Grammar.{Spells}
 use Rattle.wc_model.specs.Text.Marks.{Mark}
 use Rattle.wc_model.specs.Text.Reading.{IsMisread, IsRead, last_line, mark_of_token}

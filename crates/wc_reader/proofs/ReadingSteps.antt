@@ -1,6 +1,6 @@
 -- One step of the walk over a text's tokens.
 use Rattle.std.proofs.Common.{◌≡◌, ℕ, Bool, false, List, ◌∷◌, Option, Some, None, option_map, Result, Err, refl}
-use Rattle.wc_grammar_laws.proofs.Moves.{Met, State, colon_next, judge, move, reading}
+use Rattle.wc_grammar_laws.specs.Moves.{Met, State, colon_next, judge, move, reading}
 use Rattle.wc_model.specs.Text.Marks.{Mark}
 use Rattle.wc_model.specs.Text.ReadingFaults.{UnexpectedToken}
 use Rattle.wc_model.specs.Language.Tree.{Text}

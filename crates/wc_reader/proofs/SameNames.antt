@@ -1,7 +1,7 @@
 -- The test of two names, and what it says.
 use Rattle.std.proofs.Common.{◌≡◌, ℕ, Bool, true, false, List, [], ◌∷◌, refl, arith}
 use Rattle.std.proofs.lemmas.Bool.Decides.{nat_tests}
-use Rattle.wc_model.proofs.Spelling.{same}
+use Rattle.wc_grammar_laws.specs.Words.{same}
 
 -- a name is the same as itself
 same-itself : (xs : List ℕ) → same xs xs ≡ true

@@ -1,6 +1,6 @@
 -- What the reader's places on a line stand for.
 use Rattle.std.specs.Prelude.{map, option_map}
-use Rattle.wc_grammar_laws.proofs.LineMoves as lines
+use Rattle.wc_grammar_laws.specs.LineMoves as lines
 use Rattle.wc_model.specs.Language.Tree as tree
 use Rattle.wc_model.specs.Language.Views.{assignment_view, name_view, term_view, word_view}
 use Rattle.wc_reader.specs.Words.{operating_view}

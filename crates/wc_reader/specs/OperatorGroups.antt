@@ -1,6 +1,6 @@
 -- The operators under their words, in groups.
 use Rattle.std.specs.Prelude.{true, false, List, [], ◌∷◌}
-use Rattle.wc_grammar_laws.proofs.Words.{Operation, Operates, Negates, Jumps, Calls, Returns, Loads, Stores, Applies, operation_word}
+use Rattle.wc_grammar_laws.specs.Words.{Operation, Operates, Negates, Jumps, Calls, Returns, Loads, Stores, Applies, operation_word}
 use Rattle.wc_model.specs.Language.Names.{Name}
 use Rattle.wc_model.specs.declared.operator.Condition.TheVariants.{Always, IfTrue, IfFalse}
 use Rattle.wc_model.specs.declared.operator.Operator.{Operator}

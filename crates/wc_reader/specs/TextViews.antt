@@ -1,7 +1,7 @@
 -- What the reader's places in a text stand for.
 use Rattle.std.specs.Prelude.{◌≡◌, ◌==◌, min, List, [], ◌∷◌, length, map, Some, None, option_map}
-use Rattle.wc_grammar_laws.proofs.Moves as moves
-use Rattle.wc_grammar_laws.proofs.Moves.{Met, State, are_no_lines}
+use Rattle.wc_grammar_laws.specs.Moves as moves
+use Rattle.wc_grammar_laws.specs.Moves.{Met, State, are_no_lines}
 use Rattle.wc_model.specs.Text.Limits.{lines_before, most_lines}
 use Rattle.wc_model.specs.Text.Positions as positions
 use Rattle.wc_model.specs.Text.Positions.{Position}

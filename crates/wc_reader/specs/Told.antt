@@ -1,6 +1,6 @@
 -- What a result of the reader says.
 use Rattle.std.specs.Prelude.{◌≡◌, ℕ, Option, None, Result, Ok, Err}
-use Rattle.wc_grammar_laws.proofs.Moves.{Met, State}
+use Rattle.wc_grammar_laws.specs.Moves.{Met, State}
 use Rattle.wc_model.specs.Text.ReadingFaults.{number_of}
 use Rattle.wc_model.specs.Language.Tree.{Text}
 use Rattle.wc_model.specs.Language.Views.{text_view}

@@ -1,6 +1,6 @@
 -- What the reader's words and tokens stand for.
 use Rattle.std.specs.Prelude.{List, map}
-use Rattle.wc_grammar_laws.proofs.Words as words
+use Rattle.wc_grammar_laws.specs.Words as words
 use Rattle.wc_lexer.specs.Views.{shape_view, token_view}
 use Rattle.wc_lexer.specs.declared.shape.Token.{Token}
 use Rattle.wc_model.specs.Text.Marks.{Symbol, Mark}

@@ -1,6 +1,6 @@
 ghost use Rattle.std.specs.Prelude.{◌≡◌, ◌==◌, ◌+◌, ◌∷◌, [], length, min, IfOk, MatchOption, IfSome, List, Some, map, option_map};
-ghost use Rattle.wc_grammar_laws.proofs.LineMoves as lines;
-ghost use Rattle.wc_grammar_laws.proofs.Moves as moves;
+ghost use Rattle.wc_grammar_laws.specs.LineMoves as lines;
+ghost use Rattle.wc_grammar_laws.specs.Moves as moves;
 ghost use Rattle.wc_model.specs.Text.Positions as positions;
 ghost use Rattle.wc_model.specs.Language.Tree as tree;
 ghost use Rattle.wc_model.specs.Language.Tree.{Lines, ProgramUnit};
@@ -39,7 +39,8 @@ pub(crate) struct Body<'a> {
 
 /// A body of which nothing has been read.
 pub(crate) fn body_start<'a>(alloc: Global, unit: Unit<'a>) -> Body<'a>
-    ensures start { (units : List ProgramUnit) → position_view units result ≡ moves.body_start units (unit_view unit.entry) }
+    ensures start { (units : List ProgramUnit)
+        → position_view units result ≡ moves.body_start units (unit_view unit.entry) }
     ensures counted { IsCounted result }
 {
     Body {
@@ -72,7 +73,11 @@ fn line_with<'a>(label: Option<Word<'a>>, instr: Instr<'a>) -> Line<'a>
 
 /// The line of a call.
 fn call_line<'a>(label: Option<Word<'a>>, call: Listed<'a>, line: u32) -> Line<'a>
-    ensures { (rest : Lines) → line_view result rest ≡ tree.Plain (option_map word_view label.entry) line (tree.Call call.entry.condition (name_view call.entry.instance) (map assignment_view call.entry.arguments.items)) rest }
+    ensures { (rest : Lines)
+        → line_view result rest
+        ≡ tree.Plain (option_map word_view label.entry) line
+        (tree.Call call.entry.condition (name_view call.entry.instance)
+        (map assignment_view call.entry.arguments.items)) rest }
 {
     let Listed {
         condition,
@@ -92,7 +97,10 @@ fn call_line<'a>(label: Option<Word<'a>>, call: Listed<'a>, line: u32) -> Line<'
 
 /// The line of an instruction.
 fn step_line<'a>(begun: Begun<'a>, step: Step<'a>) -> Line<'a>
-    ensures { (rest : Lines) → line_view result rest ≡ tree.Plain (option_map word_view begun.entry.label) begun.entry.line (step_view step.entry) rest }
+    ensures { (rest : Lines)
+        → line_view result rest
+        ≡ tree.Plain (option_map word_view begun.entry.label) begun.entry.line
+        (step_view step.entry) rest }
 {
     let Begun { label, line } = begun;
     match step {
@@ -142,7 +150,10 @@ fn nested_line<'a>(
     inside: Vec<Line<'a>, Global>,
     close: u32,
 ) -> Line<'a>
-    ensures { (rest : Lines) → line_view result rest ≡ tree.Nested (option_map word_view begun.entry.label) begun.entry.line operator (option_map term_view operand.entry) (lines_view inside.entry.items) close rest }
+    ensures { (rest : Lines)
+        → line_view result rest
+        ≡ tree.Nested (option_map word_view begun.entry.label) begun.entry.line operator
+        (option_map term_view operand.entry) (lines_view inside.entry.items) close rest }
 {
     Line {
         label: begun.label,
@@ -166,7 +177,11 @@ fn one_more(count: usize) -> usize
 /// The body behind a label alone.
 fn behind_label<'a>(body: Body<'a>, label: Word<'a>) -> Result<Body<'a>, AllocError>
     requires { IsCounted body }
-    ensures behind { IfOk result (λ next. (units : List ProgramUnit) → position_view units next ≡ moves.behind_line (position_view units body.entry) (lines.LabelAlone (word_view label.entry))) }
+    ensures behind { IfOk result
+        (λ next. (units : List ProgramUnit)
+        → position_view units next
+        ≡ moves.behind_line (position_view units body.entry)
+        (lines.LabelAlone (word_view label.entry))) }
     ensures counted { IfOk result (λ next. IsCounted next) }
 {
     let mut body = body;
@@ -177,7 +192,12 @@ fn behind_label<'a>(body: Body<'a>, label: Word<'a>) -> Result<Body<'a>, AllocEr
 /// The body behind an instruction.
 fn behind_step<'a>(body: Body<'a>, begun: Begun<'a>, step: Step<'a>) -> Result<Body<'a>, AllocError>
     requires { IsCounted body }
-    ensures behind { IfOk result (λ next. (units : List ProgramUnit) → position_view units next ≡ moves.behind_line (position_view units body.entry) (lines.Instructs (option_map word_view begun.entry.label) begun.entry.line (step_view step.entry))) }
+    ensures behind { IfOk result
+        (λ next. (units : List ProgramUnit)
+        → position_view units next
+        ≡ moves.behind_line (position_view units body.entry)
+        (lines.Instructs (option_map word_view begun.entry.label) begun.entry.line
+        (step_view step.entry))) }
     ensures counted { IfOk result (λ next. IsCounted next) }
 {
     let mut body = body;
@@ -195,7 +215,12 @@ fn behind_opening<'a>(
     operand: Option<Operand<'a>>,
 ) -> Result<Body<'a>, AllocError>
     requires { IsCounted body }
-    ensures behind { IfOk result (λ next. (units : List ProgramUnit) → position_view units next ≡ moves.behind_line (position_view units body.entry) (lines.Opens (option_map word_view begun.entry.label) begun.entry.line operator (option_map term_view operand.entry))) }
+    ensures behind { IfOk result
+        (λ next. (units : List ProgramUnit)
+        → position_view units next
+        ≡ moves.behind_line (position_view units body.entry)
+        (lines.Opens (option_map word_view begun.entry.label) begun.entry.line operator
+        (option_map term_view operand.entry))) }
     ensures counted { IfOk result (λ next. IsCounted next) }
 {
     let Body {
@@ -225,7 +250,10 @@ pub(crate) fn behind_line<'a>(
     form: LineForm<'a>,
 ) -> Result<Body<'a>, AllocError>
     requires { IsCounted body }
-    ensures behind { IfOk result (λ next. (units : List ProgramUnit) → position_view units next ≡ moves.behind_line (position_view units body.entry) (form_view form.entry)) }
+    ensures behind { IfOk result
+        (λ next. (units : List ProgramUnit)
+        → position_view units next
+        ≡ moves.behind_line (position_view units body.entry) (form_view form.entry)) }
     ensures counted { IfOk result (λ next. IsCounted next) }
 {
     match form {
@@ -243,8 +271,15 @@ fn closed<'a>(
     inside: Vec<Line<'a>, Global>,
     close: u32,
 ) -> Result<Vec<Line<'a>, Global>, AllocError>
-    ensures tree { IfOk result (λ done. lines_view done.items ≡ moves.lines_and (opening_view opening.entry).before (tree.Nested (opening_view opening.entry).label (opening_view opening.entry).line (opening_view opening.entry).operator (opening_view opening.entry).operand (lines_view inside.entry.items) close tree.End)) }
-    ensures seen { IfOk result (λ done. moves.are_no_lines (lines_view done.items) ≡ (length done.items == 0)) }
+    ensures tree { IfOk result
+        (λ done.
+        lines_view done.items
+        ≡ moves.lines_and (opening_view opening.entry).before
+        (tree.Nested (opening_view opening.entry).label (opening_view opening.entry).line
+        (opening_view opening.entry).operator (opening_view opening.entry).operand
+        (lines_view inside.entry.items) close tree.End)) }
+    ensures seen { IfOk result
+        (λ done. moves.are_no_lines (lines_view done.items) ≡ (length done.items == 0)) }
 {
     let Opening {
         mut before,
@@ -270,7 +305,12 @@ pub(crate) fn has_content<'a>(opening: &Opening<'a>, done: &[Line<'a>]) -> bool
 /// The body behind the `)` of the innermost parenthesis; none where none is open, or it holds nothing.
 pub(crate) fn behind_closing<'a>(body: Body<'a>, close: u32) -> Result<Option<Body<'a>>, AllocError>
     requires { IsCounted body }
-    ensures behind { IfOk result (λ next. (units : List ProgramUnit) (innermost : positions.Opening) (outer : List positions.Opening) → (position_view units body.entry).openings ≡ innermost ∷ outer → option_map (λ it. moves.Closed (position_view units it)) next ≡ moves.closing_move (position_view units body.entry) innermost outer close) }
+    ensures behind { IfOk result
+        (λ next.
+        (units : List ProgramUnit) (innermost : positions.Opening) (outer : List positions.Opening)
+        → (position_view units body.entry).openings ≡ innermost ∷ outer
+        → option_map (λ it. moves.Closed (position_view units it)) next
+        ≡ moves.closing_move (position_view units body.entry) innermost outer close) }
     ensures counted { IfOk result (λ next. IfSome next (λ it. IsCounted it)) }
 {
     let Body {
@@ -299,7 +339,9 @@ pub(crate) fn behind_closing<'a>(body: Body<'a>, close: u32) -> Result<Option<Bo
 
 /// The innermost of the parentheses that are open.
 pub(crate) fn innermost<'b, 'a>(openings: &'b [Opening<'a>]) -> Option<&'b Opening<'a>>
-    ensures { MatchOption result (openings_view [] openings.now ≡ []) (λ it. (outer : List positions.Opening) × (openings_view [] openings.now ≡ opening_view it.now ∷ outer)) }
+    ensures { MatchOption result (openings_view [] openings.now ≡ [])
+        (λ it. (outer : List positions.Opening)
+        × (openings_view [] openings.now ≡ opening_view it.now ∷ outer)) }
 {
     match openings.split_last() {
         Some((last, _)) => Some(last),

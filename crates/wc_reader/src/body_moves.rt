@@ -1,5 +1,5 @@
 ghost use Rattle.std.specs.Prelude.{◌≡◌, ◌==◌, ◌∷◌, [], ℕ, length, Bool, IfOk, IfSome, List, map, option_map};
-ghost use Rattle.wc_grammar_laws.proofs.Moves as moves;
+ghost use Rattle.wc_grammar_laws.specs.Moves as moves;
 ghost use Rattle.wc_model.specs.Text.Marks as marks;
 ghost use Rattle.wc_model.specs.Language.Names.{name_of};
 ghost use Rattle.wc_model.specs.Text.Positions as positions;
@@ -26,7 +26,10 @@ fn line_place<'a>(
     line: LinePlace<'a>,
 ) -> Result<Place<'a>, AllocError>
     requires { IsCounted body }
-    ensures behind { IfOk result (λ next. (units : List ProgramUnit) → state_view units next ≡ moves.on_line (position_view units body.entry) (line_state_view line.entry)) }
+    ensures behind { IfOk result
+        (λ next. (units : List ProgramUnit)
+        → state_view units next
+        ≡ moves.on_line (position_view units body.entry) (line_state_view line.entry)) }
     ensures counted { IfOk result (λ next. IsPlaceCounted next) }
 {
     match line {
@@ -45,7 +48,11 @@ fn on_line<'a>(
     line: Option<LinePlace<'a>>,
 ) -> Result<Option<Place<'a>>, AllocError>
     requires { IsCounted body }
-    ensures behind { IfOk result (λ next. (units : List ProgramUnit) → option_map (state_view units) next ≡ moves.begun_line (position_view units body.entry) (option_map line_state_view line.entry)) }
+    ensures behind { IfOk result
+        (λ next. (units : List ProgramUnit)
+        → option_map (state_view units) next
+        ≡ moves.begun_line (position_view units body.entry)
+        (option_map line_state_view line.entry)) }
     ensures counted { IfOk result (λ next. IfSome next (λ it. IsPlaceCounted it)) }
 {
     match line {
@@ -74,7 +81,12 @@ fn at_word<'a>(
 ) -> Result<Option<Place<'a>>, AllocError>
     requires counted { IsCounted body }
     requires identifier { symbol_view token ≡ marks.Identifier token.text.now }
-    ensures behind { IfOk result (λ next. (units : List ProgramUnit) → option_map (state_view units) next ≡ moves.section_or_line (position_view units body.entry) token.entry.text.now token.entry.line (moves.section_begun (lines_view body.entry.done.items) (name_of token.entry.text.now))) }
+    ensures behind { IfOk result
+        (λ next. (units : List ProgramUnit)
+        → option_map (state_view units) next
+        ≡ moves.section_or_line
+        (position_view units body.entry) token.entry.text.now token.entry.line
+        (moves.section_begun (lines_view body.entry.done.items) (name_of token.entry.text.now))) }
     ensures counted { IfOk result (λ next. IfSome next (λ it. IsPlaceCounted it)) }
 {
     match section_begun(&body.done, token.text) {
@@ -90,7 +102,10 @@ fn at_word<'a>(
 /// Behind the token after a `)`: the line's end.
 pub(crate) fn at_closed<'a>(body: Body<'a>, token: Token<'a>) -> Option<Place<'a>>
     requires { IsCounted body }
-    ensures behind { (units : List ProgramUnit) (line : ℕ) (colon : Bool) → option_map (state_view units) result ≡ moves.move (moves.Closed (position_view units body.entry)) (symbol_view token.entry) line colon }
+    ensures behind { (units : List ProgramUnit) (line : ℕ) (colon : Bool)
+        → option_map (state_view units) result
+        ≡ moves.move (moves.Closed (position_view units body.entry))
+        (symbol_view token.entry) line colon }
     ensures counted { IfSome result (λ it. IsPlaceCounted it) }
 {
     match token.shape {
@@ -101,7 +116,10 @@ pub(crate) fn at_closed<'a>(body: Body<'a>, token: Token<'a>) -> Option<Place<'a
 
 /// The units with one more, whose body is done.
 fn behind_unit<'a>(units: Vec<Unit<'a>, Global>, body: Body<'a>) -> Result<Reading<'a>, AllocError>
-    ensures behind { IfOk result (λ next. reading_view next ≡ moves.behind_unit (position_view (map unit_view units.entry.items) body.entry)) }
+    ensures behind { IfOk result
+        (λ next.
+        reading_view next
+        ≡ moves.behind_unit (position_view (map unit_view units.entry.items) body.entry)) }
     ensures counted { IfOk result (λ next. IsPlaceCounted next.place) }
 {
     let mut units = units;
@@ -132,7 +150,8 @@ pub(crate) fn with_units<'a>(
     place: Option<Place<'a>>,
 ) -> Option<Reading<'a>>
     requires { IfSome place (λ it. IsPlaceCounted it) }
-    ensures behind { option_map reading_view result ≡ option_map (state_view (map unit_view units.entry.items)) place.entry }
+    ensures behind { option_map reading_view result
+        ≡ option_map (state_view (map unit_view units.entry.items)) place.entry }
     ensures counted { IfSome result (λ it. IsPlaceCounted it.place) }
 {
     match place {
@@ -150,7 +169,12 @@ fn at_body_word<'a>(
 ) -> Result<Option<Reading<'a>>, AllocError>
     requires counted { IsCounted body }
     requires identifier { symbol_view token ≡ marks.Identifier token.text.now }
-    ensures behind { IfOk result (λ next. option_map reading_view next ≡ moves.word_move (position_view (map unit_view units.entry.items) body.entry) token.entry.text.now token.entry.line) }
+    ensures behind { IfOk result
+        (λ next.
+        option_map reading_view next
+        ≡ moves.word_move
+        (position_view (map unit_view units.entry.items) body.entry)
+        token.entry.text.now token.entry.line) }
     ensures counted { IfOk result (λ next. IfSome next (λ it. IsPlaceCounted it.place)) }
 {
     if ends_unit(token.text, body.unit.kind) {
@@ -172,7 +196,11 @@ fn at_body_identifier<'a>(
 ) -> Result<Option<Reading<'a>>, AllocError>
     requires counted { IsCounted body }
     requires identifier { symbol_view token ≡ marks.Identifier token.text.now }
-    ensures behind { IfOk result (λ next. option_map reading_view next ≡ moves.body_move (position_view (map unit_view units.entry.items) body.entry) (marks.Identifier token.entry.text.now) token.entry.line colon) }
+    ensures behind { IfOk result
+        (λ next.
+        option_map reading_view next
+        ≡ moves.body_move (position_view (map unit_view units.entry.items) body.entry)
+        (marks.Identifier token.entry.text.now) token.entry.line colon) }
     ensures counted { IfOk result (λ next. IfSome next (λ it. IsPlaceCounted it.place)) }
 {
     if colon {
@@ -192,7 +220,11 @@ fn at_body_line<'a>(
     colon: bool,
 ) -> Result<Option<Reading<'a>>, AllocError>
     requires { IsCounted body }
-    ensures behind { IfOk result (λ next. option_map reading_view next ≡ moves.body_move (position_view (map unit_view units.entry.items) body.entry) (symbol_view token.entry) token.entry.line colon) }
+    ensures behind { IfOk result
+        (λ next.
+        option_map reading_view next
+        ≡ moves.body_move (position_view (map unit_view units.entry.items) body.entry)
+        (symbol_view token.entry) token.entry.line colon) }
     ensures counted { IfOk result (λ next. IfSome next (λ it. IsPlaceCounted it.place)) }
 {
     match token.shape {
@@ -207,7 +239,12 @@ fn at_body_line<'a>(
 /// Behind a `)` at the start of a line.
 fn at_closing<'a>(body: Body<'a>, line: u32) -> Result<Option<Place<'a>>, AllocError>
     requires { IsCounted body }
-    ensures behind { IfOk result (λ next. (units : List ProgramUnit) (innermost : positions.Opening) (outer : List positions.Opening) → (position_view units body.entry).openings ≡ innermost ∷ outer → option_map (state_view units) next ≡ moves.closing_move (position_view units body.entry) innermost outer line) }
+    ensures behind { IfOk result
+        (λ next.
+        (units : List ProgramUnit) (innermost : positions.Opening) (outer : List positions.Opening)
+        → (position_view units body.entry).openings ≡ innermost ∷ outer
+        → option_map (state_view units) next
+        ≡ moves.closing_move (position_view units body.entry) innermost outer line) }
     ensures counted { IfOk result (λ next. IfSome next (λ it. IsPlaceCounted it)) }
 {
     match behind_closing(body, line)? {
@@ -223,7 +260,13 @@ fn at_inside_line<'a>(
     token: Token<'a>,
 ) -> Result<Option<Place<'a>>, AllocError>
     requires { IsCounted body }
-    ensures behind { IfOk result (λ next. (units : List ProgramUnit) (innermost : positions.Opening) (outer : List positions.Opening) → (position_view units body.entry).openings ≡ innermost ∷ outer → option_map (state_view units) next ≡ moves.inside_move (position_view units body.entry) innermost outer (symbol_view token.entry) token.entry.line) }
+    ensures behind { IfOk result
+        (λ next.
+        (units : List ProgramUnit) (innermost : positions.Opening) (outer : List positions.Opening)
+        → (position_view units body.entry).openings ≡ innermost ∷ outer
+        → option_map (state_view units) next
+        ≡ moves.inside_move (position_view units body.entry) innermost outer
+        (symbol_view token.entry) token.entry.line) }
     ensures counted { IfOk result (λ next. IfSome next (λ it. IsPlaceCounted it)) }
 {
     match token.shape {
@@ -241,7 +284,11 @@ fn at_line_start<'a>(
     colon: bool,
 ) -> Result<Option<Reading<'a>>, AllocError>
     requires { IsCounted body }
-    ensures behind { IfOk result (λ next. option_map reading_view next ≡ moves.start_move (position_view (map unit_view units.entry.items) body.entry) (position_view [] body.entry).openings (symbol_view token.entry) token.entry.line colon) }
+    ensures behind { IfOk result
+        (λ next.
+        option_map reading_view next
+        ≡ moves.start_move (position_view (map unit_view units.entry.items) body.entry)
+        (position_view [] body.entry).openings (symbol_view token.entry) token.entry.line colon) }
     ensures counted { IfOk result (λ next. IfSome next (λ it. IsPlaceCounted it.place)) }
 {
     if body.openings.is_empty() {
@@ -261,7 +308,11 @@ pub(crate) fn at_line<'a>(
     colon: bool,
 ) -> Result<Option<Reading<'a>>, AllocError>
     requires { IsCounted body }
-    ensures behind { IfOk result (λ next. option_map reading_view next ≡ moves.move (moves.AtLine (position_view (map unit_view units.entry.items) body.entry)) (symbol_view token.entry) token.entry.line colon) }
+    ensures behind { IfOk result
+        (λ next.
+        option_map reading_view next
+        ≡ moves.move (moves.AtLine (position_view (map unit_view units.entry.items) body.entry))
+        (symbol_view token.entry) token.entry.line colon) }
     ensures counted { IfOk result (λ next. IfSome next (λ it. IsPlaceCounted it.place)) }
 {
     match token.shape {
@@ -281,7 +332,11 @@ pub(crate) fn along_line<'a>(
     token: Token<'a>,
 ) -> Result<Option<Place<'a>>, AllocError>
     requires { IsCounted body }
-    ensures behind { IfOk result (λ next. (units : List ProgramUnit) (colon : Bool) → option_map (state_view units) next ≡ moves.move (moves.OnLine (position_view units body.entry) (line_state_view line.entry)) (symbol_view token.entry) token.entry.line colon) }
+    ensures behind { IfOk result
+        (λ next. (units : List ProgramUnit) (colon : Bool)
+        → option_map (state_view units) next
+        ≡ moves.move (moves.OnLine (position_view units body.entry) (line_state_view line.entry))
+        (symbol_view token.entry) token.entry.line colon) }
     ensures counted { IfOk result (λ next. IfSome next (λ it. IsPlaceCounted it)) }
 {
     let line = line_move(alloc, line, token)?;

@@ -1,5 +1,5 @@
 ghost use Rattle.std.specs.Prelude.{◌≡◌, ℕ, Bool, IfOk, option_map};
-ghost use Rattle.wc_grammar_laws.proofs.LineMoves as lines;
+ghost use Rattle.wc_grammar_laws.specs.LineMoves as lines;
 ghost use Rattle.wc_model.specs.Text.Grammar.{Setting};
 ghost use Rattle.wc_model.specs.Language.Views.{name_view};
 ghost use Rattle.wc_reader.specs.LineViews.{begun_view, item_view, line_state_view, listed_view};
@@ -20,7 +20,11 @@ pub(crate) fn at_instance<'a>(
     instance: Word<'a>,
     token: Token<'a>,
 ) -> Option<LinePlace<'a>>
-    ensures { (setting : Setting) (line : ℕ) (colon : Bool) → option_map line_state_view result ≡ lines.line_move setting (lines.Instanced (begun_view begun.entry) condition (name_view instance.entry)) (symbol_view token.entry) line colon }
+    ensures { (setting : Setting) (line : ℕ) (colon : Bool)
+        → option_map line_state_view result
+        ≡ lines.line_move setting
+        (lines.Instanced (begun_view begun.entry) condition (name_view instance.entry))
+        (symbol_view token.entry) line colon }
 {
     let call = Listed {
         condition,
@@ -36,7 +40,10 @@ pub(crate) fn at_instance<'a>(
 
 /// Behind the token after the list's bracket: an input, or the list's end.
 fn at_first<'a>(begun: Begun<'a>, call: Listed<'a>, token: Token<'a>) -> Option<LinePlace<'a>>
-    ensures { (line : ℕ) → option_map line_state_view result ≡ lines.at_list (begun_view begun.entry) (listed_view call.entry) lines.AtFirst (symbol_view token.entry) line }
+    ensures { (line : ℕ)
+        → option_map line_state_view result
+        ≡ lines.at_list (begun_view begun.entry) (listed_view call.entry) lines.AtFirst
+        (symbol_view token.entry) line }
 {
     match token.shape {
         Shape::LineEnd => Some(LinePlace::Listing(begun, call, InList::AtFirst)),
@@ -48,7 +55,10 @@ fn at_first<'a>(begun: Begun<'a>, call: Listed<'a>, token: Token<'a>) -> Option<
 
 /// Behind the token after a comma: an input.
 fn at_next<'a>(begun: Begun<'a>, call: Listed<'a>, token: Token<'a>) -> Option<LinePlace<'a>>
-    ensures { (line : ℕ) → option_map line_state_view result ≡ lines.at_list (begun_view begun.entry) (listed_view call.entry) lines.AtNext (symbol_view token.entry) line }
+    ensures { (line : ℕ)
+        → option_map line_state_view result
+        ≡ lines.at_list (begun_view begun.entry) (listed_view call.entry) lines.AtNext
+        (symbol_view token.entry) line }
 {
     match token.shape {
         Shape::LineEnd => Some(LinePlace::Listing(begun, call, InList::AtNext)),
@@ -64,7 +74,10 @@ fn at_assign<'a>(
     input: Word<'a>,
     token: Token<'a>,
 ) -> Option<LinePlace<'a>>
-    ensures { (line : ℕ) → option_map line_state_view result ≡ lines.at_list (begun_view begun.entry) (listed_view call.entry) (lines.AtAssign (name_view input.entry)) (symbol_view token.entry) line }
+    ensures { (line : ℕ)
+        → option_map line_state_view result
+        ≡ lines.at_list (begun_view begun.entry) (listed_view call.entry)
+        (lines.AtAssign (name_view input.entry)) (symbol_view token.entry) line }
 {
     match token.shape {
         Shape::LineEnd => Some(LinePlace::Listing(begun, call, InList::AtAssign(input))),
@@ -80,7 +93,11 @@ fn at_value<'a>(
     input: Word<'a>,
     token: Token<'a>,
 ) -> Result<Option<LinePlace<'a>>, AllocError>
-    ensures { IfOk result (λ next. option_map line_state_view next ≡ lines.at_list (begun_view begun.entry) (listed_view call.entry) (lines.AtValue (name_view input.entry)) (symbol_view token.entry) token.entry.line) }
+    ensures { IfOk result
+        (λ next.
+        option_map line_state_view next
+        ≡ lines.at_list (begun_view begun.entry) (listed_view call.entry)
+        (lines.AtValue (name_view input.entry)) (symbol_view token.entry) token.entry.line) }
 {
     match token.shape {
         Shape::LineEnd => Ok(Some(LinePlace::Listing(begun, call, InList::AtValue(input)))),
@@ -90,7 +107,10 @@ fn at_value<'a>(
 
 /// Behind the token after a whole argument: a comma, or the list's end.
 fn at_end<'a>(begun: Begun<'a>, call: Listed<'a>, token: Token<'a>) -> Option<LinePlace<'a>>
-    ensures { (line : ℕ) → option_map line_state_view result ≡ lines.at_list (begun_view begun.entry) (listed_view call.entry) lines.AtEnd (symbol_view token.entry) line }
+    ensures { (line : ℕ)
+        → option_map line_state_view result
+        ≡ lines.at_list (begun_view begun.entry) (listed_view call.entry) lines.AtEnd
+        (symbol_view token.entry) line }
 {
     match token.shape {
         Shape::LineEnd => Some(LinePlace::Listing(begun, call, InList::AtEnd)),
@@ -107,7 +127,11 @@ pub(crate) fn at_list<'a>(
     item: InList<'a>,
     token: Token<'a>,
 ) -> Result<Option<LinePlace<'a>>, AllocError>
-    ensures { IfOk result (λ next. option_map line_state_view next ≡ lines.at_list (begun_view begun.entry) (listed_view call.entry) (item_view item.entry) (symbol_view token.entry) token.entry.line) }
+    ensures { IfOk result
+        (λ next.
+        option_map line_state_view next
+        ≡ lines.at_list (begun_view begun.entry) (listed_view call.entry) (item_view item.entry)
+        (symbol_view token.entry) token.entry.line) }
 {
     match item {
         InList::AtFirst => Ok(at_first(begun, call, token)),

@@ -1,6 +1,6 @@
 ghost use Rattle.std.specs.Prelude.{◌≡◌, ◌++◌, ◌∷◌, [], ℕ, IfOk, List, map, option_map};
-ghost use Rattle.wc_grammar_laws.proofs.Moves as moves;
-ghost use Rattle.wc_grammar_laws.proofs.Words.{literal_of};
+ghost use Rattle.wc_grammar_laws.specs.Moves as moves;
+ghost use Rattle.wc_grammar_laws.specs.Words.{literal_of};
 ghost use Rattle.wc_model.specs.Language.Tree.{ProgramUnit};
 ghost use Rattle.wc_model.specs.Language.Views.{declaration_view, unit_view, word_view};
 ghost use Rattle.wc_model.specs.declared.source.Section.{Section};
@@ -42,7 +42,12 @@ pub(crate) struct Declaring<'a> {
 
 /// The unit with one more declaration.
 fn with_declaration<'a>(unit: Unit<'a>, declaration: Decl<'a>) -> Result<Unit<'a>, AllocError>
-    ensures { IfOk result (λ more. unit_view more ≡ moves.with_declaration (unit_view unit.entry) declaration.entry.section (map word_view declaration.entry.names.items) (word_view declaration.entry.type_name) declaration.entry.initial) }
+    ensures { IfOk result
+        (λ more.
+        unit_view more
+        ≡ moves.with_declaration (unit_view unit.entry) declaration.entry.section
+        (map word_view declaration.entry.names.items)
+        (word_view declaration.entry.type_name) declaration.entry.initial) }
 {
     let mut unit = unit;
     unit.declarations.push(declaration)?;
@@ -57,7 +62,12 @@ fn declared<'a>(
     type_name: Word<'a>,
     initial: Option<Initial>,
 ) -> Result<Declaring<'a>, AllocError>
-    ensures { IfOk result (λ next. (units : List ProgramUnit) → section_view units next ≡ moves.Declaring units (moves.with_declaration (unit_view unit.entry) section (map word_view names.entry.items) (word_view type_name.entry) initial) section moves.Undeclared) }
+    ensures { IfOk result
+        (λ next. (units : List ProgramUnit)
+        → section_view units next
+        ≡ moves.Declaring units
+        (moves.with_declaration (unit_view unit.entry) section (map word_view names.entry.items)
+        (word_view type_name.entry) initial) section moves.Undeclared) }
 {
     let declaration = Decl {
         section,
@@ -78,7 +88,10 @@ fn with_name<'a>(
     names: Vec<Word<'a>, Global>,
     name: Word<'a>,
 ) -> Result<DeclarationPlace<'a>, AllocError>
-    ensures { IfOk result (λ place. declaring_view place ≡ moves.BehindNames (map word_view names.entry.items ++ word_view name.entry ∷ [])) }
+    ensures { IfOk result
+        (λ place.
+        declaring_view place
+        ≡ moves.BehindNames (map word_view names.entry.items ++ word_view name.entry ∷ [])) }
 {
     let mut names = names;
     names.push(name)?;
@@ -92,7 +105,10 @@ fn at_first_name<'a>(
     section: Section,
     name: Word<'a>,
 ) -> Result<Declaring<'a>, AllocError>
-    ensures { IfOk result (λ next. (units : List ProgramUnit) → section_view units next ≡ moves.at_first_name units (unit_view unit.entry) section (word_view name.entry)) }
+    ensures { IfOk result
+        (λ next. (units : List ProgramUnit)
+        → section_view units next
+        ≡ moves.at_first_name units (unit_view unit.entry) section (word_view name.entry)) }
 {
     if is_word(name.text, b"end_var") {
         Ok(Declaring {
@@ -117,7 +133,11 @@ fn at_undeclared<'a>(
     section: Section,
     token: Token<'a>,
 ) -> Result<Option<Declaring<'a>>, AllocError>
-    ensures { IfOk result (λ next. (units : List ProgramUnit) → option_map (section_view units) next ≡ moves.declaration_move units (unit_view unit.entry) section moves.Undeclared (symbol_view token.entry) token.entry.line) }
+    ensures { IfOk result
+        (λ next. (units : List ProgramUnit)
+        → option_map (section_view units) next
+        ≡ moves.declaration_move units (unit_view unit.entry) section moves.Undeclared
+        (symbol_view token.entry) token.entry.line) }
 {
     match token.shape {
         Shape::LineEnd => Ok(Some(Declaring {
@@ -135,7 +155,10 @@ fn at_undeclared<'a>(
 
 /// Behind the token after a name: a comma or the colon.
 fn at_names<'a>(names: Vec<Word<'a>, Global>, token: Token<'a>) -> Option<DeclarationPlace<'a>>
-    ensures { (units : List ProgramUnit) (unit : ProgramUnit) (section : Section) (line : ℕ) → option_map (λ place. moves.Declaring units unit section (declaring_view place)) result ≡ moves.declaration_move units unit section (moves.BehindNames (map word_view names.entry.items)) (symbol_view token.entry) line }
+    ensures { (units : List ProgramUnit) (unit : ProgramUnit) (section : Section) (line : ℕ)
+        → option_map (λ place. moves.Declaring units unit section (declaring_view place)) result
+        ≡ moves.declaration_move units unit section
+        (moves.BehindNames (map word_view names.entry.items)) (symbol_view token.entry) line }
 {
     match token.shape {
         Shape::LineEnd => Some(DeclarationPlace::BehindNames(names)),
@@ -150,7 +173,12 @@ fn at_next_name<'a>(
     names: Vec<Word<'a>, Global>,
     token: Token<'a>,
 ) -> Result<Option<DeclarationPlace<'a>>, AllocError>
-    ensures { IfOk result (λ next. (units : List ProgramUnit) (unit : ProgramUnit) (section : Section) → option_map (λ place. moves.Declaring units unit section (declaring_view place)) next ≡ moves.declaration_move units unit section (moves.BehindComma (map word_view names.entry.items)) (symbol_view token.entry) token.entry.line) }
+    ensures { IfOk result
+        (λ next. (units : List ProgramUnit) (unit : ProgramUnit) (section : Section)
+        → option_map (λ place. moves.Declaring units unit section (declaring_view place)) next
+        ≡ moves.declaration_move units unit section
+        (moves.BehindComma (map word_view names.entry.items))
+        (symbol_view token.entry) token.entry.line) }
 {
     match token.shape {
         Shape::LineEnd => Ok(Some(DeclarationPlace::BehindComma(names))),
@@ -164,7 +192,11 @@ fn at_next_name<'a>(
 
 /// Behind the token after the colon: the type.
 fn at_type<'a>(names: Vec<Word<'a>, Global>, token: Token<'a>) -> Option<DeclarationPlace<'a>>
-    ensures { (units : List ProgramUnit) (unit : ProgramUnit) (section : Section) → option_map (λ place. moves.Declaring units unit section (declaring_view place)) result ≡ moves.declaration_move units unit section (moves.BehindColon (map word_view names.entry.items)) (symbol_view token.entry) token.entry.line }
+    ensures { (units : List ProgramUnit) (unit : ProgramUnit) (section : Section)
+        → option_map (λ place. moves.Declaring units unit section (declaring_view place)) result
+        ≡ moves.declaration_move units unit section
+        (moves.BehindColon (map word_view names.entry.items))
+        (symbol_view token.entry) token.entry.line }
 {
     match token.shape {
         Shape::LineEnd => Some(DeclarationPlace::BehindColon(names)),
@@ -179,7 +211,10 @@ fn behind_literal<'a>(
     type_name: Word<'a>,
     token: Token<'a>,
 ) -> Option<DeclarationPlace<'a>>
-    ensures { (units : List ProgramUnit) (unit : ProgramUnit) (section : Section) → option_map (λ place. moves.Declaring units unit section (declaring_view place)) result ≡ moves.at_value units unit section (map word_view names.entry.items) (word_view type_name.entry) token.entry.line (literal_of (symbol_view token.entry)) }
+    ensures { (units : List ProgramUnit) (unit : ProgramUnit) (section : Section)
+        → option_map (λ place. moves.Declaring units unit section (declaring_view place)) result
+        ≡ moves.at_value units unit section (map word_view names.entry.items)
+        (word_view type_name.entry) token.entry.line (literal_of (symbol_view token.entry)) }
 {
     let line = token.line;
     match literal(token) {
@@ -198,7 +233,11 @@ fn at_value<'a>(
     type_name: Word<'a>,
     token: Token<'a>,
 ) -> Option<DeclarationPlace<'a>>
-    ensures { (units : List ProgramUnit) (unit : ProgramUnit) (section : Section) → option_map (λ place. moves.Declaring units unit section (declaring_view place)) result ≡ moves.declaration_move units unit section (moves.BehindAssign (map word_view names.entry.items) (word_view type_name.entry)) (symbol_view token.entry) token.entry.line }
+    ensures { (units : List ProgramUnit) (unit : ProgramUnit) (section : Section)
+        → option_map (λ place. moves.Declaring units unit section (declaring_view place)) result
+        ≡ moves.declaration_move units unit section
+        (moves.BehindAssign (map word_view names.entry.items) (word_view type_name.entry))
+        (symbol_view token.entry) token.entry.line }
 {
     match token.shape {
         Shape::LineEnd => Some(DeclarationPlace::BehindAssign(names, type_name)),
@@ -214,7 +253,12 @@ fn behind_type<'a>(
     type_name: Word<'a>,
     token: Token<'a>,
 ) -> Result<Option<Declaring<'a>>, AllocError>
-    ensures { IfOk result (λ next. (units : List ProgramUnit) (line : ℕ) → option_map (section_view units) next ≡ moves.declaration_move units (unit_view unit.entry) section (moves.BehindType (map word_view names.entry.items) (word_view type_name.entry)) (symbol_view token.entry) line) }
+    ensures { IfOk result
+        (λ next. (units : List ProgramUnit) (line : ℕ)
+        → option_map (section_view units) next
+        ≡ moves.declaration_move units (unit_view unit.entry) section
+        (moves.BehindType (map word_view names.entry.items) (word_view type_name.entry))
+        (symbol_view token.entry) line) }
 {
     match token.shape {
         Shape::LineEnd => Ok(Some(Declaring {
@@ -244,7 +288,12 @@ fn behind_value<'a>(
     initial: Initial,
     token: Token<'a>,
 ) -> Result<Option<Declaring<'a>>, AllocError>
-    ensures { IfOk result (λ next. (units : List ProgramUnit) (line : ℕ) → option_map (section_view units) next ≡ moves.declaration_move units (unit_view unit.entry) section (moves.BehindValue (map word_view names.entry.items) (word_view type_name.entry) initial) (symbol_view token.entry) line) }
+    ensures { IfOk result
+        (λ next. (units : List ProgramUnit) (line : ℕ)
+        → option_map (section_view units) next
+        ≡ moves.declaration_move units (unit_view unit.entry) section
+        (moves.BehindValue (map word_view names.entry.items) (word_view type_name.entry) initial)
+        (symbol_view token.entry) line) }
 {
     match token.shape {
         Shape::LineEnd => Ok(Some(Declaring {
@@ -266,7 +315,11 @@ fn placed<'a>(
     section: Section,
     place: Option<DeclarationPlace<'a>>,
 ) -> Option<Declaring<'a>>
-    ensures { (units : List ProgramUnit) → option_map (section_view units) result ≡ option_map (λ it. moves.Declaring units (unit_view unit.entry) section (declaring_view it)) place.entry }
+    ensures { (units : List ProgramUnit)
+        → option_map (section_view units) result
+        ≡ option_map
+        (λ it. moves.Declaring units (unit_view unit.entry) section (declaring_view it))
+        place.entry }
 {
     match place {
         Some(place) => Some(Declaring {
@@ -286,7 +339,11 @@ pub(crate) fn declaration_move<'a>(
     place: DeclarationPlace<'a>,
     token: Token<'a>,
 ) -> Result<Option<Declaring<'a>>, AllocError>
-    ensures { IfOk result (λ next. (units : List ProgramUnit) → option_map (section_view units) next ≡ moves.declaration_move units (unit_view unit.entry) section (declaring_view place.entry) (symbol_view token.entry) token.entry.line) }
+    ensures { IfOk result
+        (λ next. (units : List ProgramUnit)
+        → option_map (section_view units) next
+        ≡ moves.declaration_move units (unit_view unit.entry) section (declaring_view place.entry)
+        (symbol_view token.entry) token.entry.line) }
 {
     match place {
         DeclarationPlace::Undeclared => at_undeclared(alloc, unit, section, token),

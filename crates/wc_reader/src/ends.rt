@@ -1,6 +1,6 @@
 ghost use Rattle.std.specs.Prelude.{◌≡◌, [], List, map};
-ghost use Rattle.wc_grammar_laws.proofs.LineMoves as lines;
-ghost use Rattle.wc_grammar_laws.proofs.Moves as moves;
+ghost use Rattle.wc_grammar_laws.specs.LineMoves as lines;
+ghost use Rattle.wc_grammar_laws.specs.Moves as moves;
 ghost use Rattle.wc_model.specs.Language.Names.{Name};
 ghost use Rattle.wc_model.specs.Language.Tree.{ProgramUnit};
 ghost use Rattle.wc_model.specs.Language.Views.{unit_view};
@@ -27,7 +27,9 @@ fn open_since(line: u32) -> Fault
 
 /// In a body at the text's end: the innermost parenthesis is open, or the unit.
 fn open_in(body: &Body) -> Fault
-    ensures { result ≡ fault_of (moves.open_in (unit_view body.now.unit) (openings_view [] body.now.openings.items)) }
+    ensures { result
+        ≡ fault_of
+        (moves.open_in (unit_view body.now.unit) (openings_view [] body.now.openings.items)) }
 {
     match innermost(&body.openings) {
         Some(opening) => open_since(opening.begun.line),
@@ -40,8 +42,16 @@ fn open_in(body: &Body) -> Fault
 
 /// Behind a name at the text's end: its line may open a parenthesis.
 fn open_behind_name<'a>(body: &Body<'a>, begun: &Begun<'a>, owner: &OperandOf<'a>) -> Fault
-    ensures named { (units : List ProgramUnit) (name : Name) → result ≡ fault_of (moves.open_on (position_view units body.now) (lines.Named (begun_view begun.now) (owner_view owner.now) name)) }
-    ensures pointed { (units : List ProgramUnit) (name : Name) → result ≡ fault_of (moves.open_on (position_view units body.now) (lines.Pointed (begun_view begun.now) (owner_view owner.now) name)) }
+    ensures named { (units : List ProgramUnit) (name : Name)
+        → result
+        ≡ fault_of
+        (moves.open_on (position_view units body.now)
+        (lines.Named (begun_view begun.now) (owner_view owner.now) name)) }
+    ensures pointed { (units : List ProgramUnit) (name : Name)
+        → result
+        ≡ fault_of
+        (moves.open_on (position_view units body.now)
+        (lines.Pointed (begun_view begun.now) (owner_view owner.now) name)) }
 {
     match owner {
         OperandOf::OfOpening(_) => open_since(begun.line),
@@ -51,7 +61,9 @@ fn open_behind_name<'a>(body: &Body<'a>, begun: &Begun<'a>, owner: &OperandOf<'a
 
 /// On a line at the text's end: it may open a parenthesis.
 fn open_on<'a>(body: &Body<'a>, line: &LinePlace<'a>) -> Fault
-    ensures { (units : List ProgramUnit) → result ≡ fault_of (moves.open_on (position_view units body.now) (line_state_view line.now)) }
+    ensures { (units : List ProgramUnit)
+        → result
+        ≡ fault_of (moves.open_on (position_view units body.now) (line_state_view line.now)) }
 {
     match line {
         LinePlace::Bracketed(begun, _) => open_since(begun.line),
@@ -64,7 +76,8 @@ fn open_on<'a>(body: &Body<'a>, line: &LinePlace<'a>) -> Fault
 
 /// Whole units at the text's end: one is a program, or none.
 fn whole_text<'a>(units: Vec<Unit<'a>, Global>, last_line: u32) -> Result<Source<'a>, Fault>
-    ensures { TellsReading (moves.at_end (moves.Outside (map unit_view units.entry.items)) last_line) result }
+    ensures { TellsReading
+        (moves.at_end (moves.Outside (map unit_view units.entry.items)) last_line) result }
 {
     if has_program(&units) {
         Ok(Source { units })

@@ -1,8 +1,8 @@
 ghost use Rattle.std.specs.Prelude.{◌≡◌, [], Bool, List, Option, Some, None, length, map, nat_le, option_map};
 ghost use Rattle.std.specs.List.{list_any};
-ghost use Rattle.wc_grammar_laws.proofs.LineMoves as lines;
-ghost use Rattle.wc_grammar_laws.proofs.Moves as moves;
-ghost use Rattle.wc_grammar_laws.proofs.Words as words;
+ghost use Rattle.wc_grammar_laws.specs.LineMoves as lines;
+ghost use Rattle.wc_grammar_laws.specs.Moves as moves;
+ghost use Rattle.wc_grammar_laws.specs.Words as words;
 ghost use Rattle.wc_model.specs.Text.Limits.{most_depth, most_units};
 ghost use Rattle.wc_model.specs.Language.Names.{name_of};
 ghost use Rattle.wc_model.specs.Text.ReadingFaults as faults;
@@ -49,7 +49,11 @@ pub(crate) fn has_program(units: &[Unit]) -> bool
 
 /// What is wrong with a unit's first word: a program stands before it, or it is one too many.
 fn word_fault(units: &[Unit], line: u32) -> Option<Fault>
-    ensures { result ≡ option_map fault_of (moves.met_or (moves.met_if (moves.has_program (map unit_view units.now)) faults.NotOneProgramLast line) (moves.met_if (nat_le most_units (length (map unit_view units.now))) faults.TooMany line)) }
+    ensures { result
+        ≡ option_map fault_of
+        (moves.met_or
+        (moves.met_if (moves.has_program (map unit_view units.now)) faults.NotOneProgramLast line)
+        (moves.met_if (nat_le most_units (length (map unit_view units.now))) faults.TooMany line)) }
 {
     if has_program(units) {
         Some(Fault::Refused {
@@ -63,7 +67,10 @@ fn word_fault(units: &[Unit], line: u32) -> Option<Fault>
 
 /// What is wrong with a word between units, where it begins one.
 fn unit_fault(units: &[Unit], token: Token) -> Option<Fault>
-    ensures { result ≡ option_map fault_of (moves.judge_unit (map unit_view units.now) token.entry.line (words.found words.unit_kinds (name_of token.entry.text.now))) }
+    ensures { result
+        ≡ option_map fault_of
+        (moves.judge_unit (map unit_view units.now) token.entry.line
+        (words.found words.unit_kinds (name_of token.entry.text.now))) }
 {
     match unit_kind(token.text) {
         Some(_) => word_fault(units, token.line),
@@ -73,7 +80,11 @@ fn unit_fault(units: &[Unit], token: Token) -> Option<Fault>
 
 /// What is wrong with a token between units.
 fn outside_fault(units: &[Unit], token: Token) -> Option<Fault>
-    ensures { (colon : Bool) → result ≡ option_map fault_of (moves.judge (moves.Outside (map unit_view units.now)) (symbol_view token.entry) token.entry.line colon) }
+    ensures { (colon : Bool)
+        → result
+        ≡ option_map fault_of
+        (moves.judge (moves.Outside (map unit_view units.now))
+        (symbol_view token.entry) token.entry.line colon) }
 {
     match token.shape {
         Shape::Identifier => unit_fault(units, token),
@@ -83,14 +94,22 @@ fn outside_fault(units: &[Unit], token: Token) -> Option<Fault>
 
 /// What is wrong with an operator's bracket: it is one too deep.
 fn depth_fault<'a>(openings: &[Opening<'a>], line: u32) -> Option<Fault>
-    ensures { result ≡ option_map fault_of (moves.met_if (nat_le most_depth (length (openings_view [] openings.now))) faults.TooDeep line) }
+    ensures { result
+        ≡ option_map fault_of
+        (moves.met_if
+        (nat_le most_depth (length (openings_view [] openings.now))) faults.TooDeep line) }
 {
     refused_if(openings.len() >= 8, 207, line)
 }
 
 /// What is wrong with a token behind a deferrable operator.
 fn applied_fault(body: &Body, line: u32, token: Token) -> Option<Fault>
-    ensures { (units : List ProgramUnit) (label : Option Word) (operator : Operator) → result ≡ option_map fault_of (moves.judge_on_line (position_view units body.now) (lines.Operated (record { label = label; line = line }) (words.Applies operator)) (symbol_view token.entry) token.entry.line) }
+    ensures { (units : List ProgramUnit) (label : Option Word) (operator : Operator)
+        → result
+        ≡ option_map fault_of
+        (moves.judge_on_line (position_view units body.now)
+        (lines.Operated (record { label = label; line = line }) (words.Applies operator))
+        (symbol_view token.entry) token.entry.line) }
 {
     match token.shape {
         Shape::Opening => depth_fault(&body.openings, line),
@@ -105,7 +124,12 @@ fn operated_fault<'a>(
     operating: Operating,
     token: Token<'a>,
 ) -> Option<Fault>
-    ensures { (units : List ProgramUnit) → result ≡ option_map fault_of (moves.judge_on_line (position_view units body.now) (lines.Operated (begun_view begun.now) (operating_view operating)) (symbol_view token.entry) token.entry.line) }
+    ensures { (units : List ProgramUnit)
+        → result
+        ≡ option_map fault_of
+        (moves.judge_on_line (position_view units body.now)
+        (lines.Operated (begun_view begun.now) (operating_view operating))
+        (symbol_view token.entry) token.entry.line) }
 {
     match operating {
         Operating::Applies(_) => applied_fault(body, begun.line, token),
@@ -116,7 +140,11 @@ fn operated_fault<'a>(
 /// What is wrong with a token of a line that has begun: an operator behind a label, or a bracket behind an operator.
 fn place_fault<'a>(body: &Body<'a>, line: &LinePlace<'a>, token: Token<'a>) -> Option<Fault>
     requires { IsCounted body.now }
-    ensures { (units : List ProgramUnit) → result ≡ option_map fault_of (moves.judge_on_line (position_view units body.now) (line_state_view line.now) (symbol_view token.entry) token.entry.line) }
+    ensures { (units : List ProgramUnit)
+        → result
+        ≡ option_map fault_of
+        (moves.judge_on_line (position_view units body.now) (line_state_view line.now)
+        (symbol_view token.entry) token.entry.line) }
 {
     match line {
         LinePlace::Labelled(_) => labelled_fault(body, token),
@@ -128,7 +156,9 @@ fn place_fault<'a>(body: &Body<'a>, line: &LinePlace<'a>, token: Token<'a>) -> O
 /// What is wrong with a token, other than that it is unexpected. `colon` says whether a colon follows it.
 pub(crate) fn fault_at<'a>(reading: &Reading<'a>, token: Token<'a>, colon: bool) -> Option<Fault>
     requires { IsPlaceCounted reading.now.place }
-    ensures { result ≡ option_map fault_of (moves.judge (reading_view reading.now) (symbol_view token.entry) token.entry.line colon) }
+    ensures { result
+        ≡ option_map fault_of
+        (moves.judge (reading_view reading.now) (symbol_view token.entry) token.entry.line colon) }
 {
     match &reading.place {
         Place::Outside => outside_fault(&reading.units, token),

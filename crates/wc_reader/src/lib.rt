@@ -15,8 +15,6 @@ mod moves;
 mod operands;
 mod operators;
 mod place;
-#[cfg(test)]
-mod tests;
 mod text;
 mod words;
 

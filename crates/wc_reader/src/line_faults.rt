@@ -1,6 +1,6 @@
 ghost use Rattle.std.specs.Prelude.{◌≡◌, ◌∷◌, [], ◌&&◌, List, Option, Some, None, is_some, option_map, if◌then◌else◌};
-ghost use Rattle.wc_grammar_laws.proofs.Moves as moves;
-ghost use Rattle.wc_grammar_laws.proofs.Words as words;
+ghost use Rattle.wc_grammar_laws.specs.Moves as moves;
+ghost use Rattle.wc_grammar_laws.specs.Words as words;
 ghost use Rattle.wc_model.specs.Text.Keywords.{end_word};
 ghost use Rattle.wc_model.specs.Text.Positions as positions;
 ghost use Rattle.wc_model.specs.Text.ReadingFaults as faults;
@@ -36,7 +36,10 @@ fn is_full(body: &Body) -> bool
 /// A line too many, where the unit has as many as it may.
 fn full_fault(body: &Body, line: u32) -> Option<Fault>
     requires { IsCounted body.now }
-    ensures { (units : List ProgramUnit) → result ≡ option_map fault_of (moves.met_if (moves.is_full (position_view units body.now)) faults.TooMany line) }
+    ensures { (units : List ProgramUnit)
+        → result
+        ≡ option_map fault_of
+        (moves.met_if (moves.is_full (position_view units body.now)) faults.TooMany line) }
 {
     refused_if(is_full(body), 208, line)
 }
@@ -44,7 +47,11 @@ fn full_fault(body: &Body, line: u32) -> Option<Fault>
 /// What is wrong with the `)` of a parenthesis.
 fn inner_closing_fault<'a>(body: &Body<'a>, opening: &Opening<'a>, line: u32) -> Option<Fault>
     requires { IsCounted body.now }
-    ensures { (units : List ProgramUnit) (outer : List positions.Opening) → result ≡ option_map fault_of (moves.judge_closing (position_view units body.now) (opening_view opening.now ∷ outer) line) }
+    ensures { (units : List ProgramUnit) (outer : List positions.Opening)
+        → result
+        ≡ option_map fault_of
+        (moves.judge_closing (position_view units body.now)
+        (opening_view opening.now ∷ outer) line) }
 {
     if has_content(opening, &body.done) {
         full_fault(body, line)
@@ -59,7 +66,11 @@ fn inner_closing_fault<'a>(body: &Body<'a>, opening: &Opening<'a>, line: u32) ->
 /// What is wrong with a `)` at the start of a line.
 fn closing_fault(body: &Body, line: u32) -> Option<Fault>
     requires { IsCounted body.now }
-    ensures { (units : List ProgramUnit) → result ≡ option_map fault_of (moves.judge_closing (position_view units body.now) (openings_view [] body.now.openings.items) line) }
+    ensures { (units : List ProgramUnit)
+        → result
+        ≡ option_map fault_of
+        (moves.judge_closing (position_view units body.now)
+        (openings_view [] body.now.openings.items) line) }
 {
     match innermost(&body.openings) {
         Some(opening) => inner_closing_fault(body, opening, line),
@@ -83,7 +94,11 @@ fn is_operator(token: Token) -> bool
 /// What is wrong with an operator that begins a line: it is one line too many. A label is none.
 fn operator_fault(body: &Body, token: Token, colon: bool) -> Option<Fault>
     requires { IsCounted body.now }
-    ensures { (units : List ProgramUnit) → result ≡ option_map fault_of (moves.judge_operator (position_view units body.now) (symbol_view token.entry) token.entry.line colon) }
+    ensures { (units : List ProgramUnit)
+        → result
+        ≡ option_map fault_of
+        (moves.judge_operator (position_view units body.now)
+        (symbol_view token.entry) token.entry.line colon) }
 {
     if is_operator(token) {
         if colon {
@@ -129,7 +144,15 @@ fn is_end_word(token: Token, kind: UnitKind) -> bool
 /// What is wrong with a token that begins a line in parentheses, other than a `)`, a label and a transfer.
 fn inner_fault(body: &Body, open_line: u32, token: Token, colon: bool) -> Option<Fault>
     requires { IsCounted body.now }
-    ensures { (units : List ProgramUnit) → result ≡ option_map fault_of (moves.met_or (moves.met_if (moves.has_name (symbol_view token.entry) (end_word body.now.unit.kind)) faults.ParenthesisNotPaired open_line) (moves.judge_operator (position_view units body.now) (symbol_view token.entry) token.entry.line colon)) }
+    ensures { (units : List ProgramUnit)
+        → result
+        ≡ option_map fault_of
+        (moves.met_or
+        (moves.met_if
+        (moves.has_name (symbol_view token.entry) (end_word body.now.unit.kind))
+        faults.ParenthesisNotPaired open_line)
+        (moves.judge_operator (position_view units body.now)
+        (symbol_view token.entry) token.entry.line colon)) }
 {
     if is_end_word(token, body.unit.kind) {
         Some(Fault::Refused {
@@ -144,7 +167,19 @@ fn inner_fault(body: &Body, open_line: u32, token: Token, colon: bool) -> Option
 /// What is wrong with a token that begins a line in parentheses, other than a `)` and a transfer.
 fn label_fault(body: &Body, open_line: u32, token: Token, colon: bool) -> Option<Fault>
     requires { IsCounted body.now }
-    ensures { (units : List ProgramUnit) → result ≡ option_map fault_of (moves.met_or (moves.met_if (moves.is_identifier (symbol_view token.entry) && colon) faults.NotAllowedInParentheses token.entry.line) (moves.met_or (moves.met_if (moves.has_name (symbol_view token.entry) (end_word body.now.unit.kind)) faults.ParenthesisNotPaired open_line) (moves.judge_operator (position_view units body.now) (symbol_view token.entry) token.entry.line colon))) }
+    ensures { (units : List ProgramUnit)
+        → result
+        ≡ option_map fault_of
+        (moves.met_or
+        (moves.met_if
+        (moves.is_identifier (symbol_view token.entry) && colon)
+        faults.NotAllowedInParentheses token.entry.line)
+        (moves.met_or
+        (moves.met_if
+        (moves.has_name (symbol_view token.entry) (end_word body.now.unit.kind))
+        faults.ParenthesisNotPaired open_line)
+        (moves.judge_operator (position_view units body.now)
+        (symbol_view token.entry) token.entry.line colon))) }
 {
     if begins_label(token, colon) {
         Some(Fault::Refused {
@@ -159,7 +194,12 @@ fn label_fault(body: &Body, open_line: u32, token: Token, colon: bool) -> Option
 /// What is wrong with the first token of a line in parentheses, other than a `)`.
 fn inside_fault(body: &Body, open_line: u32, token: Token, colon: bool) -> Option<Fault>
     requires { IsCounted body.now }
-    ensures { (units : List ProgramUnit) (opening : positions.Opening) (outer : List positions.Opening) → opening.line ≡ open_line → result ≡ option_map fault_of (moves.judge_line (position_view units body.now) (opening ∷ outer) (symbol_view token.entry) token.entry.line colon) }
+    ensures { (units : List ProgramUnit) (opening : positions.Opening)
+        (outer : List positions.Opening) → opening.line ≡ open_line
+        → result
+        ≡ option_map fault_of
+        (moves.judge_line (position_view units body.now) (opening ∷ outer)
+        (symbol_view token.entry) token.entry.line colon) }
 {
     if begins_transfer(token) {
         Some(Fault::Refused {
@@ -174,7 +214,11 @@ fn inside_fault(body: &Body, open_line: u32, token: Token, colon: bool) -> Optio
 /// What is wrong with the first token of a line, other than a `)`.
 fn line_fault(body: &Body, token: Token, colon: bool) -> Option<Fault>
     requires { IsCounted body.now }
-    ensures { (units : List ProgramUnit) → result ≡ option_map fault_of (moves.judge_line (position_view units body.now) (openings_view [] body.now.openings.items) (symbol_view token.entry) token.entry.line colon) }
+    ensures { (units : List ProgramUnit)
+        → result
+        ≡ option_map fault_of
+        (moves.judge_line (position_view units body.now) (openings_view [] body.now.openings.items)
+        (symbol_view token.entry) token.entry.line colon) }
 {
     match innermost(&body.openings) {
         Some(opening) => inside_fault(body, opening.begun.line, token, colon),
@@ -185,7 +229,11 @@ fn line_fault(body: &Body, token: Token, colon: bool) -> Option<Fault>
 /// What is wrong with the first token of a line.
 pub(crate) fn start_fault(body: &Body, token: Token, colon: bool) -> Option<Fault>
     requires { IsCounted body.now }
-    ensures { (units : List ProgramUnit) → result ≡ option_map fault_of (moves.judge (moves.AtLine (position_view units body.now)) (symbol_view token.entry) token.entry.line colon) }
+    ensures { (units : List ProgramUnit)
+        → result
+        ≡ option_map fault_of
+        (moves.judge (moves.AtLine (position_view units body.now))
+        (symbol_view token.entry) token.entry.line colon) }
 {
     match token.shape {
         Shape::Closing => closing_fault(body, token.line),
@@ -196,7 +244,12 @@ pub(crate) fn start_fault(body: &Body, token: Token, colon: bool) -> Option<Faul
 /// What is wrong with an operator behind a label: it is one line too many.
 pub(crate) fn labelled_fault(body: &Body, token: Token) -> Option<Fault>
     requires { IsCounted body.now }
-    ensures { (units : List ProgramUnit) → result ≡ option_map fault_of (moves.met_if (is_some (words.operation_of (symbol_view token.entry)) && moves.is_full (position_view units body.now)) faults.TooMany token.entry.line) }
+    ensures { (units : List ProgramUnit)
+        → result
+        ≡ option_map fault_of
+        (moves.met_if
+        (is_some (words.operation_of (symbol_view token.entry)) && moves.is_full
+        (position_view units body.now)) faults.TooMany token.entry.line) }
 {
     if is_operator(token) {
         full_fault(body, token.line)

@@ -1,6 +1,6 @@
 ghost use Rattle.std.specs.Prelude.{◌≡◌, ℕ, Bool, IfOk, option_map};
-ghost use Rattle.wc_grammar_laws.proofs.LineMoves as lines;
-ghost use Rattle.wc_grammar_laws.proofs.Words as words;
+ghost use Rattle.wc_grammar_laws.specs.LineMoves as lines;
+ghost use Rattle.wc_grammar_laws.specs.Words as words;
 ghost use Rattle.wc_model.specs.Text.Grammar.{Setting, InBody, InParentheses};
 ghost use Rattle.wc_model.specs.Language.Names.{name_of};
 ghost use Rattle.wc_model.specs.Language.Views.{term_view, word_view};
@@ -18,7 +18,8 @@ use wc_model::{Condition, Operand, Operator, Word};
 
 /// Behind an operator.
 fn behind_operator<'a>(label: Option<Word<'a>>, line: u32, operation: Operation) -> LinePlace<'a>
-    ensures { line_state_view result ≡ lines.behind_operator (option_map word_view label.entry) line (operation_view operation) }
+    ensures { line_state_view result
+        ≡ lines.behind_operator (option_map word_view label.entry) line (operation_view operation) }
 {
     let begun = Begun { label, line };
     match operation {
@@ -32,7 +33,9 @@ fn behind_operator<'a>(label: Option<Word<'a>>, line: u32, operation: Operation)
 
 /// Behind a token that has to be an operator.
 fn at_operator<'a>(label: Option<Word<'a>>, token: Token<'a>) -> Option<LinePlace<'a>>
-    ensures { option_map line_state_view result ≡ lines.at_operator (option_map word_view label.entry) token.entry.line (words.operation_of (symbol_view token.entry)) }
+    ensures { option_map line_state_view result
+        ≡ lines.at_operator (option_map word_view label.entry) token.entry.line
+        (words.operation_of (symbol_view token.entry)) }
 {
     match operation_of(token) {
         Some(operation) => Some(behind_operator(label, token.line, operation)),
@@ -43,7 +46,10 @@ fn at_operator<'a>(label: Option<Word<'a>>, token: Token<'a>) -> Option<LinePlac
 /// Behind a line's first identifier that no colon follows. One that is no operator may still be a label: what is wrong
 /// is the token behind it.
 fn operator_or_label<'a>(token: Token<'a>) -> LinePlace<'a>
-    ensures { line_state_view result ≡ lines.operator_or_label (record { line = token.entry.line; name = name_of token.entry.text.now }) (words.found words.operations (name_of token.entry.text.now)) }
+    ensures { line_state_view result
+        ≡ lines.operator_or_label
+        (record { line = token.entry.line; name = name_of token.entry.text.now })
+        (words.found words.operations (name_of token.entry.text.now)) }
 {
     match operation_named(token.text) {
         Some(operation) => behind_operator(None, token.line, operation),
@@ -53,7 +59,8 @@ fn operator_or_label<'a>(token: Token<'a>) -> LinePlace<'a>
 
 /// Behind the first token of a line of a body; `colon` says whether a colon follows it.
 pub(crate) fn at_start<'a>(token: Token<'a>, colon: bool) -> Option<LinePlace<'a>>
-    ensures { option_map line_state_view result ≡ lines.line_move InBody lines.Start (symbol_view token.entry) token.entry.line colon }
+    ensures { option_map line_state_view result
+        ≡ lines.line_move InBody lines.Start (symbol_view token.entry) token.entry.line colon }
 {
     match token.shape {
         Shape::Identifier if colon => Some(LinePlace::Worded(word(token))),
@@ -64,7 +71,10 @@ pub(crate) fn at_start<'a>(token: Token<'a>, colon: bool) -> Option<LinePlace<'a
 
 /// Behind the first token of a line in parentheses, where no label, jump, call or return stands.
 pub(crate) fn at_start_inside<'a>(token: Token<'a>) -> Option<LinePlace<'a>>
-    ensures { (colon : Bool) → option_map line_state_view result ≡ lines.line_move InParentheses lines.Start (symbol_view token.entry) token.entry.line colon }
+    ensures { (colon : Bool)
+        → option_map line_state_view result
+        ≡ lines.line_move InParentheses lines.Start
+        (symbol_view token.entry) token.entry.line colon }
 {
     match operation_of(token) {
         Some(operation) => {
@@ -80,7 +90,8 @@ pub(crate) fn at_start_inside<'a>(token: Token<'a>) -> Option<LinePlace<'a>>
 
 /// Behind the token after a label's colon.
 fn at_labelled<'a>(label: Word<'a>, token: Token<'a>) -> Option<LinePlace<'a>>
-    ensures { option_map line_state_view result ≡ lines.at_labelled (word_view label.entry) (symbol_view token.entry) token.entry.line }
+    ensures { option_map line_state_view result
+        ≡ lines.at_labelled (word_view label.entry) (symbol_view token.entry) token.entry.line }
 {
     match token.shape {
         Shape::LineEnd => Some(LinePlace::Ended(LineForm::LabelAlone(label))),
@@ -94,7 +105,11 @@ fn at_applied<'a>(
     operator: Operator,
     token: Token<'a>,
 ) -> Result<Option<LinePlace<'a>>, AllocError>
-    ensures { IfOk result (λ next. option_map line_state_view next ≡ lines.at_operated (begun_view begun.entry) (words.Applies operator) (symbol_view token.entry) token.entry.line) }
+    ensures { IfOk result
+        (λ next.
+        option_map line_state_view next
+        ≡ lines.at_operated (begun_view begun.entry) (words.Applies operator)
+        (symbol_view token.entry) token.entry.line) }
 {
     match token.shape {
         Shape::Opening => Ok(Some(LinePlace::Bracketed(begun, operator))),
@@ -112,7 +127,11 @@ fn at_operated<'a>(
     operating: Operating,
     token: Token<'a>,
 ) -> Result<Option<LinePlace<'a>>, AllocError>
-    ensures { IfOk result (λ next. option_map line_state_view next ≡ lines.at_operated (begun_view begun.entry) (operating_view operating) (symbol_view token.entry) token.entry.line) }
+    ensures { IfOk result
+        (λ next.
+        option_map line_state_view next
+        ≡ lines.at_operated (begun_view begun.entry) (operating_view operating)
+        (symbol_view token.entry) token.entry.line) }
 {
     match operating {
         Operating::Applies(operator) => at_applied(begun, operator, token),
@@ -130,7 +149,11 @@ fn at_bracketed<'a>(
     operator: Operator,
     token: Token<'a>,
 ) -> Result<Option<LinePlace<'a>>, AllocError>
-    ensures { IfOk result (λ next. option_map line_state_view next ≡ lines.at_bracketed (begun_view begun.entry) operator (symbol_view token.entry) token.entry.line) }
+    ensures { IfOk result
+        (λ next.
+        option_map line_state_view next
+        ≡ lines.at_bracketed (begun_view begun.entry) operator
+        (symbol_view token.entry) token.entry.line) }
 {
     match token.shape {
         Shape::LineEnd => Ok(Some(LinePlace::Ended(LineForm::Opens(begun, operator, None)))),
@@ -140,7 +163,10 @@ fn at_bracketed<'a>(
 
 /// Behind the token after a jump's operator: its label.
 fn at_target<'a>(begun: Begun<'a>, condition: Condition, token: Token<'a>) -> Option<LinePlace<'a>>
-    ensures { (setting : Setting) (line : ℕ) (colon : Bool) → option_map line_state_view result ≡ lines.line_move setting (lines.Jumped (begun_view begun.entry) condition) (symbol_view token.entry) line colon }
+    ensures { (setting : Setting) (line : ℕ) (colon : Bool)
+        → option_map line_state_view result
+        ≡ lines.line_move setting (lines.Jumped (begun_view begun.entry) condition)
+        (symbol_view token.entry) line colon }
 {
     match token.shape {
         Shape::Identifier => Some(LinePlace::Stepped(begun, Step::Jump(condition, word(token)))),
@@ -150,7 +176,10 @@ fn at_target<'a>(begun: Begun<'a>, condition: Condition, token: Token<'a>) -> Op
 
 /// Behind the token after a call's operator: its instance.
 fn at_called<'a>(begun: Begun<'a>, condition: Condition, token: Token<'a>) -> Option<LinePlace<'a>>
-    ensures { (setting : Setting) (line : ℕ) (colon : Bool) → option_map line_state_view result ≡ lines.line_move setting (lines.Called (begun_view begun.entry) condition) (symbol_view token.entry) line colon }
+    ensures { (setting : Setting) (line : ℕ) (colon : Bool)
+        → option_map line_state_view result
+        ≡ lines.line_move setting (lines.Called (begun_view begun.entry) condition)
+        (symbol_view token.entry) line colon }
 {
     match token.shape {
         Shape::Identifier => Some(LinePlace::Instanced(begun, condition, word(token))),
@@ -160,7 +189,10 @@ fn at_called<'a>(begun: Begun<'a>, condition: Condition, token: Token<'a>) -> Op
 
 /// Behind the token after a whole instruction: the line's end.
 fn at_step_end<'a>(begun: Begun<'a>, step: Step<'a>, token: Token<'a>) -> Option<LinePlace<'a>>
-    ensures { (setting : Setting) (line : ℕ) (colon : Bool) → option_map line_state_view result ≡ lines.line_move setting (lines.Stepped (begun_view begun.entry) (step_view step.entry)) (symbol_view token.entry) line colon }
+    ensures { (setting : Setting) (line : ℕ) (colon : Bool)
+        → option_map line_state_view result
+        ≡ lines.line_move setting (lines.Stepped (begun_view begun.entry) (step_view step.entry))
+        (symbol_view token.entry) line colon }
 {
     match token.shape {
         Shape::LineEnd => Some(LinePlace::Ended(LineForm::Instructs(begun, step))),
@@ -175,7 +207,11 @@ fn at_opening_end<'a>(
     operand: Operand<'a>,
     token: Token<'a>,
 ) -> Option<LinePlace<'a>>
-    ensures { (setting : Setting) (line : ℕ) (colon : Bool) → option_map line_state_view result ≡ lines.line_move setting (lines.BracketedWith (begun_view begun.entry) operator (term_view operand.entry)) (symbol_view token.entry) line colon }
+    ensures { (setting : Setting) (line : ℕ) (colon : Bool)
+        → option_map line_state_view result
+        ≡ lines.line_move setting
+        (lines.BracketedWith (begun_view begun.entry) operator (term_view operand.entry))
+        (symbol_view token.entry) line colon }
 {
     match token.shape {
         Shape::LineEnd => Some(LinePlace::Ended(LineForm::Opens(begun, operator, Some(operand)))),
@@ -185,7 +221,10 @@ fn at_opening_end<'a>(
 
 /// Behind the token after a label: its colon.
 fn at_colon<'a>(label: Word<'a>, token: Token<'a>) -> Option<LinePlace<'a>>
-    ensures { (setting : Setting) (line : ℕ) (colon : Bool) → option_map line_state_view result ≡ lines.line_move setting (lines.Worded (word_view label.entry)) (symbol_view token.entry) line colon }
+    ensures { (setting : Setting) (line : ℕ) (colon : Bool)
+        → option_map line_state_view result
+        ≡ lines.line_move setting (lines.Worded (word_view label.entry))
+        (symbol_view token.entry) line colon }
 {
     match token.shape {
         Shape::Colon => Some(LinePlace::Labelled(label)),
@@ -199,7 +238,11 @@ pub(crate) fn line_move<'a>(
     place: LinePlace<'a>,
     token: Token<'a>,
 ) -> Result<Option<LinePlace<'a>>, AllocError>
-    ensures { IfOk result (λ next. (setting : Setting) (colon : Bool) → option_map line_state_view next ≡ lines.line_move setting (line_state_view place.entry) (symbol_view token.entry) token.entry.line colon) }
+    ensures { IfOk result
+        (λ next. (setting : Setting) (colon : Bool)
+        → option_map line_state_view next
+        ≡ lines.line_move setting (line_state_view place.entry)
+        (symbol_view token.entry) token.entry.line colon) }
 {
     match place {
         LinePlace::Worded(label) => Ok(at_colon(label, token)),

@@ -1,6 +1,6 @@
 ghost use Rattle.std.specs.Prelude.{◌≡◌, Bool, IfOk, IfSome, List, option_map};
-ghost use Rattle.wc_grammar_laws.proofs.Moves as moves;
-ghost use Rattle.wc_grammar_laws.proofs.Words.{found, unit_kinds};
+ghost use Rattle.wc_grammar_laws.specs.Moves as moves;
+ghost use Rattle.wc_grammar_laws.specs.Words.{found, unit_kinds};
 ghost use Rattle.wc_model.specs.Language.Names.{name_of};
 ghost use Rattle.wc_model.specs.Language.Tree.{ProgramUnit};
 ghost use Rattle.wc_model.specs.Language.Views.{unit_view};
@@ -18,7 +18,10 @@ use wc_model::{Section, Unit, UnitKind};
 
 /// Behind a unit's first word, where the token is one.
 fn at_first_word<'a>(token: Token<'a>) -> Option<Place<'a>>
-    ensures behind { (units : List ProgramUnit) → option_map (state_view units) result ≡ option_map (λ kind. moves.Unnamed units kind token.entry.line) (found unit_kinds (name_of token.entry.text.now)) }
+    ensures behind { (units : List ProgramUnit)
+        → option_map (state_view units) result
+        ≡ option_map (λ kind. moves.Unnamed units kind token.entry.line)
+        (found unit_kinds (name_of token.entry.text.now)) }
     ensures counted { IfSome result (λ it. IsPlaceCounted it) }
 {
     match unit_kind(token.text) {
@@ -29,7 +32,9 @@ fn at_first_word<'a>(token: Token<'a>) -> Option<Place<'a>>
 
 /// Behind a token between units.
 fn outside<'a>(token: Token<'a>) -> Option<Place<'a>>
-    ensures behind { (units : List ProgramUnit) (colon : Bool) → option_map (state_view units) result ≡ moves.move (moves.Outside units) (symbol_view token.entry) token.entry.line colon }
+    ensures behind { (units : List ProgramUnit) (colon : Bool)
+        → option_map (state_view units) result
+        ≡ moves.move (moves.Outside units) (symbol_view token.entry) token.entry.line colon }
     ensures counted { IfSome result (λ it. IsPlaceCounted it) }
 {
     match token.shape {
@@ -41,7 +46,10 @@ fn outside<'a>(token: Token<'a>) -> Option<Place<'a>>
 
 /// Behind the token after a unit's first word: its name.
 fn at_name<'a>(alloc: Global, kind: UnitKind, line: u32, token: Token<'a>) -> Option<Place<'a>>
-    ensures behind { (units : List ProgramUnit) (colon : Bool) → option_map (state_view units) result ≡ moves.move (moves.Unnamed units kind line) (symbol_view token.entry) token.entry.line colon }
+    ensures behind { (units : List ProgramUnit) (colon : Bool)
+        → option_map (state_view units) result
+        ≡ moves.move (moves.Unnamed units kind line)
+        (symbol_view token.entry) token.entry.line colon }
     ensures counted { IfSome result (λ it. IsPlaceCounted it) }
 {
     match token.shape {
@@ -61,7 +69,8 @@ fn at_name<'a>(alloc: Global, kind: UnitKind, line: u32, token: Token<'a>) -> Op
 
 /// In a section, or at the start of the body behind it.
 fn section_place<'a>(alloc: Global, declaring: Declaring<'a>) -> Place<'a>
-    ensures behind { (units : List ProgramUnit) → state_view units result ≡ section_view units declaring.entry }
+    ensures behind { (units : List ProgramUnit)
+        → state_view units result ≡ section_view units declaring.entry }
     ensures counted { IsPlaceCounted result }
 {
     let Declaring {
@@ -83,7 +92,11 @@ fn in_section<'a>(
     place: DeclarationPlace<'a>,
     token: Token<'a>,
 ) -> Result<Option<Place<'a>>, AllocError>
-    ensures behind { IfOk result (λ next. (units : List ProgramUnit) → option_map (state_view units) next ≡ moves.declaration_move units (unit_view unit.entry) section (declaring_view place.entry) (symbol_view token.entry) token.entry.line) }
+    ensures behind { IfOk result
+        (λ next. (units : List ProgramUnit)
+        → option_map (state_view units) next
+        ≡ moves.declaration_move units (unit_view unit.entry) section (declaring_view place.entry)
+        (symbol_view token.entry) token.entry.line) }
     ensures counted { IfOk result (λ next. IfSome next (λ it. IsPlaceCounted it)) }
 {
     match declaration_move(alloc, unit, section, place, token)? {
@@ -100,7 +113,11 @@ pub(crate) fn text_move<'a>(
     colon: bool,
 ) -> Result<Option<Reading<'a>>, AllocError>
     requires { IsPlaceCounted reading.place }
-    ensures behind { IfOk result (λ next. option_map reading_view next ≡ moves.move (reading_view reading.entry) (symbol_view token.entry) token.entry.line colon) }
+    ensures behind { IfOk result
+        (λ next.
+        option_map reading_view next
+        ≡ moves.move (reading_view reading.entry)
+        (symbol_view token.entry) token.entry.line colon) }
     ensures counted { IfOk result (λ next. IfSome next (λ it. IsPlaceCounted it.place)) }
 {
     let Reading { units, place } = reading;

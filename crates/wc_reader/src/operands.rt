@@ -1,6 +1,6 @@
 ghost use Rattle.std.specs.Prelude.{◌≡◌, ℕ, Bool, IfOk, Some, option_map};
-ghost use Rattle.wc_grammar_laws.proofs.LineMoves as lines;
-ghost use Rattle.wc_grammar_laws.proofs.Words as words;
+ghost use Rattle.wc_grammar_laws.specs.LineMoves as lines;
+ghost use Rattle.wc_grammar_laws.specs.Words as words;
 ghost use Rattle.wc_model.specs.Text.Grammar.{Setting};
 ghost use Rattle.wc_model.specs.Text.Marks as marks;
 ghost use Rattle.wc_model.specs.Language.Tree as tree;
@@ -17,7 +17,8 @@ use wc_model::{Argument, Operand, Operator, Value, Word};
 
 /// The instruction of an operator with its operand.
 fn step_of<'a>(operating: Operating, operand: Operand<'a>) -> Step<'a>
-    ensures { step_view result ≡ words.step_of (operating_view operating) (term_view operand.entry) }
+    ensures { step_view result
+        ≡ words.step_of (operating_view operating) (term_view operand.entry) }
 {
     match operating {
         Operating::Loads(negated) => Step::Load(negated, operand),
@@ -32,7 +33,11 @@ fn with_argument<'a>(
     input: Word<'a>,
     value: Operand<'a>,
 ) -> Result<Listed<'a>, AllocError>
-    ensures { IfOk result (λ more. listed_view more ≡ lines.with_argument (listed_view call.entry) (name_view input.entry) (term_view value.entry)) }
+    ensures { IfOk result
+        (λ more.
+        listed_view more
+        ≡ lines.with_argument (listed_view call.entry) (name_view input.entry)
+        (term_view value.entry)) }
 {
     let mut call = call;
     call.arguments.push(Argument { name: input, value })?;
@@ -45,7 +50,11 @@ fn behind_operand<'a>(
     owner: OperandOf<'a>,
     operand: Operand<'a>,
 ) -> Result<LinePlace<'a>, AllocError>
-    ensures { IfOk result (λ next. line_state_view next ≡ lines.behind_operand (begun_view begun.entry) (owner_view owner.entry) (term_view operand.entry)) }
+    ensures { IfOk result
+        (λ next.
+        line_state_view next
+        ≡ lines.behind_operand (begun_view begun.entry) (owner_view owner.entry)
+        (term_view operand.entry)) }
 {
     match owner {
         OperandOf::OfStep(operating) => Ok(LinePlace::Stepped(begun, step_of(operating, operand))),
@@ -63,7 +72,12 @@ fn behind_literal<'a>(
     owner: OperandOf<'a>,
     value: Value,
 ) -> Result<Option<LinePlace<'a>>, AllocError>
-    ensures { IfOk result (λ next. option_map line_state_view next ≡ Some (lines.behind_operand (begun_view begun.entry) (owner_view owner.entry) (tree.Constant value))) }
+    ensures { IfOk result
+        (λ next.
+        option_map line_state_view next
+        ≡ Some
+        (lines.behind_operand (begun_view begun.entry) (owner_view owner.entry)
+        (tree.Constant value))) }
 {
     let next = behind_operand(begun, owner, Operand::Literal(value))?;
     Ok(Some(next))
@@ -75,7 +89,11 @@ pub(crate) fn at_operand<'a>(
     owner: OperandOf<'a>,
     token: Token<'a>,
 ) -> Result<Option<LinePlace<'a>>, AllocError>
-    ensures { IfOk result (λ next. option_map line_state_view next ≡ lines.at_operand (begun_view begun.entry) (owner_view owner.entry) (symbol_view token.entry) token.entry.line) }
+    ensures { IfOk result
+        (λ next.
+        option_map line_state_view next
+        ≡ lines.at_operand (begun_view begun.entry) (owner_view owner.entry)
+        (symbol_view token.entry) token.entry.line) }
 {
     match token.shape {
         Shape::Identifier => match truth(token.text) {
@@ -101,7 +119,12 @@ fn behind_value<'a>(
     name: Word<'a>,
     token: Token<'a>,
 ) -> Result<Option<LinePlace<'a>>, AllocError>
-    ensures { IfOk result (λ next. option_map line_state_view next ≡ lines.behind_name (begun_view begun.entry) (lines.OfArgument (listed_view call.entry) (name_view input.entry)) (name_view name.entry) (symbol_view token.entry)) }
+    ensures { IfOk result
+        (λ next.
+        option_map line_state_view next
+        ≡ lines.behind_name (begun_view begun.entry)
+        (lines.OfArgument (listed_view call.entry) (name_view input.entry)) (name_view name.entry)
+        (symbol_view token.entry)) }
 {
     match token.shape {
         Shape::LineEnd => Ok(Some(LinePlace::Named(
@@ -128,7 +151,9 @@ fn behind_step_name<'a>(
     name: Word<'a>,
     token: Token<'a>,
 ) -> Option<LinePlace<'a>>
-    ensures { option_map line_state_view result ≡ lines.behind_name (begun_view begun.entry) (lines.OfStep (operating_view operating)) (name_view name.entry) (symbol_view token.entry) }
+    ensures { option_map line_state_view result
+        ≡ lines.behind_name (begun_view begun.entry) (lines.OfStep (operating_view operating))
+        (name_view name.entry) (symbol_view token.entry) }
 {
     match token.shape {
         Shape::LineEnd => {
@@ -146,7 +171,9 @@ fn behind_opening_name<'a>(
     name: Word<'a>,
     token: Token<'a>,
 ) -> Option<LinePlace<'a>>
-    ensures { option_map line_state_view result ≡ lines.behind_name (begun_view begun.entry) (lines.OfOpening operator) (name_view name.entry) (symbol_view token.entry) }
+    ensures { option_map line_state_view result
+        ≡ lines.behind_name (begun_view begun.entry) (lines.OfOpening operator)
+        (name_view name.entry) (symbol_view token.entry) }
 {
     match token.shape {
         Shape::LineEnd => Some(LinePlace::Ended(LineForm::Opens(
@@ -165,7 +192,11 @@ fn behind_name<'a>(
     name: Word<'a>,
     token: Token<'a>,
 ) -> Result<Option<LinePlace<'a>>, AllocError>
-    ensures { IfOk result (λ next. option_map line_state_view next ≡ lines.behind_name (begun_view begun.entry) (owner_view owner.entry) (name_view name.entry) (symbol_view token.entry)) }
+    ensures { IfOk result
+        (λ next.
+        option_map line_state_view next
+        ≡ lines.behind_name (begun_view begun.entry) (owner_view owner.entry) (name_view name.entry)
+        (symbol_view token.entry)) }
 {
     match owner {
         OperandOf::OfStep(operating) => Ok(behind_step_name(begun, operating, name, token)),
@@ -181,7 +212,12 @@ pub(crate) fn at_named<'a>(
     name: Word<'a>,
     token: Token<'a>,
 ) -> Result<Option<LinePlace<'a>>, AllocError>
-    ensures { IfOk result (λ next. (setting : Setting) (line : ℕ) (colon : Bool) → option_map line_state_view next ≡ lines.line_move setting (lines.Named (begun_view begun.entry) (owner_view owner.entry) (name_view name.entry)) (symbol_view token.entry) line colon) }
+    ensures { IfOk result
+        (λ next. (setting : Setting) (line : ℕ) (colon : Bool)
+        → option_map line_state_view next
+        ≡ lines.line_move setting
+        (lines.Named (begun_view begun.entry) (owner_view owner.entry) (name_view name.entry))
+        (symbol_view token.entry) line colon) }
 {
     match token.shape {
         Shape::Point => Ok(Some(LinePlace::Pointed(begun, owner, name))),
@@ -195,7 +231,9 @@ fn behind_point<'a>(
     owner: OperandOf<'a>,
     instance: Word<'a>,
 ) -> Option<LinePlace<'a>>
-    ensures { option_map line_state_view result ≡ lines.at_field (begun_view begun.entry) (owner_view owner.entry) (name_view instance.entry) marks.LineEnd }
+    ensures { option_map line_state_view result
+        ≡ lines.at_field (begun_view begun.entry) (owner_view owner.entry)
+        (name_view instance.entry) marks.LineEnd }
 {
     match owner {
         OperandOf::OfArgument(call, input) => Some(LinePlace::Pointed(
@@ -214,7 +252,11 @@ pub(crate) fn at_field<'a>(
     instance: Word<'a>,
     token: Token<'a>,
 ) -> Result<Option<LinePlace<'a>>, AllocError>
-    ensures { IfOk result (λ next. option_map line_state_view next ≡ lines.at_field (begun_view begun.entry) (owner_view owner.entry) (name_view instance.entry) (symbol_view token.entry)) }
+    ensures { IfOk result
+        (λ next.
+        option_map line_state_view next
+        ≡ lines.at_field (begun_view begun.entry) (owner_view owner.entry)
+        (name_view instance.entry) (symbol_view token.entry)) }
 {
     match token.shape {
         Shape::Identifier => {

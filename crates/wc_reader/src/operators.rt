@@ -1,5 +1,5 @@
 ghost use Rattle.std.specs.Prelude.{◌≡◌, option_map};
-ghost use Rattle.wc_grammar_laws.proofs.Words as words;
+ghost use Rattle.wc_grammar_laws.specs.Words as words;
 ghost use Rattle.wc_model.specs.Language.Names.{name_of};
 ghost use Rattle.wc_reader.specs.OperatorGroups.{loads_and_stores, logic, arithmetic, comparisons, negation_and_jumps, calls_and_returns};
 ghost use Rattle.wc_reader.specs.Words.{operation_view, symbol_view};

@@ -1,6 +1,6 @@
 ghost use Rattle.std.specs.Prelude.{◌≡◌, ◌+◌, ◌==◌, ◌≤◌, ◌<◌, ◌∷◌, ℕ, IfErr, IfOk, List, Some, count_by, drop, false, length, option_map};
-ghost use Rattle.wc_grammar_laws.proofs.Moves as moves;
-ghost use Rattle.wc_grammar_laws.proofs.Moves.{at_first, colon_next};
+ghost use Rattle.wc_grammar_laws.specs.Moves as moves;
+ghost use Rattle.wc_grammar_laws.specs.Moves.{at_first, colon_next};
 ghost use Rattle.wc_model.specs.Text.Marks.{Mark};
 ghost use Rattle.wc_model.specs.Text.Reading.{IsRead, last_line, mark_of_token};
 ghost use Rattle.wc_model.specs.Text.Tokens.{most_bytes};
@@ -32,7 +32,8 @@ fn is_colon_next(tokens: &[Token]) -> bool
 /// What stands behind a token of that line, which is unexpected where there is nothing.
 fn or_unexpected<'a>(next: Option<Reading<'a>>, line: u32) -> Result<Reading<'a>, Fault>
     ensures there { IfOk result (λ reading. next.entry ≡ Some reading) }
-    ensures nothing { IfErr result (λ fault. IsUnexpected (option_map reading_view next.entry) line fault) }
+    ensures nothing { IfErr result
+        (λ fault. IsUnexpected (option_map reading_view next.entry) line fault) }
 {
     match next {
         Some(reading) => Ok(reading),
@@ -51,8 +52,16 @@ fn moved<'a>(
     colon: bool,
 ) -> Result<Reading<'a>, Fault>
     requires { IsPlaceCounted reading.place }
-    ensures goes_on { IfOk result (λ next. Some (reading_view next) ≡ moves.move (reading_view reading.entry) (symbol_view token.entry) token.entry.line colon) }
-    ensures stops { IfErr result (λ fault. IsUnexpected (moves.move (reading_view reading.entry) (symbol_view token.entry) token.entry.line colon) token.entry.line fault) }
+    ensures goes_on { IfOk result
+        (λ next.
+        Some (reading_view next)
+        ≡ moves.move (reading_view reading.entry)
+        (symbol_view token.entry) token.entry.line colon) }
+    ensures stops { IfErr result
+        (λ fault.
+        IsUnexpected
+        (moves.move (reading_view reading.entry) (symbol_view token.entry) token.entry.line colon)
+        token.entry.line fault) }
     ensures counted { IfOk result (λ next. IsPlaceCounted next.place) }
 {
     match text_move(alloc, reading, token, colon) {
@@ -69,8 +78,16 @@ fn next_reading<'a>(
     colon: bool,
 ) -> Result<Reading<'a>, Fault>
     requires { IsPlaceCounted reading.place }
-    ensures goes_on { IfOk result (λ next. (behind : List Mark) (last : ℕ) → colon_next behind false ≡ colon → moves.reading (reading_view reading.entry) (mark_of_token (token_view token.entry) ∷ behind) last ≡ moves.reading (reading_view next) behind last) }
-    ensures stops { IfErr result (λ fault. (behind : List Mark) (last : ℕ) → colon_next behind false ≡ colon → TellsFault (moves.reading (reading_view reading.entry) (mark_of_token (token_view token.entry) ∷ behind) last) fault) }
+    ensures goes_on { IfOk result
+        (λ next. (behind : List Mark) (last : ℕ) → colon_next behind false ≡ colon
+        → moves.reading (reading_view reading.entry)
+        (mark_of_token (token_view token.entry) ∷ behind) last
+        ≡ moves.reading (reading_view next) behind last) }
+    ensures stops { IfErr result
+        (λ fault. (behind : List Mark) (last : ℕ) → colon_next behind false ≡ colon
+        → TellsFault
+        (moves.reading (reading_view reading.entry)
+        (mark_of_token (token_view token.entry) ∷ behind) last) fault) }
     ensures counted { IfOk result (λ next. IsPlaceCounted next.place) }
 {
     match fault_at(&reading, token, colon) {
@@ -88,8 +105,15 @@ fn read_at<'a>(
 ) -> Result<Reading<'a>, Fault>
     requires counted { IsPlaceCounted reading.place }
     requires within { index < length tokens.now }
-    ensures goes_on { IfOk result (λ next. (last : ℕ) → moves.reading (reading_view reading.entry) (marks_of (drop index tokens.now)) last ≡ moves.reading (reading_view next) (marks_of (drop (index + 1) tokens.now)) last) }
-    ensures stops { IfErr result (λ fault. (last : ℕ) → TellsFault (moves.reading (reading_view reading.entry) (marks_of (drop index tokens.now)) last) fault) }
+    ensures goes_on { IfOk result
+        (λ next. (last : ℕ)
+        → moves.reading (reading_view reading.entry) (marks_of (drop index tokens.now)) last
+        ≡ moves.reading (reading_view next) (marks_of (drop (index + 1) tokens.now)) last) }
+    ensures stops { IfErr result
+        (λ fault. (last : ℕ)
+        → TellsFault
+        (moves.reading (reading_view reading.entry) (marks_of (drop index tokens.now)) last)
+        fault) }
     ensures counted { IfOk result (λ next. IsPlaceCounted next.place) }
 {
     let (_, left) = tokens.split_at(index);

@@ -1,6 +1,6 @@
 ghost use Rattle.std.specs.Prelude.{◌≡◌};
-ghost use Rattle.wc_grammar_laws.proofs.Words as words;
-ghost use Rattle.wc_model.proofs.Spelling.{same};
+ghost use Rattle.wc_grammar_laws.specs.Words as words;
+ghost use Rattle.wc_grammar_laws.specs.Words.{same};
 ghost use Rattle.wc_model.specs.Text.Keywords.{end_word};
 ghost use Rattle.wc_model.specs.Language.Names.{name_of};
 ghost use Rattle.wc_reader.specs.Words.{symbol_view};

@@ -19,10 +19,14 @@ pub fn is_used_up(start: u64, spent: u64) -> bool
 /// Reads, unless as much was read as may be.
 fn read_within<R: ByteIn>(reader: &mut R, start: u64, buffer: &mut [u8]) -> io::Result<usize>
     ensures bound { ReadsAtMost result buffer.new }
-    ensures bytes { ReadConsumes (R.bytes_left reader.old) (R.bytes_left reader.new) result buffer.new }
+    ensures bytes { ReadConsumes (R.bytes_left reader.old)
+        (R.bytes_left reader.new) result buffer.new }
     // What is used up reads no further.
-    ensures used_up { is_used_up start (R.spent_count reader.old) ≡ true → IsErr result × (reader.new ≡ reader.old) }
-    ensures passed { is_used_up start (R.spent_count reader.old) ≡ false → (R.failure_count reader.new ≡ failures_after_read (R.failure_count reader.old) result) × (R.spent_count reader.new ≡ spent_after_read (R.spent_count reader.old) result) }
+    ensures used_up { is_used_up start (R.spent_count reader.old) ≡ true
+        → IsErr result × (reader.new ≡ reader.old) }
+    ensures passed { is_used_up start (R.spent_count reader.old) ≡ false
+        → (R.failure_count reader.new ≡ failures_after_read (R.failure_count reader.old) result)
+        × (R.spent_count reader.new ≡ spent_after_read (R.spent_count reader.old) result) }
 {
     if is_used_up(start, reader.spent()) {
         return Err(io::Error::from(io::ErrorKind::Other));
@@ -42,8 +46,11 @@ impl<'r, R: ByteIn> Read for Bounded<'r, R> {
 
     fn read(&mut self, buffer: &mut [u8]) -> io::Result<usize>
         ensures bound { ReadsAtMost result buffer.new }
-        ensures bytes { ReadConsumes (R.bytes_left self.old.reader.now) (R.bytes_left self.new.reader.now) result buffer.new }
-        ensures passed { is_used_up self.old.start (R.spent_count self.old.reader.now) ≡ false → R.failure_count self.new.reader.now ≡ failures_after_read (R.failure_count self.old.reader.now) result }
+        ensures bytes { ReadConsumes (R.bytes_left self.old.reader.now)
+            (R.bytes_left self.new.reader.now) result buffer.new }
+        ensures passed { is_used_up self.old.start (R.spent_count self.old.reader.now) ≡ false
+            → R.failure_count self.new.reader.now
+            ≡ failures_after_read (R.failure_count self.old.reader.now) result }
     {
         read_within(self.reader, self.start, buffer)
     }

@@ -6,7 +6,8 @@ use std::alloc::{AllocError, Global};
 
 /// The line bytes that a text of hexadecimal digits writes, where it writes at most 4096.
 pub(crate) fn line_piece(alloc: Global, text: &[u8]) -> Result<Option<Vec<u8>>, AllocError>
-    ensures piece { IfOk result (λ piece. option_map (λ bytes. bytes.items) piece ≡ line_piece_of text.now) }
+    ensures piece { IfOk result
+        (λ piece. option_map (λ bytes. bytes.items) piece ≡ line_piece_of text.now) }
     ensures few { IfOk result (λ piece. IfSome piece (λ bytes. length bytes.items ≤ 4096)) }
 {
     if text.len() > 8192 {

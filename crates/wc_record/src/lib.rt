@@ -11,8 +11,6 @@ mod records;
 mod row_data;
 mod row_kind;
 mod source;
-#[cfg(test)]
-mod tests;
 
 pub use bounded::is_used_up;
 pub use log::Rows;

@@ -64,7 +64,8 @@ impl<'r, R: ByteIn> Rows<'r, R> {
     /// The rows of the log that the reader has to give. Nothing is read, and no memory is taken, before the first
     /// `next`.
     pub fn new(alloc: Global, reader: &'r mut R) -> Rows<'r, R>
-        ensures rows { IfSome (R.bytes_left reader.old) (λ bytes. HasLeft R.bytes_left result (log_of (records_of bytes))) }
+        ensures rows { IfSome (R.bytes_left reader.old)
+            (λ bytes. HasLeft R.bytes_left result (log_of (records_of bytes))) }
         ensures fresh { (rows_read result ≡ 0) × (last_ms result ≡ 0) × (ended result ≡ None) }
         ensures start { started_at result ≡ R.spent_count reader.old }
         ensures failures { count_in R.failure_count result ≡ R.failure_count reader.old }
@@ -85,7 +86,8 @@ impl<'r, R: ByteIn> Rows<'r, R> {
     /// The fault behind a read that failed: the reader's where it failed in this call or as much was read as may
     /// be, else memory.
     fn cause(&self, failures_before: u64) -> LogFault
-        ensures read { (result ≡ LogFault.Read) → HasCauseIn R.failure_count R.spent_count failures_before self.now }
+        ensures read { (result ≡ LogFault.Read)
+            → HasCauseIn R.failure_count R.spent_count failures_before self.now }
         ensures fault { (result ≡ LogFault.Read) ⊎ (result ≡ LogFault.Memory) }
     {
         let failures = self.source.failures();
@@ -101,9 +103,13 @@ impl<'r, R: ByteIn> Rows<'r, R> {
 
     /// Reads the next record, where there is one.
     fn read(&mut self, failures_before: u64) -> Result<bool, LogFault>
-        ensures next { IfOk result (λ found. TakesFirst (SourceHas R.bytes_left self.old.source) (SourceHas R.bytes_left self.new.source) found (fields_of self.new.row)) }
+        ensures next { IfOk result
+            (λ found.
+            TakesFirst (SourceHas R.bytes_left self.old.source)
+            (SourceHas R.bytes_left self.new.source) found (fields_of self.new.row)) }
         ensures fault { IfErr result (λ met. (met ≡ LogFault.Read) ⊎ (met ≡ LogFault.Memory)) }
-        ensures cause { IsErrOf result LogFault.Read → HasCauseIn R.failure_count R.spent_count failures_before self.new }
+        ensures cause { IsErrOf result LogFault.Read
+            → HasCauseIn R.failure_count R.spent_count failures_before self.new }
         ensures keeps { KeepsRow self.old self.new }
     {
         match self.source.read(&mut self.row) {
@@ -115,10 +121,16 @@ impl<'r, R: ByteIn> Rows<'r, R> {
 
     /// Reads the first row, which is no row of the log.
     fn first_row(&mut self, failures_before: u64) -> Result<(), LogFault>
-        ensures first { OnOk result ((left : List Record) → StandsBehind R.bytes_left self.old [] left → IsBehindFirst R.bytes_left self.new (log_of left)) }
-        ensures refused { IfErr result (λ met. (left : List Record) → StandsBehind R.bytes_left self.old [] left → RefusesRow met (log_of left)) }
-        ensures cause { IsErrOf result LogFault.Read → HasCauseIn R.failure_count R.spent_count failures_before self.new }
-        ensures counted { OnOk result ((rows_read self.new ≡ 1) × (last_ms self.new ≡ last_ms self.old)) }
+        ensures first { OnOk result
+            ((left : List Record) → StandsBehind R.bytes_left self.old [] left
+            → IsBehindFirst R.bytes_left self.new (log_of left)) }
+        ensures refused { IfErr result
+            (λ met. (left : List Record) → StandsBehind R.bytes_left self.old [] left
+            → RefusesRow met (log_of left)) }
+        ensures cause { IsErrOf result LogFault.Read
+            → HasCauseIn R.failure_count R.spent_count failures_before self.new }
+        ensures counted { OnOk result
+            ((rows_read self.new ≡ 1) × (last_ms self.new ≡ last_ms self.old)) }
         ensures keeps { Keeps self.old self.new }
     {
         match self.read(failures_before) {
@@ -139,8 +151,14 @@ impl<'r, R: ByteIn> Rows<'r, R> {
 
     /// The row that the record writes.
     fn judged(&mut self) -> Result<Option<Row>, LogFault>
-        ensures gives { (first : Record) (before rest : List Record) → StandsBehind R.bytes_left self.old (first ∷ before) rest → GivesRecord R.bytes_left (log_after (first ∷ before) (fields_of self.old.row ∷ rest)) result self.new }
-        ensures row { IfOk result (λ given. IfSome given (λ row. IsNext (suc (rows_read self.old)) (last_ms self.old) self.new row)) }
+        ensures gives { (first : Record) (before rest : List Record)
+            → StandsBehind R.bytes_left self.old (first ∷ before) rest
+            → GivesRecord R.bytes_left
+            (log_after (first ∷ before) (fields_of self.old.row ∷ rest)) result self.new }
+        ensures row { IfOk result
+            (λ given.
+            IfSome given
+            (λ row. IsNext (suc (rows_read self.old)) (last_ms self.old) self.new row)) }
         ensures no_device { IfErr result (λ met. met ≡ LogFault.Read → ⊥) }
         ensures keeps { Keeps self.old self.new }
     {
@@ -167,9 +185,15 @@ impl<'r, R: ByteIn> Rows<'r, R> {
 
     /// The next row behind the first.
     fn later_row(&mut self, failures_before: u64) -> Result<Option<Row>, LogFault>
-        ensures gives { (first : Record) (before left : List Record) → StandsBehind R.bytes_left self.old (first ∷ before) left → GivesRecord R.bytes_left (log_after (first ∷ before) left) result self.new }
-        ensures row { IfOk result (λ given. IfSome given (λ row. IsNext (suc (rows_read self.old)) (last_ms self.old) self.new row)) }
-        ensures cause { IsErrOf result LogFault.Read → HasCauseIn R.failure_count R.spent_count failures_before self.new }
+        ensures gives { (first : Record) (before left : List Record)
+            → StandsBehind R.bytes_left self.old (first ∷ before) left
+            → GivesRecord R.bytes_left (log_after (first ∷ before) left) result self.new }
+        ensures row { IfOk result
+            (λ given.
+            IfSome given
+            (λ row. IsNext (suc (rows_read self.old)) (last_ms self.old) self.new row)) }
+        ensures cause { IsErrOf result LogFault.Read
+            → HasCauseIn R.failure_count R.spent_count failures_before self.new }
         ensures keeps { Keeps self.old self.new }
     {
         match self.read(failures_before) {
@@ -181,9 +205,15 @@ impl<'r, R: ByteIn> Rows<'r, R> {
 
     /// The next row, where nothing has ended the log.
     fn next_row(&mut self) -> Result<Option<Row>, LogFault>
-        ensures gives { (before left : List Record) → StandsBehind R.bytes_left self.old before left → GivesRecord R.bytes_left (log_behind before left) result self.new }
-        ensures row { IfOk result (λ given. IfSome given (λ row. IsNext (suc (max 1 (rows_read self.old))) (last_ms self.old) self.new row)) }
-        ensures cause { IsErrOf result LogFault.Read → HasCauseIn R.failure_count R.spent_count (count_in R.failure_count self.old) self.new }
+        ensures gives { (before left : List Record) → StandsBehind R.bytes_left self.old before left
+            → GivesRecord R.bytes_left (log_behind before left) result self.new }
+        ensures row { IfOk result
+            (λ given.
+            IfSome given
+            (λ row. IsNext (suc (max 1 (rows_read self.old))) (last_ms self.old) self.new row)) }
+        ensures cause { IsErrOf result LogFault.Read
+            → HasCauseIn R.failure_count R.spent_count
+            (count_in R.failure_count self.old) self.new }
         ensures keeps { Keeps self.old self.new }
     {
         let failures_before = self.source.failures();
@@ -203,11 +233,18 @@ impl<'r, R: ByteIn> Rows<'r, R> {
     /// was refused, and where a read failed without such a cause. After `None` or a fault each call answers the same
     /// again and reads nothing.
     pub fn next(&mut self) -> Result<Option<Row>, LogFault>
-        ensures takes { (log : LogOf) → HasLeft R.bytes_left self.old log → Takes R.bytes_left log result self.new }
-        ensures row { IfOk result (λ given. IfSome given (λ row. IsNext (suc (max 1 (rows_read self.old))) (last_ms self.old) self.new row)) }
+        ensures takes { (log : LogOf) → HasLeft R.bytes_left self.old log
+            → Takes R.bytes_left log result self.new }
+        ensures row { IfOk result
+            (λ given.
+            IfSome given
+            (λ row. IsNext (suc (max 1 (rows_read self.old))) (last_ms self.old) self.new row)) }
         ensures ends { ended self.new ≡ left.end_behind result }
-        ensures again { IfSome (ended self.old) (λ end. (result ≡ left.answer_at end) × (self.new ≡ self.old)) }
-        ensures cause { ended self.old ≡ None → IsErrOf result LogFault.Read → HasCauseIn R.failure_count R.spent_count (count_in R.failure_count self.old) self.new }
+        ensures again { IfSome (ended self.old)
+            (λ end. (result ≡ left.answer_at end) × (self.new ≡ self.old)) }
+        ensures cause { ended self.old ≡ None → IsErrOf result LogFault.Read
+            → HasCauseIn R.failure_count R.spent_count
+            (count_in R.failure_count self.old) self.new }
         ensures start { started_at self.new ≡ started_at self.old }
     {
         match self.end {

@@ -30,7 +30,10 @@ fn are_digits(text: &[u8]) -> bool
 
 /// Whether the text is 1 to so many digits.
 fn is_number(most: usize, text: &[u8]) -> bool
-    ensures { result ≡ (nat_le 1 (length text.now) && nat_le (length text.now) most && list_all is_ascii_digit text.now) }
+    ensures { result
+        ≡
+        (nat_le 1 (length text.now) && nat_le
+        (length text.now) most && list_all is_ascii_digit text.now) }
 {
     !text.is_empty() && text.len() <= most && are_digits(text)
 }
@@ -82,7 +85,8 @@ fn whole(text: &[u8]) -> Option<i64>
 /// Counts: a whole number in the range of a sample.
 pub(crate) fn counts(text: &[u8]) -> Option<i32>
     ensures value { result ≡ counts_of text.now }
-    ensures range { IfSome result (λ counts. (least_sample ≤ℤ counts) × (counts ≤ℤ greatest_sample)) }
+    ensures range { IfSome result
+        (λ counts. (least_sample ≤ℤ counts) × (counts ≤ℤ greatest_sample)) }
 {
     match whole(text) {
         Some(counts) if counts >= -8388608 && counts <= 8388607 => Some(counts as i32),

@@ -26,7 +26,8 @@ pub(crate) struct Records<'r, R> {
 impl<'r, R: ByteIn> Records<'r, R> {
     /// The records that the reader has to give: no header, of any number of fields, which keep their blanks.
     pub(crate) fn new(alloc: Global, bounded: Bounded<'r, R>) -> Records<'r, R>
-        ensures records { (bytes : List ℕ) → R.bytes_left (lent bounded.entry) ≡ Some bytes → HasRecords R.bytes_left result (records_of bytes) }
+        ensures records { (bytes : List ℕ) → R.bytes_left (lent bounded.entry) ≡ Some bytes
+            → HasRecords R.bytes_left result (records_of bytes) }
         ensures lent { lent (reader_source result.csv) ≡ lent bounded.entry }
     {
         Records {
@@ -39,7 +40,10 @@ impl<'r, R: ByteIn> Records<'r, R> {
 
     /// Reads the next record into `row`, where there is one.
     pub(crate) fn read(&mut self, row: &mut ByteRecord) -> Result<bool, ReadFault>
-        ensures { IfOk result (λ found. TakesFirst (HasRecords R.bytes_left self.old) (HasRecords R.bytes_left self.new) found (fields_of row.new)) }
+        ensures { IfOk result
+            (λ found.
+            TakesFirst (HasRecords R.bytes_left self.old) (HasRecords R.bytes_left self.new) found
+            (fields_of row.new)) }
     {
         match self.csv.read_byte_record(row) {
             Ok(found) => Ok(found),

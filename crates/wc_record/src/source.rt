@@ -21,8 +21,10 @@ pub(crate) struct Source<'r, R> {
 impl<'r, R: ByteIn> Source<'r, R> {
     /// The records that the reader has to give, none of which is read yet.
     pub(crate) fn new(alloc: Global, bounded: Bounded<'r, R>) -> Source<'r, R>
-        ensures records { IfSome (R.bytes_left bounded.entry.reader.now) (λ bytes. SourceHas R.bytes_left result (records_of bytes)) }
-        ensures failures { counted_in R.failure_count result ≡ R.failure_count bounded.entry.reader.now }
+        ensures records { IfSome (R.bytes_left bounded.entry.reader.now)
+            (λ bytes. SourceHas R.bytes_left result (records_of bytes)) }
+        ensures failures { counted_in R.failure_count result
+            ≡ R.failure_count bounded.entry.reader.now }
         ensures spent { counted_in R.spent_count result ≡ R.spent_count bounded.entry.reader.now }
     {
         Source {
@@ -34,7 +36,8 @@ impl<'r, R: ByteIn> Source<'r, R> {
 
     /// Makes the reader of records, where it is not made yet.
     fn open(&mut self)
-        ensures records { (left : List Record) → SourceHas R.bytes_left self.old left → SourceHas R.bytes_left self.new left }
+        ensures records { (left : List Record) → SourceHas R.bytes_left self.old left
+            → SourceHas R.bytes_left self.new left }
     {
         if self.opened.is_some() {
             return;
@@ -46,7 +49,10 @@ impl<'r, R: ByteIn> Source<'r, R> {
 
     /// Reads the next record into `row`, where there is one.
     pub(crate) fn read(&mut self, row: &mut ByteRecord) -> Result<bool, ReadFault>
-        ensures { IfOk result (λ found. TakesFirst (SourceHas R.bytes_left self.old) (SourceHas R.bytes_left self.new) found (fields_of row.new)) }
+        ensures { IfOk result
+            (λ found.
+            TakesFirst (SourceHas R.bytes_left self.old) (SourceHas R.bytes_left self.new) found
+            (fields_of row.new)) }
     {
         self.open();
         match &mut self.opened {

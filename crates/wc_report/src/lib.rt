@@ -5,7 +5,5 @@ mod digits;
 mod lines;
 mod memory;
 mod numbers;
-#[cfg(test)]
-mod tests;
 
 pub use lines::{answer_line, refused_line, scan_line, unit_line};

@@ -3,13 +3,9 @@
 
 mod answers;
 mod fault;
-#[cfg(test)]
-mod run_tests;
 mod running;
 mod scale;
 mod scans;
-#[cfg(test)]
-mod tests;
 
 pub use fault::RunFault;
 pub use running::run;

@@ -30,10 +30,15 @@ fn run_row<W: ByteOut>(
     requires in_range { IsDataInRange (data_view row.kind) }
     requires early { row.ms < 2 ^ 40 }
     requires in_order { IsNotBehind scale.old row.ms }
-    ensures does { (plate : PlateData) (logic : Option Logic) (past : Past) → Stands scale.old plate logic past → Does plate logic past (row_view row) scale.new result (W.bytes_taken writer.old) (W.bytes_taken writer.new) }
+    ensures does { (plate : PlateData) (logic : Option Logic) (past : Past)
+        → Stands scale.old plate logic past
+        → Does plate logic past (row_view row) scale.new result (W.bytes_taken writer.old)
+        (W.bytes_taken writer.new) }
     ensures in_order { OnOk result (IsNotBehind scale.new row.ms) }
-    ensures write { IsErrOf result RunFault.Write → HasFailedSince (W.failure_count writer.old) (W.failure_count writer.new) }
-    ensures steady { ¬ IsErrOf result RunFault.Write → W.failure_count writer.new ≡ W.failure_count writer.old }
+    ensures write { IsErrOf result RunFault.Write
+        → HasFailedSince (W.failure_count writer.old) (W.failure_count writer.new) }
+    ensures steady { ¬ IsErrOf result RunFault.Write
+        → W.failure_count writer.new ≡ W.failure_count writer.old }
 {
     match scale.take(alloc, &row) {
         Ok(text) => match write_whole(writer, &text) {
@@ -64,9 +69,13 @@ fn run_rows<R: ByteIn, W: ByteOut>(
 ) -> Result<u32, RunFault>
     requires unread { rows_read rows.old ≡ 0 }
     requires in_order { IsNotBehind scale.old (last_ms rows.old) }
-    ensures reports { (log : LogOf) → HasLeft R.bytes_left rows.old log → (plate : PlateData) (logic : Option Logic) → Stands scale.old plate logic [] → Reports plate logic log result (W.bytes_taken writer.old) (W.bytes_taken writer.new) }
-    ensures write { IsErrOf result RunFault.Write → HasFailedSince (W.failure_count writer.old) (W.failure_count writer.new) }
-    ensures steady { ¬ IsErrOf result RunFault.Write → W.failure_count writer.new ≡ W.failure_count writer.old }
+    ensures reports { (log : LogOf) → HasLeft R.bytes_left rows.old log
+        → (plate : PlateData) (logic : Option Logic) → Stands scale.old plate logic []
+        → Reports plate logic log result (W.bytes_taken writer.old) (W.bytes_taken writer.new) }
+    ensures write { IsErrOf result RunFault.Write
+        → HasFailedSince (W.failure_count writer.old) (W.failure_count writer.new) }
+    ensures steady { ¬ IsErrOf result RunFault.Write
+        → W.failure_count writer.new ≡ W.failure_count writer.old }
 {
     let mut count = 0;
     loop {
@@ -91,9 +100,14 @@ fn run_log<R: ByteIn, W: ByteOut>(
     writer: &mut W,
 ) -> Result<u32, RunFault>
     requires { IsNotBehind scale.old 0 }
-    ensures reports { IfSome (R.bytes_left reader.old) (λ bytes. (plate : PlateData) (logic : Option Logic) → Stands scale.old plate logic [] → Reports plate logic (log_of (records_of bytes)) result (W.bytes_taken writer.old) (W.bytes_taken writer.new)) }
-    ensures write { IsErrOf result RunFault.Write → HasFailedSince (W.failure_count writer.old) (W.failure_count writer.new) }
-    ensures steady { ¬ IsErrOf result RunFault.Write → W.failure_count writer.new ≡ W.failure_count writer.old }
+    ensures reports { IfSome (R.bytes_left reader.old)
+        (λ bytes. (plate : PlateData) (logic : Option Logic) → Stands scale.old plate logic []
+        → Reports plate logic (log_of (records_of bytes)) result (W.bytes_taken writer.old)
+        (W.bytes_taken writer.new)) }
+    ensures write { IsErrOf result RunFault.Write
+        → HasFailedSince (W.failure_count writer.old) (W.failure_count writer.new) }
+    ensures steady { ¬ IsErrOf result RunFault.Write
+        → W.failure_count writer.new ≡ W.failure_count writer.old }
 {
     let mut rows = Rows::new(alloc, reader);
     let answer = run_rows(alloc, scale, &mut rows, writer);
@@ -104,7 +118,8 @@ fn run_log<R: ByteIn, W: ByteOut>(
 /// A read fault where the reader has failed since, or as much was read as may be; else want of memory.
 fn judged<R: ByteIn>(fault: RunFault, reader: &R, failures: u64, spent: u64) -> RunFault
     ensures judged { IsJudged fault result }
-    ensures cause { result ≡ RunFault.Read → HasCause failures (R.failure_count reader.now) spent (R.spent_count reader.now) }
+    ensures cause { result ≡ RunFault.Read
+        → HasCause failures (R.failure_count reader.now) spent (R.spent_count reader.now) }
 {
     if fault != RunFault::Read
         || reader.failures() > failures
@@ -125,10 +140,17 @@ fn run_scale<R: ByteIn, W: ByteOut>(
     writer: &mut W,
 ) -> Result<u32, RunFault>
     requires { IsNotBehind scale.old 0 }
-    ensures reports { IfSome (R.bytes_left reader.old) (λ bytes. (plate : PlateData) (logic : Option Logic) → Stands scale.old plate logic [] → Reports plate logic (log_of (records_of bytes)) result (W.bytes_taken writer.old) (W.bytes_taken writer.new)) }
-    ensures read { IsErrOf result RunFault.Read → HasCause (R.failure_count reader.old) (R.failure_count reader.new) (R.spent_count reader.old) (R.spent_count reader.new) }
-    ensures write { IsErrOf result RunFault.Write → HasFailedSince (W.failure_count writer.old) (W.failure_count writer.new) }
-    ensures steady { ¬ IsErrOf result RunFault.Write → W.failure_count writer.new ≡ W.failure_count writer.old }
+    ensures reports { IfSome (R.bytes_left reader.old)
+        (λ bytes. (plate : PlateData) (logic : Option Logic) → Stands scale.old plate logic []
+        → Reports plate logic (log_of (records_of bytes)) result (W.bytes_taken writer.old)
+        (W.bytes_taken writer.new)) }
+    ensures read { IsErrOf result RunFault.Read
+        → HasCause (R.failure_count reader.old) (R.failure_count reader.new)
+        (R.spent_count reader.old) (R.spent_count reader.new) }
+    ensures write { IsErrOf result RunFault.Write
+        → HasFailedSince (W.failure_count writer.old) (W.failure_count writer.new) }
+    ensures steady { ¬ IsErrOf result RunFault.Write
+        → W.failure_count writer.new ≡ W.failure_count writer.old }
 {
     let failures = reader.failures();
     let spent = reader.spent();
@@ -151,10 +173,17 @@ pub fn run<R: ByteIn, W: ByteOut>(
     writer: &mut W,
 ) -> Result<u32, RunFault>
     requires { IfSome machine (λ m. m.last ≡ 0) }
-    ensures reports { IfSome (R.bytes_left reader.old) (λ bytes. (logic : Option Logic) → StandsAt machine.entry logic → Reports plate.now logic (log_of (records_of bytes)) result (W.bytes_taken writer.old) (W.bytes_taken writer.new)) }
-    ensures read { IsErrOf result RunFault.Read → HasCause (R.failure_count reader.old) (R.failure_count reader.new) (R.spent_count reader.old) (R.spent_count reader.new) }
-    ensures write { IsErrOf result RunFault.Write → HasFailedSince (W.failure_count writer.old) (W.failure_count writer.new) }
-    ensures steady { ¬ IsErrOf result RunFault.Write → W.failure_count writer.new ≡ W.failure_count writer.old }
+    ensures reports { IfSome (R.bytes_left reader.old)
+        (λ bytes. (logic : Option Logic) → StandsAt machine.entry logic
+        → Reports plate.now logic (log_of (records_of bytes)) result (W.bytes_taken writer.old)
+        (W.bytes_taken writer.new)) }
+    ensures read { IsErrOf result RunFault.Read
+        → HasCause (R.failure_count reader.old) (R.failure_count reader.new)
+        (R.spent_count reader.old) (R.spent_count reader.new) }
+    ensures write { IsErrOf result RunFault.Write
+        → HasFailedSince (W.failure_count writer.old) (W.failure_count writer.new) }
+    ensures steady { ¬ IsErrOf result RunFault.Write
+        → W.failure_count writer.new ≡ W.failure_count writer.old }
 {
     match Scale::new(alloc, plate, machine) {
         Ok(mut scale) => run_scale(alloc, &mut scale, reader, writer),

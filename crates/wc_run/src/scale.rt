@@ -33,7 +33,9 @@ impl<'a> Scale<'a> {
         plate: &Plate,
         machine: Option<Machine<'a>>,
     ) -> Result<Scale<'a>, RunFault>
-        ensures stands { IfOk result (λ scale. (logic : Option Logic) → StandsAt machine.entry logic → Stands scale plate.now logic []) }
+        ensures stands { IfOk result
+            (λ scale. (logic : Option Logic) → StandsAt machine.entry logic
+            → Stands scale plate.now logic []) }
         ensures machine { IfOk result (λ scale. scale.machine ≡ machine.entry) }
         ensures memory { IsOkUnless result RunFault.Memory }
     {
@@ -53,8 +55,14 @@ impl<'a> Scale<'a> {
         requires in_range { IsDataInRange (data_view row.now.kind) }
         requires early { row.now.ms < 2 ^ 40 }
         requires in_order { IsNotBehind self.old row.now.ms }
-        ensures stands { OnOk result ((plate : PlateData) (logic : Option Logic) (past : Past) → Stands self.old plate logic past → Stands self.new plate logic (row_view row.now ∷ past)) }
-        ensures text { IfOk result (λ text. (plate : PlateData) (logic : Option Logic) (past : Past) → Stands self.old plate logic past → text.items ≡ text_of_row plate logic past (row_view row.now)) }
+        ensures stands { OnOk result
+            ((plate : PlateData) (logic : Option Logic) (past : Past)
+            → Stands self.old plate logic past
+            → Stands self.new plate logic (row_view row.now ∷ past)) }
+        ensures text { IfOk result
+            (λ text. (plate : PlateData) (logic : Option Logic) (past : Past)
+            → Stands self.old plate logic past
+            → text.items ≡ text_of_row plate logic past (row_view row.now)) }
         ensures in_order { OnOk result (IsNotBehind self.new row.now.ms) }
         ensures memory { IsOkUnless result RunFault.Memory }
     {
@@ -72,7 +80,7 @@ impl<'a> Scale<'a> {
         }
     }
 
-    /// TakesRow a sample. Nothing is printed of it.
+    /// Takes a sample. Nothing is printed of it.
     fn take_sample(&mut self, counts: i32)
         requires { IsDataInRange (Counts counts) }
         ensures stands { (ms : ℕ) → TakesRow self.old self.new ms (Counts counts) }
@@ -81,7 +89,7 @@ impl<'a> Scale<'a> {
         self.indicator.sample(counts);
     }
 
-    /// TakesRow bytes on the line, and gives the line of what was answered.
+    /// Takes bytes on the line, and gives the line of what was answered.
     fn take_bytes(&mut self, alloc: Global, ms: u64, bytes: &[u8]) -> Result<Vec<u8>, RunFault>
         ensures stands { OnOk result (TakesRow self.old self.new ms (Bytes bytes.now)) }
         ensures text { IfOk result (λ text. Prints self.old ms (Bytes bytes.now) text.items) }
@@ -95,7 +103,7 @@ impl<'a> Scale<'a> {
         }
     }
 
-    /// TakesRow the inputs from now on. Nothing is printed of them.
+    /// Takes the inputs from now on. Nothing is printed of them.
     fn take_inputs(&mut self, inputs: u16)
         ensures stands { (ms : ℕ) → TakesRow self.old self.new ms (Inputs inputs) }
         ensures machine { self.new.machine ≡ self.old.machine }

@@ -1,7 +1,7 @@
 -- The parts of an answer.
 use Rattle.std.proofs.Common.{◌≡◌, ℕ, List, [], ◌∷◌, ◌++◌, length, get_or, refl, ap, sym, ◌∙◌, append_assoc, arith}
 use Rattle.std.specs.Prelude.{ℤ, ◌<◌, unsigned_abs, Option, Some, None, IfSome}
-use Rattle.wc_model.proofs.Answers.{IsShort}
+use Rattle.wc_instrument_laws.proofs.Answers.{IsShort}
 
 -- a list of three
 pub three_of : (xs : List ℕ) → length xs ≡ 3 → (get_or xs 0 0 ∷ get_or xs 1 0 ∷ get_or xs 2 0 ∷ []) ≡ xs

@@ -5,20 +5,12 @@ use Rattle.std.specs.Io.KnownBytes.{Appends}
 use Rattle.std.proofs.KnownBytes.{Appends-nil, Appends-trans}
 use Rattle.wc_model.specs.Instrument.Requests.{requests_in}
 use Rattle.wc_model.specs.Instrument.Answers.{after_requests, answers_to, answer_to, command_of}
-use Rattle.wc_model.proofs.Requests.{in_piece, requests_in_again}
-use Rattle.wc_model.proofs.Answers.{after_more_requests, answers_to_more}
+use Rattle.wc_instrument_laws.proofs.Requests.{in_piece, requests_in_again}
+use Rattle.wc_instrument_laws.proofs.Answers.{after_more_requests, answers_to_more}
 use Rattle.wc_indicator.specs.Kept.{IndicatorState, StandsForHistory}
 use Rattle.wc_sma.specs.declared.line.Line.{Line}
 use Rattle.wc_sma.specs.Standing.{StandsAfter}
 use Rattle.wc_sma.specs.Feeding.{Feeds, Fails, IsCutShort}
-
--- no byte does nothing
-pub feeds_nothing : (line : Line) (indicator : IndicatorState) (taken : Option (List ℕ)) → Feeds line indicator taken line indicator taken []
-feeds_nothing line indicator taken = record {
-  stands = λ before s. subst (λ b. StandsAfter line b) (sym (append-nil before)) s;
-  acts = λ before p history s st. subst (λ r. StandsForHistory indicator p (after_requests r history)) (sym (in_piece before [])) st;
-  answers = λ before p history s st. subst (λ r. Appends taken taken (answers_to p r history)) (sym (in_piece before [])) (Appends-nil taken);
-}
 
 module _ (line middle line' : Line) (indicator between indicator' : IndicatorState) (taken more taken' : Option (List ℕ)) (first second : List ℕ)
     (fed : Feeds line indicator taken middle between more first) where

@@ -8,7 +8,7 @@ use Rattle.wc_model.specs.Instrument.Plates.{PlateData}
 use Rattle.wc_model.specs.Instrument.WeighingHistories.{History}
 use Rattle.wc_model.specs.Instrument.Requests.{carriage_return, open_request, requests_in, completed_by, opened_by}
 use Rattle.wc_model.specs.Instrument.Answers as told
-use Rattle.wc_model.proofs.Requests.{requests_in_byte, open_request_after}
+use Rattle.wc_instrument_laws.proofs.Requests.{requests_in_byte, open_request_after}
 use Rattle.wc_indicator.specs.Kept.{IndicatorState, StandsForHistory}
 use Rattle.wc_sma.specs.declared.command.Seen.{Seen}
 use Rattle.wc_sma.specs.declared.command.Command.{Command}

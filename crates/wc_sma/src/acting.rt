@@ -33,8 +33,10 @@ impl Reply {
 
 /// Sets zero, and answers.
 fn set_zero(indicator: &mut Indicator) -> [u8; 20]
-    ensures stands { (p : PlateData) (history : History) → StandsForHistory indicator.old p history → StandsForHistory indicator.new p (SetZero ∷ history) }
-    ensures answer { (p : PlateData) (history : History) → StandsForHistory indicator.old p history → result ≡ told.answer_to p told.Zero history }
+    ensures stands { (p : PlateData) (history : History) → StandsForHistory indicator.old p history
+        → StandsForHistory indicator.new p (SetZero ∷ history) }
+    ensures answer { (p : PlateData) (history : History) → StandsForHistory indicator.old p history
+        → result ≡ told.answer_to p told.Zero history }
 {
     let asked = match indicator.set_zero() {
         Ok(()) => Asked::Plain,
@@ -45,8 +47,10 @@ fn set_zero(indicator: &mut Indicator) -> [u8; 20]
 
 /// Takes a tare, and answers.
 fn take_tare(indicator: &mut Indicator) -> [u8; 20]
-    ensures stands { (p : PlateData) (history : History) → StandsForHistory indicator.old p history → StandsForHistory indicator.new p (SetTare ∷ history) }
-    ensures answer { (p : PlateData) (history : History) → StandsForHistory indicator.old p history → result ≡ told.answer_to p told.TakeTare history }
+    ensures stands { (p : PlateData) (history : History) → StandsForHistory indicator.old p history
+        → StandsForHistory indicator.new p (SetTare ∷ history) }
+    ensures answer { (p : PlateData) (history : History) → StandsForHistory indicator.old p history
+        → result ≡ told.answer_to p told.TakeTare history }
 {
     let asked = match indicator.set_tare() {
         Ok(()) => Asked::Plain,
@@ -57,8 +61,10 @@ fn take_tare(indicator: &mut Indicator) -> [u8; 20]
 
 /// Ends the tare, and answers.
 fn clear(indicator: &mut Indicator) -> [u8; 20]
-    ensures stands { (p : PlateData) (history : History) → StandsForHistory indicator.old p history → StandsForHistory indicator.new p (ClearTare ∷ history) }
-    ensures answer { (p : PlateData) (history : History) → StandsForHistory indicator.old p history → result ≡ told.answer_to p told.Clear history }
+    ensures stands { (p : PlateData) (history : History) → StandsForHistory indicator.old p history
+        → StandsForHistory indicator.new p (ClearTare ∷ history) }
+    ensures answer { (p : PlateData) (history : History) → StandsForHistory indicator.old p history
+        → result ≡ told.answer_to p told.Clear history }
 {
     indicator.clear_tare();
     answer(indicator, Mode::Shown, Asked::Plain)
@@ -66,8 +72,10 @@ fn clear(indicator: &mut Indicator) -> [u8; 20]
 
 /// Acts on a request, and gives its answer.
 pub(crate) fn act(command: Command, indicator: &mut Indicator) -> Reply
-    ensures stands { (p : PlateData) (history : History) → StandsForHistory indicator.old p history → StandsForHistory indicator.new p (told.after_command (command_told command) history) }
-    ensures answer { (p : PlateData) (history : History) → StandsForHistory indicator.old p history → reply_bytes result ≡ told.answer_to p (command_told command) history }
+    ensures stands { (p : PlateData) (history : History) → StandsForHistory indicator.old p history
+        → StandsForHistory indicator.new p (told.after_command (command_told command) history) }
+    ensures answer { (p : PlateData) (history : History) → StandsForHistory indicator.old p history
+        → reply_bytes result ≡ told.answer_to p (command_told command) history }
 {
     match command {
         Command::AskWeight => Reply::Weight(answer(indicator, Mode::Shown, Asked::Plain)),

@@ -45,7 +45,8 @@ fn scale_status(indicator: &Indicator) -> u8
 
 /// The status of an answer.
 fn status_byte(indicator: &Indicator, asked: Asked) -> u8
-    ensures { Tells (λ p history. told.status_byte p history (asked_view asked)) indicator.now (result ∷ []) }
+    ensures { Tells (λ p history. told.status_byte p history (asked_view asked)) indicator.now
+        (result ∷ []) }
 {
     match asked {
         Asked::Plain => scale_status(indicator),
@@ -56,7 +57,8 @@ fn status_byte(indicator: &Indicator, asked: Asked) -> u8
 
 /// Gross, net or tare.
 fn mode_byte(indicator: &Indicator, mode: Mode) -> u8
-    ensures { Tells (λ p history. told.mode_byte p history (mode_view mode)) indicator.now (result ∷ []) }
+    ensures { Tells (λ p history. told.mode_byte p history (mode_view mode)) indicator.now
+        (result ∷ []) }
 {
     match mode {
         Mode::Shown if indicator.tare_active() => b'N',
@@ -74,7 +76,8 @@ fn motion_byte(indicator: &Indicator) -> u8
 
 /// The weight that is asked for, where there is an indication.
 fn weight_asked(indicator: &Indicator, mode: Mode) -> Option<i32>
-    ensures { Tells (λ p history. told.weight_asked p history (mode_view mode)) indicator.now result }
+    ensures { Tells
+        (λ p history. told.weight_asked p history (mode_view mode)) indicator.now result }
 {
     match mode {
         Mode::Shown => indicator.shown(),
@@ -86,7 +89,9 @@ fn weight_asked(indicator: &Indicator, mode: Mode) -> Option<i32>
 /// The twenty bytes of an answer: line feed, status, `1`, mode, motion, space, ten of weight, three of unit, carriage
 /// return.
 pub fn answer(indicator: &Indicator, mode: Mode, asked: Asked) -> [u8; 20]
-    ensures { Tells (λ p history. told.answer p history (mode_view mode) (asked_view asked)) indicator.now result }
+    ensures { Tells
+        (λ p history. told.answer p history (mode_view mode) (asked_view asked))
+        indicator.now result }
 {
     let weight = weight_field(
         indicator.plate().decimals() as u32,

@@ -37,7 +37,8 @@ fn with_byte(seen: Seen, byte: u8) -> Seen
 
 /// What one more byte makes of the request that is open.
 pub(crate) fn after_byte(begun: Option<Seen>, byte: u8) -> Option<Seen>
-    ensures { (text : Option (List ℕ)) → begun ≡ option_map seen_in text → result ≡ option_map seen_in (opened_by byte text) }
+    ensures { (text : Option (List ℕ)) → begun ≡ option_map seen_in text
+        → result ≡ option_map seen_in (opened_by byte text) }
 {
     match byte {
         b'\n' => Some(Seen::Nothing),

@@ -6,8 +6,6 @@ mod acting;
 mod answers;
 mod command;
 mod line;
-#[cfg(test)]
-mod tests;
 mod weight;
 
 pub use answers::{Asked, Mode, answer};

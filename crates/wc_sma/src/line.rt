@@ -23,7 +23,8 @@ pub struct Line {
 
 /// The request that a byte completes.
 fn completed(begun: Option<Seen>, byte: u8) -> Option<Seen>
-    ensures { (text : Option (List ℕ)) → begun ≡ option_map seen_in text → result ≡ option_map seen_in (completes byte text) }
+    ensures { (text : Option (List ℕ)) → begun ≡ option_map seen_in text
+        → result ≡ option_map seen_in (completes byte text) }
 {
     if byte == b'\r' { begun } else { None }
 }
@@ -34,11 +35,19 @@ fn serve<W: ByteOut>(
     indicator: &mut Indicator,
     writer: &mut W,
 ) -> Result<(), WriteFault>
-    ensures stands { (p : PlateData) (history : History) → StandsForHistory indicator.old p history → StandsForHistory indicator.new p (told.after_command (command_told command) history) }
-    ensures whole { IfOk result (λ done. (p : PlateData) (history : History) → StandsForHistory indicator.old p history → Appends (W.bytes_taken writer.old) (W.bytes_taken writer.new) (told.answer_to p (command_told command) history)) }
+    ensures stands { (p : PlateData) (history : History) → StandsForHistory indicator.old p history
+        → StandsForHistory indicator.new p (told.after_command (command_told command) history) }
+    ensures whole { IfOk result
+        (λ done. (p : PlateData) (history : History) → StandsForHistory indicator.old p history
+        → Appends (W.bytes_taken writer.old) (W.bytes_taken writer.new)
+        (told.answer_to p (command_told command) history)) }
     ensures steady { IfOk result (λ done. W.failure_count writer.new ≡ W.failure_count writer.old) }
-    ensures front { IfErr result (λ e. (p : PlateData) (history : History) → StandsForHistory indicator.old p history → TakesFront (W.bytes_taken writer.old) (W.bytes_taken writer.new) (told.answer_to p (command_told command) history)) }
-    ensures device { IfErr result (λ e. HasFailedSince (W.failure_count writer.old) (W.failure_count writer.new)) }
+    ensures front { IfErr result
+        (λ e. (p : PlateData) (history : History) → StandsForHistory indicator.old p history
+        → TakesFront (W.bytes_taken writer.old) (W.bytes_taken writer.new)
+        (told.answer_to p (command_told command) history)) }
+    ensures device { IfErr result
+        (λ e. HasFailedSince (W.failure_count writer.old) (W.failure_count writer.new)) }
 {
     let reply = act(command, indicator);
     write_whole(writer, reply.bytes())
@@ -63,11 +72,19 @@ impl Line {
         writer: &mut W,
     ) -> Result<(), WriteFault>
         requires { self.old.failed ≡ false }
-        ensures feeds { IfOk result (λ done. Feeds self.old indicator.old (W.bytes_taken writer.old) self.new indicator.new (W.bytes_taken writer.new) (byte ∷ [])) }
+        ensures feeds { IfOk result
+            (λ done.
+            Feeds self.old indicator.old (W.bytes_taken writer.old) self.new indicator.new
+            (W.bytes_taken writer.new) (byte ∷ [])) }
         ensures works { IfOk result (λ done. self.new.failed ≡ false) }
-        ensures steady { IfOk result (λ done. W.failure_count writer.new ≡ W.failure_count writer.old) }
-        ensures fails { IfErr result (λ e. Fails self.old indicator.old (W.bytes_taken writer.old) self.new indicator.new (W.bytes_taken writer.new) (byte ∷ [])) }
-        ensures device { IfErr result (λ e. HasFailedSince (W.failure_count writer.old) (W.failure_count writer.new)) }
+        ensures steady { IfOk result
+            (λ done. W.failure_count writer.new ≡ W.failure_count writer.old) }
+        ensures fails { IfErr result
+            (λ e.
+            Fails self.old indicator.old (W.bytes_taken writer.old) self.new indicator.new
+            (W.bytes_taken writer.new) (byte ∷ [])) }
+        ensures device { IfErr result
+            (λ e. HasFailedSince (W.failure_count writer.old) (W.failure_count writer.new)) }
     {
         let request = completed(self.begun, byte);
         self.begun = after_byte(self.begun, byte);
@@ -92,11 +109,21 @@ impl Line {
         indicator: &mut Indicator,
         writer: &mut W,
     ) -> Result<(), WriteFault>
-        ensures feeds { IfOk result (λ done. Feeds self.old indicator.old (W.bytes_taken writer.old) self.new indicator.new (W.bytes_taken writer.new) piece.now) }
-        ensures fails { IfErr result (λ e. Fails self.old indicator.old (W.bytes_taken writer.old) self.new indicator.new (W.bytes_taken writer.new) piece.now) }
+        ensures feeds { IfOk result
+            (λ done.
+            Feeds self.old indicator.old (W.bytes_taken writer.old) self.new indicator.new
+            (W.bytes_taken writer.new) piece.now) }
+        ensures fails { IfErr result
+            (λ e.
+            Fails self.old indicator.old (W.bytes_taken writer.old) self.new indicator.new
+            (W.bytes_taken writer.new) piece.now) }
         // A line that has failed changes nothing.
-        ensures failed { HasFailed self.old → IsErr result × (self.new ≡ self.old) × (indicator.new ≡ indicator.old) × (writer.new ≡ writer.old) }
-        ensures device { IfErr result (λ e. HasFailed self.old ⊎ HasFailedSince (W.failure_count writer.old) (W.failure_count writer.new)) }
+        ensures failed { HasFailed self.old
+            → IsErr result × (self.new ≡ self.old) × (indicator.new ≡ indicator.old)
+            × (writer.new ≡ writer.old) }
+        ensures device { IfErr result
+            (λ e. HasFailed self.old
+            ⊎ HasFailedSince (W.failure_count writer.old) (W.failure_count writer.new)) }
     {
         if self.failed {
             return Err(WriteFault);

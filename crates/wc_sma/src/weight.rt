@@ -101,7 +101,8 @@ impl Field {
 /// A weight that has less than eight digits in ten bytes, and ten `-` without a weight.
 pub(crate) fn weight_field(decimals: u32, weight: Option<i32>) -> [u8; 10]
     requires { decimals ≤ 3 }
-    ensures { IfSome weight (λ value. unsigned_abs value < 10000000) → result ≡ weight_text decimals weight }
+    ensures { IfSome weight (λ value. unsigned_abs value < 10000000)
+        → result ≡ weight_text decimals weight }
 {
     match weight {
         Some(value) if value.unsigned_abs() < 10_000_000 => {

@@ -181,11 +181,6 @@ pub among_second : (k : Option Kind) (xs ys : List (Option Kind)) → IsAmong k 
 among_second k [] ys m = m
 among_second k (x ∷ xs) ys m = inr (among_second k xs ys m)
 
--- a label that a run looks for is there, or comes later
-pub carried_or_later : (word : Option Word) (label : Name) (behind : List BodyLine) (b : Bool) → carries word label ≡ b → (b || is_ahead behind label) ≡ true → (b ≡ true) ⊎ (is_ahead behind label ≡ true)
-carried_or_later word label behind true c e = inl refl
-carried_or_later word label behind false c e = inr e
-
 -- the kinds that jumps bring to a line with this label
 pub from_label : (word : Option Word) (label : Name) (earlier : List Known) (k : Option Kind) → carries word label ≡ true → IsAmong k (kinds_from_jumps label earlier) → IsAmong k (kinds_from_label word earlier)
 from_label None label earlier k c m = cc

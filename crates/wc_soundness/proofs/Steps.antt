@@ -55,11 +55,6 @@ pub is_of-sound : (kind : Kind) (found : Option Kind) → is_of (is_kind kind) f
 is_of-sound kind None e = cc
 is_of-sound kind (Some k) e = ap Some (sym (is_kind-sound kind k e))
 
--- a result of a known kind
-pub value_known : (kind : Kind) (result : Option Value) → Agrees (Some kind) result → (value : Value) × (result ≡ Some value) × (kind_of value ≡ kind)
-value_known kind None a = absurd a
-value_known kind (Some value) a = (value, refl, a)
-
 -- going well, step by step
 pub value_goes : (P : Mode → Type 0) (store : Store) (r : Result Value Reason) (go : Value → Effect) (value : Value) → r ≡ Ok value → GoesWell P store (go value) → GoesWell P store (from_value r go)
 value_goes P store r go value e h = subst (λ (x : Result Value Reason). GoesWell P store (from_value x go)) (sym e) h

@@ -20,7 +20,8 @@ pub fn durations_have_fractions_and_a_sign()
 /// The greatest and the least duration, and the neighbour of the greatest.
 pub fn durations_have_32_bits()
     ensures greatest { shape_of (codes "TIME#24d20h31m23s647ms") ≡ Ok (Duration (pos 2147483647)) }
-    ensures least { shape_of (codes "T#-24d20h31m23s648ms") ≡ Ok (Duration (neg_ℤ (pos 2147483648))) }
+    ensures least { shape_of (codes "T#-24d20h31m23s648ms")
+        ≡ Ok (Duration (neg_ℤ (pos 2147483648))) }
     ensures above { shape_of (codes "TIME#24d20h31m23s648ms") ≡ Err 106 }
 {}
 

@@ -21,7 +21,8 @@ pub fn comments_that_do_not_close()
     ensures nested { IsFirstTokenFault (codes "(* a (* b *)") 103 1 }
     ensures short { IsFirstTokenFault (codes "(*)") 102 1 }
     ensures nested_without_end { IsFirstTokenFault (codes "(* (*") 103 1 }
-    ensures later_line { IsFirstTokenFault (lines (codes "a") (lines (codes "(* b") (codes "c"))) 102 2 }
+    ensures later_line { IsFirstTokenFault
+        (lines (codes "a") (lines (codes "(* b") (codes "c"))) 102 2 }
     ensures nested_later { IsFirstTokenFault (lines (codes "(* a") (codes "(* b *)")) 103 1 }
 {}
 
@@ -31,7 +32,8 @@ pub fn malformed_lexemes()
     ensures lone_sign { IsFirstTokenFault (codes "- 5") 105 1 }
     ensures number { IsFirstTokenFault (codes "1.5") 105 1 }
     ensures type_name { IsFirstTokenFault (codes "INT#5") 105 1 }
-    ensures duration { IsFirstTokenFault (lines (codes "PROGRAM P") (lines (codes "LD T#1.0005s") (codes "END_PROGRAM"))) 106 2 }
+    ensures duration { IsFirstTokenFault
+        (lines (codes "PROGRAM P") (lines (codes "LD T#1.0005s") (codes "END_PROGRAM"))) 106 2 }
     ensures behind_a_comment { IsFirstTokenFault (lines (codes "(*") (codes "*) a_")) 104 2 }
     ensures first_of_two { IsFirstTokenFault (codes "a_ #") 104 1 }
 {}

@@ -1,4 +1,4 @@
-//! Worked examples and laws of the tokens of a text. Each function is a statement: its body is empty, and its
+//! Worked examples of the tokens of a text. Each function is a statement: its body is empty, and its
 //! `ensures` is proved.
 #![tactic(auto)]
 
@@ -6,5 +6,4 @@ mod cuts;
 mod durations;
 mod faults;
 mod identifiers;
-mod laws;
 mod numbers;

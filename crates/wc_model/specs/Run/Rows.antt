@@ -1,4 +1,4 @@
--- The rows of a log, and what they have data_view so far. The kinds of rows are the profile's own.
+-- The rows of a log, and what they have brought so far. The kinds of rows are the profile's own.
 use Rattle.std.specs.Prelude.{ℕ, List, [], ◌∷◌, ◌++◌, ℤ}
 use Rattle.wc_model.specs.Instrument.Plates.{PlateData}
 use Rattle.wc_model.specs.Instrument.WeighingHistories.{Sample, History}

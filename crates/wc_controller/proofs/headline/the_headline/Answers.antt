@@ -1,7 +1,7 @@
 use Rattle.std.proofs.Common.{reverse}
 use Rattle.wc_controller.proofs.Endings.{ends_within}
 use Rattle.wc_controller.proofs.headline.the_headline.Goals as goal
-use Rattle.wc_model.proofs.Independence.{is_free_of_programs}
+use Rattle.wc_instrument_laws.proofs.Independence.{is_free_of_programs}
 use Rattle.wc_model.specs.Run.ProcessImage.{image_after}
 use Rattle.wc_model.specs.Say.ProgramReport.{scans_of, store_after}
 use Rattle.wc_model.specs.Language.Scans.{initial_of, with_image}

@@ -62,8 +62,8 @@ returns-in-Err-judge_body-clause-err c =
     ∙ names_there unit c.requires language in
     refused_at_bodies unit c.in-Err-judge_body.fault (language_is unit c.requires ∙ language) declared c.in-Err-judge_body.ensures
 
-pub returns-then-line_count-gt-MOST_STEPS-clause-err : goal.returns-then-line_count-gt-MOST_STEPS-clause-err
-returns-then-line_count-gt-MOST_STEPS-clause-err c =
+pub returns-then-instruction_count-gt-MOST_STEPS-clause-err : goal.returns-then-instruction_count-gt-MOST_STEPS-clause-err
+returns-then-instruction_count-gt-MOST_STEPS-clause-err c =
     let unit : ProgramUnit = unit_view c.args.program.now in
     let language = judges_ok (first_broken (unit_language unit)) None c.judge_unit.result c.in_default.field-0 c.in_default.is c.judge_unit.ensures in
     let parts = both_hold (flat_map declaration_language unit.declarations) (body_language unit.body) language in
@@ -72,7 +72,7 @@ returns-then-line_count-gt-MOST_STEPS-clause-err c =
     ∙ judges_ok (first_broken (unit_declaration_checks (unit ∷ []) [] unit ++ rest)) (first_broken rest) c.judge_declarations.result c.in_default-judge_declarations.field-0 c.in_default-judge_declarations.is (c.judge_declarations.ensures.judged rest)
     ∙ names_there unit c.requires language in
     let bodies = judges_ok (body_fault (unit ∷ [])) None c.judge_body.result c.in_default-judge_body.field-0 c.in_default-judge_body.is c.judge_body.ensures in
-    rw c.refused-then-line_count-gt-MOST_STEPS.ensures (at_costs (language_is unit c.requires ∙ language) declared bodies (too_long unit parts.1 (omega (arith, c.line_count.ensures, c.if-line_count-gt-MOST_STEPS.true))))
+    rw c.refused-then-instruction_count-gt-MOST_STEPS.ensures (at_costs (language_is unit c.requires ∙ language) declared bodies (too_long unit parts.1 (omega (arith, c.instruction_count.ensures, c.if-instruction_count-gt-MOST_STEPS.true))))
 
 pub returns-clause-ok : goal.returns-clause-ok
 returns-clause-ok c =
@@ -85,6 +85,6 @@ returns-clause-ok c =
     ∙ names_there unit c.requires language in
     let bodies = judges_ok (body_fault (unit ∷ [])) None c.judge_body.result c.in_default-judge_body.field-0 c.in_default-judge_body.is c.judge_body.ensures in
     record {
-      accepted = record { language = language_is unit c.requires ∙ language; declarations = declared; bodies = bodies; costs = short_enough unit parts.1 (omega (arith, c.line_count.ensures, c.if-line_count-gt-MOST_STEPS.false)) };
-      short = omega (arith, c.line_count.ensures, c.if-line_count-gt-MOST_STEPS.false);
+      accepted = record { language = language_is unit c.requires ∙ language; declarations = declared; bodies = bodies; costs = short_enough unit parts.1 (omega (arith, c.instruction_count.ensures, c.if-instruction_count-gt-MOST_STEPS.false)) };
+      short = omega (arith, c.instruction_count.ensures, c.if-instruction_count-gt-MOST_STEPS.false);
     }

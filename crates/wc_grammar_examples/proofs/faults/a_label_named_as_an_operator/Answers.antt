@@ -1,6 +1,6 @@
 use Rattle.std.proofs.Common.{refl, inl, inr}
 use Rattle.std.specs.Prelude.{codes}
-use Rattle.wc_model.proofs.Spelling.{spelling}
+use Rattle.wc_grammar_laws.proofs.Spelling.{spelling}
 use Rattle.wc_grammar_examples.specs.Faulty.{behind_short_opening}
 use Rattle.wc_grammar_examples.proofs.faults.a_label_named_as_an_operator.Goals as goal
 

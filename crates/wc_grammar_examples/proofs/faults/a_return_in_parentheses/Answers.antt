@@ -2,7 +2,7 @@ use Rattle.std.proofs.Common.{refl, inl, inr, true}
 use Rattle.std.specs.Prelude.{[], ◌∷◌, codes, Some, None}
 use Rattle.wc_model.specs.Language.Tree.{Return, Constant, End, Plain, Nested}
 use Rattle.wc_model.specs.Text.Marks.{ClosingBracket}
-use Rattle.wc_model.proofs.Spelling.{spelling}
+use Rattle.wc_grammar_laws.proofs.Spelling.{spelling}
 use Rattle.wc_model.specs.declared.operator.Condition.TheVariants.{Always}
 use Rattle.wc_model.specs.declared.operator.Operator.TheVariants.{And}
 use Rattle.wc_model.specs.declared.value.Value.TheVariants.{Bool as BoolValue}

@@ -1,7 +1,7 @@
 use Rattle.std.proofs.Common.{refl, arith}
 use Rattle.std.specs.Prelude.{[], ◌∷◌}
 use Rattle.wc_model.specs.Language.Tree.{End}
-use Rattle.wc_model.proofs.Spelling.{spelling}
+use Rattle.wc_grammar_laws.proofs.Spelling.{spelling}
 use Rattle.wc_model.specs.declared.source.UnitKind.TheVariants.{Program}
 use Rattle.wc_grammar_examples.specs.Texts.{program_of}
 use Rattle.wc_grammar_examples.proofs.faults.a_second_program.Goals as goal

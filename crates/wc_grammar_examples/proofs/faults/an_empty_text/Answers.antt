@@ -1,6 +1,6 @@
 use Rattle.std.proofs.Common.{refl}
 use Rattle.std.specs.Prelude.{[]}
-use Rattle.wc_model.proofs.Spelling.{spelling}
+use Rattle.wc_grammar_laws.proofs.Spelling.{spelling}
 use Rattle.wc_grammar_examples.proofs.faults.an_empty_text.Goals as goal
 
 pub returns : goal.returns

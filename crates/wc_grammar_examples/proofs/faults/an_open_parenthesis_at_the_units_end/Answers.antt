@@ -1,6 +1,6 @@
 use Rattle.std.proofs.Common.{refl, inl, inr}
 use Rattle.std.specs.Prelude.{[]}
-use Rattle.wc_model.proofs.Spelling.{spelling}
+use Rattle.wc_grammar_laws.proofs.Spelling.{spelling}
 use Rattle.wc_grammar_examples.specs.Faulty.{behind_short_opening, short_opening}
 use Rattle.wc_grammar_examples.proofs.faults.an_open_parenthesis_at_the_units_end.Goals as goal
 

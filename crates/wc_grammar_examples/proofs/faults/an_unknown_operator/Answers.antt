@@ -7,9 +7,9 @@ use Rattle.wc_model.specs.Text.Grammar.{IsFront, IsOperatorOf, Spells, units}
 use Rattle.wc_model.specs.Text.ReadingFaults.{ReadingFault, UnexpectedToken, UnitNotClosed, NotOneProgramLast, EmptyParentheses, NotAllowedInParentheses, ParenthesisNotPaired, TooDeep, TooMany, rank_of, BeginsUnit, MetAtToken, IsMet, ColonFollows, IsFaultFree}
 use Rattle.wc_model.specs.declared.source.UnitKind.{UnitKind}
 use Rattle.wc_model.specs.declared.source.UnitKind.TheVariants.{FunctionBlock, Program}
-use Rattle.wc_model.proofs.Languages.{ungroup, both_empty}
-use Rattle.wc_model.proofs.Fronts.{front_of_front}
-use Rattle.wc_model.proofs.Spelling.{spelling}
+use Rattle.wc_grammar_laws.proofs.Languages.{ungroup, both_empty}
+use Rattle.wc_grammar_laws.proofs.FrontLaws.{front_of_front}
+use Rattle.wc_grammar_laws.proofs.Spelling.{spelling}
 use Rattle.wc_grammar_examples.specs.Texts.{mark, ident, end_of, word, program_of}
 use Rattle.wc_grammar_examples.specs.Faulty.{jmpnc_before, jmpnc_left}
 use Rattle.wc_grammar_examples.proofs.Bodies.{apart, no_operator_of, no_operator_of_at_end}

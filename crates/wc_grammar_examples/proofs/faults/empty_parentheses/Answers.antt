@@ -2,7 +2,7 @@ use Rattle.std.proofs.Common.{refl, inl, inr}
 use Rattle.std.specs.Prelude.{[], ◌∷◌, ◌++◌, codes, None, drop}
 use Rattle.wc_model.specs.Language.Tree.{Lines, Negate, End, Plain, Nested}
 use Rattle.wc_model.specs.Text.Marks.{ClosingBracket}
-use Rattle.wc_model.proofs.Spelling.{spelling}
+use Rattle.wc_grammar_laws.proofs.Spelling.{spelling}
 use Rattle.wc_model.specs.declared.operator.Operator.TheVariants.{And}
 use Rattle.wc_grammar_examples.specs.Texts.{mark, ident, end_of, program_of, body_then_end}
 use Rattle.wc_grammar_examples.specs.Faulty.{load_true, opened, behind_opening, empty_opening}

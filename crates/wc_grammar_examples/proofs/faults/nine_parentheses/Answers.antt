@@ -2,8 +2,8 @@ use Rattle.std.proofs.Common.{refl, inl, inr, arith}
 use Rattle.std.specs.Prelude.{[], ◌∷◌, ◌++◌, codes, None, map}
 use Rattle.wc_model.specs.Language.Tree.{End}
 use Rattle.wc_model.specs.Text.Marks.{Mark}
-use Rattle.wc_model.proofs.Languages.{next, pass, cut_at, joined}
-use Rattle.wc_model.proofs.Spelling.{spelling}
+use Rattle.wc_grammar_laws.proofs.Languages.{next, pass, cut_at, joined}
+use Rattle.wc_grammar_laws.proofs.Spelling.{spelling}
 use Rattle.wc_model.specs.declared.operator.Operator.TheVariants.{And}
 use Rattle.wc_grammar_examples.specs.Texts.{ident, end_of}
 use Rattle.wc_grammar_examples.specs.Faulty.{behind_eight_openings, empty_opening, inner_opening, opening_line}

@@ -2,7 +2,7 @@ use Rattle.std.proofs.Common.{refl, inl, inr}
 use Rattle.std.specs.Prelude.{[], ◌∷◌, codes}
 use Rattle.wc_model.specs.Language.Tree.{End}
 use Rattle.wc_model.specs.Text.Marks.{LineEnd}
-use Rattle.wc_model.proofs.Spelling.{spelling}
+use Rattle.wc_grammar_laws.proofs.Spelling.{spelling}
 use Rattle.wc_grammar_examples.specs.Texts.{ident, end_of, program_of}
 use Rattle.wc_grammar_examples.specs.Faulty.{short_opening}
 use Rattle.wc_model.specs.Text.Languages.{unfinished, optional, ◌then◌}

@@ -1,7 +1,7 @@
 use Rattle.std.proofs.Common.{refl}
 use Rattle.std.specs.Prelude.{drop}
-use Rattle.wc_model.proofs.Languages.{cut_at}
-use Rattle.wc_model.proofs.Spelling.{spelling}
+use Rattle.wc_grammar_laws.proofs.Languages.{cut_at}
+use Rattle.wc_grammar_laws.proofs.Spelling.{spelling}
 use Rattle.wc_grammar_examples.specs.Texts.{program_text, call_tokens, call_arguments}
 use Rattle.wc_model.specs.Text.Marks.{ClosingBracket, Comma, LineEnd, is_line_end}
 use Rattle.wc_model.specs.Text.Languages.{◌then◌, separated, skipping, empty}

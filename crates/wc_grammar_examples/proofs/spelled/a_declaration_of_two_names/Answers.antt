@@ -1,7 +1,7 @@
 use Rattle.std.proofs.Common.{refl}
 use Rattle.std.specs.Prelude.{[], ◌∷◌, drop}
-use Rattle.wc_model.proofs.Languages.{next, cut_at}
-use Rattle.wc_model.proofs.Spelling.{spelling, one_unit, sections_by}
+use Rattle.wc_grammar_laws.proofs.Languages.{next, cut_at}
+use Rattle.wc_grammar_laws.proofs.Spelling.{spelling, one_unit, sections_by}
 use Rattle.wc_grammar_examples.specs.Texts.{program_text, body_then_end, declaration_tokens, declared_group, declaring_program}
 use Rattle.wc_model.specs.Text.Marks.{is_line_end}
 use Rattle.wc_model.specs.Text.Languages.{◌then◌, each, skipping, empty}

@@ -1,6 +1,6 @@
 use Rattle.std.proofs.Common.{refl, inl, inr}
 use Rattle.std.specs.Prelude.{drop}
-use Rattle.wc_model.proofs.Spelling.{spelling}
+use Rattle.wc_grammar_laws.proofs.Spelling.{spelling}
 use Rattle.wc_grammar_examples.specs.Texts.{ampersand_tokens, ampersand_lines_from_4, program_text, body_then_end}
 use Rattle.wc_grammar_examples.proofs.spelled.ampersands.Goals as goal
 

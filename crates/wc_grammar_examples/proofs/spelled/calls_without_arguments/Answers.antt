@@ -1,7 +1,7 @@
 use Rattle.std.proofs.Common.{refl, inl}
 use Rattle.std.specs.Prelude.{drop}
-use Rattle.wc_model.proofs.Languages.{either_right}
-use Rattle.wc_model.proofs.Spelling.{spelling}
+use Rattle.wc_grammar_laws.proofs.Languages.{either_right}
+use Rattle.wc_grammar_laws.proofs.Spelling.{spelling}
 use Rattle.wc_grammar_examples.specs.Texts.{bare_call_tokens, bare_call_lines_from_4, program_text, body_then_end}
 use Rattle.wc_grammar_examples.proofs.spelled.calls_without_arguments.Goals as goal
 

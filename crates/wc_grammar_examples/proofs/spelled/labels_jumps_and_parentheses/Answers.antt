@@ -1,6 +1,6 @@
 use Rattle.std.proofs.Common.{refl, inl}
 use Rattle.std.specs.Prelude.{drop}
-use Rattle.wc_model.proofs.Spelling.{spelling}
+use Rattle.wc_grammar_laws.proofs.Spelling.{spelling}
 use Rattle.wc_grammar_examples.specs.Texts.{jump_tokens, jump_lines_from_10, jump_lines_from_8, jump_lines_from_4, program_text, body_then_end}
 use Rattle.wc_grammar_examples.proofs.spelled.labels_jumps_and_parentheses.Goals as goal
 

@@ -2,7 +2,7 @@
 use Rattle.std.proofs.Common.{refl}
 use Rattle.wc_language_examples.proofs.paths.next_line_is_taken.Goals as goal
 use Rattle.wc_language_examples.specs.PathScopes.{ways_scope}
-use Rattle.wc_laws.proofs.Longest.{computed_is_worst, computed_lines, longest_of_worst}
+use Rattle.wc_language_laws.proofs.Longest.{computed_is_worst, computed_lines, longest_of_worst}
 
 pub returns-clause-longest : goal.returns-clause-longest
 returns-clause-longest c = longest_of_worst ways_scope _ (computed_is_worst ways_scope _ refl)

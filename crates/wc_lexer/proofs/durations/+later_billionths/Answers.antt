@@ -2,7 +2,7 @@ use Rattle.std.proofs.Common.{◌∙◌, subst, sym}
 use Rattle.wc_lexer.proofs.PartSums.{text_later}
 use Rattle.wc_lexer.proofs.durations.+later_billionths.Goals as goal
 use Rattle.wc_lexer.specs.Parts.{IsPartTold}
-use Rattle.wc_model.proofs.DurationParts.{part}
+use Rattle.wc_token_laws.proofs.DurationParts.{part}
 
 pub returns : goal.returns
 returns t c =

@@ -1,5 +1,5 @@
 use Rattle.std.proofs.Common.{◌≡◌, [], ◌∷◌, true, false, option_map, refl, sym, ap, ◌∙◌, arith}
-use Rattle.wc_grammar_laws.proofs.Moves.{has_content}
+use Rattle.wc_grammar_laws.specs.Moves.{has_content}
 use Rattle.wc_model.specs.Text.Limits.{line_count, lines_before, lines_opened}
 use Rattle.wc_model.specs.Language.Tree.{End, Nested}
 use Rattle.wc_model.specs.Language.Views.{lines_view, term_view}

@@ -1,5 +1,5 @@
 use Rattle.std.proofs.Common.{[], ap, ◌∙◌}
-use Rattle.wc_grammar_laws.proofs.Moves.{begun_line}
+use Rattle.wc_grammar_laws.specs.Moves.{begun_line}
 use Rattle.wc_model.specs.Text.Positions.{setting_in}
 use Rattle.wc_reader.proofs.Outcomes.{ok-map}
 use Rattle.wc_reader.specs.TextViews.{position_view, openings_view}

@@ -1,6 +1,6 @@
 use Rattle.std.proofs.Common.{true, map, ap, ◌∙◌}
-use Rattle.wc_grammar_laws.proofs.LineMoves.{Start, line_move}
-use Rattle.wc_grammar_laws.proofs.Moves.{begun_line}
+use Rattle.wc_grammar_laws.specs.LineMoves.{Start, line_move}
+use Rattle.wc_grammar_laws.specs.Moves.{begun_line}
 use Rattle.wc_model.specs.Text.Grammar.{InBody}
 use Rattle.wc_model.specs.Language.Views.{unit_view}
 use Rattle.wc_reader.specs.TextViews.{position_view}

@@ -1,5 +1,5 @@
 use Rattle.std.proofs.Common.{map, sym, ap, ◌∙◌}
-use Rattle.wc_grammar_laws.proofs.Moves.{begun_line}
+use Rattle.wc_grammar_laws.specs.Moves.{begun_line}
 use Rattle.wc_model.specs.Language.Views.{unit_view}
 use Rattle.wc_reader.proofs.FirstTokens.{body-other}
 use Rattle.wc_reader.specs.TextViews.{position_view}

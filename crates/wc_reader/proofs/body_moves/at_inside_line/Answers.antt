@@ -1,5 +1,5 @@
 use Rattle.std.proofs.Common.{false, sym, ap, ◌∙◌}
-use Rattle.wc_grammar_laws.proofs.Moves.{begun_line}
+use Rattle.wc_grammar_laws.specs.Moves.{begun_line}
 use Rattle.wc_reader.proofs.FirstTokens.{inside-other}
 use Rattle.wc_reader.proofs.Outcomes.{ok-map}
 use Rattle.wc_reader.specs.TextViews.{position_view}

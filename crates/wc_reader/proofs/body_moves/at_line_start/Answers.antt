@@ -1,6 +1,6 @@
 use Rattle.std.proofs.Common.{◌≡◌, ◌==◌, false, length, map, sym, ap, ◌∙◌, arith}
 use Rattle.std.proofs.lemmas.Bool.Decides.{nat_tests}
-use Rattle.wc_grammar_laws.proofs.Moves.{start_move}
+use Rattle.wc_grammar_laws.specs.Moves.{start_move}
 use Rattle.wc_model.specs.Language.Views.{unit_view}
 use Rattle.wc_reader.proofs.Openings.{innermost_of}
 use Rattle.wc_reader.specs.TextViews.{position_view}

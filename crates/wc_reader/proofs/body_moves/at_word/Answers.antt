@@ -1,6 +1,6 @@
 use Rattle.std.proofs.Common.{◌≡◌, None, false, sym, ap, ◌∙◌}
-use Rattle.wc_grammar_laws.proofs.LineMoves.{Start, line_move}
-use Rattle.wc_grammar_laws.proofs.Moves.{begun_line, section_begun}
+use Rattle.wc_grammar_laws.specs.LineMoves.{Start, line_move}
+use Rattle.wc_grammar_laws.specs.Moves.{begun_line, section_begun}
 use Rattle.wc_model.specs.Text.Grammar.{InBody}
 use Rattle.wc_model.specs.Language.Names.{name_of}
 use Rattle.wc_model.specs.Language.Views.{lines_view}

@@ -1,5 +1,5 @@
 use Rattle.std.proofs.Common.{map, refl}
-use Rattle.wc_grammar_laws.proofs.Moves.{open_on}
+use Rattle.wc_grammar_laws.specs.Moves.{open_on}
 use Rattle.wc_model.specs.Language.Views.{unit_view}
 use Rattle.wc_reader.specs.LineViews.{line_state_view}
 use Rattle.wc_reader.specs.TextViews.{position_view}

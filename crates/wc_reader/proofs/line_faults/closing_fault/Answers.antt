@@ -1,5 +1,5 @@
 use Rattle.std.proofs.Common.{[], option_map, sym, ap, ◌∙◌}
-use Rattle.wc_grammar_laws.proofs.Moves.{judge_closing}
+use Rattle.wc_grammar_laws.specs.Moves.{judge_closing}
 use Rattle.wc_reader.specs.TextViews.{fault_of, position_view, openings_view}
 use Rattle.wc_reader.proofs.line_faults.closing_fault.Goals as goal
 

@@ -1,5 +1,5 @@
 use Rattle.std.proofs.Common.{Bool, Option, Some, None, if◌then◌else◌, ap, ◌∙◌}
-use Rattle.wc_grammar_laws.proofs.Moves.{is_full}
+use Rattle.wc_grammar_laws.specs.Moves.{is_full}
 use Rattle.wc_model.specs.Text.ReadingFaults.{TooMany}
 use Rattle.wc_model.specs.declared.fault.Fault.{Fault}
 use Rattle.wc_model.specs.declared.fault.Fault.TheVariants.{Refused}

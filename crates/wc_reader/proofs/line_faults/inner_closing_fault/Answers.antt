@@ -1,5 +1,5 @@
 use Rattle.std.proofs.Common.{◌≡◌, true, option_map, sym, ap, ◌∙◌}
-use Rattle.wc_grammar_laws.proofs.Moves.{has_content}
+use Rattle.wc_grammar_laws.specs.Moves.{has_content}
 use Rattle.wc_model.specs.Language.Views.{lines_view, term_view}
 use Rattle.wc_reader.proofs.line_faults.inner_closing_fault.Goals as goal
 

@@ -1,5 +1,5 @@
 use Rattle.std.proofs.Common.{◌≡◌, false, sym, ◌∙◌}
-use Rattle.wc_grammar_laws.proofs.Moves.{has_name}
+use Rattle.wc_grammar_laws.specs.Moves.{has_name}
 use Rattle.wc_model.specs.Text.Keywords.{end_word}
 use Rattle.wc_reader.specs.Words.{symbol_view}
 use Rattle.wc_reader.proofs.line_faults.inner_fault.Goals as goal

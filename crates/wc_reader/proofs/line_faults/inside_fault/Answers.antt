@@ -1,6 +1,6 @@
 use Rattle.std.proofs.Common.{◌≡◌, false, sym, ◌∙◌}
-use Rattle.wc_grammar_laws.proofs.Moves.{begins_transfer}
-use Rattle.wc_grammar_laws.proofs.Words.{operation_of}
+use Rattle.wc_grammar_laws.specs.Moves.{begins_transfer}
+use Rattle.wc_grammar_laws.specs.Words.{operation_of}
 use Rattle.wc_reader.specs.Words.{symbol_view}
 use Rattle.wc_reader.proofs.line_faults.inside_fault.Goals as goal
 

@@ -1,6 +1,6 @@
 use Rattle.std.proofs.Common.{◌≡◌, false, sym, ◌∙◌}
 use Rattle.std.specs.Prelude.{◌&&◌}
-use Rattle.wc_grammar_laws.proofs.Moves.{is_identifier}
+use Rattle.wc_grammar_laws.specs.Moves.{is_identifier}
 use Rattle.wc_reader.specs.Words.{symbol_view}
 use Rattle.wc_reader.proofs.line_faults.label_fault.Goals as goal
 

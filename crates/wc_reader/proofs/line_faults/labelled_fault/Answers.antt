@@ -1,5 +1,5 @@
 use Rattle.std.proofs.Common.{◌≡◌, true, is_some, sym, ◌∙◌}
-use Rattle.wc_grammar_laws.proofs.Words.{operation_of}
+use Rattle.wc_grammar_laws.specs.Words.{operation_of}
 use Rattle.wc_reader.specs.Words.{symbol_view}
 use Rattle.wc_reader.proofs.line_faults.labelled_fault.Goals as goal
 

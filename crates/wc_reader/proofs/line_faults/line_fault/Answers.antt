@@ -1,5 +1,5 @@
 use Rattle.std.proofs.Common.{[], option_map, refl, sym, ap, ◌∙◌}
-use Rattle.wc_grammar_laws.proofs.Moves.{judge_line}
+use Rattle.wc_grammar_laws.specs.Moves.{judge_line}
 use Rattle.wc_reader.specs.TextViews.{fault_of, position_view, opening_view, openings_view}
 use Rattle.wc_reader.specs.Words.{symbol_view}
 use Rattle.wc_reader.proofs.line_faults.line_fault.Goals as goal

@@ -1,5 +1,5 @@
 use Rattle.std.proofs.Common.{ap}
-use Rattle.wc_grammar_laws.proofs.Moves as moves
+use Rattle.wc_grammar_laws.specs.Moves as moves
 use Rattle.wc_reader.proofs.moves.section_place.Goals as goal
 
 pub returns-in-None-clause-behind : goal.returns-in-None-clause-behind

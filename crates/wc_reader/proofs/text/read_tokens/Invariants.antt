@@ -1,5 +1,5 @@
 use Rattle.std.proofs.Common.{◌≡◌, drop}
-use Rattle.wc_grammar_laws.proofs.Moves.{at_first, reading}
+use Rattle.wc_grammar_laws.specs.Moves.{at_first, reading}
 use Rattle.wc_reader.specs.TextViews.{IsPlaceCounted, reading_view}
 use Rattle.wc_reader.specs.Words.{marks_of}
 use Rattle.wc_reader.proofs.text.read_tokens.Given as goal

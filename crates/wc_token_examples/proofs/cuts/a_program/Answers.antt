@@ -1,5 +1,5 @@
 use Rattle.std.proofs.Common.{refl}
-use Rattle.wc_model.proofs.FoundTokens.{found_cut}
+use Rattle.wc_token_laws.proofs.FoundTokens.{found_cut}
 use Rattle.wc_token_examples.proofs.cuts.a_program.Goals as goal
 
 pub returns : goal.returns

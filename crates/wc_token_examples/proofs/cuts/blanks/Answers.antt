@@ -1,5 +1,5 @@
 use Rattle.std.proofs.Common.{refl}
-use Rattle.wc_model.proofs.FoundTokens.{found_cut}
+use Rattle.wc_token_laws.proofs.FoundTokens.{found_cut}
 use Rattle.wc_token_examples.proofs.cuts.blanks.Goals as goal
 
 pub returns-clause-nothing : goal.returns-clause-nothing

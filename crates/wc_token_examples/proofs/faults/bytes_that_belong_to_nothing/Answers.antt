@@ -1,5 +1,5 @@
 use Rattle.std.proofs.Common.{refl, lit≤}
-use Rattle.wc_model.proofs.FoundTokens.{found_fault}
+use Rattle.wc_token_laws.proofs.FoundTokens.{found_fault}
 use Rattle.wc_token_examples.proofs.faults.bytes_that_belong_to_nothing.Goals as goal
 
 pub returns-clause-hash : goal.returns-clause-hash

@@ -15,6 +15,6 @@ at_first unit n (suc place) below longest = tt
 pub returns : goal.returns
 returns c =
     let unit : ProgramUnit = unit_view c.self.inside.program in
-    at_first (unit_view c.args.self.now) c.line_count.result c.args.unit c.requires
-    (subst (λ p. IsLongest (record { before = []; unit = unit_view p }) c.line_count.result) c.self.view_is
-    (subst (λ n. IsLongest (record { before = []; unit = unit }) n) (sym c.line_count.ensures) (lines_are_longest unit (body_asked unit c.self.invariant.accepted.language))))
+    at_first (unit_view c.args.self.now) c.instruction_count.result c.args.unit c.requires
+    (subst (λ p. IsLongest (record { before = []; unit = unit_view p }) c.instruction_count.result) c.self.view_is
+    (subst (λ n. IsLongest (record { before = []; unit = unit }) n) (sym c.instruction_count.ensures) (lines_are_longest unit (body_asked unit c.self.invariant.accepted.language))))

@@ -9,5 +9,5 @@ use Rattle.wc_first.proofs.machine.Machine.bound.Goals as goal
 pub returns : goal.returns
 returns c =
     let unit : ProgramUnit = unit_view c.self.inside.program in
-    subst (λ p. IsLongest (record { before = []; unit = unit_view p }) c.line_count.result) (ap (λ k. k.program) c.self.view_is)
-    (subst (λ n. IsLongest (record { before = []; unit = unit }) n) (sym c.line_count.ensures) (lines_are_longest unit (body_asked unit c.self.invariant.runnable.accepted.language)))
+    subst (λ p. IsLongest (record { before = []; unit = unit_view p }) c.instruction_count.result) (ap (λ k. k.program) c.self.view_is)
+    (subst (λ n. IsLongest (record { before = []; unit = unit }) n) (sym c.instruction_count.ensures) (lines_are_longest unit (body_asked unit c.self.invariant.runnable.accepted.language)))

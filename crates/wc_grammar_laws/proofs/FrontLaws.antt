@@ -1,0 +1,14 @@
+-- Laws of fronts: what some further tokens complete, and what none do.
+use Rattle.std.proofs.Common.{◌≡◌, Bool, List, [], ◌∷◌, ◌++◌, ap, append_assoc, append-nil, ◌∙◌, sym, inl, inr}
+use Rattle.std.proofs.lemmas.List.Elements.{filter-append}
+use Rattle.std.specs.Prelude.{not}
+use Rattle.wc_model.specs.Text.Languages.{Language, one, skipping, ◌then◌, ◌or◌, front_of}
+use Rattle.wc_grammar_laws.proofs.Languages.{joined}
+
+-- a whole list is a front
+pub whole_is_front : {T : Type 0} (language : Language T) (tokens : List T) → language tokens → front_of language tokens
+whole_is_front language tokens h = ([], rw append-nil h)
+
+-- the front of a front is a front
+pub front_of_front : {T : Type 0} (language : Language T) (front more : List T) → front_of language (front ++ more) → front_of language front
+front_of_front language front more h = (more ++ h.0, rw (← append_assoc) h.1)

@@ -1,0 +1,6 @@
+pub mod Rounding
+pub mod Requests
+pub mod Independence
+pub mod Indication
+pub mod PlateTable
+pub mod Answers

@@ -1,0 +1,80 @@
+//! Laws of the definitions, over all inputs.
+
+ghost use Rattle.std.specs.Prelude.{◌≡◌, ◌∷◌, ◌++◌, ℕ, ◌<◌, ℤ, List, length, Option, true, IsFalse};
+ghost use Rattle.std.specs.List.{list_all};
+ghost use Rattle.wc_model.specs.Instrument.Answers.{Asked, Mode, answer};
+ghost use Rattle.wc_model.specs.Instrument.Effects.{EffectsOf};
+ghost use Rattle.wc_model.specs.Instrument.WeighingHistories.{History, samples};
+ghost use Rattle.wc_model.specs.Instrument.Independence.{IsFreeOfScans, IsFreeOfPrograms};
+ghost use Rattle.wc_model.specs.Instrument.Indication.{is_stable};
+ghost use Rattle.wc_model.specs.Run.Log.{Record, row_of};
+ghost use Rattle.wc_model.specs.Instrument.Plates.{PlateData, IsPlate};
+ghost use Rattle.wc_model.specs.Instrument.PlateTable.{Table, plate_of};
+ghost use Rattle.wc_model.specs.Say.Report.{Scans};
+ghost use Rattle.wc_model.specs.Instrument.Requests.{IsCutAnywhere, carriage_return, is_text, line_feed, requests, requests_in};
+ghost use Rattle.wc_model.specs.Instrument.Rounding.{HasOneNearest};
+ghost use Rattle.wc_model.specs.Run.Rows.{LogRow};
+
+/// Exactly one whole number is nearest to a quotient by a positive span, and it is the one that is computed.
+pub fn one_number_is_nearest()
+    ensures { (num : ℤ) (span : ℕ) → 0 < span → HasOneNearest num span }
+{}
+
+/// Scans and inputs may be taken out of a log and put into it: the line's answers stay.
+pub fn answers_are_free_of_scans()
+    ensures { (p : PlateData) → IsFreeOfScans p }
+{}
+
+/// However a stream is cut, it has the same requests.
+pub fn streams_are_cut_anywhere()
+    ensures { IsCutAnywhere }
+{}
+
+/// A report without the lines of its scans is that of a run with no program, byte for byte, whatever the scans do.
+pub fn answers_are_free_of_programs<State>()
+    ensures { (p : PlateData) (scan : Scans State) (start : State) (rows : List LogRow)
+        → IsFreeOfPrograms p scan start rows }
+{}
+
+/// A table that is accepted gives a plate in its ranges.
+pub fn accepted_tables_are_plates()
+    ensures { (table : Option Table) (p : PlateData) → plate_of table ≡ Ok p → IsPlate p }
+{}
+
+/// A sample and a refused command leave the zero point and the tare; an accepted zero makes the gross weight 0 and ends
+/// the tare; an accepted tare makes the net weight exactly 0; a clear ends the tare.
+pub fn what_an_event_does()
+    ensures { (p : PlateData) (history : History) → 0 < p.span_counts → EffectsOf p history }
+{}
+
+/// Behind a million rows every row is refused, before anything of it is read.
+pub fn rows_above_a_million()
+    ensures { (before : List Record) (fields : Record) → 999999 < length before
+        → row_of before fields ≡ Err 607 }
+{}
+
+/// Every answer with a weight has twenty bytes: no weight that is shown takes more than ten.
+pub fn answers_have_twenty_bytes()
+    ensures { (p : PlateData) (history : History) (mode : Mode) (asked : Asked) → IsPlate p
+        → length (answer p history mode asked) ≡ 20 }
+{}
+
+/// The requests of a stream are those of its first part and then those that the second completes: a piece never takes a
+/// request back.
+pub fn pieces_joined()
+    ensures { (before piece : List ℕ)
+        → requests (before ++ piece) ≡ requests before ++ requests_in before piece }
+{}
+
+/// Every stretch of LF, bytes of text and CR is a request, behind those before it and before those behind it.
+pub fn stretches_are_requests()
+    ensures { (before text after : List ℕ) → list_all is_text text ≡ true →
+        requests (before ++ (line_feed ∷ text ++ carriage_return ∷ after)) ≡ requests before ++ text
+        ∷ requests after }
+{}
+
+/// With fewer samples than the window holds the scale is never stable.
+pub fn too_few_samples_are_motion()
+    ensures { (p : PlateData) (history : History) → length (samples history) < p.window
+        → IsFalse (is_stable p history) }
+{}

@@ -1,0 +1,11 @@
+//! Laws of the plate, the indication and the line, each a public function with an empty body.
+#![tactic(auto)]
+
+mod laws;
+
+pub use laws::{
+    accepted_tables_are_plates, answers_are_free_of_programs, answers_are_free_of_scans,
+    answers_have_twenty_bytes, one_number_is_nearest, pieces_joined, rows_above_a_million,
+    streams_are_cut_anywhere, stretches_are_requests, too_few_samples_are_motion,
+    what_an_event_does,
+};

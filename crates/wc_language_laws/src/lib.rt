@@ -1,0 +1,59 @@
+//! Laws about the definitions of the language. Each function has an empty body: its clause is the law.
+#![tactic(auto)]
+
+ghost use Rattle.wc_language_laws.specs.Laws.{WrapIsTheOnlyOne, JumpGoesOnAhead, RTrigKeepsItsHistory, SrKeepsItsHistory, CtuKeepsItsHistory, TonKeepsItsHistory, TofKeepsItsHistory, FirstFaultIsFirst, WorstPathIsLongest, EachUnitHasAWorstPath, NoRunIsLongerThanThePaths};
+
+/// Arithmetic wraps to the one number of 32 bits that is equal modulo 2^32.
+pub fn wrap_is_the_only_one()
+    ensures { WrapIsTheOnlyOne }
+{}
+
+/// A jump goes on at the first later line that carries its label.
+pub fn jump_goes_on_ahead()
+    ensures { JumpGoesOnAhead }
+{}
+
+/// R_TRIG: the step agrees with what the history of calls tells.
+pub fn r_trig_keeps_its_history()
+    ensures { RTrigKeepsItsHistory }
+{}
+
+/// SR: the step agrees with what the history of calls tells.
+pub fn sr_keeps_its_history()
+    ensures { SrKeepsItsHistory }
+{}
+
+/// CTU: the step agrees with what the history of calls tells.
+pub fn ctu_keeps_its_history()
+    ensures { CtuKeepsItsHistory }
+{}
+
+/// TON: the step agrees with what the history of calls tells.
+pub fn ton_keeps_its_history()
+    ensures { TonKeepsItsHistory }
+{}
+
+/// TOF: the step agrees with what the history of calls tells.
+pub fn tof_keeps_its_history()
+    ensures { TofKeepsItsHistory }
+{}
+
+/// The first fault of a pass breaks a rule at its place, and no earlier place breaks one.
+pub fn first_fault_is_first()
+    ensures { FirstFaultIsFirst }
+{}
+
+/// A worst path is a path of its unit, and none is longer.
+pub fn worst_path_is_longest()
+    ensures { WorstPathIsLongest }
+{}
+
+/// Each unit has a worst path, unless it has no path at all.
+pub fn each_unit_has_a_worst_path()
+    ensures { EachUnitHasAWorstPath }
+{}
+
+/// No run of a program executes more items than its longest path has.
+pub fn no_run_is_longer_than_the_paths()
+    ensures { NoRunIsLongerThanThePaths }
+{}

@@ -1,0 +1,14 @@
+ghost use Rattle.std.specs.Prelude.{◌≤◌, length};
+
+use std::alloc::Global;
+
+/// A writer for tests: it takes at most so many bytes in a call and so many in all, and then fails. It takes
+/// no memory once it is made.
+#[derive(Debug, Drop)]
+pub struct FuseOut {
+    pub(crate) room: Vec<u8, Global>,
+    pub(crate) taken: usize,
+    pub(crate) per_call: usize,
+    pub(crate) failures: u64,
+    ghost within: { taken ≤ length room.items },
+}

@@ -1,0 +1,11 @@
+//! Tests of program texts through the public calls: tokens, trees, scans, checks and jobs.
+#![tactic(auto)]
+
+#[cfg(test)]
+mod jobs;
+#[cfg(test)]
+mod programs;
+#[cfg(test)]
+mod texts;
+#[cfg(test)]
+mod tokens;

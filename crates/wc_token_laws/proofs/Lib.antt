@@ -1,0 +1,7 @@
+pub mod Reach
+pub mod TokenSteps
+pub mod TokenLaws
+pub mod Attained
+pub mod FoundTokens
+pub mod TokenSlices
+pub mod DurationParts
