@@ -1,12 +1,12 @@
 -- What an operand of the first language names in its scope.
-use Rattle.std.proofs.Common.{◌≡◌, ℕ, Bool, true, false, [], ◌∷◌, Option, Some, None, option_map, is_some, refl, sym, ap, subst, ◌∙◌}
+use Rattle.std.proofs.Common.{◌≡◌, ℕ, List, Bor, Bool, true, false, [], ◌∷◌, Option, Some, None, option_map, is_some, refl, sym, ap, subst, ◌∙◌}
 use Rattle.std.specs.Prelude.{not, codes, if◌then◌else◌, ◌||◌}
 use Rattle.wc_model.specs.Language.BodyRules.{is_readable, is_writable, is_of, is_bool, is_bit_literal, load_checks, apply_checks, store_checks}
 use Rattle.wc_model.specs.Language.Checks.{Refusal, asks, first_broken}
 use Rattle.wc_model.specs.Language.Declarations.{Variable, VariableType, Elementary, variable_named}
 use Rattle.wc_model.specs.Language.DirectVariables.{DirectVariable, InputBit, OutputBit, variable_at, kind_of_direct, is_output}
 use Rattle.wc_model.specs.Language.Kinds.{is_kind, elementary_kind}
-use Rattle.wc_model.specs.Language.Names.{Name}
+use Rattle.wc_model.specs.Language.Names.{Name, name_of}
 use Rattle.wc_model.specs.Language.Scopes.{Scope, Entity, entity_of, own_entity, is_input}
 use Rattle.wc_model.specs.Language.Store.{Location, Direct, Path, Store}
 use Rattle.wc_model.specs.Language.Tree.{Term, Constant, Address, Field, Word, ProgramUnit}
@@ -138,11 +138,11 @@ store_fine unit line Set term has_result writable place plain e = cc
 store_fine unit line Reset term has_result writable place plain e = cc
 
 -- what is no variable is there
-pub other_known : (unit : ProgramUnit) (line : ℕ) (operand : Operand) → ((word : Spelled) → operand ≡ operands.Name word → ⊥) → first_broken (operand_language line (term_view operand)) ≡ None →
+pub other_known : (unit : ProgramUnit) (line : ℕ) (operand : Operand) → ((text : Bor (List ℕ)) → operand ≡ operands.Name text → ⊥) → first_broken (operand_language line (term_view operand)) ≡ None →
     true ≡ is_some (entity_of (scope_in unit) (term_view operand))
 other_known unit line (operands.Literal value) apart holds = cc
 other_known unit line (operands.Field instance field) apart holds = cc
-other_known unit line (operands.Name word) apart holds = absurd (apart word refl)
+other_known unit line (operands.Name text) apart holds = absurd (apart text refl)
 other_known unit line (operands.Address word) apart holds = sym (ap is_some (address_known unit line (word_view word) holds).1)
 
 pub other_writable : (store : Store) (unit : ProgramUnit) (line : ℕ) (operand : Operand) → ((word : Spelled) → operand ≡ operands.Address word → ⊥) → IsFrameOf store unit →
@@ -150,7 +150,7 @@ pub other_writable : (store : Store) (unit : ProgramUnit) (line : ℕ) (operand 
 other_writable store unit line (operands.Literal value) apart frame holds = cc
 other_writable store unit line (operands.Field instance field) apart frame holds = cc
 other_writable store unit line (operands.Address word) apart frame holds = absurd (apart word refl)
-other_writable store unit line (operands.Name word) apart frame holds = sym (name_writable store unit (name_view word) frame (variable_named unit (name_view word)) refl)
+other_writable store unit line (operands.Name text) apart frame holds = sym (name_writable store unit (name_of text.now) frame (variable_named unit (name_of text.now)) refl)
 
 pub address_writable : (unit : ProgramUnit) (line : ℕ) (operand : Operand) (word : Spelled) → operand ≡ operands.Address word → first_broken (operand_language line (term_view operand)) ≡ None →
     not (is_some (bit_behind (codes "%ix0.") (name_view word))) ≡ is_writable (entity_of (scope_in unit) (term_view operand))

@@ -68,7 +68,7 @@ pub(crate) fn place_named<'a>(operand: &Operand<'a>) -> Option<Key<'a>>
     match operand {
         Operand::Literal(_) => None,
         Operand::Address(word) => variable_at(word.text),
-        Operand::Name(word) => Some(Key::Name(word.text)),
+        Operand::Name(text) => Some(Key::Name(text)),
         Operand::Field { .. } => None,
     }
 }

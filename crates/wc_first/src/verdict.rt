@@ -22,7 +22,7 @@ fn is_known<'a>(own: &Places<'a>, operand: &Operand<'a>) -> bool
         → result ≡ is_some (entity_of (scope_in unit) (term_view operand.now)) }
 {
     match operand {
-        Operand::Name(word) => own.value(Key::Name(word.text)).is_some(),
+        Operand::Name(text) => own.value(Key::Name(text)).is_some(),
         _ => true,
     }
 }

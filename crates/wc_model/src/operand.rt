@@ -16,13 +16,13 @@ pub enum Operand<'a> {
     Literal(Value),
     /// A directly represented variable.
     Address(Word<'a>),
-    /// A variable, or an instance.
-    Name(Word<'a>),
+    /// A variable, or an instance, as it is spelled.
+    Name(&'a [u8]),
     /// A field of an instance.
     Field {
-        /// The instance.
-        instance: Word<'a>,
-        /// The field.
-        field: Word<'a>,
+        /// The instance, as it is spelled.
+        instance: &'a [u8],
+        /// The field, as it is spelled.
+        field: &'a [u8],
     },
 }

@@ -65,8 +65,8 @@ pub enum Instr<'a> {
     Jump {
         /// When it acts.
         condition: Condition,
-        /// Where it goes on.
-        label: Word<'a>,
+        /// Where it goes on, as it is spelled.
+        label: &'a [u8],
         /// Its line.
         line: u32,
     },
@@ -74,8 +74,8 @@ pub enum Instr<'a> {
     Call {
         /// When it acts.
         condition: Condition,
-        /// The instance whose block is called.
-        instance: Word<'a>,
+        /// The instance whose block is called, as it is spelled.
+        instance: &'a [u8],
         /// The inputs that are assigned, in written order.
         arguments: Vec<Argument<'a>, Global>,
         /// Its line.
@@ -93,8 +93,8 @@ pub enum Instr<'a> {
 /// `name := value` in a call.
 #[derive(Debug, Drop)]
 pub struct Argument<'a> {
-    /// The input.
-    pub name: Word<'a>,
+    /// The input, as it is spelled.
+    pub name: &'a [u8],
     /// What it is assigned.
     pub value: Operand<'a>,
 }

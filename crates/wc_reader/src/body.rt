@@ -88,7 +88,7 @@ fn call_line<'a>(label: Option<Word<'a>>, call: Listed<'a>, line: u32) -> Line<'
         label,
         Instr::Call {
             condition,
-            instance,
+            instance: instance.text,
             arguments,
             line,
         },
@@ -133,7 +133,7 @@ fn step_line<'a>(begun: Begun<'a>, step: Step<'a>) -> Line<'a>
             label,
             Instr::Jump {
                 condition,
-                label: target,
+                label: target.text,
                 line,
             },
         ),

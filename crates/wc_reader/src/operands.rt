@@ -40,7 +40,10 @@ fn with_argument<'a>(
         (term_view value.entry)) }
 {
     let mut call = call;
-    call.arguments.push(Argument { name: input, value })?;
+    call.arguments.push(Argument {
+        name: input.text,
+        value,
+    })?;
     Ok(call)
 }
 
@@ -133,11 +136,11 @@ fn behind_value<'a>(
             name,
         ))),
         Shape::Comma => {
-            let call = with_argument(call, input, Operand::Name(name))?;
+            let call = with_argument(call, input, Operand::Name(name.text))?;
             Ok(Some(LinePlace::Listing(begun, call, InList::AtNext)))
         }
         Shape::Closing => {
-            let call = with_argument(call, input, Operand::Name(name))?;
+            let call = with_argument(call, input, Operand::Name(name.text))?;
             Ok(Some(LinePlace::Stepped(begun, Step::Call(call))))
         }
         _ => Ok(None),
@@ -157,7 +160,7 @@ fn behind_step_name<'a>(
 {
     match token.shape {
         Shape::LineEnd => {
-            let step = step_of(operating, Operand::Name(name));
+            let step = step_of(operating, Operand::Name(name.text));
             Some(LinePlace::Ended(LineForm::Instructs(begun, step)))
         }
         _ => None,
@@ -179,7 +182,7 @@ fn behind_opening_name<'a>(
         Shape::LineEnd => Some(LinePlace::Ended(LineForm::Opens(
             begun,
             operator,
-            Some(Operand::Name(name)),
+            Some(Operand::Name(name.text)),
         ))),
         _ => None,
     }
@@ -260,8 +263,11 @@ pub(crate) fn at_field<'a>(
 {
     match token.shape {
         Shape::Identifier => {
-            let field = word(token);
-            let next = behind_operand(begun, owner, Operand::Field { instance, field })?;
+            let operand = Operand::Field {
+                instance: instance.text,
+                field: token.text,
+            };
+            let next = behind_operand(begun, owner, operand)?;
             Ok(Some(next))
         }
         Shape::LineEnd => Ok(behind_point(begun, owner, instance)),

@@ -57,8 +57,8 @@ fn address(text: &'static [u8], line_number: u32) -> Operand<'static> {
 }
 
 /// A variable.
-fn name(text: &'static [u8], line_number: u32) -> Operand<'static> {
-    Operand::Name(word(text, line_number))
+fn name(text: &'static [u8]) -> Operand<'static> {
+    Operand::Name(text)
 }
 
 /// A program with a declaration of BOOLs with these names.
@@ -114,9 +114,9 @@ fn variables_and_bits(rt: HostRuntime) -> Result<(), Fail> {
     let body = vec![in alloc;
         ld(false, address(b"%IX0.0", 3), 3),
         apply(Operator::And, address(b"%ix0.1", 4), 4),
-        st(Storing::Result, name(b"A", 5), 5),
-        ld(true, name(b"a", 6), 6),
-        apply(Operator::Or, name(b"b", 7), 7),
+        st(Storing::Result, name(b"A"), 5),
+        ld(true, name(b"a"), 6),
+        apply(Operator::Or, name(b"b"), 7),
         st(Storing::Negation, address(b"%QX0.1", 8), 8),
     ]?;
     match load(alloc, program(alloc, names, body)?) {
@@ -165,7 +165,7 @@ fn refusals(rt: HostRuntime) -> Result<(), Fail> {
         refusal(alloc, program(alloc, Vec::new(alloc), no_result)?),
         (403, 2)
     );
-    let unknown = vec![in alloc; ld(false, name(b"x", 2), 2)]?;
+    let unknown = vec![in alloc; ld(false, name(b"x"), 2)]?;
     assert_eq!(rt;
         refusal(alloc, program(alloc, Vec::new(alloc), unknown)?),
         (401, 2)

@@ -24,12 +24,12 @@ name_view word = name_of word.text.now
 abbrev pub term_view : Operand → Term
 term_view (operands.Literal value) = Constant value
 term_view (operands.Address word) = Address (word_view word)
-term_view (operands.Name word) = Variable (name_view word)
-term_view (operands.Field instance field) = Field (name_view instance) (name_view field)
+term_view (operands.Name text) = Variable (name_of text.now)
+term_view (operands.Field instance field) = Field (name_of instance.now) (name_of field.now)
 
 -- an argument
 abbrev pub assignment_view : Argument → Assignment
-assignment_view argument = record { input = name_view argument.name; value = term_view argument.value }
+assignment_view argument = record { input = name_of argument.name.now; value = term_view argument.value }
 
 -- lines, each of which stands before the rest
 abbrev pub joined : List (Lines → Lines) → Lines
@@ -43,8 +43,8 @@ instruction_view (Instr-F.Store storing target line) label rest = Plain label li
 instruction_view (Instr-F.Apply operator operand line) label rest = Plain label line (Apply operator (term_view operand)) rest
 instruction_view (Instr-F.Defer operator operand inside line close) label rest = Nested label line operator (option_map term_view operand) (joined inside.items) close rest
 instruction_view (Instr-F.Not line) label rest = Plain label line Negate rest
-instruction_view (Instr-F.Jump condition target line) label rest = Plain label line (Jump condition (name_view target)) rest
-instruction_view (Instr-F.Call condition instance arguments line) label rest = Plain label line (Call condition (name_view instance) (map assignment_view arguments.items)) rest
+instruction_view (Instr-F.Jump condition target line) label rest = Plain label line (Jump condition (name_of target.now)) rest
+instruction_view (Instr-F.Call condition instance arguments line) label rest = Plain label line (Call condition (name_of instance.now) (map assignment_view arguments.items)) rest
 instruction_view (Instr-F.Return condition line) label rest = Plain label line (Return condition) rest
 
 -- a label with no instruction
