@@ -1,0 +1,16 @@
+//! The standard function blocks as plain fields with one call each (IEC 61131-3:2003, 2.5.2.3).
+#![tactic(auto)]
+
+mod ctu;
+mod elapsed;
+mod r_trig;
+mod sr;
+mod tof;
+mod ton;
+
+pub use ctu::Ctu;
+pub use elapsed::LAST_MOMENT;
+pub use r_trig::RTrig;
+pub use sr::Sr;
+pub use tof::Tof;
+pub use ton::Ton;

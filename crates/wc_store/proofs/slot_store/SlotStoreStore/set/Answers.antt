@@ -1,0 +1,17 @@
+-- A number in range is written at a place that there is.
+use Rattle.std.proofs.Common.{◌≡◌, ◌<◌, ℕ, ap, sym, subst, arith, length, to_z, of_z, w64}
+use Rattle.wc_store.proofs.Ranges.{same_length, written_fits, in_range_has_64_bits}
+use Rattle.wc_store.proofs.slot_store.SlotStoreStore.set.Goals as goal
+use Rattle.wc_store.specs.Slots.{SlotNumbers, IsInRangeAt, AreInRange}
+use Rattle.std.specs.Prelude.{slice_set}
+
+pub index_mut-requires : goal.index_mut-requires
+index_mut-requires c =
+    omega (arith, same_length _ _ c.self.invariant, ap (λ (s : SlotNumbers). length s.kinds) c.self.view_is, c.requires.place, c.self.inside.numbers.ok)
+
+pub invariant_of-self : goal.invariant_of-self
+invariant_of-self c =
+    let within : c.args.place.0 < length c.self.inside.kinds.items = subst (λ (s : SlotNumbers). c.args.place.0 < length s.kinds) (sym c.self.view_is) c.requires.place in
+    let ranged : IsInRangeAt c.self.inside.kinds.items c.args.place.0 c.args.number = subst (λ (s : SlotNumbers). IsInRangeAt s.kinds c.args.place.0 c.args.number) (sym c.self.view_is) c.requires.range in
+    subst (λ n. AreInRange c.self.inside.kinds.items (slice_set c.self.inside.numbers.items c.args.place.0 n)) (sym (in_range_has_64_bits _ _ _ within ranged))
+    (written_fits c.self.inside.kinds.items c.self.inside.numbers.items c.args.place.0 c.args.number c.self.invariant ranged)

@@ -1,0 +1,41 @@
+ghost use Rattle.std.specs.Prelude.{◌≡◌, ◌<◌, ◌≤◌, List, ℤ, Some, pos, IfOk, IsOkUnless, length, replicate, slice_get, slice_set};
+ghost use Rattle.wc_model.specs.declared.kind.SlotKind.{SlotKind};
+ghost use Rattle.wc_store.specs.Slots.{IsInRangeAt};
+
+use std::alloc::Global;
+use wc_model::{Fault, Place, SlotKind};
+
+/// A frame's numbers: one for each place, in the range of the place's kind. BOOL is 0 or 1, a moment and a
+/// TIME are milliseconds.
+pub trait Store: Drop + Sized {
+    /// The kinds of the places, in their order.
+    ghost slot_kinds: { Self → List SlotKind };
+
+    /// Their numbers, in the same order.
+    ghost numbers: { Self → List ℤ };
+
+    /// A store of places of these kinds, all 0. `Memory` is its only fault; no later call takes memory.
+    fn make(alloc: Global, kinds: &[SlotKind]) -> Result<Self, Fault>
+        requires { length kinds.now ≤ 65536 }
+        ensures kinds { IfOk result (λ store. slot_kinds store ≡ kinds.now) }
+        ensures zero { IfOk result (λ store. numbers store ≡ replicate (length kinds.now) (pos 0)) }
+        ensures memory { IsOkUnless result Fault.Memory };
+
+    /// How many places there are.
+    fn size(&self) -> usize
+        ensures kinds { result ≡ length (slot_kinds self.now) }
+        ensures numbers { result ≡ length (numbers self.now) };
+
+    /// The number at a place.
+    fn get(&self, place: Place) -> i64
+        requires { place.0 < length (slot_kinds self.now) }
+        ensures number { slice_get (numbers self.now) place.0 ≡ Some result }
+        ensures range { IsInRangeAt (slot_kinds self.now) place.0 result };
+
+    /// Writes a number that is in the place's range. No other place changes.
+    fn set(&mut self, place: Place, number: i64)
+        requires place { place.0 < length (slot_kinds self.old) }
+        requires range { IsInRangeAt (slot_kinds self.old) place.0 number }
+        ensures numbers { numbers self.new ≡ slice_set (numbers self.old) place.0 number }
+        ensures kinds { slot_kinds self.new ≡ slot_kinds self.old };
+}
