@@ -1,6 +1,8 @@
-ghost use Rattle.std.specs.Prelude.{◌≡◌, ◌⊎◌, IfSome};
+ghost use Rattle.std.specs.Prelude.{◌≡◌, ◌⊎◌, ◌+◌, IfSome};
 ghost use Rattle.wc_controller.specs.Jobs.{Allows, AllowsProgram, AllowsSections, Gives, IsStatus};
+ghost use Rattle.wc_job.specs.Reads.{TakesAtMost};
 ghost use Rattle.wc_job.specs.Views.{sections_view};
+ghost use Rattle.wc_model.specs.Run.JobSections.{longest_job};
 ghost use Rattle.wc_first.specs.Machines.{StandsForProgram, text_by_itself};
 ghost use Rattle.wc_model.specs.Say.Job.{run_answer};
 ghost use Rattle.wc_model.specs.Run.Log.{log_of};
@@ -34,6 +36,8 @@ fn run_log<W: ByteOut>(
     ensures status { IsStatus result }
     ensures device { result ≡ 3
         → HasFailedSince (W.failure_count writer.old) (W.failure_count writer.new) }
+    ensures steady { ¬ (result ≡ 3)
+        → W.failure_count writer.new ≡ W.failure_count writer.old }
 {
     let mut reader = Device::new(log);
     match run(alloc, plate, Some(machine), &mut reader, writer) {
@@ -62,6 +66,8 @@ fn run_loaded<W: ByteOut>(
     ensures status { IsStatus result }
     ensures device { result ≡ 3
         → HasFailedSince (W.failure_count writer.old) (W.failure_count writer.new) }
+    ensures steady { ¬ (result ≡ 3)
+        → W.failure_count writer.new ≡ W.failure_count writer.old }
 {
     match Machine::new(alloc, loaded) {
         Ok(machine) => run_log(alloc, plate, machine, log, writer),
@@ -82,6 +88,8 @@ fn run_program<W: ByteOut>(
     ensures status { IsStatus result }
     ensures device { result ≡ 3
         → HasFailedSince (W.failure_count writer.old) (W.failure_count writer.new) }
+    ensures steady { ¬ (result ≡ 3)
+        → W.failure_count writer.new ≡ W.failure_count writer.old }
 {
     match load(alloc, program) {
         Ok(loaded) => run_loaded(alloc, plate, loaded, log, writer),
@@ -99,6 +107,8 @@ fn answer_sections<W: ByteOut>(alloc: Global, sections: Sections<'_>, writer: &m
     ensures status { IsStatus result }
     ensures device { result ≡ 3
         → HasFailedSince (W.failure_count writer.old) (W.failure_count writer.new) }
+    ensures steady { ¬ (result ≡ 3)
+        → W.failure_count writer.new ≡ W.failure_count writer.old }
 {
     match plate(alloc, sections.plate) {
         Ok(plate) => run_program(alloc, &plate, sections.program, sections.log, writer),
@@ -116,6 +126,8 @@ fn answer_bytes<W: ByteOut>(alloc: Global, bytes: &[u8], writer: &mut W) -> u8
     ensures status { IsStatus result }
     ensures device { result ≡ 3
         → HasFailedSince (W.failure_count writer.old) (W.failure_count writer.new) }
+    ensures steady { ¬ (result ≡ 3)
+        → W.failure_count writer.new ≡ W.failure_count writer.old }
 {
     match sections(bytes) {
         Ok(sections) => answer_sections(alloc, sections, writer),
@@ -135,6 +147,12 @@ pub fn job<R: ByteIn, W: ByteOut>(alloc: Global, reader: &mut R, writer: &mut W)
     ensures device { result ≡ 3
         → HasFailedSince (R.failure_count reader.old) (R.failure_count reader.new)
         ⊎ HasFailedSince (W.failure_count writer.old) (W.failure_count writer.new) }
+    ensures steady { ¬ (result ≡ 3)
+        → (R.failure_count reader.new ≡ R.failure_count reader.old)
+        × (W.failure_count writer.new ≡ W.failure_count writer.old) }
+    // It reads no further than the byte that makes a job too long.
+    ensures taken { TakesAtMost (longest_job + 1) (R.bytes_left reader.old)
+        (R.bytes_left reader.new) }
 {
     match read_whole(alloc, reader) {
         Ok(bytes) => answer_bytes(alloc, &bytes, writer),

@@ -1,4 +1,4 @@
-ghost use Rattle.std.specs.Prelude.{IsErrOf};
+ghost use Rattle.std.specs.Prelude.{◌≡◌, IsErrOf};
 ghost use Rattle.wc_controller.specs.Checking.{Checks, WritesReport};
 ghost use Rattle.wc_first.specs.Machines.{text_by_itself};
 ghost use Rattle.wc_model.specs.Run.Writing.{HasFailedSince};
@@ -20,6 +20,8 @@ fn write_report<W: ByteOut>(
         (W.bytes_taken writer.new) }
     ensures write { IsErrOf result RunFault.Write
         → HasFailedSince (W.failure_count writer.old) (W.failure_count writer.new) }
+    ensures steady { ¬ IsErrOf result RunFault.Write
+        → W.failure_count writer.new ≡ W.failure_count writer.old }
 {
     let lines = match unit_lines(alloc, loaded) {
         Ok(lines) => lines,
@@ -39,6 +41,8 @@ pub fn check<W: ByteOut>(alloc: Global, text: &[u8], writer: &mut W) -> Result<(
     ensures checks { Checks text.now result (W.bytes_taken writer.old) (W.bytes_taken writer.new) }
     ensures write { IsErrOf result RunFault.Write
         → HasFailedSince (W.failure_count writer.old) (W.failure_count writer.new) }
+    ensures steady { ¬ IsErrOf result RunFault.Write
+        → W.failure_count writer.new ≡ W.failure_count writer.old }
 {
     match load(alloc, text) {
         Ok(loaded) => write_report(alloc, &loaded, writer),

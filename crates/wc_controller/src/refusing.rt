@@ -27,6 +27,8 @@ pub fn refuse<W: ByteOut>(alloc: Global, number: u16, place: u32, writer: &mut W
     ensures status { IsStatus result }
     ensures device { result ≡ 3
         → HasFailedSince (W.failure_count writer.old) (W.failure_count writer.new) }
+    ensures steady { ¬ (result ≡ 3)
+        → W.failure_count writer.new ≡ W.failure_count writer.old }
 {
     let line = match refused_line(alloc, number, place) {
         Ok(line) => line,

@@ -2,7 +2,7 @@
 use Rattle.std.specs.Prelude.{◌≡◌, ◌≤◌, ◌<◌, ◌^◌, ◌⊎◌, ⊤, ℕ, ◌-◌, true, List, [], ◌∷◌, length, Option, Some, None, Result, Ok, Err}
 use Rattle.wc_model.specs.Run.Log.{Record, LogOf, log_of, log_after, last_moment, refused_at, with_row}
 use Rattle.wc_record.specs.Bound.{is_used_up}
-use Rattle.wc_record.specs.Source.{SourceHas, counted_in}
+use Rattle.wc_record.specs.Source.{SourceHas, bounded_in, counted_in}
 use Rattle.wc_record.specs.Views.{IsDataInRange, data_view, row_view}
 use Rattle.wc_record.specs.declared.log.LogEnd.{LogEnd}
 use Rattle.wc_record.specs.declared.log.LogEnd.TheVariants.{AllRead, Met}
@@ -41,6 +41,10 @@ last_ms rows = rows.last
 -- what the reader had spent when it was lent
 abbrev pub started_at : {R : Type 0} → Rows R → ℕ
 started_at rows = rows.start
+
+-- the count of the reader from which on the bound on what is read is measured
+abbrev pub bounded_from : {R : Type 0} → Rows R → Option ℕ
+bounded_from rows = bounded_in rows.source
 
 -- a count of the reader that is lent
 abbrev pub count_in : {R : Type 0} → (R → ℕ) → Rows R → ℕ

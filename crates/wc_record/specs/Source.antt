@@ -17,6 +17,15 @@ count_of count None None = 0
 abbrev pub counted_in : {R : Type 0} → (R → ℕ) → Source R → ℕ
 counted_in count source = count_of count source.opened source.unread
 
+-- the count from which on the bound is measured
+abbrev pub bound_of : {R : Type 0} → Option (Records R) → Option (Bounded R) → Option ℕ
+bound_of (Some records) unread = Some (reader_source records.csv).start
+bound_of None (Some bounded) = Some bounded.start
+bound_of None None = None
+
+abbrev pub bounded_in : {R : Type 0} → Source R → Option ℕ
+bounded_in source = bound_of source.opened source.unread
+
 -- these records are left, of a reader that is made or is still to be made
 abbrev pub AreIn : {R : Type 0} → (R → Option (List ℕ)) → List Record → Option (Records R) → Option (Bounded R) → Type 0
 AreIn bytes_left left (Some records) unread = HasRecords bytes_left records left

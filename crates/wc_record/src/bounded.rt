@@ -48,9 +48,15 @@ impl<'r, R: ByteIn> Read for Bounded<'r, R> {
         ensures bound { ReadsAtMost result buffer.new }
         ensures bytes { ReadConsumes (R.bytes_left self.old.reader.now)
             (R.bytes_left self.new.reader.now) result buffer.new }
+        // What is used up reads no further.
+        ensures used_up { is_used_up self.old.start (R.spent_count self.old.reader.now) ≡ true
+            → IsErr result × (self.new.reader.now ≡ self.old.reader.now) }
         ensures passed { is_used_up self.old.start (R.spent_count self.old.reader.now) ≡ false
-            → R.failure_count self.new.reader.now
-            ≡ failures_after_read (R.failure_count self.old.reader.now) result }
+            → (R.failure_count self.new.reader.now
+            ≡ failures_after_read (R.failure_count self.old.reader.now) result)
+            × (R.spent_count self.new.reader.now
+            ≡ spent_after_read (R.spent_count self.old.reader.now) result) }
+        ensures start { self.new.start ≡ self.old.start }
     {
         read_within(self.reader, self.start, buffer)
     }

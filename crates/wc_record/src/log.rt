@@ -1,7 +1,7 @@
 ghost use Rattle.std.specs.Prelude.{◌≡◌, ◌⊎◌, ◌∷◌, [], suc, max, ℕ, List, Some, None, true, false, IfOk, IfErr, IfSome, OnOk, IsErrOf};
 ghost use Rattle.csv.specs.Records.{fields_of};
 ghost use Rattle.wc_model.specs.Run.Log.{Record, LogOf, log_of, log_after};
-ghost use Rattle.wc_record.specs.Left.{HasCauseIn, HasLeft, IsNext, StandsBehind, Takes, count_in, ended, last_ms, log_behind, rows_read, started_at};
+ghost use Rattle.wc_record.specs.Left.{HasCauseIn, HasLeft, IsNext, StandsBehind, Takes, bounded_from, count_in, ended, last_ms, log_behind, rows_read, started_at};
 ghost use Rattle.wc_record.specs.Left as left;
 ghost use Rattle.wc_record.specs.Reading.{TakesFirst, records_of};
 ghost use Rattle.wc_record.specs.Source.{SourceHas};
@@ -68,6 +68,7 @@ impl<'r, R: ByteIn> Rows<'r, R> {
             (λ bytes. HasLeft R.bytes_left result (log_of (records_of bytes))) }
         ensures fresh { (rows_read result ≡ 0) × (last_ms result ≡ 0) × (ended result ≡ None) }
         ensures start { started_at result ≡ R.spent_count reader.old }
+        ensures bounded { bounded_from result ≡ Some (R.spent_count reader.old) }
         ensures failures { count_in R.failure_count result ≡ R.failure_count reader.old }
         ensures spent { count_in R.spent_count result ≡ R.spent_count reader.old }
     {

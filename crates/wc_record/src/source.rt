@@ -1,7 +1,7 @@
 ghost use Rattle.std.specs.Prelude.{◌≡◌, ◌∷◌, [], ℕ, List, Some, true, false, IfOk, IfSome};
 ghost use Rattle.csv.specs.Records.{fields_of};
 ghost use Rattle.wc_model.specs.Run.Log.{Record};
-ghost use Rattle.wc_record.specs.Source.{SourceHas, counted_in};
+ghost use Rattle.wc_record.specs.Source.{SourceHas, bounded_in, counted_in};
 ghost use Rattle.wc_record.specs.Reading.{TakesFirst, records_of};
 
 use crate::bounded::Bounded;
@@ -26,6 +26,7 @@ impl<'r, R: ByteIn> Source<'r, R> {
         ensures failures { counted_in R.failure_count result
             ≡ R.failure_count bounded.entry.reader.now }
         ensures spent { counted_in R.spent_count result ≡ R.spent_count bounded.entry.reader.now }
+        ensures bounded { bounded_in result ≡ Some bounded.entry.start }
     {
         Source {
             alloc,

@@ -117,6 +117,8 @@ impl Line {
             (λ e.
             Fails self.old indicator.old (W.bytes_taken writer.old) self.new indicator.new
             (W.bytes_taken writer.new) piece.now) }
+        ensures steady { IfOk result
+            (λ done. W.failure_count writer.new ≡ W.failure_count writer.old) }
         // A line that has failed changes nothing.
         ensures failed { HasFailed self.old
             → IsErr result × (self.new ≡ self.old) × (indicator.new ≡ indicator.old)

@@ -43,7 +43,8 @@ impl Store for SlotStore {
     }
 
     fn get(&self, place: Place) -> i64 {
-        self.numbers[place.0 as usize]
+        let at = place.0 as usize;
+        self.numbers[at]
     }
 
     fn set(&mut self, place: Place, number: i64) {
