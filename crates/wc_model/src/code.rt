@@ -2,57 +2,71 @@ use crate::block::StandardBlock;
 use crate::operator::{Condition, Operator, Storing};
 use crate::place::Place;
 
-/// An operand with its place resolved.
-#[derive(Clone, Copy, Debug, PartialEq, Eq)]
-pub enum CodeOperand {
-    /// A literal's number; 0 or 1 for a BOOL.
-    Number(i32),
-    /// What stands at a place of the unit's frame.
-    Place(Place),
-}
-
-/// One flat line of a body: each is one count when it is executed, but for the body of a user's block,
+/// One flat line of a body. Executed, it is one count, but for the body of a block of the text,
 /// which counts what its own lines count.
+///
+/// Places are those of the unit's frame, counted from 0; an instance adds its base. BOOL is 0 or 1.
+/// A jump and a call that is not made pass over the next `skip` lines.
 #[derive(Clone, Copy, Debug, PartialEq, Eq)]
 pub enum Code {
-    /// LD, or LDN where negated.
-    Load {
-        /// Whether the operand is negated.
+    /// LD of a literal; that of LDN is negated already.
+    LoadNumber {
+        /// What is loaded.
+        number: i32,
+    },
+    /// LD, or LDN where negated, of a place.
+    LoadPlace {
+        /// Whether what stands there is negated.
         negated: bool,
         /// What is loaded.
-        operand: CodeOperand,
+        place: Place,
     },
     /// ST, STN, S, R.
     Store {
-        /// What is stored.
+        /// What is stored of the result.
         storing: Storing,
         /// Where.
         target: Place,
     },
-    /// An operator with its operand.
-    Apply {
+    /// An operator with a literal.
+    ApplyNumber {
         /// The operator.
         operator: Operator,
-        /// The second operand.
-        operand: CodeOperand,
+        /// The second operand; not 0 for DIV and MOD.
+        number: i32,
+    },
+    /// An operator with a place.
+    ApplyPlace {
+        /// The operator.
+        operator: Operator,
+        /// Where the second operand stands.
+        place: Place,
     },
     /// NOT.
     Not,
-    /// The opening line of a deferred operator.
-    Open {
-        /// The operator.
-        operator: Operator,
-        /// What the short form loads first.
-        operand: Option<CodeOperand>,
+    /// The opening line of a deferred operator: the result is put by, and there is none.
+    Open,
+    /// The same in the short form, with a literal as the new result.
+    OpenNumber {
+        /// What is loaded.
+        number: i32,
     },
-    /// The `)` that ends a deferred operator.
-    Close,
+    /// The same in the short form, with what stands at a place as the new result.
+    OpenPlace {
+        /// What is loaded.
+        place: Place,
+    },
+    /// The `)`: the result last put by, and the operator with the result as its second operand.
+    Close {
+        /// The deferred operator.
+        operator: Operator,
+    },
     /// A jump ahead.
     Jump {
         /// When it acts.
         condition: Condition,
         /// How many flat lines it passes over.
-        skip: u16,
+        skip: u32,
     },
     /// The end of the body.
     Return {
@@ -64,12 +78,19 @@ pub enum Code {
         /// When it is made.
         condition: Condition,
         /// How many flat lines are passed over where it is not made.
-        skip: u16,
+        skip: u32,
     },
-    /// An argument of the call that is being made.
-    Argument {
+    /// A literal as an argument of the call that is being made.
+    ArgumentNumber {
         /// What is assigned.
-        value: CodeOperand,
+        number: i32,
+        /// The input's place.
+        target: Place,
+    },
+    /// What stands at a place as an argument of the call that is being made.
+    ArgumentPlace {
+        /// What is assigned.
+        place: Place,
         /// The input's place.
         target: Place,
     },
@@ -80,7 +101,7 @@ pub enum Code {
         /// The first place of the instance.
         at: Place,
     },
-    /// The body of a block of the text.
+    /// The body of a block of the text, from no result.
     Body {
         /// The block's unit, counted in text order from 0.
         unit: u16,

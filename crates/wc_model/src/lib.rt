@@ -26,7 +26,7 @@ mod writing;
 pub use block::StandardBlock;
 pub use byte_in::ByteIn;
 pub use byte_out::ByteOut;
-pub use code::{Code, CodeOperand};
+pub use code::Code;
 pub use device::Device;
 pub use fault::Fault;
 pub use fuse_in::FuseIn;

@@ -1,0 +1,144 @@
+-- A flat call of a standard block follows the tree's.
+use Rattle.std.proofs.Common.{◌≡◌, ℕ, suc, ◌+◌, Bool, List, [], ◌∷◌, ◌++◌, map, Option, Some, None, Result, Ok, Err, ℤ, append_assoc, refl, sym, ap, subst, ◌∙◌, arith}
+use Rattle.std.specs.Option.{option_map}
+use Rattle.std.specs.Prelude.{slice_set, codes}
+use Rattle.wc_flat.proofs.InstancePlaces.{path_from, instance_number}
+use Rattle.wc_flat.proofs.PlaceNumbers.{write_both}
+use Rattle.wc_flat.proofs.Sides.{IsBased}
+use Rattle.wc_flat.proofs.Values.{bit_of-number}
+use Rattle.wc_flat.specs.Contents.{AreContents}
+use Rattle.wc_flat.specs.Laid.{first_place}
+use Rattle.wc_flat.specs.NumberBlocks.{field_numbers, number_from, with_numbers, given_bit, given_natural, block_called}
+use Rattle.wc_flat.specs.NumberOperators.{given}
+use Rattle.wc_model.specs.Language.BlockCalls.{field_at, with_truth, with_dint, with_time, with_moment, with_phase, with_fields, r_trig_contents, sr_contents, ctu_contents, ton_contents, tof_contents, standard_called}
+use Rattle.wc_model.specs.Language.Blocks.{RTrigFields, SrFields, CtuFields, TonFields, TofFields, r_trig_step, sr_step, ctu_step, ton_step, tof_step}
+use Rattle.wc_model.specs.Language.Declarations.{Variable, VariableType, Standard, type_named, variable_named}
+use Rattle.wc_model.specs.Language.Frames.{content_number, place_number}
+use Rattle.wc_model.specs.Language.Names.{Name}
+use Rattle.wc_model.specs.Language.Reasons.{Reason}
+use Rattle.wc_model.specs.Language.Scopes.{Scope}
+use Rattle.wc_model.specs.Language.Store.{Location, Path, Content, Plain, Moment, Phase, Store, with_content, standard_fields, variable_places, block_places}
+use Rattle.wc_model.specs.declared.block.StandardBlock.{StandardBlock}
+use Rattle.wc_model.specs.declared.block.StandardBlock.TheVariants.{RTrig, Sr, Ctu, Ton, Tof}
+use Rattle.wc_model.specs.declared.value.Value.TheVariants.{Bool as Truth, Dint, Time}
+use Rattle.wc_soundness.proofs.Places.{places_of}
+
+-- the fields of an instance stand one behind another in the frame
+abbrev pub FieldsAt : List (Location × Content) → List Name → ℕ → List (Name × Content) → Type 0
+FieldsAt frame names at [] = Unit {0}
+FieldsAt frame names at (f ∷ fields) = (place_number frame (Path (names ++ f.0 ∷ [])) ≡ Some at) × FieldsAt frame names (suc at) fields
+
+-- fields that are written on both sides
+pub fields_written : (frame : List (Location × Content)) (store : Store) (numbers : List ℤ) → AreContents frame store numbers → (names : List Name) (at : ℕ) (fields : List (Name × Content)) → FieldsAt frame names at fields → AreContents frame (with_fields store names fields) (with_numbers numbers at (field_numbers fields))
+fields_written frame store numbers contents names at [] h = contents
+fields_written frame store numbers contents names at (f ∷ fields) h =
+    fields_written frame (with_content store (Path (names ++ f.0 ∷ [])) f.1) (slice_set numbers at (content_number f.1)) (write_both frame store numbers contents (Path (names ++ f.0 ∷ [])) at h.0 f.1) names (suc at) fields h.1
+
+-- where there is a store, its numbers are given
+abbrev pub CalledAs : List (Location × Content) → Result Store Reason → Option (List ℤ) → Type 0
+CalledAs frame (Ok new) o = (numbers : List ℤ) × AreContents frame new numbers × (o ≡ Some numbers)
+CalledAs frame (Err reason) o = Unit {0}
+
+-- a field with its number
+pub truth_given : (frame : List (Location × Content)) (c : Option Content) (o : Option ℤ) → o ≡ option_map content_number c → (go : Bool → Result Store Reason) (flat_go : Bool → Option (List ℤ)) → ((b : Bool) → CalledAs frame (go b) (flat_go b)) → CalledAs frame (with_truth c go) (given_bit o flat_go)
+truth_given frame (Some (Plain (Truth b))) o e go flat_go h = subst (λ (x : Option (List ℤ)). CalledAs frame (go b) x) (sym (ap (λ (x : Option ℤ). given_bit x flat_go) e ∙ ap (λ (x : Option Bool). given x flat_go) (bit_of-number b))) (h b)
+truth_given frame (Some (Plain (Dint n))) o e go flat_go h = tt
+truth_given frame (Some (Plain (Time t))) o e go flat_go h = tt
+truth_given frame (Some (Moment m)) o e go flat_go h = tt
+truth_given frame (Some (Phase p)) o e go flat_go h = tt
+truth_given frame None o e go flat_go h = tt
+
+pub dint_given : (frame : List (Location × Content)) (c : Option Content) (o : Option ℤ) → o ≡ option_map content_number c → (go : ℤ → Result Store Reason) (flat_go : ℤ → Option (List ℤ)) → ((n : ℤ) → CalledAs frame (go n) (flat_go n)) → CalledAs frame (with_dint c go) (given o flat_go)
+dint_given frame (Some (Plain (Dint n))) o e go flat_go h = subst (λ (x : Option (List ℤ)). CalledAs frame (go n) x) (sym (ap (λ (x : Option ℤ). given x flat_go) e)) (h n)
+dint_given frame (Some (Plain (Truth b))) o e go flat_go h = tt
+dint_given frame (Some (Plain (Time t))) o e go flat_go h = tt
+dint_given frame (Some (Moment m)) o e go flat_go h = tt
+dint_given frame (Some (Phase p)) o e go flat_go h = tt
+dint_given frame None o e go flat_go h = tt
+
+pub time_given : (frame : List (Location × Content)) (c : Option Content) (o : Option ℤ) → o ≡ option_map content_number c → (go : ℤ → Result Store Reason) (flat_go : ℤ → Option (List ℤ)) → ((n : ℤ) → CalledAs frame (go n) (flat_go n)) → CalledAs frame (with_time c go) (given o flat_go)
+time_given frame (Some (Plain (Time t))) o e go flat_go h = subst (λ (x : Option (List ℤ)). CalledAs frame (go t) x) (sym (ap (λ (x : Option ℤ). given x flat_go) e)) (h t)
+time_given frame (Some (Plain (Truth b))) o e go flat_go h = tt
+time_given frame (Some (Plain (Dint n))) o e go flat_go h = tt
+time_given frame (Some (Moment m)) o e go flat_go h = tt
+time_given frame (Some (Phase p)) o e go flat_go h = tt
+time_given frame None o e go flat_go h = tt
+
+pub moment_given : (frame : List (Location × Content)) (c : Option Content) (o : Option ℤ) → o ≡ option_map content_number c → (go : ℕ → Result Store Reason) (flat_go : ℕ → Option (List ℤ)) → ((n : ℕ) → CalledAs frame (go n) (flat_go n)) → CalledAs frame (with_moment c go) (given_natural o flat_go)
+moment_given frame (Some (Moment m)) o e go flat_go h = subst (λ (x : Option (List ℤ)). CalledAs frame (go m) x) (sym (ap (λ (x : Option ℤ). given_natural x flat_go) e)) (h m)
+moment_given frame (Some (Plain (Truth b))) o e go flat_go h = tt
+moment_given frame (Some (Plain (Dint n))) o e go flat_go h = tt
+moment_given frame (Some (Plain (Time t))) o e go flat_go h = tt
+moment_given frame (Some (Phase p)) o e go flat_go h = tt
+moment_given frame None o e go flat_go h = tt
+
+pub phase_given : (frame : List (Location × Content)) (c : Option Content) (o : Option ℤ) → o ≡ option_map content_number c → (go : ℕ → Result Store Reason) (flat_go : ℕ → Option (List ℤ)) → ((n : ℕ) → CalledAs frame (go n) (flat_go n)) → CalledAs frame (with_phase c go) (given_natural o flat_go)
+phase_given frame (Some (Phase p)) o e go flat_go h = subst (λ (x : Option (List ℤ)). CalledAs frame (go p) x) (sym (ap (λ (x : Option ℤ). given_natural x flat_go) e)) (h p)
+phase_given frame (Some (Plain (Truth b))) o e go flat_go h = tt
+phase_given frame (Some (Plain (Dint n))) o e go flat_go h = tt
+phase_given frame (Some (Plain (Time t))) o e go flat_go h = tt
+phase_given frame (Some (Moment m)) o e go flat_go h = tt
+phase_given frame None o e go flat_go h = tt
+
+-- each standard block
+pub block_follows : (frame : List (Location × Content)) (block : StandardBlock) (now : ℕ) (store : Store) (numbers : List ℤ) → AreContents frame store numbers → (names : List Name) (at : ℕ) → FieldsAt frame names at (standard_fields block) → CalledAs frame (standard_called block now store names) (block_called block now numbers at)
+block_follows frame RTrig now store numbers contents names at h =
+    truth_given frame (field_at store names (codes "clk")) (number_from numbers at 0) (contents.each (Path (names ++ codes "clk" ∷ [])) at h.0) _ _ (λ clk.
+    truth_given frame (field_at store names (codes "q")) (number_from numbers at 1) (contents.each (Path (names ++ codes "q" ∷ [])) (suc at) h.1.0) _ _ (λ q.
+    truth_given frame (field_at store names (codes "m")) (number_from numbers at 2) (contents.each (Path (names ++ codes "m" ∷ [])) (suc (suc at)) h.1.1.0) _ _ (λ m.
+    let f : RTrigFields = r_trig_step (record { clk = clk; q = q; m = m }) in
+    (with_numbers numbers at (field_numbers (r_trig_contents f)), fields_written frame store numbers contents names at (r_trig_contents f) h, refl))))
+block_follows frame Sr now store numbers contents names at h =
+    truth_given frame (field_at store names (codes "s1")) (number_from numbers at 0) (contents.each (Path (names ++ codes "s1" ∷ [])) at h.0) _ _ (λ s1.
+    truth_given frame (field_at store names (codes "r")) (number_from numbers at 1) (contents.each (Path (names ++ codes "r" ∷ [])) (suc at) h.1.0) _ _ (λ r.
+    truth_given frame (field_at store names (codes "q1")) (number_from numbers at 2) (contents.each (Path (names ++ codes "q1" ∷ [])) (suc (suc at)) h.1.1.0) _ _ (λ q1.
+    let f : SrFields = sr_step (record { s1 = s1; r = r; q1 = q1 }) in
+    (with_numbers numbers at (field_numbers (sr_contents f)), fields_written frame store numbers contents names at (sr_contents f) h, refl))))
+block_follows frame Ctu now store numbers contents names at h =
+    truth_given frame (field_at store names (codes "cu")) (number_from numbers at 0) (contents.each (Path (names ++ codes "cu" ∷ [])) at h.0) _ _ (λ cu.
+    truth_given frame (field_at store names (codes "r")) (number_from numbers at 1) (contents.each (Path (names ++ codes "r" ∷ [])) (suc at) h.1.0) _ _ (λ r.
+    dint_given frame (field_at store names (codes "pv")) (number_from numbers at 2) (contents.each (Path (names ++ codes "pv" ∷ [])) (suc (suc at)) h.1.1.0) _ _ (λ pv.
+    truth_given frame (field_at store names (codes "q")) (number_from numbers at 3) (contents.each (Path (names ++ codes "q" ∷ [])) (suc (suc (suc at))) h.1.1.1.0) _ _ (λ q.
+    dint_given frame (field_at store names (codes "cv")) (number_from numbers at 4) (contents.each (Path (names ++ codes "cv" ∷ [])) (suc (suc (suc (suc at)))) h.1.1.1.1.0) _ _ (λ cv.
+    truth_given frame (field_at store names (codes "m")) (number_from numbers at 5) (contents.each (Path (names ++ codes "m" ∷ [])) (suc (suc (suc (suc (suc at))))) h.1.1.1.1.1.0) _ _ (λ m.
+    let f : CtuFields = ctu_step (record { cu = cu; r = r; pv = pv; q = q; cv = cv; m = m }) in
+    (with_numbers numbers at (field_numbers (ctu_contents f)), fields_written frame store numbers contents names at (ctu_contents f) h, refl)))))))
+block_follows frame Ton now store numbers contents names at h =
+    truth_given frame (field_at store names (codes "in")) (number_from numbers at 0) (contents.each (Path (names ++ codes "in" ∷ [])) at h.0) _ _ (λ input.
+    time_given frame (field_at store names (codes "pt")) (number_from numbers at 1) (contents.each (Path (names ++ codes "pt" ∷ [])) (suc at) h.1.0) _ _ (λ pt.
+    truth_given frame (field_at store names (codes "q")) (number_from numbers at 2) (contents.each (Path (names ++ codes "q" ∷ [])) (suc (suc at)) h.1.1.0) _ _ (λ q.
+    time_given frame (field_at store names (codes "et")) (number_from numbers at 3) (contents.each (Path (names ++ codes "et" ∷ [])) (suc (suc (suc at))) h.1.1.1.0) _ _ (λ et.
+    truth_given frame (field_at store names (codes "run")) (number_from numbers at 4) (contents.each (Path (names ++ codes "run" ∷ [])) (suc (suc (suc (suc at)))) h.1.1.1.1.0) _ _ (λ run.
+    moment_given frame (field_at store names (codes "start")) (number_from numbers at 5) (contents.each (Path (names ++ codes "start" ∷ [])) (suc (suc (suc (suc (suc at))))) h.1.1.1.1.1.0) _ _ (λ start.
+    let f : TonFields = ton_step now (record { input = input; pt = pt; q = q; et = et; run = run; start = start }) in
+    (with_numbers numbers at (field_numbers (ton_contents f)), fields_written frame store numbers contents names at (ton_contents f) h, refl)))))))
+block_follows frame Tof now store numbers contents names at h =
+    truth_given frame (field_at store names (codes "in")) (number_from numbers at 0) (contents.each (Path (names ++ codes "in" ∷ [])) at h.0) _ _ (λ input.
+    time_given frame (field_at store names (codes "pt")) (number_from numbers at 1) (contents.each (Path (names ++ codes "pt" ∷ [])) (suc at) h.1.0) _ _ (λ pt.
+    truth_given frame (field_at store names (codes "q")) (number_from numbers at 2) (contents.each (Path (names ++ codes "q" ∷ [])) (suc (suc at)) h.1.1.0) _ _ (λ q.
+    time_given frame (field_at store names (codes "et")) (number_from numbers at 3) (contents.each (Path (names ++ codes "et" ∷ [])) (suc (suc (suc at))) h.1.1.1.0) _ _ (λ et.
+    phase_given frame (field_at store names (codes "phase")) (number_from numbers at 4) (contents.each (Path (names ++ codes "phase" ∷ [])) (suc (suc (suc (suc at)))) h.1.1.1.1.0) _ _ (λ phase.
+    moment_given frame (field_at store names (codes "start")) (number_from numbers at 5) (contents.each (Path (names ++ codes "start" ∷ [])) (suc (suc (suc (suc (suc at))))) h.1.1.1.1.1.0) _ _ (λ start.
+    let f : TofFields = tof_step now (record { input = input; pt = pt; q = q; et = et; phase = phase; start = start }) in
+    (with_numbers numbers at (field_numbers (tof_contents f)), fields_written frame store numbers contents names at (tof_contents f) h, refl)))))))
+
+-- a field of an instance, by where it stands in its block
+pub field_place : (frame : List (Location × Content)) (scope : Scope) (names : List Name) (base : ℕ) → IsBased frame scope names base → (instance : Name) (v : Variable) → variable_named scope.unit instance ≡ Some v → (at : ℕ) → first_place scope instance ≡ Some at → (field : Name) (i n : ℕ) → path_from 0 (places_of scope.before v) (field ∷ []) ≡ Some i → base + at + i ≡ n → place_number frame (Path ((names ++ instance ∷ []) ++ field ∷ [])) ≡ Some n
+field_place frame scope names base based instance v found at first field i n e sum =
+    ap (λ (path : List Name). place_number frame (Path path)) (append_assoc names (instance ∷ []) (field ∷ []))
+    ∙ (based (Path (instance ∷ field ∷ [])) (at + i) (instance_number scope instance v found at first (field ∷ []) i e)
+    ∙ ap Some (let a : base + (at + i) ≡ n = omega (arith, sum) in a))
+
+-- the fields of an instance of a standard block
+pub fields_at : (frame : List (Location × Content)) (scope : Scope) (names : List Name) (base : ℕ) → IsBased frame scope names base → (instance : Name) (v : Variable) → variable_named scope.unit instance ≡ Some v → (block : StandardBlock) → type_named scope.before v.type_name ≡ Some (Standard block) → (at : ℕ) → first_place scope instance ≡ Some at → FieldsAt frame (names ++ instance ∷ []) (base + at) (standard_fields block)
+fields_at frame scope names base based instance v found block typed at first = each block (ap (λ (t : Option VariableType). variable_places (block_places scope.before) t v.initial) typed)
+  where
+    field : (b : StandardBlock) → places_of scope.before v ≡ map (λ f. (f.0 ∷ [], f.1)) (standard_fields b) → (name : Name) (i n : ℕ) → path_from 0 (map (λ f. (f.0 ∷ [], f.1)) (standard_fields b)) (name ∷ []) ≡ Some i → base + at + i ≡ n → place_number frame (Path ((names ++ instance ∷ []) ++ name ∷ [])) ≡ Some n
+    field b places name i n e sum = field_place frame scope names base based instance v found at first name i n (ap (λ (ps : List (List Name × Content)). path_from 0 ps (name ∷ [])) places ∙ e) sum
+
+    each : (b : StandardBlock) → places_of scope.before v ≡ map (λ f. (f.0 ∷ [], f.1)) (standard_fields b) → FieldsAt frame (names ++ instance ∷ []) (base + at) (standard_fields b)
+    each RTrig p = (field RTrig p (codes "clk") 0 (base + at) refl (omega arith), (field RTrig p (codes "q") 1 (suc (base + at)) refl (omega arith), (field RTrig p (codes "m") 2 (suc (suc (base + at))) refl (omega arith), tt)))
+    each Sr p = (field Sr p (codes "s1") 0 (base + at) refl (omega arith), (field Sr p (codes "r") 1 (suc (base + at)) refl (omega arith), (field Sr p (codes "q1") 2 (suc (suc (base + at))) refl (omega arith), tt)))
+    each Ctu p = (field Ctu p (codes "cu") 0 (base + at) refl (omega arith), (field Ctu p (codes "r") 1 (suc (base + at)) refl (omega arith), (field Ctu p (codes "pv") 2 (suc (suc (base + at))) refl (omega arith), (field Ctu p (codes "q") 3 (suc (suc (suc (base + at)))) refl (omega arith), (field Ctu p (codes "cv") 4 (suc (suc (suc (suc (base + at))))) refl (omega arith), (field Ctu p (codes "m") 5 (suc (suc (suc (suc (suc (base + at)))))) refl (omega arith), tt))))))
+    each Ton p = (field Ton p (codes "in") 0 (base + at) refl (omega arith), (field Ton p (codes "pt") 1 (suc (base + at)) refl (omega arith), (field Ton p (codes "q") 2 (suc (suc (base + at))) refl (omega arith), (field Ton p (codes "et") 3 (suc (suc (suc (base + at)))) refl (omega arith), (field Ton p (codes "run") 4 (suc (suc (suc (suc (base + at))))) refl (omega arith), (field Ton p (codes "start") 5 (suc (suc (suc (suc (suc (base + at)))))) refl (omega arith), tt))))))
+    each Tof p = (field Tof p (codes "in") 0 (base + at) refl (omega arith), (field Tof p (codes "pt") 1 (suc (base + at)) refl (omega arith), (field Tof p (codes "q") 2 (suc (suc (base + at))) refl (omega arith), (field Tof p (codes "et") 3 (suc (suc (suc (base + at)))) refl (omega arith), (field Tof p (codes "phase") 4 (suc (suc (suc (suc (base + at))))) refl (omega arith), (field Tof p (codes "start") 5 (suc (suc (suc (suc (suc (base + at)))))) refl (omega arith), tt))))))
