@@ -2,7 +2,8 @@ ghost use Rattle.std.specs.Prelude.{◌≡◌, ◌≤◌, ◌<◌, ℕ, IfOk, Is
 ghost use Rattle.wc_model.specs.Language.Scans.{initial_of, outputs_of, scan_of};
 ghost use Rattle.wc_model.specs.Language.Store.{Store};
 ghost use Rattle.wc_model.specs.Language.Tree.{Text};
-ghost use Rattle.wc_first.specs.Machines.{text_by_itself, StandsForProgram, Leaves, IsProgramBound};
+ghost use Rattle.wc_first.specs.Machines.{text_by_itself, StandsForProgram, Leaves};
+ghost use Rattle.wc_model.specs.Language.Paths.{IsProgramBound};
 
 use crate::body::run;
 use crate::count::instruction_count;

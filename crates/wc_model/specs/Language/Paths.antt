@@ -1,12 +1,12 @@
 -- The paths of a body: traces in which every conditional may go either way, whatever the data, through all depths of
 -- calls. The bound of a unit is the length of a longest one. (The profile's own.)
-use Rattle.std.specs.Prelude.{◌≡◌, ℕ, ◌≤◌, List, [], ◌∷◌, ◌++◌, map, length, ◌⊎◌, Option, Some, None, true, false}
+use Rattle.std.specs.Prelude.{◌≡◌, ℕ, ◌≤◌, List, [], ◌∷◌, ◌++◌, map, length, reverse, ◌⊎◌, Option, Some, None, true, false}
 use Rattle.wc_model.specs.Language.Declarations.{VariableType, Elementary, Standard, Block, same_name}
 use Rattle.wc_model.specs.Language.Meaning.{carries}
 use Rattle.wc_model.specs.Language.Names.{Name}
 use Rattle.wc_model.specs.Language.Scopes.{Scope, type_of}
 use Rattle.wc_model.specs.Language.Traces.{Item, At, Argument, StandardBody, Called}
-use Rattle.wc_model.specs.Language.Tree.{Word, Assignment, Step, Load, Store, Apply, Negate, Jump, Call, Return, Lines, End, Alone, Plain, Nested, ProgramUnit}
+use Rattle.wc_model.specs.Language.Tree.{Word, Assignment, Step, Load, Store, Apply, Negate, Jump, Call, Return, Lines, End, Alone, Plain, Nested, ProgramUnit, Text}
 use Rattle.wc_model.specs.declared.operator.Condition.{Condition}
 use Rattle.wc_model.specs.declared.operator.Condition.TheVariants.{Always, IfTrue, IfFalse}
 
@@ -100,3 +100,11 @@ pub record IsLongest (scope : Scope) (n : ℕ) : Type 0 where
   pub is_path : IsPath scope path
   pub reached : length path ≡ n
   pub greatest : (other : List Item) → IsPath scope other → length other ≤ n
+
+-- the bound of a text: the length of a longest path of its program, the last of its units
+abbrev pub IsBoundOfLast : List ProgramUnit → ℕ → Type 0
+IsBoundOfLast [] bound = ⊥
+IsBoundOfLast (program ∷ before) bound = IsLongest (record { before = before; unit = program }) bound
+
+abbrev pub IsProgramBound : Text → ℕ → Type 0
+IsProgramBound text bound = IsBoundOfLast (reverse text) bound
