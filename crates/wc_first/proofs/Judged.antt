@@ -14,7 +14,7 @@ use Rattle.wc_model.specs.declared.operator.Operator.{Operator}
 use Rattle.wc_model.specs.declared.operator.Operator.TheVariants.{And, Andn, Or, Orn, Xor, Xorn, Add, Sub, Mul, Div, Mod, Gt, Ge, Eq, Ne, Le, Lt}
 use Rattle.wc_first.proofs.Known.{Named, nothing, something, kind_in}
 use Rattle.wc_first.specs.FirstLanguage.{label_language, is_plain_operator}
-use Rattle.wc_first.specs.Machines.{Judges}
+use Rattle.wc_model.specs.Language.Judging.{Judges}
 use Rattle.wc_first.specs.Scoped.{scope_in, kind_handed, result_kind, found_behind, JudgesOn}
 
 -- nothing found in a list leaves what is behind it

@@ -9,7 +9,7 @@ use Rattle.wc_model.specs.declared.operand.Word.{Word as Spelled}
 use Rattle.wc_model.specs.declared.operator.Operator.{Operator}
 use Rattle.wc_model.specs.declared.operator.Storing.{Storing}
 use Rattle.wc_first.specs.FirstLanguage.{body_language, operand_language, is_plain_operator, is_plain_storing}
-use Rattle.wc_first.specs.Machines.{Judges}
+use Rattle.wc_model.specs.Language.Judging.{Judges}
 
 -- the same is found
 pub judges_same : {X : Type 0} (found other rest : Option Refusal) (result : Result X Fault) → found ≡ other → Judges other rest result → Judges found rest result

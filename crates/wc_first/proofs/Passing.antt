@@ -12,7 +12,8 @@ use Rattle.wc_model.specs.declared.source.Unit.{Unit as CodeUnit}
 use Rattle.wc_model.specs.declared.fault.Fault.{Fault}
 use Rattle.wc_model.specs.declared.fault.Fault.TheVariants.{Refused, Memory}
 use Rattle.wc_first.specs.FirstLanguage.{body_language, declaration_language, language_fault, unit_language}
-use Rattle.wc_first.specs.Machines.{Judges, instruction_count}
+use Rattle.wc_first.specs.Machines.{instruction_count}
+use Rattle.wc_model.specs.Language.Judging.{Judges}
 use Rattle.wc_first.specs.Passes.{at_language, at_declarations, at_bodies, Refuses}
 use Rattle.wc_first.proofs.Bounds.{lines_are_longest}
 use Rattle.wc_first.proofs.InScope.{body_there}

@@ -6,7 +6,7 @@ ghost use Rattle.wc_model.specs.Language.Store.{store_of};
 ghost use Rattle.wc_model.specs.Language.Tree.{Lines, ProgramUnit};
 ghost use Rattle.wc_model.specs.Language.Views.{line_view, lines_view, unit_view};
 ghost use Rattle.wc_first.specs.FirstLanguage.{body_language};
-ghost use Rattle.wc_first.specs.Machines.{Judges};
+ghost use Rattle.wc_model.specs.Language.Judging.{Judges};
 ghost use Rattle.wc_first.specs.Scoped.{IsFrameOf, JudgesOn, found_behind, kind_handed, result_kind, scope_in};
 
 use crate::places::Places;

@@ -9,7 +9,7 @@ ghost use Rattle.wc_model.specs.Language.Tree.{ProgramUnit};
 ghost use Rattle.wc_model.specs.Language.Views.{declaration_view, unit_view, word_view};
 ghost use Rattle.wc_first.specs.FirstLanguage.{declaration_language};
 ghost use Rattle.wc_first.specs.HeldNames.{HoldsNames, HasTaken};
-ghost use Rattle.wc_first.specs.Machines.{Judges};
+ghost use Rattle.wc_model.specs.Language.Judging.{Judges};
 
 use crate::language::{is_word, refused};
 use crate::names::declare_names;

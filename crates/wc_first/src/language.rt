@@ -7,7 +7,7 @@ ghost use Rattle.wc_model.specs.Language.Names.{name_of};
 ghost use Rattle.wc_model.specs.Language.Tree.{Lines};
 ghost use Rattle.wc_model.specs.Language.Views.{line_view, lines_view, term_view, declaration_view, unit_view};
 ghost use Rattle.wc_first.specs.FirstLanguage.{body_language, declaration_language, is_plain_operator, is_plain_storing, operand_language, other_elementary_types, standard_block_names, unit_language};
-ghost use Rattle.wc_first.specs.Machines.{Judges};
+ghost use Rattle.wc_model.specs.Language.Judging.{Judges};
 
 use crate::address::variable_at;
 use wc_model::{Decl, Fault, Instr, Line, Operand, Operator, Section, Storing, Unit};

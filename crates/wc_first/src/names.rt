@@ -5,7 +5,7 @@ ghost use Rattle.wc_model.specs.Language.Names.{Name};
 ghost use Rattle.wc_model.specs.Language.Store.{store_of};
 ghost use Rattle.wc_model.specs.Language.Views.{name_view, word_view};
 ghost use Rattle.wc_first.specs.HeldNames.{HoldsNames};
-ghost use Rattle.wc_first.specs.Machines.{Judges};
+ghost use Rattle.wc_model.specs.Language.Judging.{Judges};
 
 use crate::key::Key;
 use crate::language::refused;

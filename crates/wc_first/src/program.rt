@@ -2,7 +2,7 @@ ghost use Rattle.std.specs.Prelude.{◌≡◌, ◌≤◌, [], ◌∷◌, OnOk, I
 ghost use Rattle.wc_model.specs.Language.Declarations.{is_block};
 ghost use Rattle.wc_model.specs.Language.Views.{text_view, unit_view};
 ghost use Rattle.wc_first.specs.FirstLanguage.{language_fault};
-ghost use Rattle.wc_first.specs.Machines.{Judges};
+ghost use Rattle.wc_model.specs.Language.Judging.{Judges};
 ghost use Rattle.wc_first.specs.Passes.{IsFit, Refuses};
 
 use crate::bodies::judge_body;

@@ -6,7 +6,7 @@ ghost use Rattle.wc_model.specs.Language.Store.{Store as Contents, store_of};
 ghost use Rattle.wc_model.specs.Language.Tree.{ProgramUnit};
 ghost use Rattle.wc_model.specs.Language.Views.{term_view};
 ghost use Rattle.wc_first.specs.FirstLanguage.{is_plain_operator, is_plain_storing, operand_language};
-ghost use Rattle.wc_first.specs.Machines.{Judges};
+ghost use Rattle.wc_model.specs.Language.Judging.{Judges};
 ghost use Rattle.wc_first.specs.Scoped.{IsFrameOf, result_kind, scope_in};
 
 use crate::address::is_input;

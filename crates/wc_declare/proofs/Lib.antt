@@ -1,0 +1,17 @@
+pub mod KeyNames
+pub mod Lists
+pub mod Places
+pub mod NamesSoFar
+pub mod Judging
+pub mod Typing
+pub mod RowsSoFar
+pub mod DeclaredSoFar
+pub mod Addresses
+pub mod LineViews
+pub mod Positions
+pub mod UnitsSoFar
+pub mod Frames
+pub mod Lookups
+pub mod ScopeTables
+pub mod MemberTables
+pub mod Entities

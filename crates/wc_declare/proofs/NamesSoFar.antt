@@ -1,0 +1,68 @@
+-- Names that are declared so far.
+use Rattle.std.proofs.Common.{◌≡◌, Bool, true, false, List, [], ◌∷◌, ◌++◌, map, append_assoc, refl, sym, ap, subst, ◌∙◌}
+use Rattle.std.proofs.lemmas.List.Folds.{list_any-append}
+use Rattle.std.specs.Prelude.{◌||◌}
+use Rattle.std.specs.List.{flat_map}
+use Rattle.wc_model.specs.Language.Checks.{Check, Spot, first_broken, spots_behind}
+use Rattle.wc_model.specs.Language.DeclarationRules.{is_among, is_new, name_of_word, not_reserved}
+use Rattle.wc_model.specs.Language.Declarations.{same_name}
+use Rattle.wc_model.specs.Language.Names.{Name}
+use Rattle.wc_model.specs.Language.Tree.{Word}
+use Rattle.wc_declare.specs.Keys.{same_name_laws}
+use Rattle.wc_declare.specs.Rows.{SameNames}
+use Rattle.wc_declare.specs.StandsFor.{AreDifferent}
+
+or_last : (a b : Bool) → (a || (b || false)) ≡ (b || a)
+or_last true true = refl
+or_last true false = refl
+or_last false true = refl
+or_last false false = refl
+
+-- one more name, behind those of a list or in front of others
+pub one_more : (own known : List Name) (new : Name) → SameNames own known → SameNames (own ++ new ∷ []) (new ∷ known)
+one_more own known new same = λ name.
+    list_any-append (same_name name) own (new ∷ []) ∙ or_last (is_among own name) (same_name name new) ∙ ap (λ b. same_name name new || b) (same name)
+
+neither : (a b : Bool) → (a || b) ≡ false → (a ≡ false) × (b ≡ false)
+neither true b e = cc
+neither false b e = (refl, e)
+
+not_last : (a b : Bool) → a ≡ false → b ≡ false → (a || (b || false)) ≡ false
+not_last a b p q = rw p (rw q refl)
+
+-- one more name that is new leaves all different
+pub still_different : (own : List Name) (new : Name) → AreDifferent own → is_among own new ≡ false → AreDifferent (own ++ new ∷ [])
+still_different [] new h e = (refl, tt)
+still_different (x ∷ own) new h e =
+    let parts = neither (same_name new x) (is_among own new) e in (
+      list_any-append (same_name x) own (new ∷ []) ∙ not_last (is_among own x) (same_name x new) h.0 (sym (same_name_laws.symm new x) ∙ parts.0),
+      still_different own new h.1 parts.1,
+    )
+
+-- the rules of each name behind others
+abbrev pub name_checks : List Name → Spot Word → List Check
+name_checks names spot = not_reserved spot.item ∷ is_new (map name_of_word spot.before ++ names) spot.item ∷ []
+
+-- what stands behind the names so far, newest first: what is found first is found in the words that are left, the names so far
+-- are held, and with those that are left they are all
+pub record StandsBehind (start own : List Name) (all left : List Word) : Type 0 where
+  pub before : List Word
+  pub found : (known : List Name) (rest : List Check) → SameNames start known → first_broken (flat_map (name_checks known) (spots_behind [] all) ++ rest) ≡ first_broken (flat_map (name_checks known) (spots_behind before left) ++ rest)
+  pub held : (known : List Name) → SameNames start known → SameNames own (map name_of_word before ++ known)
+  pub joined : own ++ map name_of_word left ≡ start ++ map name_of_word all
+  pub different : AreDifferent start → AreDifferent own
+
+pub at_first : (start : List Name) (all : List Word) → StandsBehind start start all all
+at_first start all = record { before = []; found = λ known rest same. refl; held = λ known same. same; joined = refl; different = λ h. h }
+
+pub one_behind : (start own new : List Name) (all : List Word) (word : Word) (left : List Word) → StandsBehind start own all (word ∷ left) →
+    ((known : List Name) (rest : List Check) → SameNames own known → first_broken (not_reserved word ∷ is_new known word ∷ rest) ≡ first_broken rest) →
+    new ≡ own ++ word.name ∷ [] → is_among own word.name ≡ false → StandsBehind start new all left
+one_behind start own new all word left h passes added fresh = record {
+  before = word ∷ h.before;
+  found = λ known rest same.
+      h.found known rest same ∙ passes (map name_of_word h.before ++ known) (flat_map (name_checks known) (spots_behind (word ∷ h.before) left) ++ rest) (h.held known same);
+  held = λ known same name. ap (λ names. is_among names name) added ∙ one_more own (map name_of_word h.before ++ known) word.name (h.held known same) name;
+  joined = ap (λ names. names ++ map name_of_word left) added ∙ append_assoc own (word.name ∷ []) (map name_of_word left) ∙ h.joined;
+  different = λ d. subst AreDifferent (sym added) (still_different own word.name (h.different d) fresh);
+}

@@ -1,0 +1,69 @@
+use Rattle.std.proofs.Common.{◌≡◌, ℕ, ◌<◌, refl, length, ◌+◌, ◌++◌, [], ◌∷◌, List, map, drop, get_or, ap, sym, subst, ◌∙◌, arith}
+use Rattle.std.proofs.lemmas.List.{drop_all, append-nil}
+use Rattle.wc_model.specs.Language.Checks.{asks, first_broken, spots_behind}
+use Rattle.wc_model.specs.Language.DeclarationRules.{and_more, has_room, room_checks}
+use Rattle.wc_model.specs.Language.Tree.{Declaration, Word as Named}
+use Rattle.wc_model.specs.Language.Views.{declaration_view, word_view}
+use Rattle.wc_model.specs.declared.operand.Word.{Word}
+use Rattle.wc_declare.specs.Rows.{HasTaken, HoldsRows}
+use Rattle.wc_declare.specs.declared.declared_type.DeclaredType.{DeclaredType}
+use Rattle.wc_declare.specs.declared.unit_table.UnitTable.{UnitTable}
+use Rattle.wc_declare.proofs.Lists.{from_index_or}
+use Rattle.wc_declare.proofs.Judging.{judges_err, judges_ok}
+use Rattle.wc_declare.proofs.RowsSoFar.{RoomBehind, as_variable, one_further, room_first, room_more, room_of}
+use Rattle.wc_declare.proofs.declaration.declare_variables.Goals as goal
+
+-- the words that are left begin with this one
+begin : (start own : UnitTable) (d : Declaration) (declared : DeclaredType) (width : ℕ) (all : List Named) (items : List Word) (i : ℕ) → i < length items →
+    RoomBehind start own d declared width all (map word_view (drop i items)) → RoomBehind start own d declared width all (word_view (get_or items i (record { text = record { ref_ptr = (0, 0); now = [] }; line = 0 })) ∷ map word_view (drop (i + 1) items))
+begin start own d declared width all items i below h = subst (λ xs. RoomBehind start own d declared width all (map word_view xs)) (from_index_or items i (record { text = record { ref_ptr = (0, 0); now = [] }; line = 0 }) below) h
+
+pub loop-word-init : goal.loop-word-init
+loop-word-init c = room_first c.args.table.now (declaration_view c.args.declaration.now) c.args.declared c.args.width (map word_view c.deref-word-items.result.now)
+
+pub returns-in-Err-clause-judged : goal.returns-in-Err-clause-judged
+returns-in-Err-clause-judged c = λ t rest taken.
+    let i = c.loop-word.word-index in
+    let items = c.deref-word-items.result.now in
+    let word : Word = get_or items i (record { text = record { ref_ptr = (0, 0); now = [] }; line = 0 }) in
+    let left = map word_view (drop (i + 1) items) in
+    let h = begin c.args.table.now c.loop-word.table (declaration_view c.args.declaration.now) c.args.declared c.args.width (map word_view items) items i c.loop-word-test.true c.loop-word.invariant in
+    let more = map (room_of t c.args.width) (spots_behind (word_view word ∷ h.before) left) ++ rest in
+    let now = and_more t (length h.before) c.args.width in
+    judges_err (Unit {0}) (Unit {0}) (first_broken (room_checks t c.args.width (map word_view c.args.declaration.now.names.items) ++ rest))
+    (first_broken (asks 306 word.line (has_room (and_more now 1 c.args.width)) ∷ more)) (first_broken more) (first_broken rest) c.in-Err.fault
+    (ap (λ xs. first_broken (room_checks t c.args.width (map word_view xs) ++ rest)) (sym c.deref-word-items.ensures.value) ∙ h.found t rest taken ∙ ap (λ x. first_broken (asks 306 word.line (has_room x) ∷ more)) (one_further t (length h.before) c.args.width))
+    (c.in-Err.ensures.judged now more (h.taken t taken))
+
+pub loop-word-preserved : goal.loop-word-preserved
+loop-word-preserved c =
+    let i = c.loop-word.word-index in
+    let items = c.deref-word-items.result.now in
+    let word : Word = get_or items i (record { text = record { ref_ptr = (0, 0); now = [] }; line = 0 }) in
+    let d = declaration_view c.args.declaration.now in
+    let h = begin c.args.table.now c.loop-word.table d c.args.declared c.args.width (map word_view items) items i c.loop-word-test.true c.loop-word.invariant in
+    room_more c.args.table.now c.loop-word.table c.add.new.self d c.args.declared c.args.width (map word_view items) (word_view word) (map word_view (drop (i + 1) items))
+    (record { section = c.args.declaration.now.section; declared = c.args.declared; first = c.loop-word.table.size; initial = c.literal-initial.result }) h
+    (λ t rest taken. judges_ok (first_broken (asks 306 word.line (has_room (and_more t 1 c.args.width)) ∷ rest)) (first_broken rest) c.add.result c.in_default.field-0 c.in_default.is (c.add.ensures.judged t rest taken))
+    refl refl refl c.literal-initial.ensures c.in_default.ensures.rows c.in_default.ensures.size c.in_default.ensures.fields c.in_default.ensures.names c.in_default.ensures.small c.in_default.ensures.is_block
+
+pub returns-clause-judged : goal.returns-clause-judged
+returns-clause-judged c = λ t rest taken.
+    let end : drop c.loop-word.word-index c.deref-word-items.result.now ≡ [] = drop_all c.loop-word.word-index c.deref-word-items.result.now c.loop-word-test.false in
+    let h = subst (λ xs. RoomBehind c.args.table.now c.loop-word.table (declaration_view c.args.declaration.now) c.args.declared c.args.width (map word_view c.deref-word-items.result.now) (map word_view xs)) end c.loop-word.invariant in
+    ap (λ xs. first_broken (room_checks t c.args.width (map word_view xs) ++ rest)) (sym c.deref-word-items.ensures.value) ∙ h.found t rest taken
+
+pub returns-clause-taken : goal.returns-clause-taken
+returns-clause-taken c = λ t taken.
+    let end : drop c.loop-word.word-index c.deref-word-items.result.now ≡ [] = drop_all c.loop-word.word-index c.deref-word-items.result.now c.loop-word-test.false in
+    let h = subst (λ xs. RoomBehind c.args.table.now c.loop-word.table (declaration_view c.args.declaration.now) c.args.declared c.args.width (map word_view c.deref-word-items.result.now) (map word_view xs)) end c.loop-word.invariant in
+    let all : length h.before ≡ length (map word_view c.deref-word-items.result.now) = let e = h.counted in omega (arith, e) in
+    subst (λ n. HasTaken (and_more t n c.args.width) c.loop-word.table) (all ∙ ap (λ xs. length (map word_view xs)) c.deref-word-items.ensures.value) (h.taken t taken)
+
+pub returns-clause-held : goal.returns-clause-held
+returns-clause-held c = λ before first vs type wide held.
+    let end : drop c.loop-word.word-index c.deref-word-items.result.now ≡ [] = drop_all c.loop-word.word-index c.deref-word-items.result.now c.loop-word-test.false in
+    let d = declaration_view c.args.declaration.now in
+    let h = subst (λ xs. RoomBehind c.args.table.now c.loop-word.table d c.args.declared c.args.width (map word_view c.deref-word-items.result.now) (map word_view xs)) end c.loop-word.invariant in
+    let all = sym (append-nil h.done) ∙ h.joined ∙ ap (λ xs. map (as_variable d) (map word_view xs)) c.deref-word-items.ensures.value in
+    subst (λ xs. HoldsRows before first (vs ++ xs) c.loop-word.table) all (h.held before first vs type wide held)

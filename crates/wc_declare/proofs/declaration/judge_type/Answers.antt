@@ -1,0 +1,33 @@
+use Rattle.std.proofs.Common.{◌∷◌, sym, ◌∙◌}
+use Rattle.wc_model.specs.Language.Checks.{asks}
+use Rattle.wc_model.specs.Language.DeclarationRules.{is_usable_type}
+use Rattle.wc_model.specs.Language.Names.{name_of}
+use Rattle.wc_declare.proofs.Judging.{passed, broken}
+use Rattle.wc_declare.proofs.Typing.{usable_type, unusable_type}
+use Rattle.wc_declare.proofs.declaration.judge_type.Goals as goal
+
+pub returns-in_default-clause-judged : goal.returns-in_default-clause-judged
+returns-in_default-clause-judged c = λ text before rest h.
+    let d = c.args.declaration.now in
+    let name = name_of d.type_name.text.now in
+    rw c.refused-in_default.ensures (
+    passed 308 d.type_name.line _ (asks 302 d.type_name.line (is_usable_type before d.section name) ∷ rest) (sym (c.is_closed_before.ensures text before h) ∙ c.if-not-is_closed_before.false)
+    ∙ broken 302 d.type_name.line (is_usable_type before d.section name) rest (unusable_type before d.section name (sym (c.type_at.ensures text before h) ∙ c.in_default.is)))
+
+pub returns-then-stands_in-clause-judged : goal.returns-then-stands_in-clause-judged
+returns-then-stands_in-clause-judged c = λ text before rest h.
+    let d = c.args.declaration.now in
+    let name = name_of d.type_name.text.now in
+    passed 308 d.type_name.line _ (asks 302 d.type_name.line (is_usable_type before d.section name) ∷ rest) (sym (c.is_closed_before.ensures text before h) ∙ c.if-not-is_closed_before.false)
+    ∙ passed 302 d.type_name.line (is_usable_type before d.section name) rest (usable_type before d.section name c.in-Some.declared (sym (c.type_at.ensures text before h) ∙ c.in-Some.is) ∙ sym c.stands_in.ensures ∙ c.if-stands_in.true)
+
+pub returns-then-stands_in-clause-declared : goal.returns-then-stands_in-clause-declared
+returns-then-stands_in-clause-declared c = λ text before h. sym (c.type_at.ensures text before h) ∙ c.in-Some.is
+
+pub returns-else-stands_in-clause-judged : goal.returns-else-stands_in-clause-judged
+returns-else-stands_in-clause-judged c = λ text before rest h.
+    let d = c.args.declaration.now in
+    let name = name_of d.type_name.text.now in
+    rw c.refused-else-stands_in.ensures (
+    passed 308 d.type_name.line _ (asks 302 d.type_name.line (is_usable_type before d.section name) ∷ rest) (sym (c.is_closed_before.ensures text before h) ∙ c.if-not-is_closed_before.false)
+    ∙ broken 302 d.type_name.line (is_usable_type before d.section name) rest (usable_type before d.section name c.in-Some.declared (sym (c.type_at.ensures text before h) ∙ c.in-Some.is) ∙ sym c.stands_in.ensures ∙ c.if-stands_in.false))

@@ -1,0 +1,57 @@
+use Rattle.std.proofs.Common.{◌≡◌, ◌+◌, ◌++◌, ◌∷◌, [], None, map, drop, ap, refl, sym, subst, ◌∙◌}
+use Rattle.std.proofs.lemmas.List.{drop_all}
+use Rattle.std.specs.List.{flat_map}
+use Rattle.wc_model.specs.Language.Checks.{first_broken, spots_behind}
+use Rattle.wc_model.specs.Language.DeclarationRules.{unit_checks}
+use Rattle.wc_model.specs.Language.Faults.{declaration_fault}
+use Rattle.wc_model.specs.Language.Views.{unit_view}
+use Rattle.wc_declare.specs.StandsFor.{AreUnits, AreUnitsOf, onto}
+use Rattle.wc_declare.specs.declared.unit_table.UnitTable.{UnitTable}
+use Rattle.wc_declare.proofs.Judging.{judges_err, judges_ok}
+use Rattle.wc_declare.proofs.Lists.{from_index}
+use Rattle.wc_declare.proofs.UnitsSoFar.{Reads, none_read, one_read}
+use Rattle.wc_declare.proofs.declaring.judge_units.Goals as goal
+
+pub loop-unit-init : goal.loop-unit-init
+loop-unit-init c = λ units. none_read (map unit_view c.deref-unit-items.result.now) c.args.units.now units
+
+pub returns-in-Err-clause-judged : goal.returns-in-Err-clause-judged
+returns-in-Err-clause-judged c = λ start.
+    let i = c.loop-unit.unit-index in
+    let items = c.deref-unit-items.result.now in
+    let text = map unit_view items in
+    let unit = unit_view c.unit-item.result in
+    let left = map unit_view (drop (i + 1) items) in
+    let cut = from_index items i c.unit-item.result c.loop-unit-test.true c.unit-item.is in
+    let h = subst (λ xs. Reads text (map unit_view xs) c.loop-unit.units) cut (c.loop-unit.invariant (subst (λ xs. AreUnitsOf (map unit_view xs) [] c.args.units.now) (sym c.deref-unit-items.ensures.value) start)) in
+    let more = flat_map (λ spot. unit_checks text spot.before spot.item) (spots_behind (unit ∷ h.before) left) in
+    judges_err UnitTable (Unit {0}) _ (first_broken (unit_checks text h.before unit ++ more)) (first_broken more) None c.in-Err.fault
+    (ap (λ xs. declaration_fault (map unit_view xs)) (sym c.deref-unit-items.ensures.value) ∙ h.found) (c.in-Err.ensures.judged text h.before more h.are)
+
+pub loop-unit-preserved : goal.loop-unit-preserved
+loop-unit-preserved c = λ start.
+    let i = c.loop-unit.unit-index in
+    let items = c.deref-unit-items.result.now in
+    let text = map unit_view items in
+    let unit = unit_view c.unit-item.result in
+    let left = map unit_view (drop (i + 1) items) in
+    let cut = from_index items i c.unit-item.result c.loop-unit-test.true c.unit-item.is in
+    let h = subst (λ xs. Reads text (map unit_view xs) c.loop-unit.units) cut (c.loop-unit.invariant start) in
+    let more = flat_map (λ spot. unit_checks text spot.before spot.item) (spots_behind (unit ∷ h.before) left) in
+    one_read text unit left c.loop-unit.units c.add_unit.new.units h
+    (judges_ok (first_broken (unit_checks text h.before unit ++ more)) (first_broken more) c.judge_unit.result c.in-Ok.table c.in-Ok.is (c.judge_unit.ensures.judged text h.before more h.are))
+    (c.in_default.ensures.added text h.before unit h.are refl c.in-Ok.ensures.new (c.in-Ok.ensures.table text h.before h.are))
+
+pub returns-clause-judged : goal.returns-clause-judged
+returns-clause-judged c = λ start.
+    let items = c.deref-unit-items.result.now in
+    let end : drop c.loop-unit.unit-index items ≡ [] = drop_all c.loop-unit.unit-index items c.loop-unit-test.false in
+    let h = subst (λ xs. Reads (map unit_view items) (map unit_view xs) c.loop-unit.units) end (c.loop-unit.invariant (subst (λ xs. AreUnitsOf (map unit_view xs) [] c.args.units.now) (sym c.deref-unit-items.ensures.value) start)) in
+    ap (λ xs. declaration_fault (map unit_view xs)) (sym c.deref-unit-items.ensures.value) ∙ h.found
+
+pub returns-clause-tables : goal.returns-clause-tables
+returns-clause-tables c = λ start.
+    let items = c.deref-unit-items.result.now in
+    let end : drop c.loop-unit.unit-index items ≡ [] = drop_all c.loop-unit.unit-index items c.loop-unit-test.false in
+    let h = subst (λ xs. Reads (map unit_view items) (map unit_view xs) c.loop-unit.units) end (c.loop-unit.invariant (subst (λ xs. AreUnitsOf (map unit_view xs) [] c.args.units.now) (sym c.deref-unit-items.ensures.value) start)) in
+    subst (λ before. AreUnits before c.loop-unit.units.tables.items) (h.joined ∙ ap (λ xs. onto (map unit_view xs) []) c.deref-unit-items.ensures.value) h.are.tables

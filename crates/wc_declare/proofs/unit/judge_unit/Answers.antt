@@ -1,0 +1,70 @@
+use Rattle.std.proofs.Common.{◌≡◌, Bool, [], ◌++◌, refl, ap, sym, ◌∙◌, append_assoc}
+use Rattle.std.specs.Prelude.{if◌then◌else◌}
+use Rattle.wc_model.specs.Language.Checks.{first_broken}
+use Rattle.wc_model.specs.Language.DeclarationRules.{body_name_checks, unit_checks, unit_declaration_checks}
+use Rattle.wc_model.specs.Language.Declarations.{is_block}
+use Rattle.wc_model.specs.Language.Views.{lines_view, unit_view}
+use Rattle.wc_model.specs.Language.Tree.{ProgramUnit}
+use Rattle.wc_declare.specs.Rows.{IsEmptyOf}
+use Rattle.wc_declare.specs.declared.unit_table.UnitTable.{UnitTable}
+use Rattle.wc_declare.proofs.Judging.{judges_err, judges_ok}
+use Rattle.wc_declare.proofs.unit.judge_unit.Goals as goal
+
+-- a new table is that of a unit of which nothing is declared yet
+empty : (unit : ProgramUnit) (in_block : Bool) (table : UnitTable) → in_block ≡ is_block unit → table.is_block ≡ in_block → table.names ≡ [] → table.rows.items ≡ [] → table.fields.items ≡ [] → table.size ≡ (if in_block then 0 else 45) →
+    IsEmptyOf unit table
+empty unit in_block table same block names rows fields size = record {
+  is_block = block ∙ same;
+  names = names;
+  rows = rows;
+  fields = fields;
+  size = size ∙ ap (λ b. if b then 0 else 45) same;
+}
+
+pub returns-in-Err-clause-judged : goal.returns-in-Err-clause-judged
+returns-in-Err-clause-judged c = λ text before rest units.
+    let unit = unit_view c.args.unit.now in
+    let behind = (unit_declaration_checks text before unit ++ body_name_checks unit unit.body) ++ rest in
+    judges_err (Unit {0}) UnitTable (first_broken (unit_checks text before unit ++ rest)) (first_broken (unit_checks text before unit ++ rest)) (first_broken behind) (first_broken rest) c.in-Err.fault refl
+    (c.in-Err.ensures.judged _ behind units.among)
+
+pub returns-in-Err-judge_declarations-clause-judged : goal.returns-in-Err-judge_declarations-clause-judged
+returns-in-Err-judge_declarations-clause-judged c = λ text before rest units.
+    let unit = unit_view c.args.unit.now in
+    let behind = (unit_declaration_checks text before unit ++ body_name_checks unit unit.body) ++ rest in
+    let body = body_name_checks unit unit.body ++ rest in
+    judges_err (Unit {0}) UnitTable (first_broken (unit_checks text before unit ++ rest)) (first_broken (unit_declaration_checks text before unit ++ body)) (first_broken body) (first_broken rest) c.in-Err-judge_declarations.fault
+    (judges_ok (first_broken (unit_checks text before unit ++ rest)) (first_broken behind) c.judge_name.result c.in_default.field-0 c.in_default.is (c.judge_name.ensures.judged _ behind units.among)
+    ∙ ap first_broken (append_assoc (unit_declaration_checks text before unit) (body_name_checks unit unit.body) rest))
+    (c.in-Err-judge_declarations.ensures.judged text before body units (empty unit c.is_block-in_block.result c.new-table.result c.is_block-in_block.ensures c.new-table.ensures.is_block c.new-table.ensures.names c.new-table.ensures.rows c.new-table.ensures.fields c.new-table.ensures.size))
+
+pub returns-in-Err-judge_body-clause-judged : goal.returns-in-Err-judge_body-clause-judged
+returns-in-Err-judge_body-clause-judged c = λ text before rest units.
+    let unit = unit_view c.args.unit.now in
+    let behind = (unit_declaration_checks text before unit ++ body_name_checks unit unit.body) ++ rest in
+    let body = body_name_checks unit unit.body ++ rest in
+    let none = empty unit c.is_block-in_block.result c.new-table.result c.is_block-in_block.ensures c.new-table.ensures.is_block c.new-table.ensures.names c.new-table.ensures.rows c.new-table.ensures.fields c.new-table.ensures.size in
+    judges_err (Unit {0}) UnitTable (first_broken (unit_checks text before unit ++ rest)) (first_broken (body_name_checks unit (lines_view c.deref.result.now) ++ rest)) (first_broken rest) (first_broken rest) c.in-Err-judge_body.fault
+    (judges_ok (first_broken (unit_checks text before unit ++ rest)) (first_broken behind) c.judge_name.result c.in_default.field-0 c.in_default.is (c.judge_name.ensures.judged _ behind units.among)
+    ∙ ap first_broken (append_assoc (unit_declaration_checks text before unit) (body_name_checks unit unit.body) rest)
+    ∙ judges_ok (first_broken (unit_declaration_checks text before unit ++ body)) (first_broken body) c.judge_declarations.result c.in_default-judge_declarations.field-0 c.in_default-judge_declarations.is (c.judge_declarations.ensures.judged text before body units none)
+    ∙ ap (λ xs. first_broken (body_name_checks unit (lines_view xs) ++ rest)) (sym c.deref.ensures.value))
+    (c.in-Err-judge_body.ensures unit rest c.is_block-in_block.ensures)
+
+pub returns-clause-judged : goal.returns-clause-judged
+returns-clause-judged c = λ text before rest units.
+    let unit = unit_view c.args.unit.now in
+    let behind = (unit_declaration_checks text before unit ++ body_name_checks unit unit.body) ++ rest in
+    let body = body_name_checks unit unit.body ++ rest in
+    let none = empty unit c.is_block-in_block.result c.new-table.result c.is_block-in_block.ensures c.new-table.ensures.is_block c.new-table.ensures.names c.new-table.ensures.rows c.new-table.ensures.fields c.new-table.ensures.size in
+    judges_ok (first_broken (unit_checks text before unit ++ rest)) (first_broken behind) c.judge_name.result c.in_default.field-0 c.in_default.is (c.judge_name.ensures.judged _ behind units.among)
+    ∙ ap first_broken (append_assoc (unit_declaration_checks text before unit) (body_name_checks unit unit.body) rest)
+    ∙ judges_ok (first_broken (unit_declaration_checks text before unit ++ body)) (first_broken body) c.judge_declarations.result c.in_default-judge_declarations.field-0 c.in_default-judge_declarations.is (c.judge_declarations.ensures.judged text before body units none)
+    ∙ ap (λ xs. first_broken (body_name_checks unit (lines_view xs) ++ rest)) (sym c.deref.ensures.value)
+    ∙ judges_ok (first_broken (body_name_checks unit (lines_view c.deref.result.now) ++ rest)) (first_broken rest) c.judge_body.result c.in_default-judge_body.field-0 c.in_default-judge_body.is (c.judge_body.ensures unit rest c.is_block-in_block.ensures)
+
+pub returns-clause-table : goal.returns-clause-table
+returns-clause-table c = λ text before units.
+    let unit = unit_view c.args.unit.now in
+    c.in_default-judge_declarations.ensures.table text before units
+    (empty unit c.is_block-in_block.result c.new-table.result c.is_block-in_block.ensures c.new-table.ensures.is_block c.new-table.ensures.names c.new-table.ensures.rows c.new-table.ensures.fields c.new-table.ensures.size)

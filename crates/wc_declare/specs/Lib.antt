@@ -1,0 +1,7 @@
+pub mod Numbered
+pub mod StandsFor
+pub mod Keys
+pub mod Words
+pub mod Rows
+pub mod Direct
+pub mod Members

@@ -1,0 +1,60 @@
+-- What a table holds while a unit's declarations are judged. (No rule of the language.)
+use Rattle.std.specs.Prelude.{◌≡◌, ℕ, Bool, true, false, [], ◌∷◌, List, length, map, Some}
+use Rattle.wc_model.specs.Language.DeclarationRules.{Taken, is_among, is_own, suits_kind}
+use Rattle.wc_model.specs.Language.Declarations.{Variable, is_block}
+use Rattle.wc_model.specs.Language.Frames.{PlainVariable}
+use Rattle.wc_model.specs.Language.Names.{Name, name_of}
+use Rattle.wc_model.specs.declared.operand.Word.{Word as Spelled}
+use Rattle.wc_model.specs.declared.source.Section.{Section}
+use Rattle.wc_model.specs.declared.value.Value.{Value}
+use Rattle.wc_model.specs.Language.Tree.{ProgramUnit}
+use Rattle.wc_declare.specs.Numbered.{plain_of_field}
+use Rattle.wc_declare.specs.StandsFor.{AreRows, end_of, first_place, plain_from}
+use Rattle.wc_declare.specs.declared.declared_type.DeclaredType.{DeclaredType}
+use Rattle.wc_declare.specs.declared.declared_type.DeclaredType.TheVariants.{Elementary, Standard, Block}
+use Rattle.wc_declare.specs.declared.unit_table.UnitTable.{UnitTable}
+use Rattle.wc_declare.specs.declared.variable.Variable.{Variable as Row}
+
+-- so many variables and places are taken by the table's variables
+pub record HasTaken (taken : Taken) (table : UnitTable) : Type 0 where
+  pub variables : taken.variables ≡ length table.rows.items
+  pub places : taken.places ≡ table.size
+
+-- a variable of this type as a plain one
+abbrev pub plain_as : DeclaredType → Name → Row → List PlainVariable
+plain_as (Elementary kind) name row = record { name = name; section = row.section; kind = kind; place = Some row.first } ∷ []
+plain_as (Standard block) name row = []
+plain_as (Block number) name row = []
+
+abbrev pub plain_of : Spelled → Row → List PlainVariable
+plain_of word row = plain_as row.declared (name_of word.text.now) row
+
+-- the same names stand in both
+abbrev pub SameNames : List Name → List Name → Type 0
+SameNames these those = (name : Name) → is_among these name ≡ is_among those name
+
+-- a variable of the type may stand in the section
+abbrev pub stands_in : Section → DeclaredType → Bool
+stands_in section (Elementary kind) = true
+stands_in section (Standard block) = is_own section
+stands_in section (Block number) = is_own section
+
+-- a literal is one of the type
+abbrev pub suits_numbered : DeclaredType → Value → Bool
+suits_numbered (Elementary kind) value = suits_kind kind value
+suits_numbered (Standard block) value = false
+suits_numbered (Block number) value = false
+
+-- the table holds these variables, whose places begin with this number
+pub record HoldsRows (before : List ProgramUnit) (first : ℕ) (vs : List Variable) (table : UnitTable) : Type 0 where
+  pub rows : AreRows before first vs table.rows.items
+  pub size : table.size ≡ end_of before first vs
+  pub fields : map plain_of_field table.fields.items ≡ plain_from before first vs
+
+-- the table of a unit of which nothing is declared yet
+pub record IsEmptyOf (unit : ProgramUnit) (table : UnitTable) : Type 0 where
+  pub is_block : table.is_block ≡ is_block unit
+  pub names : table.names ≡ []
+  pub rows : table.rows.items ≡ []
+  pub fields : table.fields.items ≡ []
+  pub size : table.size ≡ first_place unit

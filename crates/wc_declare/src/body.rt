@@ -1,0 +1,113 @@
+ghost use Rattle.std.specs.Prelude.{◌≡◌, ◌++◌, List, map, option_map};
+ghost use Rattle.std.specs.List.{flat_map};
+ghost use Rattle.wc_model.specs.Language.Checks.{Check, first_broken};
+ghost use Rattle.wc_model.specs.Language.DeclarationRules.{body_name_checks, label_checks, operand_checks, term_checks};
+ghost use Rattle.wc_model.specs.Language.Declarations.{is_block};
+ghost use Rattle.wc_model.specs.Language.Tree.{Lines, ProgramUnit};
+ghost use Rattle.wc_model.specs.Language.Views.{assignment_view, line_view, lines_view, term_view, word_view};
+ghost use Rattle.wc_model.specs.Language.Judging.{Judges};
+
+use crate::address::variable_at;
+use crate::reserved::is_reserved;
+use crate::word::refused;
+use wc_model::{Argument, Fault, Instr, Line, Operand, Word};
+
+/// Judges a label by 307.
+fn judge_label<'a>(label: Option<Word<'a>>) -> Result<(), Fault>
+    ensures { (rest : List Check) → Judges (first_broken (label_checks (option_map word_view label.entry) ++ rest)) (first_broken rest) result }
+{
+    match label {
+        Some(word) => {
+            if is_reserved(word.text) {
+                Err(refused(307, word.line))
+            } else {
+                Ok(())
+            }
+        }
+        None => Ok(()),
+    }
+}
+
+/// Judges an operand: an address by 305 in a block, by 304 elsewhere.
+fn judge_operand<'a>(in_block: bool, operand: &Operand<'a>) -> Result<(), Fault>
+    ensures { (unit : ProgramUnit) (rest : List Check) → in_block ≡ is_block unit → Judges (first_broken (term_checks unit (term_view operand.now) ++ rest)) (first_broken rest) result }
+{
+    let Operand::Address(word) = operand else {
+        return Ok(());
+    };
+    if in_block {
+        return Err(refused(305, word.line));
+    }
+    match variable_at(word.text) {
+        Some(_) => Ok(()),
+        None => Err(refused(304, word.line)),
+    }
+}
+
+/// Judges the values of a call's arguments.
+fn judge_arguments<'a>(in_block: bool, arguments: &[Argument<'a>]) -> Result<(), Fault>
+    ensures { (unit : ProgramUnit) (rest : List Check) → in_block ≡ is_block unit → Judges (first_broken (flat_map (λ a. term_checks unit a.value) (map assignment_view arguments.now) ++ rest)) (first_broken rest) result }
+{
+    for argument in arguments {
+        if let Err(fault) = judge_operand(in_block, &argument.value) {
+            return Err(fault);
+        }
+    }
+    Ok(())
+}
+
+/// Judges the operand of an opening line, where there is one.
+fn judge_first<'a>(in_block: bool, operand: &Option<Operand<'a>>) -> Result<(), Fault>
+    ensures { (unit : ProgramUnit) (rest : List Check) → in_block ≡ is_block unit → Judges (first_broken (operand_checks unit (option_map term_view operand.now) ++ rest)) (first_broken rest) result }
+{
+    match operand {
+        Some(operand) => judge_operand(in_block, operand),
+        None => Ok(()),
+    }
+}
+
+/// Judges a line with the lines inside it: each label and address.
+fn judge_line<'a>(in_block: bool, line: &Line<'a>) -> Result<(), Fault>
+    ensures { (unit : ProgramUnit) (others : Lines) (rest : List Check) → in_block ≡ is_block unit → Judges (first_broken (body_name_checks unit (line_view line.now others) ++ rest)) (first_broken (body_name_checks unit others ++ rest)) result }
+{
+    if let Err(fault) = judge_label(line.label) {
+        return Err(fault);
+    }
+    let Some(instr) = &line.instr else {
+        return Ok(());
+    };
+    match instr {
+        Instr::Load { operand, .. } => judge_operand(in_block, operand),
+        Instr::Store { target, .. } => judge_operand(in_block, target),
+        Instr::Apply { operand, .. } => judge_operand(in_block, operand),
+        Instr::Call { arguments, .. } => judge_arguments(in_block, arguments),
+        Instr::Defer {
+            operand,
+            inside,
+            ..
+        } => {
+            if let Err(fault) = judge_first(in_block, operand) {
+                return Err(fault);
+            }
+            for inner in inside {
+                if let Err(fault) = judge_line(in_block, inner) {
+                    return Err(fault);
+                }
+            }
+            Ok(())
+        }
+        Instr::Not { .. } | Instr::Jump { .. } | Instr::Return { .. } => Ok(()),
+    }
+}
+
+/// Judges the lines of a body: each label and address.
+pub(crate) fn judge_body<'a>(in_block: bool, lines: &[Line<'a>]) -> Result<(), Fault>
+    ensures { (unit : ProgramUnit) (rest : List Check) → in_block ≡ is_block unit → Judges (first_broken (body_name_checks unit (lines_view lines.now) ++ rest)) (first_broken rest) result }
+{
+    for line in lines {
+        if let Err(fault) = judge_line(in_block, line) {
+            return Err(fault);
+        }
+    }
+    Ok(())
+}

@@ -1,0 +1,230 @@
+ghost use Rattle.std.specs.Prelude.{◌≡◌, ℕ, ◌≤◌, [], ◌∷◌, ◌++◌, List, Some, option_map, OnOk, IfOk, map, length, false};
+ghost use Rattle.wc_model.specs.Language.Checks.{Check, first_broken};
+ghost use Rattle.wc_model.specs.Language.DeclarationRules.{Taken, and_more, declaration_checks, initial_checks, is_among, is_closed_before, is_new, is_own, name_of_word, names_are_new, not_reserved, places_of_type, room_checks, suits_kind, type_checks, unit_declaration_checks};
+ghost use Rattle.wc_model.specs.Language.Declarations.{Variable as Declared, declared_by};
+ghost use Rattle.wc_model.specs.Language.Names.{Name, name_of};
+ghost use Rattle.wc_model.specs.Language.Tree.{ProgramUnit, Text};
+ghost use Rattle.wc_model.specs.Language.Views.{declaration_view, name_view, unit_view, word_view};
+ghost use Rattle.wc_model.specs.Language.Judging.{Judges};
+ghost use Rattle.wc_declare.specs.Rows.{HasTaken, HoldsRows, IsEmptyOf, SameNames, stands_in, suits_numbered};
+ghost use Rattle.wc_declare.specs.StandsFor.{AreDifferent, AreUnitsOf, IsTableOf, type_at};
+
+use crate::declared_type::DeclaredType;
+use crate::names::Names;
+use crate::reserved::is_reserved;
+use crate::type_names::is_type_word;
+use crate::types::{block, type_at, width};
+use crate::unit_table::UnitTable;
+use crate::units::Units;
+use crate::variable::Variable;
+use crate::word::refused;
+use wc_model::{Decl, Fault, Initial, Kind, Section, Unit, Value, Word};
+
+/// Judges a name by 307 and 301, and adds it to those that are declared.
+pub(crate) fn declare_name<'a>(names: &mut Names<'a>, word: Word<'a>) -> Result<(), Fault>
+    ensures judged { (known : List Name) (rest : List Check) → SameNames names.old known → Judges (first_broken (not_reserved (word_view word.entry) ∷ is_new known (word_view word.entry) ∷ rest)) (first_broken rest) result }
+    ensures added { OnOk result (names.new ≡ names.old ++ name_view word.entry ∷ []) }
+    ensures new { OnOk result (is_among names.old (name_view word.entry) ≡ false) }
+{
+    if is_reserved(word.text) {
+        return Err(refused(307, word.line));
+    }
+    match names.add(word.text) {
+        Ok(new) => {
+            if new {
+                Ok(())
+            } else {
+                Err(refused(301, word.line))
+            }
+        }
+        Err(fault) => Err(fault),
+    }
+}
+
+/// Judges the names of a declaration by 307 and 301, and adds them to those that are declared.
+fn declare_names<'a>(names: &mut Names<'a>, declaration: &Decl<'a>) -> Result<(), Fault>
+    ensures judged { (known : List Name) (rest : List Check) → SameNames names.old known → Judges (first_broken (names_are_new known (map word_view declaration.now.names.items) ++ rest)) (first_broken rest) result }
+    ensures added { OnOk result (names.new ≡ names.old ++ map name_of_word (map word_view declaration.now.names.items)) }
+    ensures different { OnOk result (AreDifferent names.old → AreDifferent names.new) }
+{
+    for word in &declaration.names {
+        if let Err(fault) = declare_name(names, *word) {
+            return Err(fault);
+        }
+    }
+    Ok(())
+}
+
+/// Whether a name is no function block of the text that is not closed before.
+fn is_closed_before<'a>(units: &Units<'a>, name: &[u8]) -> bool
+    ensures { (text : Text) (before : List ProgramUnit) → AreUnitsOf text before units.now → result ≡ is_closed_before text before (name_of name.now) }
+{
+    if is_type_word(name) {
+        return true;
+    }
+    if block(units, name).is_some() {
+        return true;
+    }
+    !units.blocks.contains(name)
+}
+
+/// Whether a variable of the type may stand in the section.
+fn stands_in(section: Section, declared: DeclaredType) -> bool
+    ensures { result ≡ stands_in section declared }
+{
+    match declared {
+        DeclaredType::Elementary(_) => true,
+        _ => match section {
+            Section::Own => true,
+            _ => false,
+        },
+    }
+}
+
+/// Judges the type of a declaration by 308 and 302.
+fn judge_type<'a>(units: &Units<'a>, declaration: &Decl<'a>) -> Result<DeclaredType, Fault>
+    ensures judged { (text : Text) (before : List ProgramUnit) (rest : List Check) → AreUnitsOf text before units.now → Judges (first_broken (type_checks text before (declaration_view declaration.now) ++ rest)) (first_broken rest) result }
+    ensures declared { IfOk result (λ declared. (text : Text) (before : List ProgramUnit) → AreUnitsOf text before units.now → type_at before (name_view declaration.now.type_name) ≡ Some declared) }
+{
+    let word = declaration.type_name;
+    if !is_closed_before(units, word.text) {
+        return Err(refused(308, word.line));
+    }
+    let Some(declared) = type_at(units, word.text) else {
+        return Err(refused(302, word.line));
+    };
+    if stands_in(declaration.section, declared) {
+        Ok(declared)
+    } else {
+        Err(refused(302, word.line))
+    }
+}
+
+/// Whether a literal is one of the kind; a whole number 0 or 1 serves a BOOL.
+fn suits_kind(kind: Kind, value: Value) -> bool
+    ensures { result ≡ suits_kind kind value }
+{
+    match kind {
+        Kind::Bool => match value {
+            Value::Bool(_) => true,
+            Value::Dint(number) => number == 0 || number == 1,
+            Value::Time(_) => false,
+        },
+        Kind::Dint => match value {
+            Value::Dint(_) => true,
+            _ => false,
+        },
+        Kind::Time => match value {
+            Value::Time(_) => true,
+            _ => false,
+        },
+    }
+}
+
+/// Whether a literal is one of the type.
+fn suits(declared: DeclaredType, value: Value) -> bool
+    ensures { result ≡ suits_numbered declared value }
+{
+    match declared {
+        DeclaredType::Elementary(kind) => suits_kind(kind, value),
+        _ => false,
+    }
+}
+
+/// Judges the value after `:=` of a declaration by 303.
+fn judge_initial<'a>(declaration: &Decl<'a>, declared: DeclaredType) -> Result<(), Fault>
+    ensures { (before : List ProgramUnit) (rest : List Check) → type_at before (name_view declaration.now.type_name) ≡ Some declared → Judges (first_broken (initial_checks before (declaration_view declaration.now) ++ rest)) (first_broken rest) result }
+{
+    let Some(initial) = declaration.initial else {
+        return Ok(());
+    };
+    if suits(declared, initial.value) {
+        Ok(())
+    } else {
+        Err(refused(303, initial.line))
+    }
+}
+
+/// The literal after `:=`, where one is written.
+fn literal(initial: Option<Initial>) -> Option<Value>
+    ensures { result ≡ option_map (λ i. i.value) initial }
+{
+    match initial {
+        Some(initial) => Some(initial.value),
+        None => None,
+    }
+}
+
+/// Adds the variables of a declaration, named already, behind the others: 306 at the first for which there is no
+/// room.
+fn declare_variables<'a>(
+    table: &mut UnitTable<'a>,
+    declaration: &Decl<'a>,
+    declared: DeclaredType,
+    width: u16,
+) -> Result<(), Fault>
+    ensures judged { (t : Taken) (rest : List Check) → HasTaken t table.old → Judges (first_broken (room_checks t width (map word_view declaration.now.names.items) ++ rest)) (first_broken rest) result }
+    ensures taken { OnOk result ((t : Taken) → HasTaken t table.old → HasTaken (and_more t (length (map word_view declaration.now.names.items)) width) table.new) }
+    ensures small { OnOk result (table.old.size ≤ 4096 → table.new.size ≤ 4096) }
+    ensures held { OnOk result ((before : List ProgramUnit) (first : ℕ) (vs : List Declared) → type_at before (name_view declaration.now.type_name) ≡ Some declared → places_of_type before (name_view declaration.now.type_name) ≡ width → HoldsRows before first vs table.old → HoldsRows before first (vs ++ declared_by (declaration_view declaration.now)) table.new) }
+    ensures names { OnOk result (table.new.names ≡ table.old.names) }
+    ensures is_block { OnOk result (table.new.is_block ≡ table.old.is_block) }
+{
+    let initial = literal(declaration.initial);
+    for word in &declaration.names {
+        let variable = Variable {
+            section: declaration.section,
+            declared,
+            first: table.size,
+            initial,
+        };
+        if let Err(fault) = table.add(*word, variable, width) {
+            return Err(fault);
+        }
+    }
+    Ok(())
+}
+
+/// Judges a declaration behind what its unit's table holds so far, and adds its variables.
+fn judge_declaration<'a>(
+    units: &Units<'a>,
+    table: &mut UnitTable<'a>,
+    declaration: &Decl<'a>,
+) -> Result<(), Fault>
+    ensures judged { (text : Text) (before : List ProgramUnit) (known : List Name) (t : Taken) (rest : List Check) → AreUnitsOf text before units.now → SameNames table.old.names known → HasTaken t table.old → Judges (first_broken (declaration_checks text before known t (declaration_view declaration.now) ++ rest)) (first_broken rest) result }
+    ensures taken { OnOk result ((text : Text) (before : List ProgramUnit) (t : Taken) → AreUnitsOf text before units.now → HasTaken t table.old → HasTaken (and_more t (length (map word_view declaration.now.names.items)) (places_of_type before (name_view declaration.now.type_name))) table.new) }
+    ensures small { OnOk result (table.old.size ≤ 4096 → table.new.size ≤ 4096) }
+    ensures held { OnOk result ((text : Text) (before : List ProgramUnit) (first : ℕ) (vs : List Declared) → AreUnitsOf text before units.now → HoldsRows before first vs table.old → HoldsRows before first (vs ++ declared_by (declaration_view declaration.now)) table.new) }
+    ensures names { OnOk result (table.new.names ≡ table.old.names ++ map name_of_word (map word_view declaration.now.names.items)) }
+    ensures different { OnOk result (AreDifferent table.old.names → AreDifferent table.new.names) }
+    ensures is_block { OnOk result (table.new.is_block ≡ table.old.is_block) }
+{
+    if let Err(fault) = declare_names(&mut table.names, declaration) {
+        return Err(fault);
+    }
+    let declared = match judge_type(units, declaration) {
+        Ok(declared) => declared,
+        Err(fault) => return Err(fault),
+    };
+    if let Err(fault) = judge_initial(declaration, declared) {
+        return Err(fault);
+    }
+    declare_variables(table, declaration, declared, width(units, declared))
+}
+
+/// Judges the declarations of a unit, and collects its variables in its table.
+pub(crate) fn judge_declarations<'a>(
+    units: &Units<'a>,
+    table: &mut UnitTable<'a>,
+    unit: &Unit<'a>,
+) -> Result<(), Fault>
+    ensures judged { (text : Text) (before : List ProgramUnit) (rest : List Check) → AreUnitsOf text before units.now → IsEmptyOf (unit_view unit.now) table.old → Judges (first_broken (unit_declaration_checks text before (unit_view unit.now) ++ rest)) (first_broken rest) result }
+    ensures table { OnOk result ((text : Text) (before : List ProgramUnit) → AreUnitsOf text before units.now → IsEmptyOf (unit_view unit.now) table.old → IsTableOf before (unit_view unit.now) table.new) }
+{
+    for declaration in &unit.declarations {
+        if let Err(fault) = judge_declaration(units, table, declaration) {
+            return Err(fault);
+        }
+    }
+    Ok(())
+}

@@ -1,0 +1,92 @@
+ghost use Rattle.std.specs.Prelude.{◌≡◌, ◌&&◌, ◌||◌, [], None, OnOk, IfOk, IsOkUnless};
+ghost use Rattle.wc_model.specs.Language.DeclarationRules.{is_among, names_block_of};
+ghost use Rattle.wc_model.specs.Language.Declarations.{is_block, same_name};
+ghost use Rattle.wc_model.specs.Language.Faults.{declaration_fault};
+ghost use Rattle.wc_model.specs.Language.Names.{Name};
+ghost use Rattle.wc_model.specs.Language.Views.{name_view, text_view, unit_view};
+ghost use Rattle.wc_model.specs.Language.Judging.{Judges};
+ghost use Rattle.wc_declare.specs.StandsFor.{AreTables, AreUnits, AreUnitsOf, onto};
+
+use crate::kept::Tables;
+use crate::names::Names;
+use crate::unit::{add_unit, is_block, judge_unit};
+use crate::units::Units;
+use std::alloc::Global;
+use wc_model::{Fault, Source, Unit};
+
+/// Adds the name of a unit where it is a function block.
+fn add_block<'a>(names: &mut Names<'a>, unit: &Unit<'a>) -> Result<(), Fault>
+    ensures added { OnOk result ((name : Name) → is_among names.new name ≡ (is_among names.old name || (is_block (unit_view unit.now) && same_name (name_view unit.now.name) name))) }
+    ensures memory { IsOkUnless result Fault.Memory }
+{
+    if !is_block(unit) {
+        return Ok(());
+    }
+    if let Err(fault) = names.add(unit.name.text) {
+        return Err(fault);
+    }
+    Ok(())
+}
+
+/// The names of all function blocks of a text.
+fn block_names<'a>(alloc: Global, source: &Source<'a>) -> Result<Names<'a>, Fault>
+    ensures names { IfOk result (λ names. (name : Name) → is_among names name ≡ names_block_of (text_view source.now) name) }
+    ensures memory { IsOkUnless result Fault.Memory }
+{
+    let mut names = Names::new(alloc);
+    for unit in &source.units {
+        if let Err(fault) = add_block(&mut names, unit) {
+            return Err(fault);
+        }
+    }
+    Ok(names)
+}
+
+/// Judges the units of a text one after the other, and keeps their tables.
+fn judge_units<'a>(alloc: Global, units: &mut Units<'a>, source: &Source<'a>) -> Result<(), Fault>
+    ensures judged { AreUnitsOf (text_view source.now) [] units.old → Judges (declaration_fault (text_view source.now)) None result }
+    ensures tables { OnOk result (AreUnitsOf (text_view source.now) [] units.old → AreUnits (onto (text_view source.now) []) units.new.tables.items) }
+{
+    for unit in &source.units {
+        let table = match judge_unit(alloc, units, unit) {
+            Ok(table) => table,
+            Err(fault) => return Err(fault),
+        };
+        if let Err(fault) = add_unit(units, unit.name, table) {
+            return Err(fault);
+        }
+    }
+    Ok(())
+}
+
+/// What is kept before the first unit of a text is judged.
+fn no_units<'a>(alloc: Global, source: &Source<'a>) -> Result<Units<'a>, Fault>
+    ensures units { IfOk result (λ units. AreUnitsOf (text_view source.now) [] units) }
+    ensures memory { IsOkUnless result Fault.Memory }
+{
+    match block_names(alloc, source) {
+        Ok(blocks) => Ok(Units {
+            blocks,
+            names: Names::new(alloc),
+            tables: Vec::new(alloc),
+        }),
+        Err(fault) => Err(fault),
+    }
+}
+
+/// The tables of a text, or the first of the refusals 301 to 308, at its line.
+pub fn tables<'a>(alloc: Global, source: &Source<'a>) -> Result<Tables<'a>, Fault>
+    ensures accepted { IfOk result (λ tables. AreTables tables (text_view source.now)) }
+    ensures judged { Judges (declaration_fault (text_view source.now)) None result }
+{
+    let mut units = match no_units(alloc, source) {
+        Ok(units) => units,
+        Err(fault) => return Err(fault),
+    };
+    if let Err(fault) = judge_units(alloc, &mut units, source) {
+        return Err(fault);
+    }
+    Ok(Tables {
+        units: units.tables,
+    })
+}

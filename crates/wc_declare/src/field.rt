@@ -1,0 +1,14 @@
+use wc_model::{Kind, Place, Section};
+
+/// A plain variable of a unit: one of an elementary type.
+#[derive(Clone, Copy, Debug)]
+pub struct Field<'a> {
+    /// The name, as it is spelled.
+    pub name: &'a [u8],
+    /// The section in which it is declared.
+    pub section: Section,
+    /// Its kind.
+    pub kind: Kind,
+    /// Its place in the unit's frame.
+    pub place: Place,
+}

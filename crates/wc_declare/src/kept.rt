@@ -1,0 +1,70 @@
+ghost use Rattle.std.specs.Prelude.{◌≡◌, ℕ, None, IfOk, IfSome, IsOkUnless, map, length, option_map, option_and_then, is_some};
+ghost use Rattle.wc_model.specs.Language.Declarations.{VariableType, members_of};
+ghost use Rattle.wc_model.specs.Language.Frames.{first_numbers, frame_of, number_of_path, plain_variables, slot_kinds};
+ghost use Rattle.wc_model.specs.Language.Names.{name_of};
+ghost use Rattle.wc_model.specs.Language.Scopes.{Scope, entity_of, type_of};
+ghost use Rattle.wc_model.specs.Language.Tree.{Text};
+ghost use Rattle.wc_model.specs.Language.Views.{term_view};
+ghost use Rattle.wc_declare.specs.StandsFor.{AreTables};
+ghost use Rattle.wc_declare.specs.Numbered.{IsUnit, StandsFrom, numbered_entity, numbered_type, plain_of_field};
+
+use crate::declared_type::DeclaredType;
+use crate::entity::Entity;
+use crate::field::Field;
+use crate::located::Located;
+use crate::lookup::{address, number, row};
+use crate::naming::{entity, place_at};
+use crate::unit_table::UnitTable;
+use std::alloc::Global;
+use wc_model::{Fault, Operand, Path, Place, SlotKind};
+
+/// The names of a text with what they stand for. They borrow the text, not its tree.
+#[derive(Drop)]
+pub struct Tables<'a> {
+    pub(crate) units: Vec<UnitTable<'a>>,
+}
+
+impl<'a> Tables<'a> {
+    /// The place that a path names in a unit's frame. Fields of standard blocks that texts cannot name go by `m`,
+    /// `run`, `phase` and `start`.
+    pub fn place(&self, unit: usize, path: &Path<'_>) -> Option<Place>
+        ensures { (text : Text) (scope : Scope) → AreTables self.now text → IsUnit text unit scope → option_map (λ p. p.0) result ≡ number_of_path scope path.now }
+    {
+        match path {
+            Path::Address(text) => place_at(address(&self.units, unit, text)),
+            Path::Names(names) => place_at(number(&self.units, unit, names)),
+        }
+    }
+
+    /// What an operand names in the body of a unit.
+    pub fn entity(&self, unit: usize, operand: &Operand<'_>) -> Option<Entity>
+        ensures { (text : Text) (scope : Scope) → AreTables self.now text → IsUnit text unit scope → result ≡ option_map (numbered_entity scope) (entity_of scope (term_view operand.now)) }
+    {
+        entity(&self.units, unit, operand)
+    }
+
+    /// The type of a variable of a unit, and where its places begin in the unit's frame.
+    pub fn variable(&self, unit: usize, name: &[u8]) -> Option<Located>
+        ensures known { (text : Text) (scope : Scope) → AreTables self.now text → IsUnit text unit scope → is_some result ≡ is_some (type_of scope (name_of name.now)) }
+        ensures declared { (text : Text) (scope : Scope) → AreTables self.now text → IsUnit text unit scope → option_map (λ v. v.declared) result ≡ option_and_then (numbered_type scope.before) (type_of scope (name_of name.now)) }
+        ensures stands { (text : Text) (scope : Scope) (type : VariableType) → AreTables self.now text → IsUnit text unit scope → type_of scope (name_of name.now) ≡ Some type → IfSome result (λ v. StandsFrom scope (name_of name.now) type v.first) }
+    {
+        match row(&self.units, unit, name) {
+            Some(row) => Some(Located {
+                declared: row.declared,
+                first: row.first,
+            }),
+            None => None,
+        }
+    }
+
+    /// How many places a unit's frame has.
+    pub fn size(&self, unit: usize) -> usize
+        ensures { (text : Text) (scope : Scope) → AreTables self.now text → IsUnit text unit scope → result ≡ length (frame_of scope) }
+    {
+        match self.units.get(unit) {
+            Some(table) => usize::from(table.size),
+            None => 0,
+        }
+    }
+}

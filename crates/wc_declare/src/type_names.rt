@@ -1,0 +1,61 @@
+ghost use Rattle.std.specs.Prelude.{◌≡◌};
+ghost use Rattle.wc_model.specs.Language.DeclarationRules.{is_among, type_words};
+ghost use Rattle.wc_model.specs.Language.Declarations.{elementary_types, named_in, standard_blocks};
+ghost use Rattle.wc_model.specs.Language.Names.{name_of};
+
+use crate::word::is_word;
+use wc_model::{Kind, StandardBlock};
+
+/// The elementary type of that name.
+pub(crate) fn elementary(text: &[u8]) -> Option<Kind>
+    ensures { result ≡ named_in elementary_types (name_of text.now) }
+{
+    if is_word(b"bool", text) {
+        return Some(Kind::Bool);
+    }
+    if is_word(b"dint", text) {
+        return Some(Kind::Dint);
+    }
+    if is_word(b"time", text) {
+        return Some(Kind::Time);
+    }
+    None
+}
+
+/// The standard function block of that name.
+pub(crate) fn standard(text: &[u8]) -> Option<StandardBlock>
+    ensures { result ≡ named_in standard_blocks (name_of text.now) }
+{
+    if is_word(b"r_trig", text) {
+        return Some(StandardBlock::RTrig);
+    }
+    if is_word(b"sr", text) {
+        return Some(StandardBlock::Sr);
+    }
+    if is_word(b"ctu", text) {
+        return Some(StandardBlock::Ctu);
+    }
+    if is_word(b"ton", text) {
+        return Some(StandardBlock::Ton);
+    }
+    if is_word(b"tof", text) {
+        return Some(StandardBlock::Tof);
+    }
+    None
+}
+
+/// The names that are types in every text, TP and RS among them, which cannot be used yet.
+pub(crate) fn is_type_word(text: &[u8]) -> bool
+    ensures { result ≡ is_among type_words (name_of text.now) }
+{
+    is_word(text, b"bool")
+        || is_word(text, b"dint")
+        || is_word(text, b"time")
+        || is_word(text, b"ton")
+        || is_word(text, b"tof")
+        || is_word(text, b"tp")
+        || is_word(text, b"ctu")
+        || is_word(text, b"r_trig")
+        || is_word(text, b"sr")
+        || is_word(text, b"rs")
+}

@@ -1,0 +1,65 @@
+ghost use Rattle.std.specs.Prelude.{◌≡◌, List, Some, option_map, length, if◌then◌else◌};
+ghost use Rattle.wc_model.specs.Language.DeclarationRules.{is_own, may_stand, places_of_type};
+ghost use Rattle.wc_model.specs.Language.Declarations.{block_named};
+ghost use Rattle.wc_model.specs.Language.Names.{Name, name_of};
+ghost use Rattle.wc_model.specs.Language.Store.{standard_fields};
+ghost use Rattle.wc_model.specs.Language.Tree.{ProgramUnit, Text};
+ghost use Rattle.wc_declare.specs.StandsFor.{AreUnitsOf, type_at};
+
+use crate::declared_type::DeclaredType;
+use crate::type_names::{elementary, standard};
+use crate::units::Units;
+use wc_model::StandardBlock;
+
+/// The number of the function block of that name among the units so far.
+pub(crate) fn block<'a>(units: &Units<'a>, name: &[u8]) -> Option<usize>
+    ensures { (text : Text) (before : List ProgramUnit) → AreUnitsOf text before units.now → result ≡ option_map (λ found. length found.1) (block_named before (name_of name.now)) }
+{
+    let Some(number) = units.names.number(name) else {
+        return None;
+    };
+    let Some(table) = units.tables.get(number) else {
+        return None;
+    };
+    if table.is_block { Some(number) } else { None }
+}
+
+/// The type of that name behind the units so far.
+pub(crate) fn type_at<'a>(units: &Units<'a>, name: &[u8]) -> Option<DeclaredType>
+    ensures { (text : Text) (before : List ProgramUnit) → AreUnitsOf text before units.now → result ≡ type_at before (name_of name.now) }
+{
+    if let Some(kind) = elementary(name) {
+        return Some(DeclaredType::Elementary(kind));
+    }
+    if let Some(block) = standard(name) {
+        return Some(DeclaredType::Standard(block));
+    }
+    match block(units, name) {
+        Some(number) => Some(DeclaredType::Block(number)),
+        None => None,
+    }
+}
+
+/// How many places an instance of a standard function block has.
+pub(crate) fn standard_size(block: StandardBlock) -> u16
+    ensures { result ≡ length (standard_fields block) }
+{
+    match block {
+        StandardBlock::RTrig | StandardBlock::Sr => 3,
+        StandardBlock::Ctu | StandardBlock::Ton | StandardBlock::Tof => 6,
+    }
+}
+
+/// How many places a variable of a type has.
+pub(crate) fn width<'a>(units: &Units<'a>, declared: DeclaredType) -> u16
+    ensures { (text : Text) (before : List ProgramUnit) (name : Name) → AreUnitsOf text before units.now → type_at before name ≡ Some declared → result ≡ places_of_type before name }
+{
+    match declared {
+        DeclaredType::Elementary(_) => 1,
+        DeclaredType::Standard(block) => standard_size(block),
+        DeclaredType::Block(number) => match units.tables.get(number) {
+            Some(table) => table.size,
+            None => 0,
+        },
+    }
+}

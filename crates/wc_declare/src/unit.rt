@@ -1,0 +1,86 @@
+ghost use Rattle.std.specs.Prelude.{◌≡◌, ◌∷◌, ◌++◌, List, OnOk, IfOk, IsOkUnless, false};
+ghost use Rattle.wc_model.specs.Language.Checks.{Check, first_broken};
+ghost use Rattle.wc_model.specs.Language.DeclarationRules.{is_among, is_new, not_reserved, unit_checks};
+ghost use Rattle.wc_model.specs.Language.Declarations.{is_block};
+ghost use Rattle.wc_model.specs.Language.Names.{Name};
+ghost use Rattle.wc_model.specs.Language.Tree.{ProgramUnit, Text};
+ghost use Rattle.wc_model.specs.Language.Views.{name_view, unit_view, word_view};
+ghost use Rattle.wc_model.specs.Language.Judging.{Judges};
+ghost use Rattle.wc_declare.specs.Rows.{SameNames};
+ghost use Rattle.wc_declare.specs.StandsFor.{AreUnitsOf, IsTableOf};
+
+use crate::body::judge_body;
+use crate::declaration::judge_declarations;
+use crate::names::Names;
+use crate::reserved::is_reserved;
+use crate::unit_table::UnitTable;
+use crate::units::Units;
+use crate::word::refused;
+use std::alloc::Global;
+use wc_model::{Fault, Unit, UnitKind, Word};
+
+/// Whether a unit is a function block.
+pub(crate) fn is_block<'a>(unit: &Unit<'a>) -> bool
+    ensures { result ≡ is_block (unit_view unit.now) }
+{
+    match unit.kind {
+        UnitKind::FunctionBlock => true,
+        UnitKind::Program => false,
+    }
+}
+
+/// Judges the name of a unit by 307 and 301.
+fn judge_name<'a>(names: &Names<'a>, word: Word<'a>) -> Result<(), Fault>
+    ensures judged { (known : List Name) (rest : List Check) → SameNames names.now known → Judges (first_broken (not_reserved (word_view word.entry) ∷ is_new known (word_view word.entry) ∷ rest)) (first_broken rest) result }
+    ensures new { OnOk result (is_among names.now (name_view word.entry) ≡ false) }
+{
+    if is_reserved(word.text) {
+        return Err(refused(307, word.line));
+    }
+    if names.contains(word.text) {
+        return Err(refused(301, word.line));
+    }
+    Ok(())
+}
+
+/// Judges a unit behind those so far: its name, its declarations, its body. It gives the unit's table.
+pub(crate) fn judge_unit<'a>(
+    alloc: Global,
+    units: &Units<'a>,
+    unit: &Unit<'a>,
+) -> Result<UnitTable<'a>, Fault>
+    ensures judged { (text : Text) (before : List ProgramUnit) (rest : List Check) → AreUnitsOf text before units.now → Judges (first_broken (unit_checks text before (unit_view unit.now) ++ rest)) (first_broken rest) result }
+    ensures table { IfOk result (λ table. (text : Text) (before : List ProgramUnit) → AreUnitsOf text before units.now → IsTableOf before (unit_view unit.now) table) }
+    ensures new { OnOk result (is_among units.now.names (name_view unit.now.name) ≡ false) }
+{
+    if let Err(fault) = judge_name(&units.names, unit.name) {
+        return Err(fault);
+    }
+    let in_block = is_block(unit);
+    let mut table = UnitTable::new(alloc, in_block);
+    if let Err(fault) = judge_declarations(units, &mut table, unit) {
+        return Err(fault);
+    }
+    if let Err(fault) = judge_body(in_block, &unit.body) {
+        return Err(fault);
+    }
+    Ok(table)
+}
+
+/// Adds a unit, whose name is new, behind those so far.
+pub(crate) fn add_unit<'a>(
+    units: &mut Units<'a>,
+    name: Word<'a>,
+    table: UnitTable<'a>,
+) -> Result<(), Fault>
+    ensures added { OnOk result ((text : Text) (before : List ProgramUnit) (unit : ProgramUnit) → AreUnitsOf text before units.old → unit.name.name ≡ name_view name.entry → is_among units.old.names (name_view name.entry) ≡ false → IsTableOf before unit table.entry → AreUnitsOf text (unit ∷ before) units.new) }
+    ensures memory { IsOkUnless result Fault.Memory }
+{
+    if let Err(fault) = units.names.add(name.text) {
+        return Err(fault);
+    }
+    if let Err(_) = units.tables.push(table) {
+        return Err(Fault::Memory);
+    }
+    Ok(())
+}
