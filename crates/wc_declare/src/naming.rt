@@ -163,8 +163,6 @@ pub(crate) fn entity<'a>(
         }),
         Operand::Address(word) => address_entity(units, unit, *word),
         Operand::Name(text) => name_entity(units, unit, text),
-        Operand::Field { instance, field } => {
-            field_entity(units, unit, instance, field)
-        }
+        Operand::Field { instance, field } => { field_entity(units, unit, instance, field) }
     }
 }

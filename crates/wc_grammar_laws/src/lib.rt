@@ -4,12 +4,12 @@
 
 mod fronts;
 
+ghost use Rattle.wc_grammar_laws.specs.Laws.{FaultSpellsNothing, OneText, TextOrFault};
+
 pub use fronts::{
     a_front_of_a_front_is_one, a_text_is_a_front, an_unexpected_token_spells_nothing,
     limits_hold_before_a_fault, one_first_fault,
 };
-
-ghost use Rattle.wc_grammar_laws.specs.Laws.{FaultSpellsNothing, OneText, TextOrFault};
 
 /// Tokens spell one text at most.
 pub fn tokens_spell_one_text()

@@ -14,7 +14,7 @@ pub fn first_job()
         ≡ Ok (record {
           plate = plate_text;
           program = lines_text (codes "PROGRAM P" ∷ codes "LD %IX0.0" ∷ codes "ST %QX0.0"
-          ∷ codes "END_PROGRAM" ∷ []);
+              ∷ codes "END_PROGRAM" ∷ []);
           log = lines_text (codes "ms,kind,data" ∷ codes "0,I,0001" ∷ codes "0,S," ∷ []);
         }) }
 {}

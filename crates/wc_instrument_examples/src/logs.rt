@@ -26,7 +26,7 @@ pub fn each_kind()
         (codes "00fF") ∷ three_fields (codes "8") (codes "S") [] ∷ [])
         ≡ record {
           rows = record { number = 2; ms = 0; brings = Counts (negsuc 41) }
-          ∷ record { number = 3; ms = 7; brings = Bytes (10 ∷ 90 ∷ []) }
+              ∷ record { number = 3; ms = 7; brings = Bytes (10 ∷ 90 ∷ []) }
               ∷ record { number = 4; ms = 7; brings = Inputs 255 } ∷ scan_row 5 8 ∷ [];
           refusal = None;
         } }

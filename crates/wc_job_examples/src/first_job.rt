@@ -16,6 +16,9 @@ pub fn first_program_is_loaded()
 pub fn first_job_is_answered()
     ensures { (table_of : List ℕ → Option Table) (records_of : List ℕ → List Record) →
         table_of plate_text ≡ Some table → records_of log_bytes ≡ log_records →
-        AnswersJob table_of records_of job_bytes (record { output = codes "S 0 2 0001 0 0 0 0" ++ 10
-        ∷ []; status = 0 }) }
+        AnswersJob table_of records_of job_bytes (record {
+          output = codes "S 0 2 0001 0 0 0 0" ++ 10
+              ∷ [];
+          status = 0;
+        }) }
 {}
