@@ -1,13 +1,9 @@
 -- What any instruction of the code stands for, behind its label.
-use Rattle.std.proofs.Common.{◌≡◌, suc, Option, Some, option_map, refl, ap, ◌∙◌}
-use Rattle.wc_model.specs.Language.Checks.{first_broken}
+use Rattle.std.proofs.Common.{◌≡◌, suc, Option, option_map, refl}
 use Rattle.wc_model.specs.Language.Tree.{Word, Lines}
-use Rattle.wc_model.specs.Language.Views.{line_view, instruction_view, line_step_view, word_view}
-use Rattle.wc_model.specs.declared.operand.Word.{Word as Spelled}
-use Rattle.wc_model.specs.declared.tree.Instr.{Instr, fold_out-Instr}
+use Rattle.wc_model.specs.Language.Views.{line_view, instruction_view, word_view}
 use Rattle.wc_model.specs.declared.tree.Instr.TheOpen.{Instr-F}
-use Rattle.wc_model.specs.declared.tree.Line.{Line, fold_out-Line}
-use Rattle.wc_first.specs.FirstLanguage.{body_language}
+use Rattle.wc_model.specs.declared.tree.Line.{Line}
 use Rattle.wc_first.specs.Machines.{instruction_count}
 
 -- an instruction, opened

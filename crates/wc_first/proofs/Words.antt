@@ -1,12 +1,9 @@
 -- The reserved words, by their groups.
-use Rattle.std.proofs.Common.{◌≡◌, Bool, true, false, List, ◌++◌, refl, sym, ap, ◌∙◌}
+use Rattle.std.proofs.Common.{◌≡◌, Bool, true, false, List, ◌++◌, refl, ap, ◌∙◌}
 use Rattle.std.proofs.lemmas.List.Folds.{list_any-append}
 use Rattle.std.specs.Prelude.{◌||◌}
 use Rattle.std.specs.List.{list_any}
-use Rattle.wc_model.specs.Language.DeclarationRules.{is_among, reserved_words}
-use Rattle.wc_model.specs.Language.Declarations.{same_name}
 use Rattle.wc_model.specs.Language.Names.{Name}
-use Rattle.wc_first.specs.Words.{operator_words, leaving_words, unit_words, type_words, kept_words}
 
 regrouped : (a b c d e : Bool) → ((((a || b) || c) || d) || e) ≡ (((a || b) || (c || d)) || e)
 regrouped true b c d e = refl

@@ -1,9 +1,6 @@
 -- Laws of fronts: what some further tokens complete, and what none do.
-use Rattle.std.proofs.Common.{◌≡◌, Bool, List, [], ◌∷◌, ◌++◌, ap, append_assoc, append-nil, ◌∙◌, sym, inl, inr}
-use Rattle.std.proofs.lemmas.List.Elements.{filter-append}
-use Rattle.std.specs.Prelude.{not}
-use Rattle.wc_model.specs.Text.Languages.{Language, one, skipping, ◌then◌, ◌or◌, front_of}
-use Rattle.wc_grammar_laws.proofs.Languages.{joined}
+use Rattle.std.proofs.Common.{List, [], ◌++◌, append_assoc, append-nil}
+use Rattle.wc_model.specs.Text.Languages.{Language, front_of}
 
 -- a whole list is a front
 pub whole_is_front : {T : Type 0} (language : Language T) (tokens : List T) → language tokens → front_of language tokens

@@ -1,7 +1,7 @@
 -- How a text of tokens is shown to spell a tree.
 use Rattle.std.proofs.Common.{◌≡◌, ℕ, Bool, true, false, List, [], ◌∷◌, refl, arith}
 use Rattle.std.proofs.lemmas.Bool.Decides.{nat_tests}
-use Rattle.std.specs.Prelude.{◌≢◌, eqb, ◌&&◌, flat_map, Option, Some}
+use Rattle.std.specs.Prelude.{◌≢◌, flat_map, Option, Some}
 use Rattle.wc_model.specs.Language.Names.{Name}
 use Rattle.wc_model.specs.Text.Marks.{Mark, LineEnd, ClosingBracket, IsNamed, IsSymbol}
 use Rattle.wc_model.specs.Language.Tree.{Word, Term, Step, Lines, Alone, Plain, Nested, Declaration, ProgramUnit}

@@ -1,12 +1,12 @@
 -- The line does not depend on scans, inputs and programs.
 use Rattle.std.proofs.Common.{◌≡◌, ℕ, List, [], ◌∷◌, ◌++◌, refl, ap, sym, ◌∙◌, append-nil}
 use Rattle.std.proofs.lemmas.List.Elements.{filter-append}
-use Rattle.std.specs.Prelude.{filter}
+use Rattle.std.specs.Prelude.{filter, map}
 use Rattle.wc_model.specs.Instrument.WeighingHistories.{last_items}
 use Rattle.wc_model.specs.Instrument.Independence.{indicator_rows, IsFreeOfScans, IsFreeOfPrograms}
 use Rattle.wc_model.specs.Instrument.Plates.{PlateData}
 use Rattle.wc_model.specs.Say.Report.{Scans, is_answer_line, is_scan_line, answer_line, lines_with, report_lines, answer_lines, report_text}
-use Rattle.wc_model.specs.Run.Rows.{RowData, Counts, Bytes, Inputs, Scan, LogRow, Past, line_bytes, history_with, history_of, answer_with, answer_of_row}
+use Rattle.wc_model.specs.Run.Rows.{RowData, Counts, Bytes, Inputs, Scan, LogRow, Past, line_bytes, line_bytes_in, history_with, history_of, answer_with, answer_of_row}
 
 -- a row adds the same bytes, whether scans and inputs are there or not
 bytes_with : (number ms : ℕ) (brings : RowData) (before : Past) → line_bytes before ≡ line_bytes (indicator_rows before) →
@@ -59,11 +59,37 @@ same_lines p before [] = refl
 same_lines p before (row ∷ rows) =
     lines_with_row p before row.number row.ms row.brings rows (same_lines p (row ∷ before) rows)
 
+-- a row of a moment that brings this; its number is not looked at
+abbrev row_of_moment : ℕ × RowData → LogRow
+row_of_moment moment = record { number = 0; ms = moment.0; brings = moment.1 }
+
+-- rows by their moments alone
+abbrev by_moments : List LogRow → List LogRow
+by_moments rows = map row_of_moment (map (λ row. (row.ms, row.brings)) rows)
+
+-- they have the same bytes and history
+bytes_of_moments : (before : Past) → line_bytes (by_moments before) ≡ line_bytes before
+bytes_of_moments [] = refl
+bytes_of_moments (row ∷ before) = ap (λ b. b ++ line_bytes_in row.brings) (bytes_of_moments before)
+
+history_of_moments : (before : Past) → history_of (by_moments before) ≡ history_of before
+history_of_moments [] = refl
+history_of_moments (row ∷ before) = λ i. history_with row.brings (bytes_of_moments before i) (history_of_moments before i)
+
+-- and the same answers
+lines_by_moments : (p : PlateData) (before rows : List LogRow) → answer_lines p (by_moments before) (by_moments rows) ≡ answer_lines p before rows
+lines_by_moments p before [] = refl
+lines_by_moments p before (row ∷ rows) =
+    λ i. answer_line row.ms (answer_with p row.brings (bytes_of_moments before i) (history_of_moments before i)) ++ lines_by_moments p (row ∷ before) rows i
+
 -- scans and inputs may be taken out and put in
 pub is_free_of_scans : (p : PlateData) → IsFreeOfScans p
 is_free_of_scans p = record {
   row = same_answer p;
-  log = λ rows others e. same_lines p [] rows ∙ ap (answer_lines p []) e ∙ sym (same_lines p [] others);
+  log = λ rows others e.
+      same_lines p [] rows ∙ sym (lines_by_moments p [] (indicator_rows rows))
+      ∙ ap (λ moments. answer_lines p [] (map row_of_moment moments)) e
+      ∙ lines_by_moments p [] (indicator_rows others) ∙ sym (same_lines p [] others);
 }
 
 -- the answer's line is one

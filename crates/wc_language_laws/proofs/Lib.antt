@@ -5,3 +5,5 @@ pub mod Delaying
 pub mod Refusing
 pub mod Longest
 pub mod TracesArePaths
+pub mod Returning
+pub mod Keeping

@@ -1,15 +1,16 @@
 -- Statements about the definitions of the language.
-use Rattle.std.specs.Prelude.{◌≡◌, ℕ, ◌≤◌, List, ◌∷◌, ◌↔◌, ◌⊎◌, length, Option, Some, None, ℤ}
+use Rattle.std.specs.Prelude.{◌≡◌, ℕ, ◌≤◌, true, List, [], ◌∷◌, ◌↔◌, ◌⊎◌, length, Option, Some, None, ℤ}
 use Rattle.wc_model.specs.Language.Blocks.{RTrigFields, SrFields, CtuFields, TonFields, TofFields, r_trig_step, sr_step, ctu_step, ton_step, tof_step}
 use Rattle.wc_model.specs.Language.Checks.{Check, Refusal, IsFirstBroken, first_broken}
 use Rattle.wc_model.specs.Language.Histories.{SrCall, CtuCall, TimerCall, FitsRTrig, FitsSr, FitsCtu, FitsTon, FitsTof}
-use Rattle.wc_model.specs.Language.Meaning.{Context, Outcome, Stuck, Running, Seeking, ahead, means, program_means}
+use Rattle.wc_model.specs.Language.Meaning.{Context, Outcome, Done, Stuck, Running, Seeking, Returned, ahead, means, program_means}
+use Rattle.wc_model.specs.Language.Carried.{Lead, keeps, lead_of}
 use Rattle.wc_model.specs.Language.Names.{Name}
 use Rattle.wc_model.specs.Language.Paths.{IsPath, IsLongest}
 use Rattle.wc_model.specs.Language.Reasons.{NoLabelAhead}
-use Rattle.wc_model.specs.Language.Store.{Store}
+use Rattle.wc_model.specs.Language.Store.{Location, Store}
 use Rattle.wc_model.specs.Language.Traces.{Item}
-use Rattle.wc_model.specs.Language.Tree.{Lines, ProgramUnit}
+use Rattle.wc_model.specs.Language.Tree.{Lines, ProgramUnit, Text}
 use Rattle.wc_model.specs.Language.Values.{IsWrapped, wrap}
 use Rattle.wc_model.specs.Language.WorstPaths.{IsWorstPath}
 use Rattle.wc_model.specs.Language.Scans.{steps_of}
@@ -30,6 +31,15 @@ from_label here (Some rest) result store = means here rest (Running result) stor
 abbrev pub JumpGoesOnAhead : Type 0
 JumpGoesOnAhead = (here : Context) (lines : Lines) (label : Name) (result : Option Value) (store : Store) →
     means here lines (Seeking label result) store ≡ from_label here (ahead lines label) result store
+
+-- behind a return nothing more is done
+abbrev pub ReturnEndsTheBody : Type 0
+ReturnEndsTheBody = (here : Context) (lines : Lines) (result : Option Value) (store : Store) →
+    means here lines (Returned result) store ≡ Done result store []
+
+-- a text that takes its own place keeps each place that it has
+abbrev pub ATextKeepsItsPlaces : Type 0
+ATextKeepsItsPlaces = (text : Text) (place : Location) (lead : Lead) → lead_of text place ≡ Some lead → keeps text text place ≡ true
 
 -- the call that the fields of a block are set up for
 abbrev pub sr_call : SrFields → SrCall

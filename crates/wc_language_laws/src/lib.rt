@@ -1,7 +1,7 @@
 //! Laws about the definitions of the language. Each function has an empty body: its clause is the law.
 #![tactic(auto)]
 
-ghost use Rattle.wc_language_laws.specs.Laws.{WrapIsTheOnlyOne, JumpGoesOnAhead, RTrigKeepsItsHistory, SrKeepsItsHistory, CtuKeepsItsHistory, TonKeepsItsHistory, TofKeepsItsHistory, FirstFaultIsFirst, WorstPathIsLongest, EachUnitHasAWorstPath, NoRunIsLongerThanThePaths};
+ghost use Rattle.wc_language_laws.specs.Laws.{WrapIsTheOnlyOne, JumpGoesOnAhead, ReturnEndsTheBody, ATextKeepsItsPlaces, RTrigKeepsItsHistory, SrKeepsItsHistory, CtuKeepsItsHistory, TonKeepsItsHistory, TofKeepsItsHistory, FirstFaultIsFirst, WorstPathIsLongest, EachUnitHasAWorstPath, NoRunIsLongerThanThePaths};
 
 /// Arithmetic wraps to the one number of 32 bits that is equal modulo 2^32.
 pub fn wrap_is_the_only_one()
@@ -11,6 +11,16 @@ pub fn wrap_is_the_only_one()
 /// A jump goes on at the first later line that carries its label.
 pub fn jump_goes_on_ahead()
     ensures { JumpGoesOnAhead }
+{}
+
+/// A return ends its body: what stands behind it does nothing.
+pub fn return_ends_the_body()
+    ensures { ReturnEndsTheBody }
+{}
+
+/// A text that is replaced by itself keeps each of its places.
+pub fn a_text_keeps_its_places()
+    ensures { ATextKeepsItsPlaces }
 {}
 
 /// R_TRIG: the step agrees with what the history of calls tells.

@@ -1,11 +1,11 @@
 -- Pieces joined.
-use Rattle.std.proofs.Common.{ℕ, List, [], ◌∷◌, ◌++◌, ap, sym, ◌∙◌, subst, append_assoc, append-nil}
+use Rattle.std.proofs.Common.{ℕ, List, [], ◌∷◌, ◌++◌, ap, sym, ◌∙◌, subst, append_assoc}
 use Rattle.std.specs.Prelude.{Option}
 use Rattle.std.specs.Io.KnownBytes.{Appends}
-use Rattle.std.proofs.KnownBytes.{Appends-nil, Appends-trans}
+use Rattle.std.proofs.KnownBytes.{Appends-trans}
 use Rattle.wc_model.specs.Instrument.Requests.{requests_in}
 use Rattle.wc_model.specs.Instrument.Answers.{after_requests, answers_to, answer_to, command_of}
-use Rattle.wc_instrument_laws.proofs.Requests.{in_piece, requests_in_again}
+use Rattle.wc_instrument_laws.proofs.Requests.{requests_in_again}
 use Rattle.wc_instrument_laws.proofs.Answers.{after_more_requests, answers_to_more}
 use Rattle.wc_indicator.specs.Kept.{IndicatorState, StandsForHistory}
 use Rattle.wc_sma.specs.declared.line.Line.{Line}

@@ -1,5 +1,5 @@
 -- The tokens of a text or its first fault, by looking ahead at each place; and that they are what the definitions say.
-use Rattle.std.proofs.Common.{◌≡◌, ◌≢◌, ℕ, zero, suc, ◌+◌, ◌-◌, ◌≤◌, ◌==◌, Bool, true, false, cond, ◌||◌, ◌&&◌, List, [], ◌∷◌, ◌++◌, length, drop, take, Result, Ok, Err, refl, sym, ap, ◌∙◌, subst, subst₂, true≢false, nat_eq, append_assoc, ⊎_elim, inl, inr, arith, take-append-drop, length-append, length-take, length-drop, take_at, drop_at, ◌⊎◌}
+use Rattle.std.proofs.Common.{◌≡◌, ◌≢◌, ℕ, zero, suc, ◌+◌, ◌-◌, ◌≤◌, ◌==◌, true, false, List, [], ◌∷◌, ◌++◌, length, drop, take, Result, Ok, Err, refl, sym, ap, ◌∙◌, subst, subst₂, true≢false, nat_eq, append_assoc, ⊎_elim, inl, inr, arith, take-append-drop, length-append, length-take, length-drop, take_at, drop_at, ◌⊎◌}
 use Rattle.std.proofs.lemmas.Bool.{and_parts, or_cases, cond-true, cond-false, eqb-true, cases_lt}
 use Rattle.std.specs.Cmp.Lexicographic.{bytes_decides}
 use Rattle.std.specs.List.{starts_with}

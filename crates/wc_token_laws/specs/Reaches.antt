@@ -1,14 +1,12 @@
 -- How long the lexeme at a place is, by looking ahead from its first byte. (No rule of the language: the definition is the
 -- longest lexeme.)
-use Rattle.std.proofs.Common.{◌≡◌, ℕ, suc, ◌+◌, ◌≤◌, Bool, true, false, cond, not, ◌||◌, List, [], ◌∷◌, ◌++◌, length, drop, find, Some, option_map, refl, sym, ap, ◌∙◌, subst, ⊎_elim, arith, append_assoc, drop_at, length-append, bytes_eq, nat_le, IsTrue, le_trans}
+use Rattle.std.proofs.Common.{ℕ, ◌+◌, Bool, false, cond, List, [], ◌∷◌, drop}
 use Rattle.std.specs.Char.{is_ascii_digit}
-use Rattle.std.specs.List.{list_all, prefix_len}
+use Rattle.std.specs.List.{prefix_len}
 use Rattle.std.specs.Option.{option_map_or}
-use Rattle.std.proofs.lemmas.Bool.{and_parts, or_cases, or_parts, or_from, and_left, eqb-true, leb-true, lt-leb, ne_eqb, not-true, cond-true, cond-false}
-use Rattle.std.specs.Cmp.Lexicographic.{bytes_decides}
 use Rattle.wc_model.specs.Text.Characters.{begins, is_address_character, is_hash, is_identifier_character, is_minus, is_number_character, is_percent, is_sign, starts_identifier}
-use Rattle.wc_model.specs.Text.Lexemes.{Lexeme, Run, Typed, Unsigned, Signed, Sign, Place, Marked, is_run, is_literal_value, is_unsigned_run, may_stand_before, IsLongestLexeme}
-use Rattle.wc_model.specs.Text.Shapes.{Shape, Mark, marks, mark_of}
+use Rattle.wc_model.specs.Text.Lexemes.{may_stand_before}
+use Rattle.wc_model.specs.Text.Shapes.{mark_of}
 
 -- the characters of a number, with a `-` before them or none
 abbrev pub value_reach : List ℕ → ℕ

@@ -1,16 +1,10 @@
 -- What stands at a place of a text: a blank, a lexeme or a fault, by looking ahead. (No rule of the language: the definition
 -- is the cut of the whole text.)
-use Rattle.std.proofs.Common.{◌≡◌, ◌≢◌, ℕ, zero, suc, ◌+◌, ◌-◌, ◌≤◌, ◌==◌, Bool, true, false, cond, ◌||◌, ◌&&◌, List, [], ◌∷◌, ◌++◌, length, drop, take, Result, Ok, Err, refl, sym, ap, ◌∙◌, subst, subst₂, true≢false, nat_eq, append_assoc, ⊎_elim, inl, inr, arith, take-append-drop, length-append, length-take, length-drop, take_at, drop_at, ◌⊎◌}
-use Rattle.std.proofs.lemmas.Bool.{and_parts, or_cases, cond-true, cond-false, eqb-true, cases_lt}
-use Rattle.std.specs.Cmp.Lexicographic.{bytes_decides}
-use Rattle.std.specs.List.{starts_with}
+use Rattle.std.proofs.Common.{ℕ, zero, suc, ◌+◌, ◌-◌, ◌==◌, Bool, true, false, cond, ◌||◌, ◌&&◌, List, [], ◌∷◌, length, drop, take, Result, Ok, Err}
 use Rattle.wc_token_laws.specs.Reaches.{reach}
-use Rattle.wc_model.specs.Text.Blanks.{Blank, Space, Tab, Return, Comment, comment_opening, comment_closing, from_bracket, starts_with_bracket}
+use Rattle.wc_model.specs.Text.Blanks.{from_bracket}
 use Rattle.wc_model.specs.Text.Characters.{begins, is_line_feed, is_star}
-use Rattle.wc_model.specs.Text.Lexemes.{IsLongestLexeme}
 use Rattle.wc_model.specs.Text.Shapes.{Shape, shape_of}
-use Rattle.wc_model.specs.Text.TokenLaws.{CutOrFault}
-use Rattle.wc_model.specs.Text.Tokens.{AtEnd, Cuts, Nothing, Skipped, Taken, Faulty, FaultAt, Foreign, Unclosed, Nested, Malformed, IsCut, IsFirstTokenFault, TooLong, Stands, Token, line_after, most_bytes, token_behind}
 
 -- what stands at a place: a blank of that length, a token of that length, or a fault
 pub data Sight : Type 0 where

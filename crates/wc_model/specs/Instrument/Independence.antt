@@ -1,5 +1,5 @@
 -- The line does not depend on programs: what its answers are has nothing to do with scans and inputs.
-use Rattle.std.specs.Prelude.{◌≡◌, ℕ, Bool, true, false, List, [], ◌++◌, filter}
+use Rattle.std.specs.Prelude.{◌≡◌, ℕ, Bool, true, false, List, [], ◌++◌, filter, map}
 use Rattle.wc_model.specs.Instrument.WeighingHistories.{last_items}
 use Rattle.wc_model.specs.Instrument.Plates.{PlateData}
 use Rattle.wc_model.specs.Say.Report.{Scans, report_lines, answer_lines, report_text, line_report, report_last, is_answer_line, is_scan_line}
@@ -16,12 +16,16 @@ is_for_indicator Scan = false
 abbrev pub indicator_rows : List LogRow → List LogRow
 indicator_rows rows = filter (λ row. is_for_indicator row.brings) rows
 
+-- the moments of the samples and line bytes, and what they bring: a row's number counts scans and inputs, and is left out
+abbrev pub indicator_moments : List LogRow → List (ℕ × RowData)
+indicator_moments rows = map (λ row. (row.ms, row.brings)) (indicator_rows rows)
+
 -- Scans and inputs may be taken out and put in.
 --     row      a row has the answer that it has where the scans and inputs before it are taken out
---     log      two logs that have the same samples and line bytes have the same answers, at the same moments
+--     log      two logs that bring the same samples and line bytes at the same moments have the same answers
 pub record IsFreeOfScans (p : PlateData) : Type 0 where
   pub row : (before : Past) (row : LogRow) → answer_of_row p before row ≡ answer_of_row p (indicator_rows before) row
-  pub log : (rows others : List LogRow) → indicator_rows rows ≡ indicator_rows others →
+  pub log : (rows others : List LogRow) → indicator_moments rows ≡ indicator_moments others →
       answer_lines p [] rows ≡ answer_lines p [] others
 
 -- The answers in a report are those of a run with no program, whatever the program.

@@ -1,5 +1,5 @@
 -- The fields left are those of the step.
-use Rattle.std.proofs.Common.{rules, sym, ap}
+use Rattle.std.proofs.Common.{rules}
 use Rattle.wc_blocks.proofs.Stepping.{ctu_goes_on}
 use Rattle.wc_blocks.proofs.ctu.Ctu.call.Goals as goal
 use Rattle.wc_blocks.specs.Views.{ctu_view}

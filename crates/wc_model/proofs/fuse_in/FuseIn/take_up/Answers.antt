@@ -1,5 +1,5 @@
 -- A piece of nothing gives nothing, however often.
-use Rattle.std.proofs.Common.{◌≡◌, ℕ, ◌-◌, List, [], ◌++◌, ◌∙◌, ap, subst, sym}
+use Rattle.std.proofs.Common.{◌≡◌, ℕ, ◌-◌, List, [], ◌++◌, subst, sym}
 use Rattle.wc_model.proofs.FuseLaws.{nothing_repeated}
 use Rattle.wc_model.proofs.fuse_in.FuseIn.take_up.Goals as goal
 use Rattle.wc_model.specs.Run.Fuses.{repeated}

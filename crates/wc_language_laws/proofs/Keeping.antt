@@ -1,0 +1,21 @@
+-- What a text keeps where it takes its own place.
+use Rattle.std.proofs.Common.{◌≡◌, Bool, true, Option, Some, refl, subst, sym}
+use Rattle.wc_language_laws.specs.Laws.{ATextKeepsItsPlaces}
+use Rattle.wc_model.specs.Language.Carried.{Lead, ToPlace, ToField, same_lead}
+use Rattle.wc_model.specs.declared.block.StandardBlock.TheVariants.{RTrig, Sr, Ctu, Ton, Tof}
+use Rattle.wc_model.specs.declared.kind.Kind.TheVariants.{Bool as KindBool, Dint, Time}
+
+-- where names lead is the same as itself
+same_as_itself : (lead : Lead) → same_lead (Some lead) (Some lead) ≡ true
+same_as_itself (ToPlace KindBool) = refl
+same_as_itself (ToPlace Dint) = refl
+same_as_itself (ToPlace Time) = refl
+same_as_itself (ToField RTrig) = refl
+same_as_itself (ToField Sr) = refl
+same_as_itself (ToField Ctu) = refl
+same_as_itself (ToField Ton) = refl
+same_as_itself (ToField Tof) = refl
+
+-- so each place keeps
+pub keeps_its_places : ATextKeepsItsPlaces
+keeps_its_places text place lead e = let P : Option Lead → Type 0 = λ l. same_lead l l ≡ true in subst P (sym e) (same_as_itself lead)

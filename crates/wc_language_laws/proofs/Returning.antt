@@ -1,0 +1,12 @@
+-- What stands behind a return.
+use Rattle.std.proofs.Common.{◌≡◌, [], Option, refl, ap, ◌∙◌}
+use Rattle.wc_language_laws.specs.Laws.{ReturnEndsTheBody}
+use Rattle.wc_model.specs.Language.Meaning.{Done, after}
+use Rattle.wc_model.specs.Language.Tree.{End, Alone, Plain, Nested}
+
+-- each line is passed over
+pub return_ends : ReturnEndsTheBody
+return_ends here End result store = refl
+return_ends here (Alone word rest) result store = return_ends here rest result store
+return_ends here (Plain word line step rest) result store = ap (after []) (return_ends here rest result store)
+return_ends here (Nested word line operator operand inside close rest) result store = ap (after []) (return_ends here rest result store)
