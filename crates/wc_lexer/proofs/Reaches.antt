@@ -1,7 +1,5 @@
 -- What the look ahead finds lies within the text, and what it says of its place.
-use Rattle.std.proofs.Common.{true, false, cond, ◌≡◌, ℕ, zero, suc, ◌≤◌, List, [], ◌∷◌, length, take, Ok, Err, refl, ap, ◌∙◌, ⊎_elim, arith, length-append}
-use Rattle.std.proofs.lemmas.Bool.{cases_lt}
-use Rattle.wc_token_laws.proofs.Attained.{attained}
+use Rattle.std.proofs.Common.{true, false, cond, ◌≡◌, ℕ, zero, suc, ◌≤◌, List, [], ◌∷◌, length, take, Ok, Err, refl, ap, ◌∙◌, ⊎_elim, arith}
 use Rattle.wc_token_laws.specs.Sights.{Take, Refuse, sight_by_reach, sight_of_lexeme}
 use Rattle.wc_token_laws.specs.Reaches.{reach}
 use Rattle.std.proofs.lemmas.Bool.{or_cases}

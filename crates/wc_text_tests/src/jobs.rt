@@ -147,6 +147,11 @@ fn units_are_checked(rt: HostRuntime) -> Result<(), Fail> {
     let mut writer = Device::new(&mut out);
     assert!(rt; check(rt.alloc(), b"PROGRAM P\nEND_PROGRAM\n", &mut writer) == Ok(()));
     assert_eq!(rt; out.as_slice(), b"unit P cost 0\n".as_slice());
+    let mut two = Vec::new(rt.alloc());
+    let mut lines = Device::new(&mut two);
+    let text = b"PROGRAM P\nLD %IX0.0\nST %QX0.0\nEND_PROGRAM\n";
+    assert!(rt; check(rt.alloc(), text, &mut lines) == Ok(()));
+    assert_eq!(rt; two.as_slice(), b"unit P cost 2\n".as_slice());
     let mut full = FuseOut::new(rt.alloc(), 0, 100)?;
     assert!(rt; check(rt.alloc(), b"PROGRAM P\nEND_PROGRAM\n", &mut full) == Err(RunFault::Write));
     Ok(())
