@@ -1,9 +1,8 @@
 -- Numbers in the ranges of their kinds: how many there are, each of them, none yet, and one written.
-use Rattle.std.proofs.Common.{◌≡◌, ◌≤◌, ◌<◌, ℕ, zero, suc, ◌+◌, ◌^◌, List, [], ◌∷◌, Option, Some, None, length, ℤ, pos, negsuc, refl, ap, sym, ◌∙◌, subst, arith, FitsSigned, to_z, of_z, w64, replicate}
+use Rattle.std.proofs.Common.{◌≡◌, ◌<◌, ℕ, zero, suc, List, [], ◌∷◌, Some, length, ℤ, pos, refl, ap, sym, ◌∙◌, subst, arith, to_z, of_z, w64, replicate}
 use Rattle.std.proofs.lemmas.Int.{ints}
 use Rattle.std.proofs.lemmas.Option.{slice_get_read}
-use Rattle.std.specs.Prelude.{slice_get, slice_set, slice_index_or, ◌≤ℤ◌}
-use Rattle.std.specs.Int.{w32}
+use Rattle.std.specs.Prelude.{slice_get, slice_set, slice_index_or}
 use Rattle.wc_model.specs.Language.Frames.{IsInRange}
 use Rattle.wc_model.specs.declared.kind.SlotKind.{SlotKind}
 use Rattle.wc_model.specs.declared.kind.SlotKind.TheVariants as slots

@@ -1,5 +1,5 @@
 -- What the stores of the code keep. (No rule of the language.)
-use Rattle.std.specs.Prelude.{◌≡◌, ◌+◌, ℕ, List, [], ◌∷◌, map, ℤ, pos, Bool, true, false}
+use Rattle.std.specs.Prelude.{◌≡◌, ◌+◌, ℕ, List, [], ◌∷◌, map, ℤ, pos}
 use Rattle.wc_model.specs.Language.Frames.{bit_number}
 use Rattle.wc_model.specs.declared.kind.SlotKind.{SlotKind}
 use Rattle.wc_model.specs.declared.kind.SlotKind.TheVariants as slots

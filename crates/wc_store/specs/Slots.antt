@@ -1,5 +1,5 @@
 -- What a store is: the kinds of its slots and their numbers, in the order of the places. (No rule of the language.)
-use Rattle.std.specs.Prelude.{ℕ, List, [], ◌∷◌, ℤ, IfSome, slice_get, Bool, pos}
+use Rattle.std.specs.Prelude.{ℕ, List, [], ◌∷◌, ℤ, IfSome, slice_get}
 use Rattle.wc_model.specs.Language.Frames.{IsInRange}
 use Rattle.wc_model.specs.declared.kind.SlotKind.{SlotKind}
 

@@ -7,7 +7,10 @@ use std::alloc::Global;
 use wc_model::{Fault, Place, SlotKind};
 
 /// The entries of places of these kinds, all 0.
-pub(crate) fn zeros(alloc: Global, kinds: &[SlotKind]) -> Result<IndexMap<Place, TaggedNumber>, Fault>
+pub(crate) fn zeros(
+    alloc: Global,
+    kinds: &[SlotKind],
+) -> Result<IndexMap<Place, TaggedNumber>, Fault>
     requires { length kinds.now ≤ 65536 }
     ensures places { IfOk result (λ slots. ArePlacesFrom 0 slots.entries) }
     ensures kinds { IfOk result (λ slots. kinds_in slots.entries ≡ kinds.now) }
@@ -19,8 +22,9 @@ pub(crate) fn zeros(alloc: Global, kinds: &[SlotKind]) -> Result<IndexMap<Place,
         Ok(slots) => slots,
         Err(_) => return Err(Fault::Memory),
     };
-    for (number, kind) in kinds.iter().enumerate() {
-        match slots.insert(Place(number as u16), TaggedNumber::zero(*kind)) {
+    for kind in kinds {
+        let place = Place(slots.len() as u16);
+        match slots.insert(place, TaggedNumber::zero(*kind)) {
             Ok(_) => {}
             Err(_) => return Err(Fault::Memory),
         }

@@ -1,5 +1,5 @@
 -- There is a number at each place, in the range of the place's kind.
-use Rattle.std.proofs.Common.{◌≡◌, ◌<◌, ℕ, ap, sym, subst, arith, length}
+use Rattle.std.proofs.Common.{◌<◌, ap, sym, subst, arith, length}
 use Rattle.wc_store.proofs.Ranges.{same_length, is_read, IsRead}
 use Rattle.wc_store.proofs.slot_store.SlotStoreStore.get.Goals as goal
 use Rattle.wc_store.specs.Slots.{SlotNumbers}
