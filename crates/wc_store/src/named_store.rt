@@ -43,6 +43,7 @@ impl Store for NamedStore {
     fn get(&self, place: Place) -> i64 {
         match self.slots.get(&place) {
             Some(tagged) => tagged.number(),
+            // Below the size there is a number at each place, so this is not reached.
             None => 0,
         }
     }
