@@ -1,6 +1,9 @@
-//! Tests of the scale through its public calls: plate, indication, line, log, report, runs, and the devices below them.
+//! Tests of the scale through its public calls: plate, indication, line, log, report, runs, blocks, stores, and the devices
+//! below them.
 #![tactic(auto)]
 
+#[cfg(test)]
+mod blocks;
 #[cfg(test)]
 mod devices;
 #[cfg(test)]
@@ -17,5 +20,7 @@ mod requests;
 mod runs;
 #[cfg(test)]
 mod sections;
+#[cfg(test)]
+mod stores;
 #[cfg(test)]
 mod writing;

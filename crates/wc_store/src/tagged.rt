@@ -1,0 +1,65 @@
+ghost use Rattle.std.specs.Prelude.{◌≡◌, pos, IsTrue, ◌↔◌};
+ghost use Rattle.wc_model.specs.Language.Frames.{IsInRange};
+ghost use Rattle.wc_store.specs.Inside.{number_view, tag_view};
+
+use wc_model::SlotKind;
+
+/// A number with its kind.
+#[derive(Clone, Copy, Debug, PartialEq, Eq)]
+pub(crate) enum TaggedNumber {
+    /// FALSE or TRUE.
+    Bool(bool),
+    /// A DINT.
+    Dint(i32),
+    /// A TIME, in milliseconds.
+    Time(i32),
+    /// A moment, in milliseconds.
+    Moment(u64),
+    /// A timer's phase.
+    Phase(u8),
+}
+
+impl TaggedNumber {
+    /// 0 of a kind.
+    pub(crate) fn zero(kind: SlotKind) -> TaggedNumber
+        ensures kind { tag_view result ≡ kind }
+        ensures number { number_view result ≡ pos 0 }
+    {
+        match kind {
+            SlotKind::Bool => TaggedNumber::Bool(false),
+            SlotKind::Dint => TaggedNumber::Dint(0),
+            SlotKind::Time => TaggedNumber::Time(0),
+            SlotKind::Moment => TaggedNumber::Moment(0),
+            SlotKind::Phase => TaggedNumber::Phase(0),
+        }
+    }
+
+    /// The number by itself.
+    pub(crate) fn number(self) -> i64
+        requires { IsInRange (tag_view self) (number_view self) }
+        ensures { result ≡ number_view self }
+    {
+        match self {
+            TaggedNumber::Bool(truth) => i64::from(truth),
+            TaggedNumber::Dint(number) => i64::from(number),
+            TaggedNumber::Time(time) => i64::from(time),
+            TaggedNumber::Moment(moment) => moment as i64,
+            TaggedNumber::Phase(phase) => i64::from(phase),
+        }
+    }
+
+    /// A number of the same kind.
+    pub(crate) fn with_number(self, number: i64) -> TaggedNumber
+        requires { IsInRange (tag_view self) number }
+        ensures kind { tag_view result ≡ tag_view self }
+        ensures number { number_view result ≡ number }
+    {
+        match self {
+            TaggedNumber::Bool(_) => TaggedNumber::Bool(number == 1),
+            TaggedNumber::Dint(_) => TaggedNumber::Dint(number as i32),
+            TaggedNumber::Time(_) => TaggedNumber::Time(number as i32),
+            TaggedNumber::Moment(_) => TaggedNumber::Moment(number as u64),
+            TaggedNumber::Phase(_) => TaggedNumber::Phase(number as u8),
+        }
+    }
+}
