@@ -15,3 +15,4 @@ pub mod Lookups
 pub mod ScopeTables
 pub mod MemberTables
 pub mod Entities
+pub mod Inputs
