@@ -16,3 +16,4 @@ pub mod ScopeTables
 pub mod MemberTables
 pub mod Entities
 pub mod Inputs
+pub mod PlainVariables

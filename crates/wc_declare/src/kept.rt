@@ -77,6 +77,19 @@ impl<'a> Tables<'a> {
         input_of(&self.units, declared, name)
     }
 
+    /// The plain variables of a unit, in the order of declaration. It is `None` where there is no unit of that number.
+    pub fn fields(&self, unit: usize) -> Option<&[Field<'a>]>
+        ensures { (text : Text) (scope : Scope)
+            → AreTables self.now text
+            → IsUnit text unit scope
+            → option_map (λ fields. map plain_of_field fields.now) result ≡ Some (plain_variables scope) }
+    {
+        match self.units.get(unit) {
+            Some(table) => Some(table.fields.as_slice()),
+            None => None,
+        }
+    }
+
     /// How many places a unit's frame has.
     pub fn size(&self, unit: usize) -> usize
         ensures { (text : Text) (scope : Scope) → AreTables self.now text → IsUnit text unit scope → result ≡ length (frame_of scope) }
