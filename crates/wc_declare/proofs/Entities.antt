@@ -49,7 +49,7 @@ pub no_name_named : (scope : Scope) (name : Name) → find (λ w. same_name w.na
 no_name_named scope name f = sym (ap (λ (o : Option Variable). option_map (numbered_entity scope) (elim o as (λ x. Option Entity) [ Some w ↦ own_entity scope w | None ↦ None ])) f)
 
 -- a member that is found has the name
-found_name : (ms : List Member) (name : Name) (m : Member) → find (λ x. same_name x.name name) ms ≡ Some m → m.name ≡ name
+pub found_name : (ms : List Member) (name : Name) (m : Member) → find (λ x. same_name x.name name) ms ≡ Some m → m.name ≡ name
 found_name [] name m e = cc
 found_name (x ∷ ms) name m e = by (same_name x.name name) refl e (found_name ms name m)
   where

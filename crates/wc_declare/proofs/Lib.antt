@@ -15,3 +15,5 @@ pub mod Lookups
 pub mod ScopeTables
 pub mod MemberTables
 pub mod Entities
+pub mod Inputs
+pub mod PlainVariables

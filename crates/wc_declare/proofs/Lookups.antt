@@ -10,7 +10,7 @@ use Rattle.wc_model.specs.declared.block.StandardBlock.{StandardBlock}
 use Rattle.wc_model.specs.declared.kind.Kind.{Kind}
 use Rattle.wc_model.specs.declared.source.Initial.{Initial}
 use Rattle.wc_model.specs.Language.Scopes.{Scope, type_of}
-use Rattle.wc_declare.specs.Numbered.{number_within, numbered_type}
+use Rattle.wc_declare.specs.Numbered.{number_within, numbered_type, stands_in}
 use Rattle.wc_declare.specs.declared.declared_type.DeclaredType.{DeclaredType}
 use Rattle.wc_declare.specs.StandsFor.{Stands, end_of, first_place, row_named, type_at}
 use Rattle.wc_declare.specs.declared.declared_type.DeclaredType.TheVariants as numbered
@@ -54,6 +54,7 @@ pub record Into (before : List ProgramUnit) (u : ProgramUnit) (name : Name) (row
   pub named : find (λ w. same_name w.name name) (variables_of u) ≡ Some v
   pub spelled : v.name ≡ name
   pub section : row.section ≡ v.section
+  pub stands : stands_in row.section row.declared ≡ true
 
 pub from_row : (units : List UnitTable) (before : List ProgramUnit) (u : ProgramUnit) (h : Stands units before u) (name : Name) (ns : List Name) (row : Row) → row_named h.table.names h.table.rows.items name ≡ Some row →
     Into before u name row ns (place_from before u (name ∷ ns)) h.table.size
@@ -64,7 +65,7 @@ from_row units before u h name ns row e = by (leads_from units before u h name n
     by (into v r f b n a l q) =
         let g : Some r ≡ Some row = sym f ∙ e in
         let same : r ≡ row = cc in
-        subst (λ x. Into before u name x ns (place_from before u (name ∷ ns)) h.table.size) same (record { v = v; declared = b.is.declared; at_is = a; room = l; named = q; spelled = n; section = b.is.section })
+        subst (λ x. Into before u name x ns (place_from before u (name ∷ ns)) h.table.size) same (record { v = v; declared = b.is.declared; at_is = a; room = l; named = q; spelled = n; section = b.is.section; stands = ap (λ x. stands_in x r.declared) b.is.section ∙ b.is.stands })
 
 -- there is room for what is found within a variable
 pub has_room : (first : ℕ) (own : List (List Name × Content)) (ns : List Name) (size : ℕ) → first + length own ≤ size → size ≤ 4096 → (n : ℕ) → position_from (λ e. same_path e.0 ns) 0 own ≡ Some n → first + n < 65536

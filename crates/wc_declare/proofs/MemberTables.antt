@@ -1,19 +1,21 @@
 -- The members of a block, by the rows of its table.
 use Rattle.std.proofs.Common.{◌≡◌, ℕ, ◌+◌, Bool, true, false, List, [], ◌∷◌, ◌++◌, Option, Some, None, cond, map, length, option_map, refl, sym, ap, ◌∙◌}
 use Rattle.std.specs.Prelude.{find, if◌then◌else◌, option_and_then}
-use Rattle.std.specs.List.{flat_map}
+use Rattle.std.specs.List.{flat_map, position_from}
 use Rattle.wc_model.specs.Language.DeclarationRules.{places_of_type}
 use Rattle.wc_model.specs.Language.Declarations.{Member, Variable, VariableType, Elementary, Standard, Block, as_member, member_named, members_of, same_name, type_named, variables_of}
 use Rattle.wc_model.specs.Language.Kinds.{elementary_kind}
 use Rattle.wc_model.specs.Language.Names.{Name}
+use Rattle.wc_model.specs.Language.Store.{same_path, unit_places}
 use Rattle.wc_model.specs.Language.Tree.{ProgramUnit}
 use Rattle.wc_declare.specs.Members.{kind_numbered, row_member, seen_member}
-use Rattle.wc_declare.specs.Numbered.{numbered_type}
-use Rattle.wc_declare.specs.StandsFor.{AreRows, Stands, row_named}
+use Rattle.wc_declare.specs.Numbered.{number_within, numbered_type}
+use Rattle.wc_declare.specs.StandsFor.{AreRows, Stands, first_place, row_named}
 use Rattle.wc_declare.specs.declared.declared_type.DeclaredType.{DeclaredType}
 use Rattle.wc_declare.specs.declared.declared_type.DeclaredType.TheVariants as numbered
 use Rattle.wc_declare.specs.declared.unit_table.UnitTable.{UnitTable}
 use Rattle.wc_declare.specs.declared.variable.Variable.{Variable as Row}
+use Rattle.wc_declare.proofs.Lookups.{place_from}
 use Rattle.wc_declare.proofs.Places.{TypeCase, found_block, of_block, of_elementary, of_standard, stands_more, type_case}
 
 -- the kind of a type, by its number
@@ -53,6 +55,7 @@ pub record MembersOf (units : List UnitTable) (before : List ProgramUnit) (type 
   pub stands : Stands units earlier unit
   pub counted : number ≡ length earlier
   pub members : option_map row_member (row_named stands.table.names stands.table.rows.items name) ≡ option_map seen_member (member_named (members_of before type) name)
+  pub places : (ns : List Name) → place_from earlier unit ns ≡ number_within before type ns
 
 pub members_by : (units : List UnitTable) (before : List ProgramUnit) (u : ProgramUnit) (h : Stands units before u) (type : VariableType) (number : ℕ) (name : Name) → numbered_type before type ≡ Some (numbered.Block number) →
     MembersOf units before type number name
@@ -65,6 +68,7 @@ members_by units before u h type number name e = by (type_case before (Some type
         let found = found_block before h.others m unit us h.earlier f in
         let stands = stands_more h.others units us unit h.front found.stands in
         let same : type ≡ Block m = cc in
+        let zero_first : first_place unit ≡ 0 = rw found.block refl in
         record {
           earlier = us;
           unit = unit;
@@ -73,4 +77,6 @@ members_by units before u h type number name e = by (type_case before (Some type
           members = ap (λ ns. option_map row_member (row_named ns stands.table.rows.items name)) stands.is.names ∙ sym (members_of_rows us _ (variables_of unit) stands.table.rows.items name stands.is.rows)
               ∙ sym (ap (λ x. option_map seen_member (member_named (members_of before x) name)) same
               ∙ ap (λ (o : Option (ProgramUnit × List ProgramUnit)). option_map seen_member (member_named (elim o as (λ x. List Member) [ Some g ↦ flat_map (as_member g.1) (variables_of g.0) | None ↦ [] ]) name)) f);
+          places = λ ns. ap (λ first. position_from (λ e. same_path e.0 ns) first (unit_places us unit)) zero_first ∙ ap (position_from (λ e. same_path e.0 ns) 0) (sym found.places)
+              ∙ ap (λ x. number_within before x ns) (sym same);
         }

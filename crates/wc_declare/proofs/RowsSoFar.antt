@@ -1,11 +1,11 @@
 -- The rows of a table, one behind the other.
-use Rattle.std.proofs.Common.{◌≡◌, ℕ, ◌+◌, ◌*◌, ◌≤◌, List, [], ◌∷◌, ◌++◌, map, length, Option, Some, option_map, append_assoc, refl, sym, ap, subst, ◌∙◌, arith, length-append}
+use Rattle.std.proofs.Common.{◌≡◌, ℕ, true, ◌+◌, ◌*◌, ◌≤◌, List, [], ◌∷◌, ◌++◌, map, length, Option, Some, option_map, append_assoc, refl, sym, ap, subst, ◌∙◌, arith, length-append}
 use Rattle.std.proofs.lemmas.List.{append-nil}
 use Rattle.wc_model.specs.Language.Checks.{Check, Spot, asks, first_broken, spots_behind}
 use Rattle.wc_model.specs.Language.DeclarationRules.{Taken, and_more, has_room, places_of_type}
 use Rattle.wc_model.specs.Language.Declarations.{Variable, VariableType, type_named}
 use Rattle.wc_model.specs.Language.Tree.{Declaration, ProgramUnit, Word}
-use Rattle.wc_declare.specs.Numbered.{plain_of_field}
+use Rattle.wc_declare.specs.Numbered.{plain_of_field, stands_in}
 use Rattle.wc_declare.specs.Rows.{HasTaken, HoldsRows, plain_as}
 use Rattle.wc_declare.specs.StandsFor.{AreRows, IsRow, end_of, plain_at, plain_from, type_at}
 use Rattle.wc_declare.specs.declared.declared_type.DeclaredType.{DeclaredType}
@@ -41,12 +41,12 @@ plain_case before v row type s (of_block n u us t f d) = ap (λ x. plain_as x v.
 
 -- a table that holds one more variable
 pub holds_more : (before : List ProgramUnit) (first : ℕ) (vs : List Variable) (v : Variable) (row : Row) (width : ℕ) (old new : UnitTable) → HoldsRows before first vs old →
-    type_at before v.type_name ≡ Some row.declared → places_of_type before v.type_name ≡ width → row.section ≡ v.section → row.first ≡ old.size → row.initial ≡ option_map (λ i. i.value) v.initial →
+    type_at before v.type_name ≡ Some row.declared → places_of_type before v.type_name ≡ width → stands_in v.section row.declared ≡ true → row.section ≡ v.section → row.first ≡ old.size → row.initial ≡ option_map (λ i. i.value) v.initial →
     new.rows.items ≡ old.rows.items ++ row ∷ [] → new.size ≡ old.size + width → map plain_of_field new.fields.items ≡ map plain_of_field old.fields.items ++ plain_as row.declared v.name row →
     HoldsRows before first (vs ++ v ∷ []) new
-holds_more before first vs v row width old new h type wide section begins initial rows size fields =
+holds_more before first vs v row width old new h type wide stands section begins initial rows size fields =
     let at : row.first ≡ end_of before first vs = begins ∙ h.size in record {
-      rows = subst (AreRows before first (vs ++ v ∷ [])) (sym rows) (rows_more before first vs old.rows.items v row h.rows (record { section = section; declared = type; begins = at; initial = initial }));
+      rows = subst (AreRows before first (vs ++ v ∷ [])) (sym rows) (rows_more before first vs old.rows.items v row h.rows (record { section = section; declared = type; stands = stands; begins = at; initial = initial }));
       size = size ∙ (λ i. h.size i + sym wide i) ∙ sym (end_more before first vs v);
       fields = fields ∙ (λ i. h.fields i ++ plain_case before v row (type_named before v.type_name) section (type_case before (type_named before v.type_name) row.declared type) i)
           ∙ ap (λ n. plain_from before first vs ++ plain_at n v (type_named before v.type_name)) at ∙ sym (plain_more before first vs v);
@@ -72,7 +72,7 @@ pub record RoomBehind (start own : UnitTable) (d : Declaration) (declared : Decl
   pub done : List Variable
   pub found : (t : Taken) (rest : List Check) → HasTaken t start → first_broken (map (room_of t width) (spots_behind [] all) ++ rest) ≡ first_broken (map (room_of t width) (spots_behind before left) ++ rest)
   pub taken : (t : Taken) → HasTaken t start → HasTaken (and_more t (length before) width) own
-  pub held : (b : List ProgramUnit) (first : ℕ) (vs : List Variable) → type_at b d.type_name.name ≡ Some declared → places_of_type b d.type_name.name ≡ width → HoldsRows b first vs start → HoldsRows b first (vs ++ done) own
+  pub held : (b : List ProgramUnit) (first : ℕ) (vs : List Variable) → type_at b d.type_name.name ≡ Some declared → places_of_type b d.type_name.name ≡ width → stands_in d.section declared ≡ true → HoldsRows b first vs start → HoldsRows b first (vs ++ done) own
   pub joined : done ++ map (as_variable d) left ≡ map (as_variable d) all
   pub counted : length before + length left ≡ length all
   pub names : own.names ≡ start.names
@@ -91,7 +91,7 @@ room_first start d declared width all = record {
   done = [];
   found = λ t rest h. refl;
   taken = λ t h. subst (λ x. HasTaken x start) (sym (none_taken t width)) h;
-  held = λ b first vs type wide h. subst (λ xs. HoldsRows b first xs start) (sym (append-nil vs)) h;
+  held = λ b first vs type wide stands h. subst (λ xs. HoldsRows b first xs start) (sym (append-nil vs)) h;
   joined = refl;
   counted = omega arith;
   names = refl;
@@ -117,9 +117,9 @@ room_more start own new d declared width all word left row h passes type section
         variables = let a = g.variables in let s : length (word ∷ h.before) ≡ length h.before + 1 = one_front word h.before in omega (arith, a, more, s);
         places = ap (λ n. t.places + n * width) (one_front word h.before) ∙ (let b = g.places in let c : t.places + (length h.before + 1) * width ≡ (t.places + length h.before * width) + width = omega arith in c ∙ ap (λ n. n + width) b ∙ sym size);
       };
-  held = λ b first vs e wide g.
+  held = λ b first vs e wide stands g.
       subst (λ xs. HoldsRows b first xs new) (append_assoc vs h.done (as_variable d word ∷ []))
-      (holds_more b first (vs ++ h.done) (as_variable d word) row width own new (h.held b first vs e wide g) (e ∙ ap Some (sym type)) wide section begins initial rows size fields);
+      (holds_more b first (vs ++ h.done) (as_variable d word) row width own new (h.held b first vs e wide stands g) (e ∙ ap Some (sym type)) wide (ap (stands_in d.section) type ∙ stands) section begins initial rows size fields);
   joined = append_assoc h.done (as_variable d word ∷ []) (map (as_variable d) left) ∙ h.joined;
   counted = let c = h.counted in let s : length (word ∷ h.before) ≡ length h.before + 1 = one_front word h.before in let r : length (word ∷ left) ≡ length left + 1 = one_front word left in omega (arith, c, s, r);
   names = names ∙ h.names;

@@ -11,8 +11,8 @@ use Rattle.wc_model.specs.declared.kind.Kind.{Kind}
 use Rattle.wc_model.specs.declared.source.Initial.{Initial}
 use Rattle.wc_model.specs.declared.source.Section.{Section}
 use Rattle.wc_model.specs.declared.value.Value.{Value}
-use Rattle.wc_declare.specs.Numbered.{numbered_type}
-use Rattle.wc_declare.specs.Rows.{stands_in, suits_numbered}
+use Rattle.wc_declare.specs.Numbered.{numbered_type, stands_in}
+use Rattle.wc_declare.specs.Rows.{suits_numbered}
 use Rattle.wc_declare.specs.StandsFor.{type_at}
 use Rattle.wc_declare.specs.declared.declared_type.DeclaredType.{DeclaredType}
 use Rattle.wc_declare.specs.declared.declared_type.DeclaredType.TheVariants as numbered

@@ -1,11 +1,10 @@
 -- What a table holds while a unit's declarations are judged. (No rule of the language.)
-use Rattle.std.specs.Prelude.{◌≡◌, ℕ, Bool, true, false, [], ◌∷◌, List, length, map, Some}
-use Rattle.wc_model.specs.Language.DeclarationRules.{Taken, is_among, is_own, suits_kind}
+use Rattle.std.specs.Prelude.{◌≡◌, ℕ, Bool, false, [], ◌∷◌, List, length, map, Some}
+use Rattle.wc_model.specs.Language.DeclarationRules.{Taken, is_among, suits_kind}
 use Rattle.wc_model.specs.Language.Declarations.{Variable, is_block}
 use Rattle.wc_model.specs.Language.Frames.{PlainVariable}
 use Rattle.wc_model.specs.Language.Names.{Name, name_of}
 use Rattle.wc_model.specs.declared.operand.Word.{Word as Spelled}
-use Rattle.wc_model.specs.declared.source.Section.{Section}
 use Rattle.wc_model.specs.declared.value.Value.{Value}
 use Rattle.wc_model.specs.Language.Tree.{ProgramUnit}
 use Rattle.wc_declare.specs.Numbered.{plain_of_field}
@@ -32,12 +31,6 @@ plain_of word row = plain_as row.declared (name_of word.text.now) row
 -- the same names stand in both
 abbrev pub SameNames : List Name → List Name → Type 0
 SameNames these those = (name : Name) → is_among these name ≡ is_among those name
-
--- a variable of the type may stand in the section
-abbrev pub stands_in : Section → DeclaredType → Bool
-stands_in section (Elementary kind) = true
-stands_in section (Standard block) = is_own section
-stands_in section (Block number) = is_own section
 
 -- a literal is one of the type
 abbrev pub suits_numbered : DeclaredType → Value → Bool

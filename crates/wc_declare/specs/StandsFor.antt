@@ -6,7 +6,7 @@ use Rattle.wc_model.specs.Language.Declarations.{Variable, VariableType, Element
 use Rattle.wc_model.specs.Language.Frames.{PlainVariable}
 use Rattle.wc_model.specs.Language.Names.{Name}
 use Rattle.wc_model.specs.Language.Tree.{ProgramUnit, Text}
-use Rattle.wc_declare.specs.Numbered.{numbered_type, plain_of_field}
+use Rattle.wc_declare.specs.Numbered.{numbered_type, plain_of_field, stands_in}
 use Rattle.wc_declare.specs.declared.declared_type.DeclaredType.{DeclaredType}
 use Rattle.wc_declare.specs.declared.kept.Tables.{Tables}
 use Rattle.wc_declare.specs.declared.unit_table.UnitTable.{UnitTable}
@@ -21,6 +21,7 @@ type_at before name = option_and_then (numbered_type before) (type_named before 
 pub record IsRow (before : List ProgramUnit) (first : ℕ) (v : Variable) (row : Row) : Type 0 where
   pub section : row.section ≡ v.section
   pub declared : type_at before v.type_name ≡ Some row.declared
+  pub stands : stands_in v.section row.declared ≡ true
   pub begins : row.first ≡ first
   pub initial : row.initial ≡ option_map (λ i. i.value) v.initial
 

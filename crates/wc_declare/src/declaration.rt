@@ -1,4 +1,4 @@
-ghost use Rattle.std.specs.Prelude.{◌≡◌, ℕ, ◌≤◌, [], ◌∷◌, ◌++◌, List, Some, option_map, OnOk, IfOk, map, length, false};
+ghost use Rattle.std.specs.Prelude.{◌≡◌, ℕ, ◌≤◌, [], ◌∷◌, ◌++◌, List, Some, option_map, OnOk, IfOk, map, length, true, false};
 ghost use Rattle.wc_model.specs.Language.Checks.{Check, first_broken};
 ghost use Rattle.wc_model.specs.Language.DeclarationRules.{Taken, and_more, declaration_checks, initial_checks, is_among, is_closed_before, is_new, is_own, name_of_word, names_are_new, not_reserved, places_of_type, room_checks, suits_kind, type_checks, unit_declaration_checks};
 ghost use Rattle.wc_model.specs.Language.Declarations.{Variable as Declared, declared_by};
@@ -6,7 +6,8 @@ ghost use Rattle.wc_model.specs.Language.Names.{Name, name_of};
 ghost use Rattle.wc_model.specs.Language.Tree.{ProgramUnit, Text};
 ghost use Rattle.wc_model.specs.Language.Views.{declaration_view, name_view, unit_view, word_view};
 ghost use Rattle.wc_model.specs.Language.Judging.{Judges};
-ghost use Rattle.wc_declare.specs.Rows.{HasTaken, HoldsRows, IsEmptyOf, SameNames, stands_in, suits_numbered};
+ghost use Rattle.wc_declare.specs.Numbered.{stands_in};
+ghost use Rattle.wc_declare.specs.Rows.{HasTaken, HoldsRows, IsEmptyOf, SameNames, suits_numbered};
 ghost use Rattle.wc_declare.specs.StandsFor.{AreDifferent, AreUnitsOf, IsTableOf, type_at};
 
 use crate::declared_type::DeclaredType;
@@ -85,6 +86,7 @@ fn stands_in(section: Section, declared: DeclaredType) -> bool
 fn judge_type<'a>(units: &Units<'a>, declaration: &Decl<'a>) -> Result<DeclaredType, Fault>
     ensures judged { (text : Text) (before : List ProgramUnit) (rest : List Check) → AreUnitsOf text before units.now → Judges (first_broken (type_checks text before (declaration_view declaration.now) ++ rest)) (first_broken rest) result }
     ensures declared { IfOk result (λ declared. (text : Text) (before : List ProgramUnit) → AreUnitsOf text before units.now → type_at before (name_view declaration.now.type_name) ≡ Some declared) }
+    ensures stands { IfOk result (λ declared. stands_in declaration.now.section declared ≡ true) }
 {
     let word = declaration.type_name;
     if !is_closed_before(units, word.text) {
@@ -166,7 +168,7 @@ fn declare_variables<'a>(
     ensures judged { (t : Taken) (rest : List Check) → HasTaken t table.old → Judges (first_broken (room_checks t width (map word_view declaration.now.names.items) ++ rest)) (first_broken rest) result }
     ensures taken { OnOk result ((t : Taken) → HasTaken t table.old → HasTaken (and_more t (length (map word_view declaration.now.names.items)) width) table.new) }
     ensures small { OnOk result (table.old.size ≤ 4096 → table.new.size ≤ 4096) }
-    ensures held { OnOk result ((before : List ProgramUnit) (first : ℕ) (vs : List Declared) → type_at before (name_view declaration.now.type_name) ≡ Some declared → places_of_type before (name_view declaration.now.type_name) ≡ width → HoldsRows before first vs table.old → HoldsRows before first (vs ++ declared_by (declaration_view declaration.now)) table.new) }
+    ensures held { OnOk result ((before : List ProgramUnit) (first : ℕ) (vs : List Declared) → type_at before (name_view declaration.now.type_name) ≡ Some declared → places_of_type before (name_view declaration.now.type_name) ≡ width → stands_in declaration.now.section declared ≡ true → HoldsRows before first vs table.old → HoldsRows before first (vs ++ declared_by (declaration_view declaration.now)) table.new) }
     ensures names { OnOk result (table.new.names ≡ table.old.names) }
     ensures is_block { OnOk result (table.new.is_block ≡ table.old.is_block) }
 {

@@ -1,4 +1,5 @@
 ghost use Rattle.std.specs.Prelude.{◌≡◌, ℕ, None, IfOk, IfSome, IsOkUnless, map, length, option_map, option_and_then, is_some};
+ghost use Rattle.wc_model.specs.Language.BodyRules.{input_named};
 ghost use Rattle.wc_model.specs.Language.Declarations.{VariableType, members_of};
 ghost use Rattle.wc_model.specs.Language.Frames.{first_numbers, frame_of, number_of_path, plain_variables, slot_kinds};
 ghost use Rattle.wc_model.specs.Language.Names.{name_of};
@@ -6,11 +7,12 @@ ghost use Rattle.wc_model.specs.Language.Scopes.{Scope, entity_of, type_of};
 ghost use Rattle.wc_model.specs.Language.Tree.{Text};
 ghost use Rattle.wc_model.specs.Language.Views.{term_view};
 ghost use Rattle.wc_declare.specs.StandsFor.{AreTables};
-ghost use Rattle.wc_declare.specs.Numbered.{IsUnit, StandsFrom, numbered_entity, numbered_type, plain_of_field};
+ghost use Rattle.wc_declare.specs.Numbered.{IsUnit, StandsFrom, numbered_entity, numbered_input, numbered_type, plain_of_field};
 
 use crate::declared_type::DeclaredType;
 use crate::entity::Entity;
 use crate::field::Field;
+use crate::input::{Input, input_of};
 use crate::located::Located;
 use crate::lookup::{address, number, row};
 use crate::naming::{entity, place_at};
@@ -54,6 +56,36 @@ impl<'a> Tables<'a> {
                 declared: row.declared,
                 first: row.first,
             }),
+            None => None,
+        }
+    }
+
+    /// The input of that name of what has this type, with its kind and its place, counted from the first place of an
+    /// instance. It is `None` where there is none of that name: outputs and variables of the block's own are none.
+    pub fn input(&self, declared: DeclaredType, name: &[u8]) -> Option<Input>
+        ensures found { (text : Text) (unit : ℕ) (scope : Scope) (type : VariableType)
+            → AreTables self.now text
+            → IsUnit text unit scope
+            → numbered_type scope.before type ≡ Some declared
+            → result ≡ option_and_then (numbered_input scope.before type) (input_named (members_of scope.before type) (name_of name.now)) }
+        ensures known { (text : Text) (unit : ℕ) (scope : Scope) (type : VariableType)
+            → AreTables self.now text
+            → IsUnit text unit scope
+            → numbered_type scope.before type ≡ Some declared
+            → is_some result ≡ is_some (input_named (members_of scope.before type) (name_of name.now)) }
+    {
+        input_of(&self.units, declared, name)
+    }
+
+    /// The plain variables of a unit, in the order of declaration. It is `None` where there is no unit of that number.
+    pub fn fields(&self, unit: usize) -> Option<&[Field<'a>]>
+        ensures { (text : Text) (scope : Scope)
+            → AreTables self.now text
+            → IsUnit text unit scope
+            → option_map (λ fields. map plain_of_field fields.now) result ≡ Some (plain_variables scope) }
+    {
+        match self.units.get(unit) {
+            Some(table) => Some(table.fields.as_slice()),
             None => None,
         }
     }

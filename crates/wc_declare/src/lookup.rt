@@ -143,7 +143,7 @@ fn tof_field(name: &[u8]) -> Option<u16>
 }
 
 /// The number of a field of a standard function block.
-fn field_named(block: StandardBlock, name: &[u8]) -> Option<u16>
+pub(crate) fn field_named(block: StandardBlock, name: &[u8]) -> Option<u16>
     ensures { result ≡ position_from (λ f. same_name f.0 (name_of name.now)) 0 (standard_fields block) }
 {
     match block {

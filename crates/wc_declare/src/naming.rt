@@ -74,7 +74,7 @@ fn is_output(number: u8) -> bool
 }
 
 /// Whether variables of a section are inputs.
-fn is_input(section: Section) -> bool
+pub(crate) fn is_input(section: Section) -> bool
     ensures { result ≡ is_input section }
 {
     match section {

@@ -61,9 +61,9 @@ returns-clause-taken c = λ t taken.
     subst (λ n. HasTaken (and_more t n c.args.width) c.loop-word.table) (all ∙ ap (λ xs. length (map word_view xs)) c.deref-word-items.ensures.value) (h.taken t taken)
 
 pub returns-clause-held : goal.returns-clause-held
-returns-clause-held c = λ before first vs type wide held.
+returns-clause-held c = λ before first vs type wide stands held.
     let end : drop c.loop-word.word-index c.deref-word-items.result.now ≡ [] = drop_all c.loop-word.word-index c.deref-word-items.result.now c.loop-word-test.false in
     let d = declaration_view c.args.declaration.now in
     let h = subst (λ xs. RoomBehind c.args.table.now c.loop-word.table d c.args.declared c.args.width (map word_view c.deref-word-items.result.now) (map word_view xs)) end c.loop-word.invariant in
     let all = sym (append-nil h.done) ∙ h.joined ∙ ap (λ xs. map (as_variable d) (map word_view xs)) c.deref-word-items.ensures.value in
-    subst (λ xs. HoldsRows before first (vs ++ xs) c.loop-word.table) all (h.held before first vs type wide held)
+    subst (λ xs. HoldsRows before first (vs ++ xs) c.loop-word.table) all (h.held before first vs type wide stands held)

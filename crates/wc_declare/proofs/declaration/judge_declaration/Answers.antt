@@ -61,4 +61,4 @@ pub returns-clause-held : goal.returns-clause-held
 returns-clause-held c = on_ok c.declare_variables.result c.declare_variables.ensures.held (λ holds text before first vs units h.
     let name = name_view c.args.declaration.now.type_name in
     let typed = c.in-Ok.ensures.declared text before units in
-    holds before first vs typed (sym (c.width.ensures text before name units typed)) (record { rows = h.rows; size = h.size; fields = h.fields }))
+    holds before first vs typed (sym (c.width.ensures text before name units typed)) c.in-Ok.ensures.stands (record { rows = h.rows; size = h.size; fields = h.fields }))

@@ -31,3 +31,6 @@ returns-else-stands_in-clause-judged c = λ text before rest h.
     rw c.refused-else-stands_in.ensures (
     passed 308 d.type_name.line _ (asks 302 d.type_name.line (is_usable_type before d.section name) ∷ rest) (sym (c.is_closed_before.ensures text before h) ∙ c.if-not-is_closed_before.false)
     ∙ broken 302 d.type_name.line (is_usable_type before d.section name) rest (usable_type before d.section name c.in-Some.declared (sym (c.type_at.ensures text before h) ∙ c.in-Some.is) ∙ sym c.stands_in.ensures ∙ c.if-stands_in.false))
+
+pub returns-then-stands_in-clause-stands : goal.returns-then-stands_in-clause-stands
+returns-then-stands_in-clause-stands c = sym c.stands_in.ensures ∙ c.if-stands_in.true
