@@ -1,0 +1,146 @@
+-- What is found of the arguments of a call.
+use Rattle.std.proofs.Common.{◌≡◌, ℕ, Bool, true, false, not, List, [], ◌∷◌, ◌++◌, Option, Some, None, Result, Ok, Err, length, append_assoc, refl, sym, ap, ◌∙◌}
+use Rattle.std.proofs.lemmas.List.Folds.{list_any-append}
+use Rattle.std.specs.List.{flat_map, list_any}
+use Rattle.std.specs.Prelude.{◌||◌, option_and_then, option_map, is_some, OnOk}
+use Rattle.wc_model.specs.Language.BodyRules.{argument_checks, condition_checks, input_named, is_instance, members_called, reading_checks, suits_input}
+use Rattle.wc_model.specs.Language.Checks.{Check, Spot, asks, first_broken, spots_behind, spots_of}
+use Rattle.wc_model.specs.Language.DeclarationRules.{is_among}
+use Rattle.wc_model.specs.Language.Declarations.{Member, VariableType, Elementary, Standard, Block, block_named, members_of, same_name}
+use Rattle.wc_model.specs.Language.Kinds.{elementary_kind}
+use Rattle.wc_model.specs.Language.Names.{Name}
+use Rattle.wc_model.specs.Language.Scopes.{Scope}
+use Rattle.wc_model.specs.Language.Tree.{Assignment, ProgramUnit}
+use Rattle.wc_model.specs.declared.kind.Kind.{Kind}
+use Rattle.wc_model.specs.declared.operator.Condition.{Condition}
+use Rattle.wc_declare.specs.Numbered.{number_within, numbered_input, numbered_type}
+use Rattle.wc_declare.specs.declared.declared_type.DeclaredType.{DeclaredType}
+use Rattle.wc_declare.specs.declared.declared_type.DeclaredType.TheVariants as numbered
+use Rattle.wc_declare.specs.declared.input.Input.{Input}
+use Rattle.wc_declare.specs.declared.kept.Tables.{Tables}
+use Rattle.wc_verify.specs.Calls.{HoldsNames, is_numbered_instance}
+use Rattle.wc_verify.specs.Keys.{same_name_laws}
+use Rattle.wc_verify.specs.Seeing.{IsScope}
+use Rattle.wc_verify.proofs.Found.{Asked, Both, Finds, asked_as, joined}
+
+-- an input that is found is a member of its kind
+pub record IsInput (o : Option Member) (kind : Kind) : Type 0 where
+  pub member : Member
+  pub is : o ≡ Some member
+  pub kind_is : elementary_kind member.type ≡ Some kind
+
+kind_parts : (k : Option Kind) (w : Option ℕ) (input : Input) → Some input ≡ option_and_then (λ kind. option_map (λ n. record { kind = kind; place = n }) w) k → k ≡ Some input.kind
+kind_parts None w input h = cc
+kind_parts (Some kind) None input h = cc
+kind_parts (Some kind) (Some n) input h = ap (λ o. option_map (λ (i : Input). i.kind) o) (sym h)
+
+pub input_parts : (scope : Scope) (type : VariableType) (o : Option Member) (input : Input) → Some input ≡ option_and_then (numbered_input scope.before type) o → IsInput o input.kind
+input_parts scope type None input h = absurd (cc)
+input_parts scope type (Some m) input h = record { member = m; is = refl; kind_is = kind_parts (elementary_kind m.type) (number_within scope.before type (m.name ∷ [])) input h }
+
+-- the rules of an argument whose input there is, and which is not assigned before
+pub argument_found : (scope : Scope) (members : List Member) (spot : Spot Assignment) (kind : Kind) (p q r : Option ℕ) (suits : Bool) → IsInput (input_named members spot.item.input) kind →
+    list_any (λ a. same_name a.input spot.item.input) spot.before ≡ false → Finds (λ line. reading_checks scope line spot.item.value) p → Asked 402 suits q → Both p q r →
+    ((m : Member) → elementary_kind m.type ≡ Some kind → suits_input scope (Some m) spot.item.value ≡ suits) → Finds (λ line. argument_checks scope line members spot) r
+argument_found scope members spot kind p q r suits input new reads asked both suiting line rest =
+    let value = spot.item.value in
+    (λ i. first_broken (asks 409 line (is_some (input.is i)) ∷ asks 410 line (not (new i)) ∷ reading_checks scope line value ++ asks 402 line (suits_input scope (input.is i) value) ∷ [] ++ rest))
+    ∙ joined (λ line. reading_checks scope line value) (λ line. asks 402 line (suits_input scope (Some input.member) value) ∷ []) p q r reads (asked_as 402 suits (suits_input scope (Some input.member) value) q asked (suiting input.member input.kind_is)) both line rest
+
+-- one that is assigned before
+pub assigned_found : (scope : Scope) (members : List Member) (spot : Spot Assignment) (kind : Kind) (line : ℕ) (rest : List Check) → IsInput (input_named members spot.item.input) kind →
+    list_any (λ a. same_name a.input spot.item.input) spot.before ≡ true → first_broken (argument_checks scope line members spot ++ rest) ≡ Some (record { number = 410; line = line })
+assigned_found scope members spot kind line rest input old =
+    let value = spot.item.value in
+    (λ i. first_broken (asks 409 line (is_some (input.is i)) ∷ asks 410 line (not (old i)) ∷ reading_checks scope line value ++ asks 402 line (suits_input scope (input.is i) value) ∷ [] ++ rest))
+
+or_last : (a b : Bool) → (a || (b || false)) ≡ (b || a)
+or_last true true = refl
+or_last true false = refl
+or_last false true = refl
+or_last false false = refl
+
+-- one more name
+pub one_more : (names : List Name) (before : List Assignment) (a : Assignment) → HoldsNames names before → HoldsNames (names ++ a.input ∷ []) (a ∷ before)
+one_more names before a held = λ name.
+    list_any-append (same_name name) names (a.input ∷ []) ∙ or_last (is_among names name) (same_name name a.input) ∙ (λ i. same_name_laws.symm name a.input i || held name i)
+
+-- what stands behind the arguments so far, newest first
+pub record ArgumentsBehind (tables : Tables) (unit : ℕ) (declared : DeclaredType) (line : ℕ) (names : List Name) (all left : List Assignment) : Type 0 where
+  pub before : List Assignment
+  pub held : HoldsNames names before
+  pub found : (scope : Scope) (type : VariableType) (rest : List Check) → IsScope tables unit scope → numbered_type scope.before type ≡ Some declared →
+      first_broken (flat_map (argument_checks scope line (members_of scope.before type)) (spots_behind [] all) ++ rest) ≡ first_broken (flat_map (argument_checks scope line (members_of scope.before type)) (spots_behind before left) ++ rest)
+
+pub at_first : (tables : Tables) (unit : ℕ) (declared : DeclaredType) (line : ℕ) (all : List Assignment) → ArgumentsBehind tables unit declared line [] all all
+at_first tables unit declared line all = record { before = []; held = λ name. refl; found = λ scope type rest is num. refl }
+
+pub one_behind : (tables : Tables) (unit : ℕ) (declared : DeclaredType) (line : ℕ) (names new : List Name) (all : List Assignment) (a : Assignment) (left : List Assignment) →
+    (h : ArgumentsBehind tables unit declared line names all (a ∷ left)) →
+    ((scope : Scope) (type : VariableType) (before behind : List Assignment) (rest : List Check) → IsScope tables unit scope → numbered_type scope.before type ≡ Some declared → HoldsNames names before →
+    first_broken (argument_checks scope line (members_of scope.before type) (record { before = before; item = a; behind = behind }) ++ rest) ≡ first_broken rest) →
+    ((before : List Assignment) → HoldsNames names before → HoldsNames new (a ∷ before)) → ArgumentsBehind tables unit declared line new all left
+one_behind tables unit declared line names new all a left h passes holds = record {
+  before = a ∷ h.before;
+  held = holds h.before h.held;
+  found = λ scope type rest is num.
+      let checks = argument_checks scope line (members_of scope.before type) in
+      h.found scope type rest is num
+      ∙ ap first_broken (append_assoc (checks (record { before = h.before; item = a; behind = left })) (flat_map checks (spots_behind (a ∷ h.before) left)) rest)
+      ∙ passes scope type h.before left (flat_map checks (spots_behind (a ∷ h.before) left) ++ rest) is num h.held;
+}
+
+-- a fact of what is fine either way
+pub on_ok : {X : Type 0} {E : Type 0} (r : Result X E) (P : Type 0) → P → OnOk r P
+on_ok (Ok x) P p = p
+on_ok (Err e) P p = tt
+
+not_new : (b new : Bool) → new ≡ not b → new ≡ true → b ≡ false
+not_new true new e t = cc
+not_new false new e t = refl
+
+-- a name that is new among those kept is assigned by none before
+pub is_new : (names : List Name) (before : List Assignment) (name : Name) → HoldsNames names before → (new : Bool) → new ≡ not (is_among names name) → new ≡ true → list_any (λ a. same_name a.input name) before ≡ false
+is_new names before name held new e t = sym (held name) ∙ not_new (is_among names name) new e t
+
+-- the type of an instance, or of another variable, from its number
+pub record IsTyped (scope : Scope) (o : Option VariableType) (declared : DeclaredType) : Type 0 where
+  pub type : VariableType
+  pub is : o ≡ Some type
+  pub numbered : numbered_type scope.before type ≡ Some declared
+  pub instance : is_instance (Some type) ≡ is_numbered_instance declared
+
+abbrev instance_if_any : Option DeclaredType → Bool
+instance_if_any None = true
+instance_if_any (Some declared) = is_numbered_instance declared
+
+block_instance : (found : Option (ProgramUnit × List ProgramUnit)) (declared : DeclaredType) → Some declared ≡ option_map (λ found. numbered.Block (length found.1)) found → true ≡ is_numbered_instance declared
+block_instance None declared h = absurd (cc)
+block_instance (Some found) declared h = ap instance_if_any (sym h)
+
+pub type_parts : (scope : Scope) (o : Option VariableType) (declared : DeclaredType) → Some declared ≡ option_and_then (numbered_type scope.before) o → IsTyped scope o declared
+type_parts scope None declared h = absurd (cc)
+type_parts scope (Some (Elementary kind)) declared h = record { type = Elementary kind; is = refl; numbered = sym h; instance = ap instance_if_any (sym h) }
+type_parts scope (Some (Standard block)) declared h = record { type = Standard block; is = refl; numbered = sym h; instance = ap instance_if_any (sym h) }
+type_parts scope (Some (Block name)) declared h = record { type = Block name; is = refl; numbered = sym h; instance = block_instance (block_named scope.before name) declared h }
+
+-- the rules of a call, whose instance's type is this
+abbrev pub checks_called : Scope → ℕ → Condition → Option VariableType → List Assignment → Option Kind → List Check
+checks_called scope line condition o arguments kind =
+    asks 401 line (is_some o) ∷ asks 402 line (is_instance o) ∷ condition_checks condition line kind ++ flat_map (argument_checks scope line (members_called scope o)) (spots_of arguments)
+
+-- what is called is no instance
+pub no_instance_found : (scope : Scope) (line : ℕ) (condition : Condition) (o : Option VariableType) (arguments : List Assignment) (kind : Option Kind) (rest : List Check) (declared : DeclaredType) →
+    IsTyped scope o declared → is_numbered_instance declared ≡ false → first_broken (checks_called scope line condition o arguments kind ++ rest) ≡ Some (record { number = 402; line = line })
+no_instance_found scope line condition o arguments kind rest declared typed none =
+    (λ i. first_broken (checks_called scope line condition (typed.is i) arguments kind ++ rest))
+    ∙ ap (λ b. first_broken (asks 402 line b ∷ (condition_checks condition line kind ++ flat_map (argument_checks scope line (members_called scope (Some typed.type))) (spots_of arguments)) ++ rest)) (typed.instance ∙ none)
+
+-- an instance is called
+pub instance_found : (scope : Scope) (line : ℕ) (condition : Condition) (o : Option VariableType) (arguments : List Assignment) (kind : Option Kind) (rest : List Check) (declared : DeclaredType) →
+    (typed : IsTyped scope o declared) → is_numbered_instance declared ≡ true → first_broken (checks_called scope line condition o arguments kind ++ rest)
+    ≡ first_broken (condition_checks condition line kind ++ (flat_map (argument_checks scope line (members_of scope.before typed.type)) (spots_of arguments) ++ rest))
+instance_found scope line condition o arguments kind rest declared typed some =
+    (λ i. first_broken (checks_called scope line condition (typed.is i) arguments kind ++ rest))
+    ∙ ap (λ b. first_broken (asks 402 line b ∷ (condition_checks condition line kind ++ flat_map (argument_checks scope line (members_of scope.before typed.type)) (spots_of arguments)) ++ rest)) (typed.instance ∙ some)
+    ∙ ap first_broken (append_assoc (condition_checks condition line kind) (flat_map (argument_checks scope line (members_of scope.before typed.type)) (spots_of arguments)) rest)

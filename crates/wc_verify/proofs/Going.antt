@@ -1,0 +1,30 @@
+-- What is found of a line, and the kind of the result behind it.
+use Rattle.std.proofs.Common.{◌≡◌, ℕ, Bool, true, false, List, ◌++◌, Option, Some, Result, Err, sym, subst, ◌∙◌}
+use Rattle.std.specs.Prelude.{if◌then◌else◌}
+use Rattle.wc_model.specs.Language.BodyRules.{line_rules}
+use Rattle.wc_model.specs.Language.Checks.{Check, first_broken}
+use Rattle.wc_model.specs.Language.Kinds.{BodyLine, PlainLine, kind_after, term_kind}
+use Rattle.wc_model.specs.Language.Scopes.{Scope}
+use Rattle.wc_model.specs.Language.Tree.{Word, Term, Load}
+use Rattle.wc_model.specs.declared.fault.Fault.{Fault}
+use Rattle.wc_model.specs.declared.fault.Fault.TheVariants.{Refused, Memory}
+use Rattle.wc_model.specs.declared.kind.Kind.{Kind}
+use Rattle.wc_model.specs.declared.kind.Kind.TheVariants.{Bool as KindBool}
+use Rattle.wc_model.specs.Language.Judging.{Judges}
+use Rattle.wc_verify.specs.Instructions.{GoesOn}
+
+-- a fault stays
+goes_so : (scope : Scope) (line : BodyLine) (behind : List BodyLine) (kind : Option Kind) (more : List Check) (fault : Fault) →
+    Judges {X = Unit {0}} (first_broken (line_rules scope line behind kind ++ more)) (first_broken more) (Err fault) → GoesOn scope line behind kind more (Err fault)
+goes_so scope line behind kind more (Refused number place) h = h
+goes_so scope line behind kind more Memory h = tt
+
+pub goes_wrong : (scope : Scope) (line : BodyLine) (behind : List BodyLine) (kind : Option Kind) (more : List Check) (r : Result (Unit {0}) Fault) (fault : Fault) → r ≡ Err fault →
+    Judges (first_broken (line_rules scope line behind kind ++ more)) (first_broken more) r → GoesOn scope line behind kind more (Err fault)
+goes_wrong scope line behind kind more r fault e h = goes_so scope line behind kind more fault (subst (λ x. Judges (first_broken (line_rules scope line behind kind ++ more)) (first_broken more) x) e h)
+
+-- the kind behind LD and LDN
+pub loaded : (scope : Scope) (label : Option Word) (line : ℕ) (negated : Bool) (term : Term) (kind seen after : Option Kind) → after ≡ (if negated then Some KindBool else seen) → term_kind scope term ≡ seen →
+    after ≡ kind_after scope (PlainLine label line (Load negated term)) kind
+loaded scope label line true term kind seen after e k = e
+loaded scope label line false term kind seen after e k = e ∙ sym k

@@ -1,0 +1,52 @@
+use Rattle.std.proofs.Common.{ℕ, ◌+◌, ◌<◌, false, List, [], ◌∷◌, ◌++◌, length, map, drop, get_or, ap, subst, ◌∙◌, append_assoc}
+use Rattle.std.specs.List.{flat_map}
+use Rattle.wc_model.specs.Language.BodyRules.{argument_checks}
+use Rattle.wc_model.specs.Language.Checks.{first_broken, spots_behind, spots_of}
+use Rattle.wc_model.specs.Language.Declarations.{members_of}
+use Rattle.wc_model.specs.Language.Names.{Name}
+use Rattle.wc_model.specs.Language.Tree.{Assignment}
+use Rattle.wc_model.specs.Language.Views.{assignment_view}
+use Rattle.wc_model.specs.declared.operand.Operand.TheVariants.{Literal}
+use Rattle.wc_model.specs.declared.tree.Argument.{Argument}
+use Rattle.wc_model.specs.declared.value.Value.TheVariants.{Bool as Truth}
+use Rattle.wc_declare.specs.declared.declared_type.DeclaredType.{DeclaredType}
+use Rattle.wc_declare.specs.declared.kept.Tables.{Tables}
+use Rattle.wc_verify.proofs.Calling.{ArgumentsBehind, one_behind}
+use Rattle.wc_verify.proofs.Judging.{judges_err, judges_ok}
+use Rattle.wc_verify.proofs.Lists.{from_index_or}
+use Rattle.wc_verify.proofs.calls.judge_arguments.Goals as goal
+
+-- the arguments that are left begin with this one
+abbrev one : Argument
+one = record { name = record { ref_ptr = (0, 0); now = [] }; value = Literal (Truth false) }
+
+begin : (tables : Tables) (unit : ℕ) (declared : DeclaredType) (line : ℕ) (names : List Name) (all : List Assignment) (items : List Argument) (i : ℕ) → i < length items →
+    ArgumentsBehind tables unit declared line names all (map assignment_view (drop i items)) → ArgumentsBehind tables unit declared line names all (assignment_view (get_or items i one) ∷ map assignment_view (drop (i + 1) items))
+begin tables unit declared line names all items i below h = subst (λ xs. ArgumentsBehind tables unit declared line names all (map assignment_view xs)) (from_index_or items i one below) h
+
+pub returns-in-Err : goal.returns-in-Err
+returns-in-Err c = λ scope type rest is num.
+    let items = c.args.arguments.now in
+    let i = c.loop-argument.argument-index in
+    let all = map assignment_view items in
+    let a = assignment_view (get_or items i one) in
+    let left = map assignment_view (drop (i + 1) items) in
+    let checks = argument_checks scope c.args.line (members_of scope.before type) in
+    let h = begin c.args.tables.now c.args.unit c.args.declared c.args.line c.loop-argument.names all items i c.loop-argument-test.true c.loop-argument.invariant in
+    let more = flat_map checks (spots_behind (a ∷ h.before) left) ++ rest in
+    judges_err (Unit {0}) (Unit {0}) (first_broken (flat_map checks (spots_of all) ++ rest)) (first_broken (checks (record { before = h.before; item = a; behind = left }) ++ more)) (first_broken more) (first_broken rest) c.in-Err.fault
+    (h.found scope type rest is num ∙ ap first_broken (append_assoc (checks (record { before = h.before; item = a; behind = left })) (flat_map checks (spots_behind (a ∷ h.before) left)) rest))
+    (c.in-Err.ensures.judged scope type h.before left more is num h.held)
+
+pub loop-argument-preserved : goal.loop-argument-preserved
+loop-argument-preserved c =
+    let items = c.args.arguments.now in
+    let i = c.loop-argument.argument-index in
+    let all = map assignment_view items in
+    let a = assignment_view (get_or items i one) in
+    let left = map assignment_view (drop (i + 1) items) in
+    let h = begin c.args.tables.now c.args.unit c.args.declared c.args.line c.loop-argument.names all items i c.loop-argument-test.true c.loop-argument.invariant in
+    one_behind c.args.tables.now c.args.unit c.args.declared c.args.line c.loop-argument.names c.judge_argument.new.names all a left h
+    (λ scope type before behind rest is num held. judges_ok (first_broken (argument_checks scope c.args.line (members_of scope.before type) (record { before = before; item = a; behind = behind }) ++ rest)) (first_broken rest) c.judge_argument.result c.in_default.field-0 c.in_default.is
+    (c.judge_argument.ensures.judged scope type before behind rest is num held))
+    c.in_default.ensures.held

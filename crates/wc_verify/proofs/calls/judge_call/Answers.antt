@@ -1,0 +1,33 @@
+use Rattle.std.proofs.Common.{map, sym, ◌∙◌, ◌++◌}
+use Rattle.std.specs.List.{flat_map}
+use Rattle.wc_model.specs.Language.BodyRules.{argument_checks, call_checks}
+use Rattle.wc_model.specs.Language.Checks.{first_broken, spots_of}
+use Rattle.wc_model.specs.Language.Declarations.{members_of}
+use Rattle.wc_model.specs.Language.Names.{name_of}
+use Rattle.wc_model.specs.Language.Scopes.{type_of}
+use Rattle.wc_model.specs.Language.Views.{assignment_view}
+use Rattle.wc_verify.proofs.Calling.{instance_found, no_instance_found, type_parts}
+use Rattle.wc_verify.proofs.Judging.{judges_same}
+use Rattle.wc_verify.proofs.calls.judge_call.Goals as goal
+
+pub returns-then-not-is_instance : goal.returns-then-not-is_instance
+returns-then-not-is_instance c = λ scope rest is.
+    let typed = type_parts scope (type_of scope (name_of c.args.instance.now)) c.in-Some.declared (c.in-Some.ensures.declared scope is) in
+    rw c.refused-then-not-is_instance.ensures (no_instance_found scope c.args.line c.args.condition (type_of scope (name_of c.args.instance.now)) (map assignment_view c.args.arguments.now) c.args.kind rest c.in-Some.declared typed (sym c.if-not-is_instance.ensures))
+
+pub returns-in-Some-judge_condition : goal.returns-in-Some-judge_condition
+returns-in-Some-judge_condition c = λ scope rest is.
+    let typed = type_parts scope (type_of scope (name_of c.args.instance.now)) c.in-Some.declared (c.in-Some.ensures.declared scope is) in
+    let arguments = map assignment_view c.args.arguments.now in
+    rw c.refused-in-Some-judge_condition.ensures (instance_found scope c.args.line c.args.condition (type_of scope (name_of c.args.instance.now)) arguments c.args.kind rest c.in-Some.declared typed (sym c.if-not-is_instance.ensures)
+    ∙ c.in-Some-judge_condition.ensures c.args.line (flat_map (argument_checks scope c.args.line (members_of scope.before typed.type)) (spots_of arguments) ++ rest))
+
+pub returns-in-None : goal.returns-in-None
+returns-in-None c = λ scope rest is.
+    let typed = type_parts scope (type_of scope (name_of c.args.instance.now)) c.in-Some.declared (c.in-Some.ensures.declared scope is) in
+    let arguments = map assignment_view c.args.arguments.now in
+    let checks = flat_map (argument_checks scope c.args.line (members_of scope.before typed.type)) (spots_of arguments) in
+    judges_same (first_broken (call_checks scope c.args.line c.args.condition (name_of c.args.instance.now) arguments c.args.kind ++ rest)) (first_broken (checks ++ rest)) (first_broken rest) c.judge_arguments.result
+    (instance_found scope c.args.line c.args.condition (type_of scope (name_of c.args.instance.now)) arguments c.args.kind rest c.in-Some.declared typed (sym c.if-not-is_instance.ensures)
+    ∙ c.in-None.ensures c.args.line (checks ++ rest))
+    (c.judge_arguments.ensures scope typed.type rest is typed.numbered)

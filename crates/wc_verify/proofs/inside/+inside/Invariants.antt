@@ -1,0 +1,12 @@
+use Rattle.std.proofs.Common.{List, Ok, drop}
+use Rattle.wc_model.specs.Language.Checks.{Check}
+use Rattle.wc_model.specs.Language.Scopes.{Scope}
+use Rattle.wc_model.specs.Language.Views.{lines_view}
+use Rattle.wc_verify.specs.Instructions.{GoesInside}
+use Rattle.wc_verify.specs.Seeing.{IsScope}
+use Rattle.wc_verify.proofs.inside.+inside.Given as goal
+
+-- the lines so far break nothing, and hand on the kind
+abbrev pub invariant-judge_inside-loop-line : goal.invariant-judge_inside-loop-line
+invariant-judge_inside-loop-line l =
+    (scope : Scope) (more : List Check) → IsScope l.tables l.unit scope → GoesInside scope (lines_view l.line-items) l.fn.first (lines_view (drop l.line-index l.line-items)) more (Ok l.kind)

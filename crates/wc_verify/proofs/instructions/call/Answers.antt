@@ -1,0 +1,10 @@
+use Rattle.wc_model.specs.Language.Kinds.{PlainLine}
+use Rattle.wc_model.specs.Language.Tree.{Call}
+use Rattle.wc_model.specs.Language.Views.{assignment_view}
+use Rattle.wc_model.specs.Language.Names.{name_of}
+use Rattle.std.proofs.Common.{map, refl}
+use Rattle.wc_verify.proofs.instructions.call.Goals as goal
+
+pub returns : goal.returns
+returns c = λ scope label behind more is.
+    c.followed.ensures scope (PlainLine label c.args.line (Call c.args.condition (name_of c.args.instance.now) (map assignment_view c.args.arguments.now))) behind c.args.kind more (c.judge_call-judged.ensures scope more is) refl

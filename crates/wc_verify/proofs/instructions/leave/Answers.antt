@@ -1,0 +1,9 @@
+use Rattle.wc_model.specs.Language.Checks.{first_broken}
+use Rattle.wc_model.specs.Language.Kinds.{PlainLine}
+use Rattle.wc_model.specs.Language.Tree.{Return}
+use Rattle.std.proofs.Common.{refl}
+use Rattle.wc_verify.proofs.instructions.leave.Goals as goal
+
+pub returns : goal.returns
+returns c = λ scope label behind more.
+    c.followed.ensures scope (PlainLine label c.args.line (Return c.args.condition)) behind c.args.kind more (c.refuse.ensures _ (first_broken more) (c.judge_condition.ensures c.args.line more)) refl

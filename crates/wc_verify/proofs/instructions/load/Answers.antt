@@ -1,0 +1,13 @@
+use Rattle.wc_model.specs.Language.Checks.{first_broken}
+use Rattle.wc_model.specs.Language.Kinds.{PlainLine}
+use Rattle.wc_model.specs.Language.Tree.{Load}
+use Rattle.wc_model.specs.Language.Views.{term_view}
+use Rattle.wc_verify.proofs.Going.{loaded}
+use Rattle.wc_verify.proofs.instructions.load.Goals as goal
+
+pub returns : goal.returns
+returns c = λ scope label behind kind more is.
+    let term = term_view c.args.operand.now in
+    let seen = c.see-seen.ensures scope is in
+    c.followed.ensures scope (PlainLine label c.args.line (Load c.args.negated term)) behind kind more (c.refuse.ensures _ (first_broken more) (c.judge_load.ensures scope term c.args.line more seen))
+    (loaded scope label c.args.line c.args.negated term kind c.see-seen.result.kind c.kind_loaded-after.result c.kind_loaded-after.ensures seen.kind)

@@ -1,0 +1,63 @@
+-- What an instruction stands for as a line of a body. (No rule of the language.)
+use Rattle.std.specs.Prelude.{◌≡◌, Bool, List, ◌++◌, map, Option, Some, option_map, Result, Ok, Err}
+use Rattle.wc_model.specs.Language.BodyRules.{inside_rules, is_ahead, line_rules}
+use Rattle.wc_model.specs.Language.Checks.{Check, first_broken}
+use Rattle.wc_model.specs.Language.Kinds.{BodyLine, AloneLine, PlainLine, NestedLine, kind_after, kind_behind}
+use Rattle.wc_model.specs.Language.Names.{name_of}
+use Rattle.wc_model.specs.Language.Scopes.{Scope}
+use Rattle.wc_model.specs.Language.Tree.{Word, Step, Load, Store, Apply, Negate, Jump, Call, Return, Lines, Alone, Plain, Nested}
+use Rattle.wc_model.specs.Language.Views.{assignment_view, lines_view, term_view}
+use Rattle.wc_model.specs.declared.fault.Fault.{Fault}
+use Rattle.wc_model.specs.declared.fault.Fault.TheVariants.{Refused, Memory}
+use Rattle.wc_model.specs.declared.kind.Kind.{Kind}
+use Rattle.wc_model.specs.declared.tree.Instr.{Instr, out-Instr}
+use Rattle.wc_model.specs.declared.tree.Instr.TheOpen.{Instr-F}
+use Rattle.wc_model.specs.declared.tree.Line.{Line}
+
+-- an instruction behind its label, opened
+abbrev pub opened_line : Instr-F Instr Line → Option Word → BodyLine
+opened_line (Instr-F.Load negated operand line) label = PlainLine label line (Load negated (term_view operand))
+opened_line (Instr-F.Store storing target line) label = PlainLine label line (Store storing (term_view target))
+opened_line (Instr-F.Apply operator operand line) label = PlainLine label line (Apply operator (term_view operand))
+opened_line (Instr-F.Defer operator operand inside line close) label = NestedLine label line operator (option_map term_view operand) (lines_view inside.items) close
+opened_line (Instr-F.Not line) label = PlainLine label line Negate
+opened_line (Instr-F.Jump condition target line) label = PlainLine label line (Jump condition (name_of target.now))
+opened_line (Instr-F.Call condition instance arguments line) label = PlainLine label line (Call condition (name_of instance.now) (map assignment_view arguments.items))
+opened_line (Instr-F.Return condition line) label = PlainLine label line (Return condition)
+
+abbrev pub instr_line : Instr → Option Word → BodyLine
+instr_line instr label = opened_line (out-Instr instr) label
+
+-- a line in front of others
+abbrev pub put : BodyLine → Lines → Lines
+put (AloneLine label) rest = Alone label rest
+put (PlainLine label line step) rest = Plain label line step rest
+put (NestedLine label line operator operand inside close) rest = Nested label line operator operand inside close rest
+
+-- what a jump asks of the lines behind it
+abbrev pub step_ahead : Step → Bool → List BodyLine → Type 0
+step_ahead (Load negated operand) ahead behind = Unit {0}
+step_ahead (Store storing target) ahead behind = Unit {0}
+step_ahead (Apply operator operand) ahead behind = Unit {0}
+step_ahead Negate ahead behind = Unit {0}
+step_ahead (Jump condition label) ahead behind = ahead ≡ is_ahead behind label
+step_ahead (Call condition instance arguments) ahead behind = Unit {0}
+step_ahead (Return condition) ahead behind = Unit {0}
+
+abbrev pub SaysAhead : BodyLine → Bool → List BodyLine → Type 0
+SaysAhead (AloneLine label) ahead behind = Unit {0}
+SaysAhead (PlainLine label line step) ahead behind = step_ahead step ahead behind
+SaysAhead (NestedLine label line operator operand inside close) ahead behind = Unit {0}
+
+-- a line is judged, from the kind before it; where nothing is broken, with the kind behind it
+abbrev pub GoesOn : Scope → BodyLine → List BodyLine → Option Kind → List Check → Result (Option Kind) Fault → Type 0
+GoesOn scope line behind kind more (Ok after) = (first_broken (line_rules scope line behind kind ++ more) ≡ first_broken more) × (after ≡ kind_after scope line kind)
+GoesOn scope line behind kind more (Err (Refused number place)) = first_broken (line_rules scope line behind kind ++ more) ≡ Some (record { number = number; line = place })
+GoesOn scope line behind kind more (Err Memory) = Unit {0}
+
+-- lines inside a parenthesis are judged as far as the rest
+abbrev pub GoesInside : Scope → Lines → Option Kind → Lines → List Check → Result (Option Kind) Fault → Type 0
+GoesInside scope lines kind rest more (Ok after) =
+    (first_broken (inside_rules scope lines kind ++ more) ≡ first_broken (inside_rules scope rest after ++ more)) × (kind_behind scope lines kind ≡ kind_behind scope rest after)
+GoesInside scope lines kind rest more (Err (Refused number place)) = first_broken (inside_rules scope lines kind ++ more) ≡ Some (record { number = number; line = place })
+GoesInside scope lines kind rest more (Err Memory) = Unit {0}

@@ -1,0 +1,30 @@
+-- What the ways in to a line agree on, as it is kept. (No rule of the language.)
+use Rattle.std.specs.Prelude.{List, [], ◌∷◌, Option, None, if◌then◌else◌}
+use Rattle.std.specs.List.{list_all}
+use Rattle.wc_model.specs.Language.Kinds.{same_result}
+use Rattle.wc_model.specs.declared.kind.Kind.{Kind}
+use Rattle.wc_verify.specs.declared.ways.Way.{Way}
+use Rattle.wc_verify.specs.declared.ways.Way.TheVariants.{Unseen, Agreed, Different}
+
+-- the ways in, as they are kept
+abbrev pub way_of : List (Option Kind) → Way
+way_of [] = Unseen
+way_of (way ∷ ways) = if list_all (same_result way) ways then Agreed way else Different
+
+-- the kind that they bring
+abbrev pub kind_of_way : Way → Option Kind
+kind_of_way Unseen = None
+kind_of_way (Agreed kind) = kind
+kind_of_way Different = None
+
+-- one more
+abbrev pub with_way : Option Kind → Way → Way
+with_way kind Unseen = Agreed kind
+with_way kind (Agreed other) = if same_result kind other then Agreed kind else Different
+with_way kind Different = Different
+
+-- those of two lists
+abbrev pub joined_ways : Way → Way → Way
+joined_ways Unseen others = others
+joined_ways (Agreed kind) others = with_way kind others
+joined_ways Different others = Different

@@ -1,0 +1,124 @@
+ghost use Rattle.std.specs.Prelude.{◌≡◌, ℕ, ◌∷◌, ◌++◌, List, Option, Some, OnOk, map, option_and_then, is_some};
+ghost use Rattle.std.specs.List.{flat_map};
+ghost use Rattle.wc_model.specs.Language.BodyRules.{argument_checks, call_checks, suits_input};
+ghost use Rattle.wc_model.specs.Language.Checks.{Check, first_broken, spots_of};
+ghost use Rattle.wc_model.specs.Language.Declarations.{Member, VariableType, members_of};
+ghost use Rattle.wc_model.specs.Language.Kinds.{elementary_kind};
+ghost use Rattle.wc_model.specs.Language.Names.{name_of};
+ghost use Rattle.wc_model.specs.Language.Scopes.{Scope, type_of};
+ghost use Rattle.wc_model.specs.Language.Tree.{Assignment};
+ghost use Rattle.wc_model.specs.Language.Views.{assignment_view, term_view};
+ghost use Rattle.wc_model.specs.Language.Judging.{Judges};
+ghost use Rattle.wc_declare.specs.Numbered.{numbered_type};
+ghost use Rattle.wc_verify.specs.Calls.{HoldsNames, is_numbered_instance};
+ghost use Rattle.wc_verify.specs.Seeing.{IsScope, IsSeen};
+
+use crate::first::{first_of, refuse, refused, unless};
+use crate::kinds::is_kind;
+use crate::names::Names;
+use crate::operands::is_bit_literal;
+use crate::refusals::{is_of_kind, judge_condition, judge_reading};
+use crate::seen::{Seen, see};
+use std::alloc::Global;
+use wc_declare::{DeclaredType, Tables};
+use wc_model::{Argument, Condition, Fault, Kind, Operand};
+
+/// Whether an input of a kind takes what is assigned.
+fn suits_input(kind: Kind, operand: &Operand<'_>, seen: Seen) -> bool
+    ensures { (scope : Scope) (m : Member) → IsSeen scope (term_view operand.now) seen → elementary_kind m.type ≡ Some kind → suits_input scope (Some m) (term_view operand.now) ≡ result }
+{
+    is_of_kind(kind, seen.kind) || is_kind(Kind::Bool, kind) && is_bit_literal(operand)
+}
+
+/// Judges an argument behind others of its call, and keeps its name: 409, 410, 401, 405, 402.
+fn judge_argument<'a>(
+    tables: &Tables<'a>,
+    unit: usize,
+    declared: DeclaredType,
+    names: &mut Names<'a>,
+    argument: &Argument<'a>,
+    line: u32,
+) -> Result<(), Fault>
+    ensures judged { (scope : Scope) (type : VariableType) (before behind : List Assignment) (rest : List Check) → IsScope tables.now unit scope → numbered_type scope.before type ≡ Some declared → HoldsNames names.old before → Judges (first_broken (argument_checks scope line (members_of scope.before type) (record { before = before; item = assignment_view argument.now; behind = behind }) ++ rest)) (first_broken rest) result }
+    ensures held { OnOk result ((before : List Assignment) → HoldsNames names.old before → HoldsNames names.new (assignment_view argument.now ∷ before)) }
+{
+    let Some(input) = tables.input(declared, argument.name) else {
+        return Err(refused(409, line));
+    };
+    let new = match names.add(argument.name) {
+        Ok(new) => new,
+        Err(fault) => return Err(fault),
+    };
+    if !new {
+        return Err(refused(410, line));
+    }
+    let seen = see(tables, unit, &argument.value);
+    let suits = suits_input(input.kind, &argument.value, seen);
+    refuse(first_of(judge_reading(seen), unless(suits, 402)), line)
+}
+
+/// Judges the arguments of a call in written order.
+fn judge_arguments<'a>(
+    alloc: Global,
+    tables: &Tables<'a>,
+    unit: usize,
+    declared: DeclaredType,
+    arguments: &[Argument<'a>],
+    line: u32,
+) -> Result<(), Fault>
+    ensures { (scope : Scope) (type : VariableType) (rest : List Check) → IsScope tables.now unit scope → numbered_type scope.before type ≡ Some declared → Judges (first_broken (flat_map (argument_checks scope line (members_of scope.before type)) (spots_of (map assignment_view arguments.now)) ++ rest)) (first_broken rest) result }
+{
+    let mut names = Names::new(alloc);
+    for argument in arguments {
+        if let Err(fault) = judge_argument(tables, unit, declared, &mut names, argument, line) {
+            return Err(fault);
+        }
+    }
+    Ok(())
+}
+
+/// Whether a type is that of an instance.
+fn is_instance(declared: DeclaredType) -> bool
+    ensures { result ≡ is_numbered_instance declared }
+{
+    match declared {
+        DeclaredType::Elementary(_) => false,
+        _ => true,
+    }
+}
+
+/// The type of a variable of a unit.
+fn type_of<'a>(tables: &Tables<'a>, unit: usize, name: &[u8]) -> Option<DeclaredType>
+    ensures known { (scope : Scope) → IsScope tables.now unit scope → is_some result ≡ is_some (type_of scope (name_of name.now)) }
+    ensures declared { (scope : Scope) → IsScope tables.now unit scope → result ≡ option_and_then (numbered_type scope.before) (type_of scope (name_of name.now)) }
+{
+    match tables.variable(unit, name) {
+        Some(found) => Some(found.declared),
+        None => None,
+    }
+}
+
+/// Judges a call: 401, 402, the condition, and then its arguments.
+pub(crate) fn judge_call<'a>(
+    alloc: Global,
+    tables: &Tables<'a>,
+    unit: usize,
+    condition: Condition,
+    instance: &[u8],
+    arguments: &[Argument<'a>],
+    line: u32,
+    kind: Option<Kind>,
+) -> Result<(), Fault>
+    ensures { (scope : Scope) (rest : List Check) → IsScope tables.now unit scope → Judges (first_broken (call_checks scope line condition (name_of instance.now) (map assignment_view arguments.now) kind ++ rest)) (first_broken rest) result }
+{
+    let Some(declared) = type_of(tables, unit, instance) else {
+        return Err(refused(401, line));
+    };
+    if !is_instance(declared) {
+        return Err(refused(402, line));
+    }
+    match judge_condition(condition, kind) {
+        Some(number) => Err(refused(number, line)),
+        None => judge_arguments(alloc, tables, unit, declared, arguments, line),
+    }
+}

@@ -1,0 +1,40 @@
+ghost use Rattle.std.specs.Prelude.{◌≡◌, ℕ, ◌∷◌, List, Option};
+ghost use Rattle.wc_model.specs.Language.Checks.{Check, Refusal, asks, first_broken};
+ghost use Rattle.wc_model.specs.Language.Judging.{Judges};
+ghost use Rattle.wc_verify.specs.Found.{first_at};
+
+use wc_model::Fault;
+
+/// The number of a rule that does not hold.
+pub(crate) fn unless(holds: bool, number: u16) -> Option<u16>
+    ensures { (line : ℕ) (rest : List Check) → first_broken (asks number line holds ∷ rest) ≡ first_at result line (first_broken rest) }
+{
+    if holds { None } else { Some(number) }
+}
+
+/// The first of two rules that is broken.
+pub(crate) fn first_of(first: Option<u16>, then: Option<u16>) -> Option<u16>
+    ensures { (line : ℕ) (rest : Option Refusal) → first_at result line rest ≡ first_at first line (first_at then line rest) }
+{
+    match first {
+        Some(number) => Some(number),
+        None => then,
+    }
+}
+
+/// A refusal.
+pub(crate) fn refused(number: u16, place: u32) -> Fault
+    ensures { result ≡ Fault.Refused number place }
+{
+    Fault::Refused { number, place }
+}
+
+/// Refuses at a line what breaks a rule.
+pub(crate) fn refuse(number: Option<u16>, line: u32) -> Result<(), Fault>
+    ensures { (found rest : Option Refusal) → found ≡ first_at number line rest → Judges found rest result }
+{
+    match number {
+        Some(number) => Err(refused(number, line)),
+        None => Ok(()),
+    }
+}

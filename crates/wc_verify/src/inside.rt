@@ -1,0 +1,158 @@
+ghost use Rattle.std.specs.Prelude.{◌≡◌, ℕ, List, Option, option_map};
+ghost use Rattle.wc_model.specs.Language.Checks.{Check};
+ghost use Rattle.wc_model.specs.Language.Kinds.{BodyLine, NestedLine, opening_kind};
+ghost use Rattle.wc_model.specs.Language.Scopes.{Scope};
+ghost use Rattle.wc_model.specs.Language.Tree.{Word, Lines, Term, End};
+ghost use Rattle.wc_model.specs.Language.Views.{line_view, lines_view, term_view};
+ghost use Rattle.wc_verify.specs.Instructions.{GoesInside, GoesOn, SaysAhead, instr_line};
+ghost use Rattle.wc_verify.specs.Seeing.{IsScope, IsSeenIfAny};
+
+use crate::first::refuse;
+use crate::instructions::{apply, call, followed, jump, leave, load, negate, store};
+use crate::kinds::kind_after_operator;
+use crate::seen::{Seen, see};
+use crate::steps::{judge_closing, judge_opening};
+use std::alloc::Global;
+use wc_declare::Tables;
+use wc_model::{Fault, Instr, Kind, Line, Operand, Operator};
+
+/// What the operand on an opening line names, where one is written.
+fn see_if_any<'a>(tables: &Tables<'a>, unit: usize, operand: &Option<Operand<'a>>) -> Option<Seen>
+    ensures { (scope : Scope) → IsScope tables.now unit scope → IsSeenIfAny scope (option_map term_view operand.now) result }
+{
+    match operand {
+        Some(operand) => Some(see(tables, unit, operand)),
+        None => None,
+    }
+}
+
+/// The kind with which the lines inside a parenthesis start.
+fn opening_kind(seen: Option<Seen>) -> Option<Kind>
+    ensures { (scope : Scope) (term : Option Term) → IsSeenIfAny scope term seen → opening_kind scope term ≡ result }
+{
+    match seen {
+        Some(seen) => seen.kind,
+        None => None,
+    }
+}
+
+/// Judges an opening line, the lines inside, and the `)`.
+#[cycle(inside)]
+fn judge_nested<'a>(
+    alloc: Global,
+    tables: &Tables<'a>,
+    unit: usize,
+    operator: Operator,
+    operand: &Option<Operand<'a>>,
+    inside: &Vec<Line<'a>>,
+    line: u32,
+    close: u32,
+    kind: Option<Kind>,
+) -> Result<Option<Kind>, Fault>
+    ensures { (scope : Scope) (label : Option Word) (behind : List BodyLine) (more : List Check) → IsScope tables.now unit scope → GoesOn scope (NestedLine label line operator (option_map term_view operand.now) (lines_view inside.now.items) close) behind kind more result }
+{
+    let seen = see_if_any(tables, unit, operand);
+    if let Err(fault) = refuse(judge_opening(operator, seen, kind), line) {
+        return Err(fault);
+    }
+    match judge_inside(alloc, tables, unit, inside, opening_kind(seen)) {
+        Ok(inner) => followed(
+            refuse(judge_closing(kind, inner), close),
+            kind_after_operator(operator, kind),
+        ),
+        Err(fault) => Err(fault),
+    }
+}
+
+/// Judges an instruction, from the kind of the result before it.
+#[cycle(inside)]
+pub(crate) fn judge_instr<'a>(
+    alloc: Global,
+    tables: &Tables<'a>,
+    unit: usize,
+    instr: &Instr<'a>,
+    is_ahead: bool,
+    kind: Option<Kind>,
+) -> Result<Option<Kind>, Fault>
+    ensures { (scope : Scope) (label : Option Word) (behind : List BodyLine) (more : List Check) → IsScope tables.now unit scope → SaysAhead (instr_line instr.now label) is_ahead behind → GoesOn scope (instr_line instr.now label) behind kind more result }
+{
+    match instr {
+        Instr::Load {
+            negated,
+            operand,
+            line,
+        } => load(tables, unit, *negated, operand, *line),
+        Instr::Store {
+            storing,
+            target,
+            line,
+        } => store(tables, unit, *storing, target, *line, kind),
+        Instr::Apply {
+            operator,
+            operand,
+            line,
+        } => apply(tables, unit, *operator, operand, *line, kind),
+        Instr::Defer {
+            operator,
+            operand,
+            inside,
+            line,
+            close,
+        } => judge_nested(
+            alloc, tables, unit, *operator, operand, inside, *line, *close, kind,
+        ),
+        Instr::Not { line } => negate(*line, kind),
+        Instr::Jump {
+            condition,
+            label,
+            line,
+        } => jump(is_ahead, *condition, label, *line, kind),
+        Instr::Call {
+            condition,
+            instance,
+            arguments,
+            line,
+        } => call(
+            alloc, tables, unit, *condition, instance, arguments, *line, kind,
+        ),
+        Instr::Return { condition, line } => leave(*condition, *line, kind),
+    }
+}
+
+/// Judges a line inside a parenthesis, whatever its label.
+#[cycle(inside)]
+fn judge_inside_line<'a>(
+    alloc: Global,
+    tables: &Tables<'a>,
+    unit: usize,
+    line: &Line<'a>,
+    kind: Option<Kind>,
+) -> Result<Option<Kind>, Fault>
+    ensures { (scope : Scope) (rest : Lines) (more : List Check) → IsScope tables.now unit scope → GoesInside scope (line_view line.now rest) kind rest more result }
+{
+    match &line.instr {
+        Some(instr) => judge_instr(alloc, tables, unit, instr, false, kind),
+        None => Ok(kind),
+    }
+}
+
+/// Judges the lines inside a parenthesis: the kind of the result behind them.
+#[cycle(inside)]
+fn judge_inside<'a>(
+    alloc: Global,
+    tables: &Tables<'a>,
+    unit: usize,
+    lines: &Vec<Line<'a>>,
+    first: Option<Kind>,
+) -> Result<Option<Kind>, Fault>
+    ensures { (scope : Scope) (more : List Check) → IsScope tables.now unit scope → GoesInside scope (lines_view lines.now.items) first End more result }
+{
+    let mut kind = first;
+    for line in lines {
+        match judge_inside_line(alloc, tables, unit, line, kind) {
+            Ok(after) => kind = after,
+            Err(fault) => return Err(fault),
+        }
+    }
+    Ok(kind)
+}

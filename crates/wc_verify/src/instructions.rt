@@ -1,0 +1,142 @@
+ghost use Rattle.std.specs.Prelude.{◌≡◌, ℕ, ◌++◌, List, Option, map, Some, if◌then◌else◌};
+ghost use Rattle.wc_model.specs.Language.BodyRules.{line_rules};
+ghost use Rattle.wc_model.specs.Language.Checks.{Check, first_broken};
+ghost use Rattle.wc_model.specs.Language.Kinds.{BodyLine, PlainLine, kind_after};
+ghost use Rattle.wc_model.specs.Language.Names.{name_of};
+ghost use Rattle.wc_model.specs.Language.Scopes.{Scope};
+ghost use Rattle.wc_model.specs.Language.Tree.{Word, Load, Store, Apply, Negate, Jump, Call, Return};
+ghost use Rattle.wc_model.specs.Language.Views.{assignment_view, term_view};
+ghost use Rattle.wc_model.specs.Language.Judging.{Judges};
+ghost use Rattle.wc_verify.specs.Instructions.{GoesOn, step_ahead};
+ghost use Rattle.wc_verify.specs.Seeing.{IsScope};
+
+use crate::calls::judge_call;
+use crate::first::{first_of, refuse, unless};
+use crate::kinds::kind_after_operator;
+use crate::refusals::{judge_condition, judge_truth};
+use crate::seen::see;
+use crate::steps::{judge_apply, judge_load, judge_store};
+use std::alloc::Global;
+use wc_declare::Tables;
+use wc_model::{Argument, Condition, Fault, Kind, Operand, Operator, Storing};
+
+/// What follows a line that is judged: the kind of the result behind it.
+pub(crate) fn followed(
+    judged: Result<(), Fault>,
+    after: Option<Kind>,
+) -> Result<Option<Kind>, Fault>
+    ensures { (scope : Scope) (line : BodyLine) (behind : List BodyLine) (kind : Option Kind) (more : List Check) → Judges (first_broken (line_rules scope line behind kind ++ more)) (first_broken more) judged → after ≡ kind_after scope line kind → GoesOn scope line behind kind more result }
+{
+    match judged {
+        Ok(()) => Ok(after),
+        Err(fault) => Err(fault),
+    }
+}
+
+/// The kind of the result behind LD or LDN.
+fn kind_loaded(negated: bool, kind: Option<Kind>) -> Option<Kind>
+    ensures { result ≡ (if negated then Some Kind.Bool else kind) }
+{
+    if negated { Some(Kind::Bool) } else { kind }
+}
+
+/// LD and LDN.
+pub(crate) fn load<'a>(
+    tables: &Tables<'a>,
+    unit: usize,
+    negated: bool,
+    operand: &Operand<'a>,
+    line: u32,
+) -> Result<Option<Kind>, Fault>
+    ensures { (scope : Scope) (label : Option Word) (behind : List BodyLine) (kind : Option Kind) (more : List Check) → IsScope tables.now unit scope → GoesOn scope (PlainLine label line (Load negated (term_view operand.now))) behind kind more result }
+{
+    let seen = see(tables, unit, operand);
+    let after = kind_loaded(negated, seen.kind);
+    followed(refuse(judge_load(negated, seen), line), after)
+}
+
+/// ST, STN, S and R.
+pub(crate) fn store<'a>(
+    tables: &Tables<'a>,
+    unit: usize,
+    storing: Storing,
+    target: &Operand<'a>,
+    line: u32,
+    kind: Option<Kind>,
+) -> Result<Option<Kind>, Fault>
+    ensures { (scope : Scope) (label : Option Word) (behind : List BodyLine) (more : List Check) → IsScope tables.now unit scope → GoesOn scope (PlainLine label line (Store storing (term_view target.now))) behind kind more result }
+{
+    let seen = see(tables, unit, target);
+    followed(refuse(judge_store(storing, seen, kind), line), kind)
+}
+
+/// An operator with its operand.
+pub(crate) fn apply<'a>(
+    tables: &Tables<'a>,
+    unit: usize,
+    operator: Operator,
+    operand: &Operand<'a>,
+    line: u32,
+    kind: Option<Kind>,
+) -> Result<Option<Kind>, Fault>
+    ensures { (scope : Scope) (label : Option Word) (behind : List BodyLine) (more : List Check) → IsScope tables.now unit scope → GoesOn scope (PlainLine label line (Apply operator (term_view operand.now))) behind kind more result }
+{
+    let seen = see(tables, unit, operand);
+    let after = kind_after_operator(operator, kind);
+    followed(
+        refuse(judge_apply(operator, operand, seen, kind), line),
+        after,
+    )
+}
+
+/// NOT.
+pub(crate) fn negate(line: u32, kind: Option<Kind>) -> Result<Option<Kind>, Fault>
+    ensures { (scope : Scope) (label : Option Word) (behind : List BodyLine) (more : List Check) → GoesOn scope (PlainLine label line Negate) behind kind more result }
+{
+    followed(refuse(judge_truth(kind), line), kind)
+}
+
+/// A jump: 406 where its label is not ahead, and then the condition.
+pub(crate) fn jump(
+    is_ahead: bool,
+    condition: Condition,
+    label: &[u8],
+    line: u32,
+    kind: Option<Kind>,
+) -> Result<Option<Kind>, Fault>
+    ensures { (scope : Scope) (word : Option Word) (behind : List BodyLine) (more : List Check) → step_ahead (Jump condition (name_of label.now)) is_ahead behind → GoesOn scope (PlainLine word line (Jump condition (name_of label.now))) behind kind more result }
+{
+    let _label = label;
+    let broken = first_of(unless(is_ahead, 406), judge_condition(condition, kind));
+    followed(refuse(broken, line), kind)
+}
+
+/// A call.
+pub(crate) fn call<'a>(
+    alloc: Global,
+    tables: &Tables<'a>,
+    unit: usize,
+    condition: Condition,
+    instance: &[u8],
+    arguments: &[Argument<'a>],
+    line: u32,
+    kind: Option<Kind>,
+) -> Result<Option<Kind>, Fault>
+    ensures { (scope : Scope) (label : Option Word) (behind : List BodyLine) (more : List Check) → IsScope tables.now unit scope → GoesOn scope (PlainLine label line (Call condition (name_of instance.now) (map assignment_view arguments.now))) behind kind more result }
+{
+    let judged = judge_call(
+        alloc, tables, unit, condition, instance, arguments, line, kind,
+    );
+    followed(judged, kind)
+}
+
+/// A return.
+pub(crate) fn leave(
+    condition: Condition,
+    line: u32,
+    kind: Option<Kind>,
+) -> Result<Option<Kind>, Fault>
+    ensures { (scope : Scope) (label : Option Word) (behind : List BodyLine) (more : List Check) → GoesOn scope (PlainLine label line (Return condition)) behind kind more result }
+{
+    followed(refuse(judge_condition(condition, kind), line), kind)
+}

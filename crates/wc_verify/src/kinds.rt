@@ -1,0 +1,63 @@
+ghost use Rattle.std.specs.Prelude.{◌≡◌, is_some};
+ghost use Rattle.wc_model.specs.Language.BodyRules.{is_bool, takes};
+ghost use Rattle.wc_model.specs.Language.Kinds.{is_kind, kind_after_operator, same_result};
+
+use crate::operators::compares;
+use wc_model::{Kind, Operator};
+
+/// Whether two kinds are the same.
+pub(crate) fn is_kind(a: Kind, b: Kind) -> bool
+    ensures { result ≡ is_kind a b }
+{
+    match a {
+        Kind::Bool => match b {
+            Kind::Bool => true,
+            _ => false,
+        },
+        Kind::Dint => match b {
+            Kind::Dint => true,
+            _ => false,
+        },
+        Kind::Time => match b {
+            Kind::Time => true,
+            _ => false,
+        },
+    }
+}
+
+/// Whether two results are of the same kind, or there is none of either.
+pub(crate) fn same_result(a: Option<Kind>, b: Option<Kind>) -> bool
+    ensures { result ≡ same_result a b }
+{
+    match a {
+        Some(a) => match b {
+            Some(b) => is_kind(a, b),
+            None => false,
+        },
+        None => match b {
+            Some(_) => false,
+            None => true,
+        },
+    }
+}
+
+/// Whether there is a kind, and it is BOOL.
+pub(crate) fn is_bool(kind: Option<Kind>) -> bool
+    ensures { result ≡ is_bool kind }
+{
+    match kind {
+        Some(kind) => is_kind(Kind::Bool, kind),
+        None => false,
+    }
+}
+
+/// The kind of the result behind an operator, from that before it.
+pub(crate) fn kind_after_operator(operator: Operator, kind: Option<Kind>) -> Option<Kind>
+    ensures { result ≡ kind_after_operator operator kind }
+{
+    if compares(operator) {
+        Some(Kind::Bool)
+    } else {
+        kind
+    }
+}

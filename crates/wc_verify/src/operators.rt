@@ -1,0 +1,80 @@
+ghost use Rattle.std.specs.Prelude.{◌≡◌};
+ghost use Rattle.wc_model.specs.Language.BodyRules.{divides, takes};
+ghost use Rattle.wc_model.specs.Language.Kinds.{compares};
+ghost use Rattle.wc_model.specs.Language.Meaning.{takes_truth};
+
+use wc_model::{Kind, Operator};
+
+/// Whether an operator compares.
+pub(crate) fn compares(operator: Operator) -> bool
+    ensures { result ≡ compares operator }
+{
+    match operator {
+        Operator::Gt | Operator::Ge | Operator::Eq | Operator::Ne | Operator::Le | Operator::Lt =>
+            true,
+        _ => false,
+    }
+}
+
+/// Whether an operator divides.
+pub(crate) fn divides(operator: Operator) -> bool
+    ensures { result ≡ divides operator }
+{
+    match operator {
+        Operator::Div | Operator::Mod => true,
+        _ => false,
+    }
+}
+
+/// Whether a literal 0 or 1 serves an operator as a BOOL.
+pub(crate) fn takes_truth(operator: Operator) -> bool
+    ensures { result ≡ takes_truth operator }
+{
+    match operator {
+        Operator::And
+        | Operator::Andn
+        | Operator::Or
+        | Operator::Orn
+        | Operator::Xor
+        | Operator::Xorn
+        | Operator::Eq
+        | Operator::Ne => true,
+        _ => false,
+    }
+}
+
+/// Whether an operator takes a result of the kind.
+pub(crate) fn takes(operator: Operator, kind: Kind) -> bool
+    ensures { result ≡ takes operator kind }
+{
+    match kind {
+        Kind::Bool => takes_truth(operator),
+        Kind::Dint => takes_number(operator),
+        Kind::Time => takes_duration(operator),
+    }
+}
+
+/// Whether an operator takes a DINT.
+fn takes_number(operator: Operator) -> bool
+    ensures { result ≡ takes operator Kind.Dint }
+{
+    match operator {
+        Operator::And
+        | Operator::Andn
+        | Operator::Or
+        | Operator::Orn
+        | Operator::Xor
+        | Operator::Xorn => false,
+        _ => true,
+    }
+}
+
+/// Whether an operator takes a TIME.
+fn takes_duration(operator: Operator) -> bool
+    ensures { result ≡ takes operator Kind.Time }
+{
+    match operator {
+        Operator::Mul | Operator::Div | Operator::Mod => false,
+        _ => takes_number(operator),
+    }
+}

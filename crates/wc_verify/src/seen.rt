@@ -1,0 +1,40 @@
+ghost use Rattle.std.specs.Prelude.{◌≡◌};
+ghost use Rattle.wc_model.specs.Language.Scopes.{Scope};
+ghost use Rattle.wc_model.specs.Language.Views.{term_view};
+ghost use Rattle.wc_verify.specs.Seeing.{IsScope, IsSeen};
+
+use wc_declare::Tables;
+use wc_model::{Kind, Operand};
+
+/// What is known of an operand.
+#[derive(Clone, Copy)]
+pub(crate) struct Seen {
+    /// Whether there is what it names.
+    pub(crate) known: bool,
+    /// Whether that may be read, or is not there.
+    pub(crate) readable: bool,
+    /// Whether that may be written, or is not there.
+    pub(crate) writable: bool,
+    /// Its kind; an instance has none.
+    pub(crate) kind: Option<Kind>,
+}
+
+/// What an operand names in the body of a unit.
+pub(crate) fn see<'a>(tables: &Tables<'a>, unit: usize, operand: &Operand<'_>) -> Seen
+    ensures { (scope : Scope) → IsScope tables.now unit scope → IsSeen scope (term_view operand.now) result }
+{
+    match tables.entity(unit, operand) {
+        Some(entity) => Seen {
+            known: true,
+            readable: entity.readable,
+            writable: entity.writable,
+            kind: entity.kind,
+        },
+        None => Seen {
+            known: false,
+            readable: true,
+            writable: true,
+            kind: None,
+        },
+    }
+}
