@@ -25,7 +25,9 @@ use wc_model::{Argument, Condition, Fault, Kind, Operand};
 
 /// Whether an input of a kind takes what is assigned.
 fn suits_input(kind: Kind, operand: &Operand<'_>, seen: Seen) -> bool
-    ensures { (scope : Scope) (m : Member) → IsSeen scope (term_view operand.now) seen → elementary_kind m.type ≡ Some kind → suits_input scope (Some m) (term_view operand.now) ≡ result }
+    ensures { (scope : Scope) (m : Member) → IsSeen scope (term_view operand.now) seen
+        → elementary_kind m.type ≡ Some kind
+        → suits_input scope (Some m) (term_view operand.now) ≡ result }
 {
     is_of_kind(kind, seen.kind) || is_kind(Kind::Bool, kind) && is_bit_literal(operand)
 }
@@ -39,8 +41,17 @@ fn judge_argument<'a>(
     argument: &Argument<'a>,
     line: u32,
 ) -> Result<(), Fault>
-    ensures judged { (scope : Scope) (type : VariableType) (before behind : List Assignment) (rest : List Check) → IsScope tables.now unit scope → numbered_type scope.before type ≡ Some declared → HoldsNames names.old before → Judges (first_broken (argument_checks scope line (members_of scope.before type) (record { before = before; item = assignment_view argument.now; behind = behind }) ++ rest)) (first_broken rest) result }
-    ensures held { OnOk result ((before : List Assignment) → HoldsNames names.old before → HoldsNames names.new (assignment_view argument.now ∷ before)) }
+    ensures judged { (scope : Scope) (type : VariableType) (before behind : List Assignment)
+        (rest : List Check) → IsScope tables.now unit scope
+        → numbered_type scope.before type ≡ Some declared → HoldsNames names.old before
+        → Judges
+        (first_broken
+        (argument_checks scope line (members_of scope.before type)
+        (record { before = before; item = assignment_view argument.now; behind = behind }) ++ rest))
+        (first_broken rest) result }
+    ensures held { OnOk result
+        ((before : List Assignment) → HoldsNames names.old before
+        → HoldsNames names.new (assignment_view argument.now ∷ before)) }
 {
     let Some(input) = tables.input(declared, argument.name) else {
         return Err(refused(409, line));
@@ -66,7 +77,12 @@ fn judge_arguments<'a>(
     arguments: &[Argument<'a>],
     line: u32,
 ) -> Result<(), Fault>
-    ensures { (scope : Scope) (type : VariableType) (rest : List Check) → IsScope tables.now unit scope → numbered_type scope.before type ≡ Some declared → Judges (first_broken (flat_map (argument_checks scope line (members_of scope.before type)) (spots_of (map assignment_view arguments.now)) ++ rest)) (first_broken rest) result }
+    ensures { (scope : Scope) (type : VariableType) (rest : List Check)
+        → IsScope tables.now unit scope → numbered_type scope.before type ≡ Some declared
+        → Judges
+        (first_broken
+        (flat_map (argument_checks scope line (members_of scope.before type))
+        (spots_of (map assignment_view arguments.now)) ++ rest)) (first_broken rest) result }
 {
     let mut names = Names::new(alloc);
     for argument in arguments {
@@ -89,8 +105,10 @@ fn is_instance(declared: DeclaredType) -> bool
 
 /// The type of a variable of a unit.
 fn type_of<'a>(tables: &Tables<'a>, unit: usize, name: &[u8]) -> Option<DeclaredType>
-    ensures known { (scope : Scope) → IsScope tables.now unit scope → is_some result ≡ is_some (type_of scope (name_of name.now)) }
-    ensures declared { (scope : Scope) → IsScope tables.now unit scope → result ≡ option_and_then (numbered_type scope.before) (type_of scope (name_of name.now)) }
+    ensures known { (scope : Scope) → IsScope tables.now unit scope
+        → is_some result ≡ is_some (type_of scope (name_of name.now)) }
+    ensures declared { (scope : Scope) → IsScope tables.now unit scope
+        → result ≡ option_and_then (numbered_type scope.before) (type_of scope (name_of name.now)) }
 {
     match tables.variable(unit, name) {
         Some(found) => Some(found.declared),
@@ -109,7 +127,11 @@ pub(crate) fn judge_call<'a>(
     line: u32,
     kind: Option<Kind>,
 ) -> Result<(), Fault>
-    ensures { (scope : Scope) (rest : List Check) → IsScope tables.now unit scope → Judges (first_broken (call_checks scope line condition (name_of instance.now) (map assignment_view arguments.now) kind ++ rest)) (first_broken rest) result }
+    ensures { (scope : Scope) (rest : List Check) → IsScope tables.now unit scope
+        → Judges
+        (first_broken
+        (call_checks scope line condition (name_of instance.now)
+        (map assignment_view arguments.now) kind ++ rest)) (first_broken rest) result }
 {
     let Some(declared) = type_of(tables, unit, instance) else {
         return Err(refused(401, line));

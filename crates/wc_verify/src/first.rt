@@ -7,14 +7,16 @@ use wc_model::Fault;
 
 /// The number of a rule that does not hold.
 pub(crate) fn unless(holds: bool, number: u16) -> Option<u16>
-    ensures { (line : ℕ) (rest : List Check) → first_broken (asks number line holds ∷ rest) ≡ first_at result line (first_broken rest) }
+    ensures { (line : ℕ) (rest : List Check)
+        → first_broken (asks number line holds ∷ rest) ≡ first_at result line (first_broken rest) }
 {
     if holds { None } else { Some(number) }
 }
 
 /// The first of two rules that is broken.
 pub(crate) fn first_of(first: Option<u16>, then: Option<u16>) -> Option<u16>
-    ensures { (line : ℕ) (rest : Option Refusal) → first_at result line rest ≡ first_at first line (first_at then line rest) }
+    ensures { (line : ℕ) (rest : Option Refusal)
+        → first_at result line rest ≡ first_at first line (first_at then line rest) }
 {
     match first {
         Some(number) => Some(number),
@@ -31,7 +33,8 @@ pub(crate) fn refused(number: u16, place: u32) -> Fault
 
 /// Refuses at a line what breaks a rule.
 pub(crate) fn refuse(number: Option<u16>, line: u32) -> Result<(), Fault>
-    ensures { (found rest : Option Refusal) → found ≡ first_at number line rest → Judges found rest result }
+    ensures { (found rest : Option Refusal) → found ≡ first_at number line rest
+        → Judges found rest result }
 {
     match number {
         Some(number) => Err(refused(number, line)),

@@ -18,7 +18,8 @@ use wc_model::{Fault, Instr, Kind, Line, Operand, Operator};
 
 /// What the operand on an opening line names, where one is written.
 fn see_if_any<'a>(tables: &Tables<'a>, unit: usize, operand: &Option<Operand<'a>>) -> Option<Seen>
-    ensures { (scope : Scope) → IsScope tables.now unit scope → IsSeenIfAny scope (option_map term_view operand.now) result }
+    ensures { (scope : Scope) → IsScope tables.now unit scope
+        → IsSeenIfAny scope (option_map term_view operand.now) result }
 {
     match operand {
         Some(operand) => Some(see(tables, unit, operand)),
@@ -28,7 +29,8 @@ fn see_if_any<'a>(tables: &Tables<'a>, unit: usize, operand: &Option<Operand<'a>
 
 /// The kind with which the lines inside a parenthesis start.
 fn opening_kind(seen: Option<Seen>) -> Option<Kind>
-    ensures { (scope : Scope) (term : Option Term) → IsSeenIfAny scope term seen → opening_kind scope term ≡ result }
+    ensures { (scope : Scope) (term : Option Term) → IsSeenIfAny scope term seen
+        → opening_kind scope term ≡ result }
 {
     match seen {
         Some(seen) => seen.kind,
@@ -49,7 +51,11 @@ fn judge_nested<'a>(
     close: u32,
     kind: Option<Kind>,
 ) -> Result<Option<Kind>, Fault>
-    ensures { (scope : Scope) (label : Option Word) (behind : List BodyLine) (more : List Check) → IsScope tables.now unit scope → GoesOn scope (NestedLine label line operator (option_map term_view operand.now) (lines_view inside.now.items) close) behind kind more result }
+    ensures { (scope : Scope) (label : Option Word) (behind : List BodyLine) (more : List Check)
+        → IsScope tables.now unit scope
+        → GoesOn scope
+        (NestedLine label line operator (option_map term_view operand.now)
+        (lines_view inside.now.items) close) behind kind more result }
 {
     let seen = see_if_any(tables, unit, operand);
     if let Err(fault) = refuse(judge_opening(operator, seen, kind), line) {
@@ -74,7 +80,9 @@ pub(crate) fn judge_instr<'a>(
     is_ahead: bool,
     kind: Option<Kind>,
 ) -> Result<Option<Kind>, Fault>
-    ensures { (scope : Scope) (label : Option Word) (behind : List BodyLine) (more : List Check) → IsScope tables.now unit scope → SaysAhead (instr_line instr.now label) is_ahead behind → GoesOn scope (instr_line instr.now label) behind kind more result }
+    ensures { (scope : Scope) (label : Option Word) (behind : List BodyLine) (more : List Check)
+        → IsScope tables.now unit scope → SaysAhead (instr_line instr.now label) is_ahead behind
+        → GoesOn scope (instr_line instr.now label) behind kind more result }
 {
     match instr {
         Instr::Load {
@@ -128,7 +136,8 @@ fn judge_inside_line<'a>(
     line: &Line<'a>,
     kind: Option<Kind>,
 ) -> Result<Option<Kind>, Fault>
-    ensures { (scope : Scope) (rest : Lines) (more : List Check) → IsScope tables.now unit scope → GoesInside scope (line_view line.now rest) kind rest more result }
+    ensures { (scope : Scope) (rest : Lines) (more : List Check) → IsScope tables.now unit scope
+        → GoesInside scope (line_view line.now rest) kind rest more result }
 {
     match &line.instr {
         Some(instr) => judge_instr(alloc, tables, unit, instr, false, kind),
@@ -145,7 +154,8 @@ fn judge_inside<'a>(
     lines: &Vec<Line<'a>>,
     first: Option<Kind>,
 ) -> Result<Option<Kind>, Fault>
-    ensures { (scope : Scope) (more : List Check) → IsScope tables.now unit scope → GoesInside scope (lines_view lines.now.items) first End more result }
+    ensures { (scope : Scope) (more : List Check) → IsScope tables.now unit scope
+        → GoesInside scope (lines_view lines.now.items) first End more result }
 {
     let mut kind = first;
     for line in lines {

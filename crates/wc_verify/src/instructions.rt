@@ -25,7 +25,11 @@ pub(crate) fn followed(
     judged: Result<(), Fault>,
     after: Option<Kind>,
 ) -> Result<Option<Kind>, Fault>
-    ensures { (scope : Scope) (line : BodyLine) (behind : List BodyLine) (kind : Option Kind) (more : List Check) → Judges (first_broken (line_rules scope line behind kind ++ more)) (first_broken more) judged → after ≡ kind_after scope line kind → GoesOn scope line behind kind more result }
+    ensures { (scope : Scope) (line : BodyLine) (behind : List BodyLine) (kind : Option Kind)
+        (more : List Check)
+        → Judges (first_broken (line_rules scope line behind kind ++ more))
+        (first_broken more) judged → after ≡ kind_after scope line kind
+        → GoesOn scope line behind kind more result }
 {
     match judged {
         Ok(()) => Ok(after),
@@ -48,7 +52,10 @@ pub(crate) fn load<'a>(
     operand: &Operand<'a>,
     line: u32,
 ) -> Result<Option<Kind>, Fault>
-    ensures { (scope : Scope) (label : Option Word) (behind : List BodyLine) (kind : Option Kind) (more : List Check) → IsScope tables.now unit scope → GoesOn scope (PlainLine label line (Load negated (term_view operand.now))) behind kind more result }
+    ensures { (scope : Scope) (label : Option Word) (behind : List BodyLine) (kind : Option Kind)
+        (more : List Check) → IsScope tables.now unit scope
+        → GoesOn scope
+        (PlainLine label line (Load negated (term_view operand.now))) behind kind more result }
 {
     let seen = see(tables, unit, operand);
     let after = kind_loaded(negated, seen.kind);
@@ -64,7 +71,10 @@ pub(crate) fn store<'a>(
     line: u32,
     kind: Option<Kind>,
 ) -> Result<Option<Kind>, Fault>
-    ensures { (scope : Scope) (label : Option Word) (behind : List BodyLine) (more : List Check) → IsScope tables.now unit scope → GoesOn scope (PlainLine label line (Store storing (term_view target.now))) behind kind more result }
+    ensures { (scope : Scope) (label : Option Word) (behind : List BodyLine) (more : List Check)
+        → IsScope tables.now unit scope
+        → GoesOn scope
+        (PlainLine label line (Store storing (term_view target.now))) behind kind more result }
 {
     let seen = see(tables, unit, target);
     followed(refuse(judge_store(storing, seen, kind), line), kind)
@@ -79,7 +89,10 @@ pub(crate) fn apply<'a>(
     line: u32,
     kind: Option<Kind>,
 ) -> Result<Option<Kind>, Fault>
-    ensures { (scope : Scope) (label : Option Word) (behind : List BodyLine) (more : List Check) → IsScope tables.now unit scope → GoesOn scope (PlainLine label line (Apply operator (term_view operand.now))) behind kind more result }
+    ensures { (scope : Scope) (label : Option Word) (behind : List BodyLine) (more : List Check)
+        → IsScope tables.now unit scope
+        → GoesOn scope
+        (PlainLine label line (Apply operator (term_view operand.now))) behind kind more result }
 {
     let seen = see(tables, unit, operand);
     let after = kind_after_operator(operator, kind);
@@ -91,7 +104,8 @@ pub(crate) fn apply<'a>(
 
 /// NOT.
 pub(crate) fn negate(line: u32, kind: Option<Kind>) -> Result<Option<Kind>, Fault>
-    ensures { (scope : Scope) (label : Option Word) (behind : List BodyLine) (more : List Check) → GoesOn scope (PlainLine label line Negate) behind kind more result }
+    ensures { (scope : Scope) (label : Option Word) (behind : List BodyLine) (more : List Check)
+        → GoesOn scope (PlainLine label line Negate) behind kind more result }
 {
     followed(refuse(judge_truth(kind), line), kind)
 }
@@ -104,7 +118,10 @@ pub(crate) fn jump(
     line: u32,
     kind: Option<Kind>,
 ) -> Result<Option<Kind>, Fault>
-    ensures { (scope : Scope) (word : Option Word) (behind : List BodyLine) (more : List Check) → step_ahead (Jump condition (name_of label.now)) is_ahead behind → GoesOn scope (PlainLine word line (Jump condition (name_of label.now))) behind kind more result }
+    ensures { (scope : Scope) (word : Option Word) (behind : List BodyLine) (more : List Check)
+        → step_ahead (Jump condition (name_of label.now)) is_ahead behind
+        → GoesOn scope
+        (PlainLine word line (Jump condition (name_of label.now))) behind kind more result }
 {
     let _label = label;
     let broken = first_of(unless(is_ahead, 406), judge_condition(condition, kind));
@@ -122,7 +139,12 @@ pub(crate) fn call<'a>(
     line: u32,
     kind: Option<Kind>,
 ) -> Result<Option<Kind>, Fault>
-    ensures { (scope : Scope) (label : Option Word) (behind : List BodyLine) (more : List Check) → IsScope tables.now unit scope → GoesOn scope (PlainLine label line (Call condition (name_of instance.now) (map assignment_view arguments.now))) behind kind more result }
+    ensures { (scope : Scope) (label : Option Word) (behind : List BodyLine) (more : List Check)
+        → IsScope tables.now unit scope
+        → GoesOn scope
+        (PlainLine label line
+        (Call condition (name_of instance.now) (map assignment_view arguments.now)))
+        behind kind more result }
 {
     let judged = judge_call(
         alloc, tables, unit, condition, instance, arguments, line, kind,
@@ -136,7 +158,8 @@ pub(crate) fn leave(
     line: u32,
     kind: Option<Kind>,
 ) -> Result<Option<Kind>, Fault>
-    ensures { (scope : Scope) (label : Option Word) (behind : List BodyLine) (more : List Check) → GoesOn scope (PlainLine label line (Return condition)) behind kind more result }
+    ensures { (scope : Scope) (label : Option Word) (behind : List BodyLine) (more : List Check)
+        → GoesOn scope (PlainLine label line (Return condition)) behind kind more result }
 {
     followed(refuse(judge_condition(condition, kind), line), kind)
 }

@@ -56,7 +56,10 @@ impl<'a> Labels<'a> {
 
     /// Keeps what is known of a label in place of what was.
     pub(crate) fn set(&mut self, name: &'a [u8], row: Row) -> Result<(), Fault>
-        ensures rows { OnOk result ((other : Name) → named_in self.new other ≡ (if same_name (name_of name.now) other then Some row else named_in self.old other)) }
+        ensures rows { OnOk result
+            ((other : Name)
+            → named_in self.new other
+            ≡ (if same_name (name_of name.now) other then Some row else named_in self.old other)) }
         ensures memory { IsOkUnless result Fault.Memory }
     {
         match self.entries.insert(Key { text: name }, row) {

@@ -17,14 +17,18 @@ use wc_model::{Condition, Kind, Operand, Operator};
 
 /// What is read: 401, 405.
 pub(crate) fn judge_reading(seen: Seen) -> Option<u16>
-    ensures { (scope : Scope) (term : Term) (line : ℕ) (rest : List Check) → IsSeen scope term seen → first_broken (reading_checks scope line term ++ rest) ≡ first_at result line (first_broken rest) }
+    ensures { (scope : Scope) (term : Term) (line : ℕ) (rest : List Check) → IsSeen scope term seen
+        → first_broken (reading_checks scope line term ++ rest)
+        ≡ first_at result line (first_broken rest) }
 {
     first_of(unless(seen.known, 401), unless(seen.readable, 405))
 }
 
 /// What is written: 401, 404.
 pub(crate) fn judge_writing(seen: Seen) -> Option<u16>
-    ensures { (scope : Scope) (term : Term) (line : ℕ) (rest : List Check) → IsSeen scope term seen → first_broken (writing_checks scope line term ++ rest) ≡ first_at result line (first_broken rest) }
+    ensures { (scope : Scope) (term : Term) (line : ℕ) (rest : List Check) → IsSeen scope term seen
+        → first_broken (writing_checks scope line term ++ rest)
+        ≡ first_at result line (first_broken rest) }
 {
     first_of(unless(seen.known, 401), unless(seen.writable, 404))
 }
@@ -41,7 +45,9 @@ fn is_taken(operator: Operator, kind: Option<Kind>) -> bool
 
 /// The result before an operator: 403, 402.
 pub(crate) fn judge_result(operator: Operator, kind: Option<Kind>) -> Option<u16>
-    ensures { (line : ℕ) (rest : List Check) → first_broken (result_checks operator line kind ++ rest) ≡ first_at result line (first_broken rest) }
+    ensures { (line : ℕ) (rest : List Check)
+        → first_broken (result_checks operator line kind ++ rest)
+        ≡ first_at result line (first_broken rest) }
 {
     first_of(
         unless(kind.is_some(), 403),
@@ -51,14 +57,17 @@ pub(crate) fn judge_result(operator: Operator, kind: Option<Kind>) -> Option<u16
 
 /// The result where a BOOL is wanted: 403, 402.
 pub(crate) fn judge_truth(kind: Option<Kind>) -> Option<u16>
-    ensures { (line : ℕ) (rest : List Check) → first_broken (truth_checks line kind ++ rest) ≡ first_at result line (first_broken rest) }
+    ensures { (line : ℕ) (rest : List Check)
+        → first_broken (truth_checks line kind ++ rest) ≡ first_at result line (first_broken rest) }
 {
     first_of(unless(kind.is_some(), 403), unless(is_bool(kind), 402))
 }
 
 /// The result before a conditional: 403, 402.
 pub(crate) fn judge_condition(condition: Condition, kind: Option<Kind>) -> Option<u16>
-    ensures { (line : ℕ) (rest : List Check) → first_broken (condition_checks condition line kind ++ rest) ≡ first_at result line (first_broken rest) }
+    ensures { (line : ℕ) (rest : List Check)
+        → first_broken (condition_checks condition line kind ++ rest)
+        ≡ first_at result line (first_broken rest) }
 {
     match condition {
         Condition::Always => None,
@@ -69,7 +78,9 @@ pub(crate) fn judge_condition(condition: Condition, kind: Option<Kind>) -> Optio
 
 /// The divisor: 408.
 pub(crate) fn judge_divisor(operator: Operator, operand: &Operand<'_>) -> Option<u16>
-    ensures { (line : ℕ) (rest : List Check) → first_broken (divisor_checks operator line (term_view operand.now) ++ rest) ≡ first_at result line (first_broken rest) }
+    ensures { (line : ℕ) (rest : List Check)
+        → first_broken (divisor_checks operator line (term_view operand.now) ++ rest)
+        ≡ first_at result line (first_broken rest) }
 {
     if divides(operator) {
         unless(is_divisor(operand), 408)
@@ -95,7 +106,8 @@ pub(crate) fn suits_result(
     seen: Seen,
     kind: Option<Kind>,
 ) -> bool
-    ensures { (scope : Scope) → IsSeen scope (term_view operand.now) seen → result ≡ suits_result scope operator (term_view operand.now) kind }
+    ensures { (scope : Scope) → IsSeen scope (term_view operand.now) seen
+        → result ≡ suits_result scope operator (term_view operand.now) kind }
 {
     match kind {
         Some(kind) => {
@@ -108,7 +120,8 @@ pub(crate) fn suits_result(
 
 /// Whether what is written is of the result's kind.
 pub(crate) fn suits_target(seen: Seen, kind: Option<Kind>) -> bool
-    ensures { (scope : Scope) (term : Term) → IsSeen scope term seen → result ≡ suits_target scope term kind }
+    ensures { (scope : Scope) (term : Term) → IsSeen scope term seen
+        → result ≡ suits_target scope term kind }
 {
     match kind {
         Some(kind) => is_of_kind(kind, seen.kind),

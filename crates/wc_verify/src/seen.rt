@@ -21,7 +21,8 @@ pub(crate) struct Seen {
 
 /// What an operand names in the body of a unit.
 pub(crate) fn see<'a>(tables: &Tables<'a>, unit: usize, operand: &Operand<'_>) -> Seen
-    ensures { (scope : Scope) → IsScope tables.now unit scope → IsSeen scope (term_view operand.now) result }
+    ensures { (scope : Scope) → IsScope tables.now unit scope
+        → IsSeen scope (term_view operand.now) result }
 {
     match tables.entity(unit, operand) {
         Some(entity) => Seen {

@@ -30,7 +30,9 @@ fn is_loaded(negated: bool, kind: Option<Kind>) -> bool
 
 /// LD and LDN.
 pub(crate) fn judge_load(negated: bool, seen: Seen) -> Option<u16>
-    ensures { (scope : Scope) (term : Term) (line : ℕ) (rest : List Check) → IsSeen scope term seen → first_broken (load_checks scope line negated term ++ rest) ≡ first_at result line (first_broken rest) }
+    ensures { (scope : Scope) (term : Term) (line : ℕ) (rest : List Check) → IsSeen scope term seen
+        → first_broken (load_checks scope line negated term ++ rest)
+        ≡ first_at result line (first_broken rest) }
 {
     first_of(
         judge_reading(seen),
@@ -40,7 +42,9 @@ pub(crate) fn judge_load(negated: bool, seen: Seen) -> Option<u16>
 
 /// ST.
 fn judge_plain_store(seen: Seen, kind: Option<Kind>) -> Option<u16>
-    ensures { (scope : Scope) (term : Term) (line : ℕ) (rest : List Check) → IsSeen scope term seen → first_broken (store_checks scope line Storing.Result term kind ++ rest) ≡ first_at result line (first_broken rest) }
+    ensures { (scope : Scope) (term : Term) (line : ℕ) (rest : List Check) → IsSeen scope term seen
+        → first_broken (store_checks scope line Storing.Result term kind ++ rest)
+        ≡ first_at result line (first_broken rest) }
 {
     let stored = first_of(
         unless(kind.is_some(), 403),
@@ -51,7 +55,9 @@ fn judge_plain_store(seen: Seen, kind: Option<Kind>) -> Option<u16>
 
 /// STN, S and R.
 fn judge_truth_store(seen: Seen, kind: Option<Kind>) -> Option<u16>
-    ensures { (scope : Scope) (term : Term) (line : ℕ) (rest : List Check) → IsSeen scope term seen → first_broken (store_checks scope line Storing.Negation term kind ++ rest) ≡ first_at result line (first_broken rest) }
+    ensures { (scope : Scope) (term : Term) (line : ℕ) (rest : List Check) → IsSeen scope term seen
+        → first_broken (store_checks scope line Storing.Negation term kind ++ rest)
+        ≡ first_at result line (first_broken rest) }
 {
     let before = first_of(judge_writing(seen), judge_truth(kind));
     first_of(before, unless(suits_target(seen, kind), 402))
@@ -59,7 +65,9 @@ fn judge_truth_store(seen: Seen, kind: Option<Kind>) -> Option<u16>
 
 /// ST, STN, S and R.
 pub(crate) fn judge_store(storing: Storing, seen: Seen, kind: Option<Kind>) -> Option<u16>
-    ensures { (scope : Scope) (term : Term) (line : ℕ) (rest : List Check) → IsSeen scope term seen → first_broken (store_checks scope line storing term kind ++ rest) ≡ first_at result line (first_broken rest) }
+    ensures { (scope : Scope) (term : Term) (line : ℕ) (rest : List Check) → IsSeen scope term seen
+        → first_broken (store_checks scope line storing term kind ++ rest)
+        ≡ first_at result line (first_broken rest) }
 {
     match storing {
         Storing::Result => judge_plain_store(seen, kind),
@@ -76,7 +84,10 @@ pub(crate) fn judge_apply(
     seen: Seen,
     kind: Option<Kind>,
 ) -> Option<u16>
-    ensures { (scope : Scope) (line : ℕ) (rest : List Check) → IsSeen scope (term_view operand.now) seen → first_broken (apply_checks scope line operator (term_view operand.now) kind ++ rest) ≡ first_at result line (first_broken rest) }
+    ensures { (scope : Scope) (line : ℕ) (rest : List Check)
+        → IsSeen scope (term_view operand.now) seen
+        → first_broken (apply_checks scope line operator (term_view operand.now) kind ++ rest)
+        ≡ first_at result line (first_broken rest) }
 {
     let before = first_of(judge_reading(seen), judge_result(operator, kind));
     let divided = first_of(before, judge_divisor(operator, operand));
@@ -88,7 +99,10 @@ pub(crate) fn judge_apply(
 
 /// The operand on an opening line: 401, 405.
 fn judge_opening_operand(seen: Option<Seen>) -> Option<u16>
-    ensures { (scope : Scope) (term : Option Term) (line : ℕ) (rest : List Check) → IsSeenIfAny scope term seen → first_broken (opening_operand_checks scope line term ++ rest) ≡ first_at result line (first_broken rest) }
+    ensures { (scope : Scope) (term : Option Term) (line : ℕ) (rest : List Check)
+        → IsSeenIfAny scope term seen
+        → first_broken (opening_operand_checks scope line term ++ rest)
+        ≡ first_at result line (first_broken rest) }
 {
     match seen {
         Some(seen) => judge_reading(seen),
@@ -98,7 +112,8 @@ fn judge_opening_operand(seen: Option<Seen>) -> Option<u16>
 
 /// Whether the operand on an opening line is no instance.
 fn is_no_instance(seen: Option<Seen>) -> bool
-    ensures { (scope : Scope) (term : Option Term) → IsSeenIfAny scope term seen → is_no_instance scope term ≡ result }
+    ensures { (scope : Scope) (term : Option Term) → IsSeenIfAny scope term seen
+        → is_no_instance scope term ≡ result }
 {
     match seen {
         Some(seen) => seen.kind.is_some(),
@@ -112,7 +127,10 @@ pub(crate) fn judge_opening(
     seen: Option<Seen>,
     kind: Option<Kind>,
 ) -> Option<u16>
-    ensures { (scope : Scope) (term : Option Term) (line : ℕ) (rest : List Check) → IsSeenIfAny scope term seen → first_broken (opening_checks scope line operator term kind ++ rest) ≡ first_at result line (first_broken rest) }
+    ensures { (scope : Scope) (term : Option Term) (line : ℕ) (rest : List Check)
+        → IsSeenIfAny scope term seen
+        → first_broken (opening_checks scope line operator term kind ++ rest)
+        ≡ first_at result line (first_broken rest) }
 {
     let before = first_of(judge_opening_operand(seen), judge_result(operator, kind));
     let own = first_of(
@@ -124,7 +142,9 @@ pub(crate) fn judge_opening(
 
 /// A `)`.
 pub(crate) fn judge_closing(outer: Option<Kind>, inner: Option<Kind>) -> Option<u16>
-    ensures { (line : ℕ) (rest : List Check) → first_broken (closing_checks line outer inner ++ rest) ≡ first_at result line (first_broken rest) }
+    ensures { (line : ℕ) (rest : List Check)
+        → first_broken (closing_checks line outer inner ++ rest)
+        ≡ first_at result line (first_broken rest) }
 {
     first_of(
         unless(inner.is_some(), 403),
