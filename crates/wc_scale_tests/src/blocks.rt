@@ -42,7 +42,11 @@ fn an_on_delay(rt: HostRuntime) {
         (616, true, 4, true, 4),
         (617, true, 6, false, 5),
     ] {
-        assert_eq!(rt; ton_at(&mut block, now, input, pt), Some((q, et)), "TON at {now}");
+        assert_eq!(rt;
+            ton_at(&mut block, now, input, pt),
+            Some((q, et)),
+            "TON at {now}"
+        );
     }
 }
 
@@ -58,7 +62,11 @@ fn an_on_delay_over_all_moments(rt: HostRuntime) {
         (1099511627775, true, 1, false, 0),
         (1099511627775, true, 0, true, 0),
     ] {
-        assert_eq!(rt; ton_at(&mut block, now, input, pt), Some((q, et)), "TON at {now}");
+        assert_eq!(rt;
+            ton_at(&mut block, now, input, pt),
+            Some((q, et)),
+            "TON at {now}"
+        );
     }
     assert_eq!(rt; ton_at(&mut block, 1099511627776, true, 0), None);
     assert_eq!(rt; ton_at(&mut block, 1099511627774, true, 0), None);
@@ -83,7 +91,11 @@ fn an_off_delay(rt: HostRuntime) {
         (625, false, 3, false, 3),
         (626, false, 5, true, 4),
     ] {
-        assert_eq!(rt; tof_at(&mut block, now, input, pt), Some((q, et)), "TOF at {now}");
+        assert_eq!(rt;
+            tof_at(&mut block, now, input, pt),
+            Some((q, et)),
+            "TOF at {now}"
+        );
     }
 }
 
@@ -100,12 +112,19 @@ fn an_off_delay_over_all_moments(rt: HostRuntime) {
         (1099511627775, false, 1, true, 0),
         (1099511627775, false, 0, false, 0),
     ] {
-        assert_eq!(rt; tof_at(&mut block, now, input, pt), Some((q, et)), "TOF at {now}");
+        assert_eq!(rt;
+            tof_at(&mut block, now, input, pt),
+            Some((q, et)),
+            "TOF at {now}"
+        );
     }
     assert_eq!(rt; tof_at(&mut block, 1099511627776, false, 0), None);
     assert_eq!(rt; tof_at(&mut block, 1099511627774, false, 0), None);
     let mut fresh = Tof::new();
-    assert_eq!(rt; tof_at(&mut fresh, 1099511627775, false, 100), Some((false, 0)));
+    assert_eq!(rt;
+        tof_at(&mut fresh, 1099511627775, false, 100),
+        Some((false, 0))
+    );
 }
 
 #[test]
@@ -178,8 +197,20 @@ fn set_is_dominant(rt: HostRuntime) {
 #[test]
 fn rising_edges(rt: HostRuntime) {
     for clks in [
-        [(false, false), (true, true), (true, false), (false, false), (true, true)],
-        [(true, true), (true, false), (true, false), (false, false), (false, false)],
+        [
+            (false, false),
+            (true, true),
+            (true, false),
+            (false, false),
+            (true, true),
+        ],
+        [
+            (true, true),
+            (true, false),
+            (true, false),
+            (false, false),
+            (false, false),
+        ],
     ] {
         let mut block = RTrig::new();
         for (clk, q) in clks {

@@ -100,7 +100,9 @@ fn after_writes<S: Store>(
     let mut all = true;
     let mut any = 1_u64;
     for step in 0..writes {
-        any = any.wrapping_mul(6364136223846793005).wrapping_add(1442695040888963407);
+        any = any
+            .wrapping_mul(6364136223846793005)
+            .wrapping_add(1442695040888963407);
         let place = ((any / 4294967296) % 10) as u16;
         if usize::from(place) < kinds.len() {
             let number = within(kinds[usize::from(place)], any / 65536);
