@@ -60,7 +60,7 @@ plain_behind scope first (v ∷ vs) d h =
     let self : same_name v.name v.name ≡ true = (bytes_eq-Decides v.name v.name).1 refl in
     let here = plain_here scope first v (type_named scope.before v.type_name) (λ kind t. h v.name (ap (λ b. b || is_among names v.name) self) ∙ to_first scope.before first v vs kind t) in
     let rest = plain_behind scope (first + places_of_type scope.before v.type_name) vs d.1 (λ name a.
-        h name (or_true (same_name name v.name) (is_among names name) a) ∙ cut scope.before first v vs name false (another names v.name name d.0 a)) in
+    h name (or_true (same_name name v.name) (is_among names name) a) ∙ cut scope.before first v vs name false (another names v.name name d.0 a)) in
     λ i. here i ++ rest i
   where
     or_true : (a b : Bool) → b ≡ true → (a || b) ≡ true

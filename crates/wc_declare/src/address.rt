@@ -9,7 +9,10 @@ ghost use Rattle.wc_declare.specs.Direct.{direct_at};
 /// Whether a text is `%`, the letter, X or not, the byte, a point and the bit.
 fn is_bit(text: &[u8], letter: u8, byte: u8, bit: u8) -> bool
     requires { bit < 16 }
-    ensures { result ≡ list_any (bytes_eq (name_of text.now)) ((37 ∷ to_ascii_lowercase letter ∷ 120 ∷ to_ascii_lowercase byte ∷ 46 ∷ numeral bit) ∷ (37 ∷ to_ascii_lowercase letter ∷ to_ascii_lowercase byte ∷ 46 ∷ numeral bit) ∷ []) }
+    ensures { result
+        ≡ list_any (bytes_eq (name_of text.now))
+        ((37 ∷ to_ascii_lowercase letter ∷ 120 ∷ to_ascii_lowercase byte ∷ 46 ∷ numeral bit) ∷
+        (37 ∷ to_ascii_lowercase letter ∷ to_ascii_lowercase byte ∷ 46 ∷ numeral bit) ∷ []) }
 {
     if bit < 10 {
         text.eq_ignore_ascii_case(&[b'%', letter, b'X', byte, b'.', b'0' + bit])
@@ -23,7 +26,9 @@ fn is_bit(text: &[u8], letter: u8, byte: u8, bit: u8) -> bool
 /// Whether a text is `%`, the letter, D and the number.
 fn is_double(text: &[u8], letter: u8, number: u8) -> bool
     requires { number < 10 }
-    ensures { result ≡ list_any (bytes_eq (name_of text.now)) ((37 ∷ to_ascii_lowercase letter ∷ 100 ∷ numeral number) ∷ []) }
+    ensures { result
+        ≡ list_any (bytes_eq (name_of text.now))
+        ((37 ∷ to_ascii_lowercase letter ∷ 100 ∷ numeral number) ∷ []) }
 {
     text.eq_ignore_ascii_case(&[b'%', letter, b'D', b'0' + number])
 }

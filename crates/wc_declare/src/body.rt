@@ -14,7 +14,9 @@ use wc_model::{Argument, Fault, Instr, Line, Operand, Word};
 
 /// Judges a label by 307.
 fn judge_label<'a>(label: Option<Word<'a>>) -> Result<(), Fault>
-    ensures { (rest : List Check) → Judges (first_broken (label_checks (option_map word_view label.entry) ++ rest)) (first_broken rest) result }
+    ensures { (rest : List Check)
+        → Judges (first_broken (label_checks (option_map word_view label.entry) ++ rest))
+        (first_broken rest) result }
 {
     match label {
         Some(word) => {
@@ -30,7 +32,9 @@ fn judge_label<'a>(label: Option<Word<'a>>) -> Result<(), Fault>
 
 /// Judges an operand: an address by 305 in a block, by 304 elsewhere.
 fn judge_operand<'a>(in_block: bool, operand: &Operand<'a>) -> Result<(), Fault>
-    ensures { (unit : ProgramUnit) (rest : List Check) → in_block ≡ is_block unit → Judges (first_broken (term_checks unit (term_view operand.now) ++ rest)) (first_broken rest) result }
+    ensures { (unit : ProgramUnit) (rest : List Check) → in_block ≡ is_block unit
+        → Judges (first_broken (term_checks unit (term_view operand.now) ++ rest))
+        (first_broken rest) result }
 {
     let Operand::Address(word) = operand else {
         return Ok(());
@@ -46,7 +50,11 @@ fn judge_operand<'a>(in_block: bool, operand: &Operand<'a>) -> Result<(), Fault>
 
 /// Judges the values of a call's arguments.
 fn judge_arguments<'a>(in_block: bool, arguments: &[Argument<'a>]) -> Result<(), Fault>
-    ensures { (unit : ProgramUnit) (rest : List Check) → in_block ≡ is_block unit → Judges (first_broken (flat_map (λ a. term_checks unit a.value) (map assignment_view arguments.now) ++ rest)) (first_broken rest) result }
+    ensures { (unit : ProgramUnit) (rest : List Check) → in_block ≡ is_block unit
+        → Judges
+        (first_broken
+        (flat_map (λ a. term_checks unit a.value) (map assignment_view arguments.now) ++ rest))
+        (first_broken rest) result }
 {
     for argument in arguments {
         if let Err(fault) = judge_operand(in_block, &argument.value) {
@@ -58,7 +66,9 @@ fn judge_arguments<'a>(in_block: bool, arguments: &[Argument<'a>]) -> Result<(),
 
 /// Judges the operand of an opening line, where there is one.
 fn judge_first<'a>(in_block: bool, operand: &Option<Operand<'a>>) -> Result<(), Fault>
-    ensures { (unit : ProgramUnit) (rest : List Check) → in_block ≡ is_block unit → Judges (first_broken (operand_checks unit (option_map term_view operand.now) ++ rest)) (first_broken rest) result }
+    ensures { (unit : ProgramUnit) (rest : List Check) → in_block ≡ is_block unit
+        → Judges (first_broken (operand_checks unit (option_map term_view operand.now) ++ rest))
+        (first_broken rest) result }
 {
     match operand {
         Some(operand) => judge_operand(in_block, operand),
@@ -68,7 +78,9 @@ fn judge_first<'a>(in_block: bool, operand: &Option<Operand<'a>>) -> Result<(), 
 
 /// Judges a line with the lines inside it: each label and address.
 fn judge_line<'a>(in_block: bool, line: &Line<'a>) -> Result<(), Fault>
-    ensures { (unit : ProgramUnit) (others : Lines) (rest : List Check) → in_block ≡ is_block unit → Judges (first_broken (body_name_checks unit (line_view line.now others) ++ rest)) (first_broken (body_name_checks unit others ++ rest)) result }
+    ensures { (unit : ProgramUnit) (others : Lines) (rest : List Check) → in_block ≡ is_block unit
+        → Judges (first_broken (body_name_checks unit (line_view line.now others) ++ rest))
+        (first_broken (body_name_checks unit others ++ rest)) result }
 {
     if let Err(fault) = judge_label(line.label) {
         return Err(fault);
@@ -102,7 +114,9 @@ fn judge_line<'a>(in_block: bool, line: &Line<'a>) -> Result<(), Fault>
 
 /// Judges the lines of a body: each label and address.
 pub(crate) fn judge_body<'a>(in_block: bool, lines: &[Line<'a>]) -> Result<(), Fault>
-    ensures { (unit : ProgramUnit) (rest : List Check) → in_block ≡ is_block unit → Judges (first_broken (body_name_checks unit (lines_view lines.now) ++ rest)) (first_broken rest) result }
+    ensures { (unit : ProgramUnit) (rest : List Check) → in_block ≡ is_block unit
+        → Judges (first_broken (body_name_checks unit (lines_view lines.now) ++ rest))
+        (first_broken rest) result }
 {
     for line in lines {
         if let Err(fault) = judge_line(in_block, line) {

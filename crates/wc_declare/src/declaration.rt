@@ -23,7 +23,11 @@ use wc_model::{Decl, Fault, Initial, Kind, Section, Unit, Value, Word};
 
 /// Judges a name by 307 and 301, and adds it to those that are declared.
 pub(crate) fn declare_name<'a>(names: &mut Names<'a>, word: Word<'a>) -> Result<(), Fault>
-    ensures judged { (known : List Name) (rest : List Check) → SameNames names.old known → Judges (first_broken (not_reserved (word_view word.entry) ∷ is_new known (word_view word.entry) ∷ rest)) (first_broken rest) result }
+    ensures judged { (known : List Name) (rest : List Check) → SameNames names.old known
+        → Judges
+        (first_broken
+        (not_reserved (word_view word.entry) ∷ is_new known (word_view word.entry) ∷ rest))
+        (first_broken rest) result }
     ensures added { OnOk result (names.new ≡ names.old ++ name_view word.entry ∷ []) }
     ensures new { OnOk result (is_among names.old (name_view word.entry) ≡ false) }
 {
@@ -44,8 +48,12 @@ pub(crate) fn declare_name<'a>(names: &mut Names<'a>, word: Word<'a>) -> Result<
 
 /// Judges the names of a declaration by 307 and 301, and adds them to those that are declared.
 fn declare_names<'a>(names: &mut Names<'a>, declaration: &Decl<'a>) -> Result<(), Fault>
-    ensures judged { (known : List Name) (rest : List Check) → SameNames names.old known → Judges (first_broken (names_are_new known (map word_view declaration.now.names.items) ++ rest)) (first_broken rest) result }
-    ensures added { OnOk result (names.new ≡ names.old ++ map name_of_word (map word_view declaration.now.names.items)) }
+    ensures judged { (known : List Name) (rest : List Check) → SameNames names.old known
+        → Judges
+        (first_broken (names_are_new known (map word_view declaration.now.names.items) ++ rest))
+        (first_broken rest) result }
+    ensures added { OnOk result
+        (names.new ≡ names.old ++ map name_of_word (map word_view declaration.now.names.items)) }
     ensures different { OnOk result (AreDifferent names.old → AreDifferent names.new) }
 {
     for word in &declaration.names {
@@ -58,7 +66,8 @@ fn declare_names<'a>(names: &mut Names<'a>, declaration: &Decl<'a>) -> Result<()
 
 /// Whether a name is no function block of the text that is not closed before.
 fn is_closed_before<'a>(units: &Units<'a>, name: &[u8]) -> bool
-    ensures { (text : Text) (before : List ProgramUnit) → AreUnitsOf text before units.now → result ≡ is_closed_before text before (name_of name.now) }
+    ensures { (text : Text) (before : List ProgramUnit) → AreUnitsOf text before units.now
+        → result ≡ is_closed_before text before (name_of name.now) }
 {
     if is_type_word(name) {
         return true;
@@ -84,8 +93,13 @@ fn stands_in(section: Section, declared: DeclaredType) -> bool
 
 /// Judges the type of a declaration by 308 and 302.
 fn judge_type<'a>(units: &Units<'a>, declaration: &Decl<'a>) -> Result<DeclaredType, Fault>
-    ensures judged { (text : Text) (before : List ProgramUnit) (rest : List Check) → AreUnitsOf text before units.now → Judges (first_broken (type_checks text before (declaration_view declaration.now) ++ rest)) (first_broken rest) result }
-    ensures declared { IfOk result (λ declared. (text : Text) (before : List ProgramUnit) → AreUnitsOf text before units.now → type_at before (name_view declaration.now.type_name) ≡ Some declared) }
+    ensures judged { (text : Text) (before : List ProgramUnit) (rest : List Check)
+        → AreUnitsOf text before units.now
+        → Judges (first_broken (type_checks text before (declaration_view declaration.now) ++ rest))
+        (first_broken rest) result }
+    ensures declared { IfOk result
+        (λ declared. (text : Text) (before : List ProgramUnit) → AreUnitsOf text before units.now
+        → type_at before (name_view declaration.now.type_name) ≡ Some declared) }
     ensures stands { IfOk result (λ declared. stands_in declaration.now.section declared ≡ true) }
 {
     let word = declaration.type_name;
@@ -135,7 +149,10 @@ fn suits(declared: DeclaredType, value: Value) -> bool
 
 /// Judges the value after `:=` of a declaration by 303.
 fn judge_initial<'a>(declaration: &Decl<'a>, declared: DeclaredType) -> Result<(), Fault>
-    ensures { (before : List ProgramUnit) (rest : List Check) → type_at before (name_view declaration.now.type_name) ≡ Some declared → Judges (first_broken (initial_checks before (declaration_view declaration.now) ++ rest)) (first_broken rest) result }
+    ensures { (before : List ProgramUnit) (rest : List Check)
+        → type_at before (name_view declaration.now.type_name) ≡ Some declared
+        → Judges (first_broken (initial_checks before (declaration_view declaration.now) ++ rest))
+        (first_broken rest) result }
 {
     let Some(initial) = declaration.initial else {
         return Ok(());
@@ -165,10 +182,21 @@ fn declare_variables<'a>(
     declared: DeclaredType,
     width: u16,
 ) -> Result<(), Fault>
-    ensures judged { (t : Taken) (rest : List Check) → HasTaken t table.old → Judges (first_broken (room_checks t width (map word_view declaration.now.names.items) ++ rest)) (first_broken rest) result }
-    ensures taken { OnOk result ((t : Taken) → HasTaken t table.old → HasTaken (and_more t (length (map word_view declaration.now.names.items)) width) table.new) }
+    ensures judged { (t : Taken) (rest : List Check) → HasTaken t table.old
+        → Judges
+        (first_broken (room_checks t width (map word_view declaration.now.names.items) ++ rest))
+        (first_broken rest) result }
+    ensures taken { OnOk result
+        ((t : Taken) → HasTaken t table.old
+        → HasTaken
+        (and_more t (length (map word_view declaration.now.names.items)) width) table.new) }
     ensures small { OnOk result (table.old.size ≤ 4096 → table.new.size ≤ 4096) }
-    ensures held { OnOk result ((before : List ProgramUnit) (first : ℕ) (vs : List Declared) → type_at before (name_view declaration.now.type_name) ≡ Some declared → places_of_type before (name_view declaration.now.type_name) ≡ width → stands_in declaration.now.section declared ≡ true → HoldsRows before first vs table.old → HoldsRows before first (vs ++ declared_by (declaration_view declaration.now)) table.new) }
+    ensures held { OnOk result
+        ((before : List ProgramUnit) (first : ℕ) (vs : List Declared)
+        → type_at before (name_view declaration.now.type_name) ≡ Some declared
+        → places_of_type before (name_view declaration.now.type_name) ≡ width
+        → stands_in declaration.now.section declared ≡ true → HoldsRows before first vs table.old
+        → HoldsRows before first (vs ++ declared_by (declaration_view declaration.now)) table.new) }
     ensures names { OnOk result (table.new.names ≡ table.old.names) }
     ensures is_block { OnOk result (table.new.is_block ≡ table.old.is_block) }
 {
@@ -193,11 +221,27 @@ fn judge_declaration<'a>(
     table: &mut UnitTable<'a>,
     declaration: &Decl<'a>,
 ) -> Result<(), Fault>
-    ensures judged { (text : Text) (before : List ProgramUnit) (known : List Name) (t : Taken) (rest : List Check) → AreUnitsOf text before units.now → SameNames table.old.names known → HasTaken t table.old → Judges (first_broken (declaration_checks text before known t (declaration_view declaration.now) ++ rest)) (first_broken rest) result }
-    ensures taken { OnOk result ((text : Text) (before : List ProgramUnit) (t : Taken) → AreUnitsOf text before units.now → HasTaken t table.old → HasTaken (and_more t (length (map word_view declaration.now.names.items)) (places_of_type before (name_view declaration.now.type_name))) table.new) }
+    ensures judged { (text : Text) (before : List ProgramUnit) (known : List Name) (t : Taken)
+        (rest : List Check) → AreUnitsOf text before units.now → SameNames table.old.names known
+        → HasTaken t table.old
+        → Judges
+        (first_broken
+        (declaration_checks text before known t (declaration_view declaration.now) ++ rest))
+        (first_broken rest) result }
+    ensures taken { OnOk result
+        ((text : Text) (before : List ProgramUnit) (t : Taken) → AreUnitsOf text before units.now
+        → HasTaken t table.old
+        → HasTaken
+        (and_more t (length (map word_view declaration.now.names.items))
+        (places_of_type before (name_view declaration.now.type_name))) table.new) }
     ensures small { OnOk result (table.old.size ≤ 4096 → table.new.size ≤ 4096) }
-    ensures held { OnOk result ((text : Text) (before : List ProgramUnit) (first : ℕ) (vs : List Declared) → AreUnitsOf text before units.now → HoldsRows before first vs table.old → HoldsRows before first (vs ++ declared_by (declaration_view declaration.now)) table.new) }
-    ensures names { OnOk result (table.new.names ≡ table.old.names ++ map name_of_word (map word_view declaration.now.names.items)) }
+    ensures held { OnOk result
+        ((text : Text) (before : List ProgramUnit) (first : ℕ) (vs : List Declared)
+        → AreUnitsOf text before units.now → HoldsRows before first vs table.old
+        → HoldsRows before first (vs ++ declared_by (declaration_view declaration.now)) table.new) }
+    ensures names { OnOk result
+        (table.new.names ≡ table.old.names
+        ++ map name_of_word (map word_view declaration.now.names.items)) }
     ensures different { OnOk result (AreDifferent table.old.names → AreDifferent table.new.names) }
     ensures is_block { OnOk result (table.new.is_block ≡ table.old.is_block) }
 {
@@ -220,8 +264,14 @@ pub(crate) fn judge_declarations<'a>(
     table: &mut UnitTable<'a>,
     unit: &Unit<'a>,
 ) -> Result<(), Fault>
-    ensures judged { (text : Text) (before : List ProgramUnit) (rest : List Check) → AreUnitsOf text before units.now → IsEmptyOf (unit_view unit.now) table.old → Judges (first_broken (unit_declaration_checks text before (unit_view unit.now) ++ rest)) (first_broken rest) result }
-    ensures table { OnOk result ((text : Text) (before : List ProgramUnit) → AreUnitsOf text before units.now → IsEmptyOf (unit_view unit.now) table.old → IsTableOf before (unit_view unit.now) table.new) }
+    ensures judged { (text : Text) (before : List ProgramUnit) (rest : List Check)
+        → AreUnitsOf text before units.now → IsEmptyOf (unit_view unit.now) table.old
+        → Judges (first_broken (unit_declaration_checks text before (unit_view unit.now) ++ rest))
+        (first_broken rest) result }
+    ensures table { OnOk result
+        ((text : Text) (before : List ProgramUnit) → AreUnitsOf text before units.now
+        → IsEmptyOf (unit_view unit.now) table.old
+        → IsTableOf before (unit_view unit.now) table.new) }
 {
     for declaration in &unit.declarations {
         if let Err(fault) = judge_declaration(units, table, declaration) {

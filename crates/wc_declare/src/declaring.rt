@@ -16,7 +16,12 @@ use wc_model::{Fault, Source, Unit};
 
 /// Adds the name of a unit where it is a function block.
 fn add_block<'a>(names: &mut Names<'a>, unit: &Unit<'a>) -> Result<(), Fault>
-    ensures added { OnOk result ((name : Name) → is_among names.new name ≡ (is_among names.old name || (is_block (unit_view unit.now) && same_name (name_view unit.now.name) name))) }
+    ensures added { OnOk result
+        ((name : Name)
+        → is_among names.new name
+        ≡
+        (is_among names.old name ||
+        (is_block (unit_view unit.now) && same_name (name_view unit.now.name) name))) }
     ensures memory { IsOkUnless result Fault.Memory }
 {
     if !is_block(unit) {
@@ -30,7 +35,9 @@ fn add_block<'a>(names: &mut Names<'a>, unit: &Unit<'a>) -> Result<(), Fault>
 
 /// The names of all function blocks of a text.
 fn block_names<'a>(alloc: Global, source: &Source<'a>) -> Result<Names<'a>, Fault>
-    ensures names { IfOk result (λ names. (name : Name) → is_among names name ≡ names_block_of (text_view source.now) name) }
+    ensures names { IfOk result
+        (λ names. (name : Name)
+        → is_among names name ≡ names_block_of (text_view source.now) name) }
     ensures memory { IsOkUnless result Fault.Memory }
 {
     let mut names = Names::new(alloc);
@@ -44,8 +51,11 @@ fn block_names<'a>(alloc: Global, source: &Source<'a>) -> Result<Names<'a>, Faul
 
 /// Judges the units of a text one after the other, and keeps their tables.
 fn judge_units<'a>(alloc: Global, units: &mut Units<'a>, source: &Source<'a>) -> Result<(), Fault>
-    ensures judged { AreUnitsOf (text_view source.now) [] units.old → Judges (declaration_fault (text_view source.now)) None result }
-    ensures tables { OnOk result (AreUnitsOf (text_view source.now) [] units.old → AreUnits (onto (text_view source.now) []) units.new.tables.items) }
+    ensures judged { AreUnitsOf (text_view source.now) [] units.old
+        → Judges (declaration_fault (text_view source.now)) None result }
+    ensures tables { OnOk result
+        (AreUnitsOf (text_view source.now) [] units.old
+        → AreUnits (onto (text_view source.now) []) units.new.tables.items) }
 {
     for unit in &source.units {
         let table = match judge_unit(alloc, units, unit) {

@@ -23,11 +23,7 @@ pub struct Input {
 }
 
 /// The number of a member's place among those of an instance of this type.
-fn number_within<'a>(
-    units: &[UnitTable<'a>],
-    declared: DeclaredType,
-    name: &[u8],
-) -> Option<u16>
+fn number_within<'a>(units: &[UnitTable<'a>], declared: DeclaredType, name: &[u8]) -> Option<u16>
     ensures { (before : List ProgramUnit) (u : ProgramUnit) (type : VariableType)
         → Stands units.now before u
         → numbered_type before type ≡ Some declared

@@ -30,7 +30,8 @@ impl<'a> Tables<'a> {
     /// The place that a path names in a unit's frame. Fields of standard blocks that texts cannot name go by `m`,
     /// `run`, `phase` and `start`.
     pub fn place(&self, unit: usize, path: &Path<'_>) -> Option<Place>
-        ensures { (text : Text) (scope : Scope) → AreTables self.now text → IsUnit text unit scope → option_map (λ p. p.0) result ≡ number_of_path scope path.now }
+        ensures { (text : Text) (scope : Scope) → AreTables self.now text → IsUnit text unit scope
+            → option_map (λ p. p.0) result ≡ number_of_path scope path.now }
     {
         match path {
             Path::Address(text) => place_at(address(&self.units, unit, text)),
@@ -40,16 +41,25 @@ impl<'a> Tables<'a> {
 
     /// What an operand names in the body of a unit.
     pub fn entity(&self, unit: usize, operand: &Operand<'_>) -> Option<Entity>
-        ensures { (text : Text) (scope : Scope) → AreTables self.now text → IsUnit text unit scope → result ≡ option_map (numbered_entity scope) (entity_of scope (term_view operand.now)) }
+        ensures { (text : Text) (scope : Scope) → AreTables self.now text → IsUnit text unit scope
+            → result
+            ≡ option_map (numbered_entity scope) (entity_of scope (term_view operand.now)) }
     {
         entity(&self.units, unit, operand)
     }
 
     /// The type of a variable of a unit, and where its places begin in the unit's frame.
     pub fn variable(&self, unit: usize, name: &[u8]) -> Option<Located>
-        ensures known { (text : Text) (scope : Scope) → AreTables self.now text → IsUnit text unit scope → is_some result ≡ is_some (type_of scope (name_of name.now)) }
-        ensures declared { (text : Text) (scope : Scope) → AreTables self.now text → IsUnit text unit scope → option_map (λ v. v.declared) result ≡ option_and_then (numbered_type scope.before) (type_of scope (name_of name.now)) }
-        ensures stands { (text : Text) (scope : Scope) (type : VariableType) → AreTables self.now text → IsUnit text unit scope → type_of scope (name_of name.now) ≡ Some type → IfSome result (λ v. StandsFrom scope (name_of name.now) type v.first) }
+        ensures known { (text : Text) (scope : Scope) → AreTables self.now text
+            → IsUnit text unit scope → is_some result ≡ is_some (type_of scope (name_of name.now)) }
+        ensures declared { (text : Text) (scope : Scope) → AreTables self.now text
+            → IsUnit text unit scope
+            → option_map (λ v. v.declared) result
+            ≡ option_and_then (numbered_type scope.before) (type_of scope (name_of name.now)) }
+        ensures stands { (text : Text) (scope : Scope) (type : VariableType)
+            → AreTables self.now text → IsUnit text unit scope
+            → type_of scope (name_of name.now) ≡ Some type
+            → IfSome result (λ v. StandsFrom scope (name_of name.now) type v.first) }
     {
         match row(&self.units, unit, name) {
             Some(row) => Some(Located {
@@ -92,7 +102,8 @@ impl<'a> Tables<'a> {
 
     /// How many places a unit's frame has.
     pub fn size(&self, unit: usize) -> usize
-        ensures { (text : Text) (scope : Scope) → AreTables self.now text → IsUnit text unit scope → result ≡ length (frame_of scope) }
+        ensures { (text : Text) (scope : Scope) → AreTables self.now text → IsUnit text unit scope
+            → result ≡ length (frame_of scope) }
     {
         match self.units.get(unit) {
             Some(table) => usize::from(table.size),

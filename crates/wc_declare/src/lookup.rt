@@ -21,7 +21,9 @@ use wc_model::StandardBlock;
 
 /// The variable of that name of a unit.
 pub(crate) fn row<'a>(units: &[UnitTable<'a>], unit: usize, name: &[u8]) -> Option<Variable>
-    ensures { (table : Table) → slice_get units.now unit ≡ Some table → length table.names ≡ length table.rows.items → result ≡ row_named table.names table.rows.items (name_of name.now) }
+    ensures { (table : Table) → slice_get units.now unit ≡ Some table
+        → length table.names ≡ length table.rows.items
+        → result ≡ row_named table.names table.rows.items (name_of name.now) }
 {
     let Some(table) = units.get(unit) else {
         return None;
@@ -37,7 +39,9 @@ pub(crate) fn row<'a>(units: &[UnitTable<'a>], unit: usize, name: &[u8]) -> Opti
 
 /// The number of a field of R_TRIG.
 fn r_trig_field(name: &[u8]) -> Option<u16>
-    ensures { result ≡ position_from (λ f. same_name f.0 (name_of name.now)) 0 (standard_fields StandardBlock.RTrig) }
+    ensures { result
+        ≡ position_from (λ f. same_name f.0 (name_of name.now)) 0
+        (standard_fields StandardBlock.RTrig) }
 {
     if is_word(b"clk", name) {
         return Some(0);
@@ -53,7 +57,9 @@ fn r_trig_field(name: &[u8]) -> Option<u16>
 
 /// The number of a field of SR.
 fn sr_field(name: &[u8]) -> Option<u16>
-    ensures { result ≡ position_from (λ f. same_name f.0 (name_of name.now)) 0 (standard_fields StandardBlock.Sr) }
+    ensures { result
+        ≡ position_from (λ f. same_name f.0 (name_of name.now)) 0
+        (standard_fields StandardBlock.Sr) }
 {
     if is_word(b"s1", name) {
         return Some(0);
@@ -69,7 +75,9 @@ fn sr_field(name: &[u8]) -> Option<u16>
 
 /// The number of a field of CTU.
 fn ctu_field(name: &[u8]) -> Option<u16>
-    ensures { result ≡ position_from (λ f. same_name f.0 (name_of name.now)) 0 (standard_fields StandardBlock.Ctu) }
+    ensures { result
+        ≡ position_from (λ f. same_name f.0 (name_of name.now)) 0
+        (standard_fields StandardBlock.Ctu) }
 {
     if is_word(b"cu", name) {
         return Some(0);
@@ -94,7 +102,9 @@ fn ctu_field(name: &[u8]) -> Option<u16>
 
 /// The number of a field of TON.
 fn ton_field(name: &[u8]) -> Option<u16>
-    ensures { result ≡ position_from (λ f. same_name f.0 (name_of name.now)) 0 (standard_fields StandardBlock.Ton) }
+    ensures { result
+        ≡ position_from (λ f. same_name f.0 (name_of name.now)) 0
+        (standard_fields StandardBlock.Ton) }
 {
     if is_word(b"in", name) {
         return Some(0);
@@ -119,7 +129,9 @@ fn ton_field(name: &[u8]) -> Option<u16>
 
 /// The number of a field of TOF.
 fn tof_field(name: &[u8]) -> Option<u16>
-    ensures { result ≡ position_from (λ f. same_name f.0 (name_of name.now)) 0 (standard_fields StandardBlock.Tof) }
+    ensures { result
+        ≡ position_from (λ f. same_name f.0 (name_of name.now)) 0
+        (standard_fields StandardBlock.Tof) }
 {
     if is_word(b"in", name) {
         return Some(0);
@@ -144,7 +156,8 @@ fn tof_field(name: &[u8]) -> Option<u16>
 
 /// The number of a field of a standard function block.
 pub(crate) fn field_named(block: StandardBlock, name: &[u8]) -> Option<u16>
-    ensures { result ≡ position_from (λ f. same_name f.0 (name_of name.now)) 0 (standard_fields block) }
+    ensures { result
+        ≡ position_from (λ f. same_name f.0 (name_of name.now)) 0 (standard_fields block) }
 {
     match block {
         StandardBlock::RTrig => r_trig_field(name),
@@ -157,7 +170,10 @@ pub(crate) fn field_named(block: StandardBlock, name: &[u8]) -> Option<u16>
 
 /// The number of a path's place within a standard function block.
 fn field_at(block: StandardBlock, names: &[&[u8]]) -> Option<u16>
-    ensures { result ≡ position_from (λ (e : List Name × Content). same_path e.0 (map (λ n. name_of n.now) names.now)) 0 (map (λ f. (f.0 ∷ [], f.1)) (standard_fields block)) }
+    ensures { result
+        ≡ position_from
+        (λ (e : List Name × Content). same_path e.0 (map (λ n. name_of n.now) names.now)) 0
+        (map (λ f. (f.0 ∷ [], f.1)) (standard_fields block)) }
 {
     let Some((name, rest)) = names.split_first() else {
         return None;
@@ -170,7 +186,11 @@ fn field_at(block: StandardBlock, names: &[&[u8]]) -> Option<u16>
 
 /// The number of a path's place within a variable of an elementary type.
 fn plain_at(names: &[&[u8]]) -> Option<u16>
-    ensures { (kind : Kind) (initial : Option Initial) → result ≡ position_from (λ (e : List Name × Content). same_path e.0 (map (λ n. name_of n.now) names.now)) 0 (([], first_content kind initial) ∷ []) }
+    ensures { (kind : Kind) (initial : Option Initial)
+        → result
+        ≡ position_from
+        (λ (e : List Name × Content). same_path e.0 (map (λ n. name_of n.now) names.now)) 0
+        (([], first_content kind initial) ∷ []) }
 {
     if names.is_empty() { Some(0) } else { None }
 }
@@ -188,7 +208,12 @@ fn behind(first: u16, inner: Option<u16>) -> Option<u16>
 
 /// The number of a path's place in a unit's frame.
 pub(crate) fn number<'a>(units: &[UnitTable<'a>], unit: usize, names: &[&[u8]]) -> Option<u16>
-    ensures { (before : List ProgramUnit) (u : ProgramUnit) → Stands units.now before u → unit ≡ length before → result ≡ position_from (λ (e : List Name × Content). same_path e.0 (map (λ n. name_of n.now) names.now)) (first_place u) (unit_places before u) }
+    ensures { (before : List ProgramUnit) (u : ProgramUnit) → Stands units.now before u
+        → unit ≡ length before
+        → result
+        ≡ position_from
+        (λ (e : List Name × Content). same_path e.0 (map (λ n. name_of n.now) names.now))
+        (first_place u) (unit_places before u) }
 {
     let Some((name, rest)) = names.split_first() else {
         return None;
@@ -205,7 +230,11 @@ pub(crate) fn number<'a>(units: &[UnitTable<'a>], unit: usize, names: &[&[u8]]) 
 
 /// The number of an address's place in a unit's frame: a function block has none.
 pub(crate) fn address<'a>(units: &[UnitTable<'a>], unit: usize, text: &[u8]) -> Option<u16>
-    ensures { (scope : Scope) → Stands units.now scope.before scope.unit → unit ≡ length scope.before → result ≡ option_and_then (place_number (frame_of scope)) (option_map Direct (variable_at (name_of text.now))) }
+    ensures { (scope : Scope) → Stands units.now scope.before scope.unit
+        → unit ≡ length scope.before
+        → result
+        ≡ option_and_then (place_number (frame_of scope))
+        (option_map Direct (variable_at (name_of text.now))) }
 {
     let Some(table) = units.get(unit) else {
         return None;

@@ -44,7 +44,9 @@ fn plain(section: Section, kind: Kind) -> Member
 
 /// The input or output of that name of R_TRIG.
 fn r_trig_member(name: &[u8]) -> Option<Member>
-    ensures { result ≡ option_map seen_member (member_named (standard_members StandardBlock.RTrig) (name_of name.now)) }
+    ensures { result
+        ≡ option_map seen_member
+        (member_named (standard_members StandardBlock.RTrig) (name_of name.now)) }
 {
     if is_word(b"clk", name) {
         return Some(plain(Section::Input, Kind::Bool));
@@ -57,7 +59,9 @@ fn r_trig_member(name: &[u8]) -> Option<Member>
 
 /// The input or output of that name of SR.
 fn sr_member(name: &[u8]) -> Option<Member>
-    ensures { result ≡ option_map seen_member (member_named (standard_members StandardBlock.Sr) (name_of name.now)) }
+    ensures { result
+        ≡ option_map seen_member
+        (member_named (standard_members StandardBlock.Sr) (name_of name.now)) }
 {
     if is_word(b"s1", name) {
         return Some(plain(Section::Input, Kind::Bool));
@@ -73,7 +77,9 @@ fn sr_member(name: &[u8]) -> Option<Member>
 
 /// The input or output of that name of CTU.
 fn ctu_member(name: &[u8]) -> Option<Member>
-    ensures { result ≡ option_map seen_member (member_named (standard_members StandardBlock.Ctu) (name_of name.now)) }
+    ensures { result
+        ≡ option_map seen_member
+        (member_named (standard_members StandardBlock.Ctu) (name_of name.now)) }
 {
     if is_word(b"cu", name) {
         return Some(plain(Section::Input, Kind::Bool));
@@ -95,7 +101,9 @@ fn ctu_member(name: &[u8]) -> Option<Member>
 
 /// The input or output of that name of TON.
 fn ton_member(name: &[u8]) -> Option<Member>
-    ensures { result ≡ option_map seen_member (member_named (standard_members StandardBlock.Ton) (name_of name.now)) }
+    ensures { result
+        ≡ option_map seen_member
+        (member_named (standard_members StandardBlock.Ton) (name_of name.now)) }
 {
     if is_word(b"in", name) {
         return Some(plain(Section::Input, Kind::Bool));
@@ -114,7 +122,9 @@ fn ton_member(name: &[u8]) -> Option<Member>
 
 /// The input or output of that name of TOF.
 fn tof_member(name: &[u8]) -> Option<Member>
-    ensures { result ≡ option_map seen_member (member_named (standard_members StandardBlock.Tof) (name_of name.now)) }
+    ensures { result
+        ≡ option_map seen_member
+        (member_named (standard_members StandardBlock.Tof) (name_of name.now)) }
 {
     if is_word(b"in", name) {
         return Some(plain(Section::Input, Kind::Bool));
@@ -133,7 +143,8 @@ fn tof_member(name: &[u8]) -> Option<Member>
 
 /// The input or output of that name of a standard function block.
 fn standard_member(block: StandardBlock, name: &[u8]) -> Option<Member>
-    ensures { result ≡ option_map seen_member (member_named (standard_members block) (name_of name.now)) }
+    ensures { result
+        ≡ option_map seen_member (member_named (standard_members block) (name_of name.now)) }
 {
     match block {
         StandardBlock::RTrig => r_trig_member(name),
@@ -146,7 +157,10 @@ fn standard_member(block: StandardBlock, name: &[u8]) -> Option<Member>
 
 /// The member of that name of a function block of the text.
 fn block_member<'a>(units: &[UnitTable<'a>], block: usize, name: &[u8]) -> Option<Member>
-    ensures { (table : Table) → slice_get units.now block ≡ Some table → length table.names ≡ length table.rows.items → result ≡ option_map row_member (row_named table.names table.rows.items (name_of name.now)) }
+    ensures { (table : Table) → slice_get units.now block ≡ Some table
+        → length table.names ≡ length table.rows.items
+        → result
+        ≡ option_map row_member (row_named table.names table.rows.items (name_of name.now)) }
 {
     match row(units, block, name) {
         Some(row) => Some(Member {
@@ -163,7 +177,10 @@ pub(crate) fn member_of<'a>(
     declared: DeclaredType,
     name: &[u8],
 ) -> Option<Member>
-    ensures { (before : List ProgramUnit) (u : ProgramUnit) (type : VariableType) → Stands units.now before u → numbered_type before type ≡ Some declared → result ≡ option_map seen_member (member_named (members_of before type) (name_of name.now)) }
+    ensures { (before : List ProgramUnit) (u : ProgramUnit) (type : VariableType)
+        → Stands units.now before u → numbered_type before type ≡ Some declared
+        → result
+        ≡ option_map seen_member (member_named (members_of before type) (name_of name.now)) }
 {
     match declared {
         DeclaredType::Elementary(_) => None,

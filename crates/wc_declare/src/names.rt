@@ -50,7 +50,8 @@ impl<'a> Names<'a> {
     /// Adds a name where it is new, and says whether it is.
     pub(crate) fn add(&mut self, name: &'a [u8]) -> Result<bool, Fault>
         ensures new { IfOk result (λ new. new ≡ not (is_among self.old (name_of name.now))) }
-        ensures names { IfOk result (λ new. self.new ≡ (if new then self.old ++ name_of name.now ∷ [] else self.old)) }
+        ensures names { IfOk result
+            (λ new. self.new ≡ (if new then self.old ++ name_of name.now ∷ [] else self.old)) }
         ensures memory { IsOkUnless result Fault.Memory }
     {
         match self.keys.insert(Key { text: name }) {

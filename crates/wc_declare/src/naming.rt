@@ -95,7 +95,10 @@ fn is_result(section: Section) -> bool
 
 /// What an address names in the body of a unit.
 fn address_entity<'a>(units: &[UnitTable<'a>], unit: usize, word: Word<'_>) -> Option<Entity>
-    ensures { (scope : Scope) → Stands units.now scope.before scope.unit → unit ≡ length scope.before → result ≡ option_map (numbered_entity scope) (entity_of scope (Address (word_view word.entry))) }
+    ensures { (scope : Scope) → Stands units.now scope.before scope.unit
+        → unit ≡ length scope.before
+        → result
+        ≡ option_map (numbered_entity scope) (entity_of scope (Address (word_view word.entry))) }
 {
     match variable_at(word.text) {
         Some(number) => Some(Entity {
@@ -110,7 +113,10 @@ fn address_entity<'a>(units: &[UnitTable<'a>], unit: usize, word: Word<'_>) -> O
 
 /// What a name names in the body of a unit.
 fn name_entity<'a>(units: &[UnitTable<'a>], unit: usize, name: &[u8]) -> Option<Entity>
-    ensures { (scope : Scope) → Stands units.now scope.before scope.unit → unit ≡ length scope.before → result ≡ option_map (numbered_entity scope) (entity_of scope (NameOf (name_of name.now))) }
+    ensures { (scope : Scope) → Stands units.now scope.before scope.unit
+        → unit ≡ length scope.before
+        → result
+        ≡ option_map (numbered_entity scope) (entity_of scope (NameOf (name_of name.now))) }
 {
     match row(units, unit, name) {
         Some(row) => Some(Entity {
@@ -130,7 +136,11 @@ fn field_entity<'a>(
     instance: &[u8],
     field: &[u8],
 ) -> Option<Entity>
-    ensures { (scope : Scope) → Stands units.now scope.before scope.unit → unit ≡ length scope.before → result ≡ option_map (numbered_entity scope) (entity_of scope (Field (name_of instance.now) (name_of field.now))) }
+    ensures { (scope : Scope) → Stands units.now scope.before scope.unit
+        → unit ≡ length scope.before
+        → result
+        ≡ option_map (numbered_entity scope)
+        (entity_of scope (Field (name_of instance.now) (name_of field.now))) }
 {
     let Some(row) = row(units, unit, instance) else {
         return None;
@@ -152,7 +162,9 @@ pub(crate) fn entity<'a>(
     unit: usize,
     operand: &Operand<'_>,
 ) -> Option<Entity>
-    ensures { (scope : Scope) → Stands units.now scope.before scope.unit → unit ≡ length scope.before → result ≡ option_map (numbered_entity scope) (entity_of scope (term_view operand.now)) }
+    ensures { (scope : Scope) → Stands units.now scope.before scope.unit
+        → unit ≡ length scope.before
+        → result ≡ option_map (numbered_entity scope) (entity_of scope (term_view operand.now)) }
 {
     match operand {
         Operand::Literal(value) => Some(Entity {
@@ -163,8 +175,6 @@ pub(crate) fn entity<'a>(
         }),
         Operand::Address(word) => address_entity(units, unit, *word),
         Operand::Name(text) => name_entity(units, unit, text),
-        Operand::Field { instance, field } => {
-            field_entity(units, unit, instance, field)
-        }
+        Operand::Field { instance, field } => { field_entity(units, unit, instance, field) }
     }
 }

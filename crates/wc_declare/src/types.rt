@@ -13,7 +13,8 @@ use wc_model::StandardBlock;
 
 /// The number of the function block of that name among the units so far.
 pub(crate) fn block<'a>(units: &Units<'a>, name: &[u8]) -> Option<usize>
-    ensures { (text : Text) (before : List ProgramUnit) → AreUnitsOf text before units.now → result ≡ option_map (λ found. length found.1) (block_named before (name_of name.now)) }
+    ensures { (text : Text) (before : List ProgramUnit) → AreUnitsOf text before units.now
+        → result ≡ option_map (λ found. length found.1) (block_named before (name_of name.now)) }
 {
     let Some(number) = units.names.number(name) else {
         return None;
@@ -26,7 +27,8 @@ pub(crate) fn block<'a>(units: &Units<'a>, name: &[u8]) -> Option<usize>
 
 /// The type of that name behind the units so far.
 pub(crate) fn type_at<'a>(units: &Units<'a>, name: &[u8]) -> Option<DeclaredType>
-    ensures { (text : Text) (before : List ProgramUnit) → AreUnitsOf text before units.now → result ≡ type_at before (name_of name.now) }
+    ensures { (text : Text) (before : List ProgramUnit) → AreUnitsOf text before units.now
+        → result ≡ type_at before (name_of name.now) }
 {
     if let Some(kind) = elementary(name) {
         return Some(DeclaredType::Elementary(kind));
@@ -52,7 +54,9 @@ pub(crate) fn standard_size(block: StandardBlock) -> u16
 
 /// How many places a variable of a type has.
 pub(crate) fn width<'a>(units: &Units<'a>, declared: DeclaredType) -> u16
-    ensures { (text : Text) (before : List ProgramUnit) (name : Name) → AreUnitsOf text before units.now → type_at before name ≡ Some declared → result ≡ places_of_type before name }
+    ensures { (text : Text) (before : List ProgramUnit) (name : Name)
+        → AreUnitsOf text before units.now → type_at before name ≡ Some declared
+        → result ≡ places_of_type before name }
 {
     match declared {
         DeclaredType::Elementary(_) => 1,

@@ -31,7 +31,11 @@ pub(crate) fn is_block<'a>(unit: &Unit<'a>) -> bool
 
 /// Judges the name of a unit by 307 and 301.
 fn judge_name<'a>(names: &Names<'a>, word: Word<'a>) -> Result<(), Fault>
-    ensures judged { (known : List Name) (rest : List Check) → SameNames names.now known → Judges (first_broken (not_reserved (word_view word.entry) ∷ is_new known (word_view word.entry) ∷ rest)) (first_broken rest) result }
+    ensures judged { (known : List Name) (rest : List Check) → SameNames names.now known
+        → Judges
+        (first_broken
+        (not_reserved (word_view word.entry) ∷ is_new known (word_view word.entry) ∷ rest))
+        (first_broken rest) result }
     ensures new { OnOk result (is_among names.now (name_view word.entry) ≡ false) }
 {
     if is_reserved(word.text) {
@@ -49,8 +53,13 @@ pub(crate) fn judge_unit<'a>(
     units: &Units<'a>,
     unit: &Unit<'a>,
 ) -> Result<UnitTable<'a>, Fault>
-    ensures judged { (text : Text) (before : List ProgramUnit) (rest : List Check) → AreUnitsOf text before units.now → Judges (first_broken (unit_checks text before (unit_view unit.now) ++ rest)) (first_broken rest) result }
-    ensures table { IfOk result (λ table. (text : Text) (before : List ProgramUnit) → AreUnitsOf text before units.now → IsTableOf before (unit_view unit.now) table) }
+    ensures judged { (text : Text) (before : List ProgramUnit) (rest : List Check)
+        → AreUnitsOf text before units.now
+        → Judges (first_broken (unit_checks text before (unit_view unit.now) ++ rest))
+        (first_broken rest) result }
+    ensures table { IfOk result
+        (λ table. (text : Text) (before : List ProgramUnit) → AreUnitsOf text before units.now
+        → IsTableOf before (unit_view unit.now) table) }
     ensures new { OnOk result (is_among units.now.names (name_view unit.now.name) ≡ false) }
 {
     if let Err(fault) = judge_name(&units.names, unit.name) {
@@ -73,7 +82,11 @@ pub(crate) fn add_unit<'a>(
     name: Word<'a>,
     table: UnitTable<'a>,
 ) -> Result<(), Fault>
-    ensures added { OnOk result ((text : Text) (before : List ProgramUnit) (unit : ProgramUnit) → AreUnitsOf text before units.old → unit.name.name ≡ name_view name.entry → is_among units.old.names (name_view name.entry) ≡ false → IsTableOf before unit table.entry → AreUnitsOf text (unit ∷ before) units.new) }
+    ensures added { OnOk result
+        ((text : Text) (before : List ProgramUnit) (unit : ProgramUnit)
+        → AreUnitsOf text before units.old → unit.name.name ≡ name_view name.entry
+        → is_among units.old.names (name_view name.entry) ≡ false
+        → IsTableOf before unit table.entry → AreUnitsOf text (unit ∷ before) units.new) }
     ensures memory { IsOkUnless result Fault.Memory }
 {
     if let Err(fault) = units.names.add(name.text) {

@@ -75,9 +75,14 @@ impl<'a> UnitTable<'a> {
         variable: Variable,
         width: u16,
     ) -> Result<(), Fault>
-        ensures judged { (t : Taken) (rest : List Check) → HasTaken t self.old → Judges (first_broken (asks 306 word.entry.line (has_room (and_more t 1 width)) ∷ rest)) (first_broken rest) result }
+        ensures judged { (t : Taken) (rest : List Check) → HasTaken t self.old
+            → Judges
+            (first_broken (asks 306 word.entry.line (has_room (and_more t 1 width)) ∷ rest))
+            (first_broken rest) result }
         ensures rows { OnOk result (self.new.rows.items ≡ self.old.rows.items ++ variable ∷ []) }
-        ensures fields { OnOk result (map plain_of_field self.new.fields.items ≡ map plain_of_field self.old.fields.items ++ plain_of word.entry variable) }
+        ensures fields { OnOk result
+            (map plain_of_field self.new.fields.items ≡ map plain_of_field self.old.fields.items
+            ++ plain_of word.entry variable) }
         ensures size { OnOk result (self.new.size ≡ self.old.size + width) }
         ensures small { OnOk result (self.new.size ≤ 4096) }
         ensures names { OnOk result (self.new.names ≡ self.old.names) }
@@ -103,7 +108,9 @@ fn push_field<'a>(
     word: Word<'a>,
     variable: Variable,
 ) -> Result<(), Fault>
-    ensures fields { OnOk result (map plain_of_field fields.new.items ≡ map plain_of_field fields.old.items ++ plain_of word.entry variable) }
+    ensures fields { OnOk result
+        (map plain_of_field fields.new.items ≡ map plain_of_field fields.old.items
+        ++ plain_of word.entry variable) }
     ensures memory { IsOkUnless result Fault.Memory }
 {
     let DeclaredType::Elementary(kind) = variable.declared else {
