@@ -45,7 +45,8 @@ pub(crate) fn input_of<'a>(
     ensures { (before : List ProgramUnit) (u : ProgramUnit) (type : VariableType)
         → Stands units.now before u
         → numbered_type before type ≡ Some declared
-        → result ≡ option_and_then (numbered_input before type) (input_named (members_of before type) (name_of name.now)) }
+        → result ≡ option_and_then (numbered_input before type)
+        (input_named (members_of before type) (name_of name.now)) }
 {
     let Some(member) = member_of(units, declared, name) else {
         return None;

@@ -1,7 +1,7 @@
-ghost use Rattle.std.specs.Prelude.{◌≡◌, ℕ, None, IfOk, IfSome, IsOkUnless, map, length, option_map, option_and_then, is_some};
+ghost use Rattle.std.specs.Prelude.{◌≡◌, ℕ, Some, IfSome, is_some, length, map, option_and_then, option_map};
 ghost use Rattle.wc_model.specs.Language.BodyRules.{input_named};
 ghost use Rattle.wc_model.specs.Language.Declarations.{VariableType, members_of};
-ghost use Rattle.wc_model.specs.Language.Frames.{first_numbers, frame_of, number_of_path, plain_variables, slot_kinds};
+ghost use Rattle.wc_model.specs.Language.Frames.{frame_of, number_of_path, plain_variables};
 ghost use Rattle.wc_model.specs.Language.Names.{name_of};
 ghost use Rattle.wc_model.specs.Language.Scopes.{Scope, entity_of, type_of};
 ghost use Rattle.wc_model.specs.Language.Tree.{Text};
@@ -17,8 +17,7 @@ use crate::located::Located;
 use crate::lookup::{address, number, row};
 use crate::naming::{entity, place_at};
 use crate::unit_table::UnitTable;
-use std::alloc::Global;
-use wc_model::{Fault, Operand, Path, Place, SlotKind};
+use wc_model::{Operand, Path, Place};
 
 /// The names of a text with what they stand for. They borrow the text, not its tree.
 #[derive(Drop)]
@@ -70,29 +69,32 @@ impl<'a> Tables<'a> {
         }
     }
 
-    /// The input of that name of what has this type, with its kind and its place, counted from the first place of an
-    /// instance. It is `None` where there is none of that name: outputs and variables of the block's own are none.
+    /// The input of that name of what has this type, with its kind and its place, counted from the first
+    /// place of an instance. It is `None` for other names: outputs and the block's own variables are none.
     pub fn input(&self, declared: DeclaredType, name: &[u8]) -> Option<Input>
         ensures found { (text : Text) (unit : ℕ) (scope : Scope) (type : VariableType)
             → AreTables self.now text
             → IsUnit text unit scope
             → numbered_type scope.before type ≡ Some declared
-            → result ≡ option_and_then (numbered_input scope.before type) (input_named (members_of scope.before type) (name_of name.now)) }
+            → result ≡ option_and_then (numbered_input scope.before type)
+            (input_named (members_of scope.before type) (name_of name.now)) }
         ensures known { (text : Text) (unit : ℕ) (scope : Scope) (type : VariableType)
             → AreTables self.now text
             → IsUnit text unit scope
             → numbered_type scope.before type ≡ Some declared
-            → is_some result ≡ is_some (input_named (members_of scope.before type) (name_of name.now)) }
+            → is_some result
+            ≡ is_some (input_named (members_of scope.before type) (name_of name.now)) }
     {
         input_of(&self.units, declared, name)
     }
 
-    /// The plain variables of a unit, in the order of declaration. It is `None` where there is no unit of that number.
+    /// The plain variables of a unit, in the order of declaration; `None` where there is no such unit.
     pub fn fields(&self, unit: usize) -> Option<&[Field<'a>]>
         ensures { (text : Text) (scope : Scope)
             → AreTables self.now text
             → IsUnit text unit scope
-            → option_map (λ fields. map plain_of_field fields.now) result ≡ Some (plain_variables scope) }
+            → option_map (λ fields. map plain_of_field fields.now) result
+            ≡ Some (plain_variables scope) }
     {
         match self.units.get(unit) {
             Some(table) => Some(table.fields.as_slice()),

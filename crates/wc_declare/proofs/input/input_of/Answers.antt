@@ -1,4 +1,4 @@
-use Rattle.std.proofs.Common.{None, Some, sym, ap, ◌∙◌}
+use Rattle.std.proofs.Common.{None, Some, sym, ◌∙◌}
 use Rattle.wc_model.specs.Language.Declarations.{member_named, members_of}
 use Rattle.wc_model.specs.Language.Names.{name_of}
 use Rattle.wc_declare.proofs.Inputs.{input_by, member_spelled, no_input, no_kind, no_member}
