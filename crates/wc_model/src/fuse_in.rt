@@ -39,7 +39,8 @@ impl<'t> FuseIn<'t> {
     /// Takes up the next piece where nothing is left of the one before.
     fn take_up(&mut self)
         ensures bytes { fuse_bytes self.new ≡ fuse_bytes self.old }
-        ensures counts { (self.new.failures ≡ self.old.failures) × (self.new.spent ≡ self.old.spent) }
+        ensures counts { (self.new.failures ≡ self.old.failures)
+            × (self.new.spent ≡ self.old.spent) }
         ensures burnt { has_burnt_in self.new }
     {
         if self.left.is_empty() && self.times > 0 {

@@ -3,7 +3,6 @@ use Rattle.std.specs.Prelude.{◌≡◌, ◌+◌, ℕ, List, [], ◌∷◌, map,
 use Rattle.wc_model.specs.Language.Frames.{bit_number}
 use Rattle.wc_model.specs.declared.kind.SlotKind.{SlotKind}
 use Rattle.wc_model.specs.declared.kind.SlotKind.TheVariants as slots
-use Rattle.wc_model.specs.declared.place.Place.{Place}
 use Rattle.wc_store.specs.Slots.{SlotNumbers, AreInRange}
 use Rattle.wc_store.specs.declared.named_store.NamedStore.TheInside.{Inside as NamedFields}
 use Rattle.wc_store.specs.declared.slot_store.SlotStore.TheInside.{Inside as SlotFields}
@@ -35,19 +34,19 @@ number_view (tagged.Moment m) = pos m
 number_view (tagged.Phase p) = pos p
 
 -- a store of tagged numbers by place
-abbrev pub kinds_in : List (Place × TaggedNumber) → List SlotKind
+abbrev pub kinds_in : List (ℕ × TaggedNumber) → List SlotKind
 kinds_in entries = map (λ e. tag_view e.1) entries
 
-abbrev pub numbers_in : List (Place × TaggedNumber) → List ℤ
+abbrev pub numbers_in : List (ℕ × TaggedNumber) → List ℤ
 numbers_in entries = map (λ e. number_view e.1) entries
 
 abbrev pub named_view : NamedFields → SlotNumbers
 named_view a = record { kinds = kinds_in a.slots.entries; numbers = numbers_in a.slots.entries }
 
 -- the places are numbered on from this number
-abbrev pub ArePlacesFrom : ℕ → List (Place × TaggedNumber) → Type 0
+abbrev pub ArePlacesFrom : ℕ → List (ℕ × TaggedNumber) → Type 0
 ArePlacesFrom first [] = Unit {0}
-ArePlacesFrom first (entry ∷ entries) = (entry.0.0 ≡ first) × ArePlacesFrom (first + 1) entries
+ArePlacesFrom first (entry ∷ entries) = (entry.0 ≡ first) × ArePlacesFrom (first + 1) entries
 
 -- the places are numbered from 0 on, and each number is in the range of its kind
 pub record AreNamesSound (a : NamedFields) : Type 0 where

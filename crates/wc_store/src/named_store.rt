@@ -6,10 +6,10 @@ use std::alloc::Global;
 use std::marker::Model;
 use wc_model::{Fault, Place, SlotKind};
 
-/// A store that keeps each number with its kind under its place, for tests that compare stores.
+/// A store that keeps each number with its kind under the number of its place, for tests that compare stores.
 #[derive(Drop)]
 pub struct NamedStore {
-    slots: IndexMap<Place, TaggedNumber>,
+    slots: IndexMap<usize, TaggedNumber>,
 }
 
 impl Model for NamedStore {
@@ -41,7 +41,7 @@ impl Store for NamedStore {
     }
 
     fn get(&self, place: Place) -> i64 {
-        match self.slots.get(&place) {
+        match self.slots.get(&(place.0 as usize)) {
             Some(tagged) => tagged.number(),
             // Below the size there is a number at each place, so this is not reached.
             None => 0,
@@ -49,7 +49,7 @@ impl Store for NamedStore {
     }
 
     fn set(&mut self, place: Place, number: i64) {
-        if let Some(tagged) = self.slots.get_mut(&place) {
+        if let Some(tagged) = self.slots.get_mut(&(place.0 as usize)) {
             *tagged = tagged.with_number(number);
         }
     }

@@ -1,4 +1,4 @@
-ghost use Rattle.std.specs.Prelude.{◌≡◌, ◌<◌, ◌≤◌, List, ℤ, Some, pos, IfOk, IsOkUnless, length, replicate, slice_get, slice_set};
+ghost use Rattle.std.specs.Prelude.{◌≡◌, ◌<◌, List, ℤ, Some, pos, IfOk, IsOkUnless, length, replicate, slice_get, slice_set};
 ghost use Rattle.wc_model.specs.declared.kind.SlotKind.{SlotKind};
 ghost use Rattle.wc_store.specs.Slots.{IsInRangeAt};
 
@@ -16,7 +16,6 @@ pub trait Store: Drop + Sized {
 
     /// A store of places of these kinds, all 0. `Memory` is its only fault; no later call takes memory.
     fn make(alloc: Global, kinds: &[SlotKind]) -> Result<Self, Fault>
-        requires { length kinds.now ≤ 65536 }
         ensures kinds { IfOk result (λ store. slot_kinds store ≡ kinds.now) }
         ensures zero { IfOk result (λ store. numbers store ≡ replicate (length kinds.now) (pos 0)) }
         ensures memory { IsOkUnless result Fault.Memory };

@@ -4,7 +4,6 @@ use Rattle.std.proofs.lemmas.List.{take_more, take_all, length-take-le}
 use Rattle.std.specs.Map.{lookup}
 use Rattle.indexmap.proofs.CallerLemmas.{insert_entry-new}
 use Rattle.wc_model.specs.declared.kind.SlotKind.TheVariants as slots
-use Rattle.wc_model.specs.declared.place.Place.{Place}
 use Rattle.wc_store.proofs.Numbered.{AreZeros, is_place, none_yet, one_more, zeros_length}
 use Rattle.wc_store.proofs.zeros.zeros.Goals as goal
 
@@ -13,13 +12,12 @@ loop-kind-preserved c =
     let within : c.loop-kind.kind-index < length c.args.kinds.now = c.loop-kind-test.true in
     let long : length c.loop-kind.slots.entries ≡ c.loop-kind.kind-index =
     zeros_length _ _ c.loop-kind.invariant ∙ length-take-le c.loop-kind.kind-index c.args.kinds.now (omega arith) in
-    let at : c.len.result ≡ length c.loop-kind.slots.entries = c.len.ensures.len in
-    let place : Place = record { 0 = c.len.result } in
-    let absent : lookup (is_place c.len.result) c.loop-kind.slots.entries ≡ None =
-    none_yet c.len.result 0 c.loop-kind.slots.entries (omega arith) c.loop-kind.invariant.places in
-    let entries = c.in-Ok-insert.ensures.entries ∙ insert_entry-new (λ (a : Place). is_place a.0) c.loop-kind.slots place c.zero.result absent in
+    let at : c.len-place.result ≡ length c.loop-kind.slots.entries = c.len-place.ensures.len in
+    let absent : lookup (is_place c.len-place.result) c.loop-kind.slots.entries ≡ None =
+    none_yet c.len-place.result 0 c.loop-kind.slots.entries (omega arith) c.loop-kind.invariant.places in
+    let entries = c.in-Ok-insert.ensures.entries ∙ insert_entry-new is_place c.loop-kind.slots c.len-place.result c.zero.result absent in
     subst (λ kinds. AreZeros kinds c.insert.new.self.entries) (sym (take_more c.args.kinds.now c.loop-kind.kind-index slots.Bool within))
-    (subst (AreZeros _) (sym entries) (one_more _ _ _ place c.zero.result c.loop-kind.invariant at c.zero.ensures.kind c.zero.ensures.number))
+    (subst (AreZeros _) (sym entries) (one_more _ _ _ c.len-place.result c.zero.result c.loop-kind.invariant at c.zero.ensures.kind c.zero.ensures.number))
 
 pub returns : goal.returns
 returns c =
