@@ -7,7 +7,6 @@ use Rattle.std.specs.Prelude.{if◌then◌else◌, nat_lt}
 use Rattle.wc_flat.proofs.CallLines.{answer_given, arguments_length, call_follows}
 use Rattle.wc_flat.proofs.Counts.{counted_none, counted_twice, passed_over, ended_over}
 use Rattle.wc_flat.proofs.Lines.{operand_number, operand_read, load_follows, load_negated_follows, store_follows, apply_follows, not_follows}
-use Rattle.wc_flat.proofs.PlaceNumbers.{one_number}
 use Rattle.wc_flat.proofs.Sides.{Sides, flat, BodyFollows, AreAlike, state_of, then_counted, OnwardFollows, line_onward, IsCourse, result_in, EffectFollows, onward_effect, by_choice}
 use Rattle.wc_flat.proofs.Values.{value_number, ReadsAs, combined_follows, acts_follow}
 use Rattle.wc_flat.specs.Contents.{AreContents}
@@ -30,6 +29,7 @@ use Rattle.wc_model.specs.declared.operator.Condition.{Condition}
 use Rattle.wc_model.specs.declared.operator.Operator.{Operator}
 use Rattle.wc_model.specs.declared.value.Value.{Value}
 use Rattle.wc_soundness.specs.Sound.{is_simple, IsSimple, NestsSimply}
+use Rattle.wc_soundness.proofs.FramePlaces.{one_number}
 
 -- a step that is executed and is no jump and no return
 abbrev pub stays : Step → Bool

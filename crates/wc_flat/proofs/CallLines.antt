@@ -16,7 +16,7 @@ use Rattle.wc_flat.specs.NumberBlocks.{block_called}
 use Rattle.wc_flat.specs.NumberOperators.{given, acts}
 use Rattle.wc_model.specs.Language.BlockCalls.{standard_called}
 use Rattle.wc_model.specs.Language.Declarations.{VariableType, Elementary, Standard, Block, Member, members_of, is_block, block_named, same_name}
-use Rattle.wc_model.specs.Language.Frames.{place_number}
+use Rattle.wc_model.specs.Language.Frames.{place_number, slot_kinds}
 use Rattle.wc_model.specs.Language.Meaning.{Outcome, Done, Stuck, Effect, Goes, Fails, Running, value_of, from_store, chosen, input_kind, argument_term, assigned_input, assigned_one, assigned, body_outcome, made, called_type, call_effect, step_effect}
 use Rattle.wc_model.specs.Language.Meaning as meaning
 use Rattle.wc_model.specs.Language.Names.{Name}
@@ -114,7 +114,7 @@ standard_follows w alike result put_by store numbers contents instance block is 
     step (standard_called block w.here.now store (w.here.instance ++ instance ∷ []))
     (block_follows w.frame block w.here.now store numbers contents (w.here.instance ++ instance ∷ []) (w.base + laid.0.0) (fields_at w.frame w.here.scope w.here.instance w.base alike.based instance is.variable is.found block is.typed laid.0.0 laid.1))
   where
-    step : (r : Result Store Reason) → CalledAs w.frame r (block_called block w.here.now numbers (w.base + laid.0.0)) → BodyLineFollows w line result put_by numbers (elim r as (λ x. Outcome) [ Ok new ↦ Done None new (StandardBody ∷ []) | Err reason ↦ Stuck reason ])
+    step : (r : Result Store Reason) → CalledAs w.frame r (block_called block w.here.now (slot_kinds w.frame) numbers (w.base + laid.0.0)) → BodyLineFollows w line result put_by numbers (elim r as (λ x. Outcome) [ Ok new ↦ Done None new (StandardBody ∷ []) | Err reason ↦ Stuck reason ])
     step (Err reason) h = tt
     step (Ok new) h = (
       h.0,

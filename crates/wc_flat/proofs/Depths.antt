@@ -5,7 +5,6 @@ use Rattle.std.specs.List.{AllByRecursion}
 use Rattle.std.specs.Option.{option_map}
 use Rattle.std.specs.Prelude.{if◌then◌else◌, slice_get}
 use Rattle.wc_flat.proofs.CallLines.{arguments_length}
-use Rattle.wc_flat.proofs.PlaceNumbers.{one_number}
 use Rattle.wc_flat.proofs.Bodies.{laid_length, step_laid_length}
 use Rattle.wc_flat.specs.Depths.{depth_after, depth_at, IsDepthRight}
 use Rattle.wc_flat.specs.Laid.{Operand, Number, At, load_line, apply_line, short_line, argument_line, AreArguments, IsUnitBody, IsBodyOf, IsStepLaid, IsOpening, step_length, flat_length, lines_ahead, IsLaid, AreLaidBehind}
@@ -19,6 +18,7 @@ use Rattle.wc_model.specs.Language.Tree.{Term, Assignment, Step, Load, Store as 
 use Rattle.wc_model.specs.declared.code.Code.{Code}
 use Rattle.wc_model.specs.declared.code.Code.TheVariants.{LoadNumber, LoadPlace, Store, ApplyNumber, ApplyPlace, Not, Open, OpenNumber, OpenPlace, Close, Jump, Return, Call, ArgumentNumber, ArgumentPlace, Standard as StandardLine, Body}
 use Rattle.wc_model.specs.declared.operator.Operator.{Operator}
+use Rattle.wc_soundness.proofs.FramePlaces.{one_number}
 
 -- what a line asks of the depth before it and of the lines behind it
 abbrev pub IsDeepEnough : ℕ → Code → List Code → Type 0

@@ -5,7 +5,6 @@ use Rattle.std.proofs.lemmas.List.{length-append, length-map}
 use Rattle.std.specs.Option.{option_map}
 use Rattle.std.specs.Prelude.{if◌then◌else◌, slice_index}
 use Rattle.wc_flat.proofs.CallLines.{arguments_length}
-use Rattle.wc_flat.proofs.PlaceNumbers.{one_number}
 use Rattle.wc_flat.proofs.Bodies.{regrouped, step_laid_length, laid_length}
 use Rattle.wc_flat.specs.FlatPaths.{step_sources, sources_of, Worst, no_more, one_more, some_more, worse, from_line, turned, line_worst, worst_from}
 use Rattle.wc_flat.specs.Laid.{Operand, Number, At, load_line, apply_line, short_line, argument_line, AreArguments, IsUnitBody, IsBodyOf, IsStepLaid, IsOpening, step_length, flat_length, lines_ahead, IsLaid}
@@ -23,6 +22,7 @@ use Rattle.wc_model.specs.declared.operator.Condition.{Condition}
 use Rattle.wc_model.specs.declared.operator.Condition.TheVariants.{Always, IfTrue, IfFalse}
 use Rattle.wc_model.specs.declared.operator.Operator.{Operator}
 use Rattle.wc_soundness.specs.Sound.{is_simple, IsSimple, NestsSimply}
+use Rattle.wc_soundness.proofs.FramePlaces.{one_number}
 
 -- the lines of items that are joined; of arguments, and of a called block's items
 pub own_lines-append : (xs ys : List Item) → own_lines (xs ++ ys) ≡ own_lines xs ++ own_lines ys

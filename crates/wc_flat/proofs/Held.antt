@@ -8,6 +8,7 @@ use Rattle.wc_flat.proofs.Texts.{Newest, newest, ImageWritten, image_of_program,
 use Rattle.wc_flat.specs.Contents.{frame_of_text, AreContents, with_image_numbers}
 use Rattle.wc_flat.specs.FlatMeaning.{Ran, calls_below, unit_runs, program_runs}
 use Rattle.wc_flat.specs.Laws.{RunsAlike, HeldNumbersStayHeld, CallsAreRuns}
+use Rattle.wc_model.specs.Language.Frames.{slot_kinds}
 use Rattle.wc_model.specs.Language.Meaning.{Outcome, Done, Stuck}
 use Rattle.wc_model.specs.Language.Scans.{initial_of, scan_of, with_image}
 use Rattle.wc_model.specs.Language.Store.{Location, Content, Store}
@@ -26,7 +27,7 @@ held_numbers_stay_held bytes text read sound codes laid numbers held image now =
     let new : Newest (reverse text) = subst Newest (append-nil (reverse text)) (newest text [] read.spelled.order) in
     let written : ImageWritten (reverse text) = subst ImageWritten (sym new.are) (image_of_program new.before new.program) in
     let both = written held.0 held.1 numbers held.2 image in
-    left_held (frame_of_text text) (initial_of text) (scan_of text held.0 image now) (program_runs codes now (with_image_numbers image numbers))
+    left_held (frame_of_text text) (initial_of text) (scan_of text held.0 image now) (program_runs (slot_kinds (frame_of_text text)) codes now (with_image_numbers image numbers))
     (some_text_ends text read.spelled.order (spelled_text_nests _ text read.spelled) sound held.0 held.1 image now)
     (flat_code_means_the_text bytes text read sound codes laid (with_image image held.0) both.0 (with_image_numbers image numbers) both.1 now)
 
@@ -35,9 +36,9 @@ pub below_next : (n unit : ℕ) → unit < suc n → (unit < n) ⊎ (unit ≡ n)
 below_next n unit l = ⊎_elim (λ e. inr e) (λ h. inl h) (eq-or-lt_of_le {n = unit} {m = n} (omega (arith, l)))
 
 pub calls_are_runs : CallsAreRuns
-calls_are_runs codes now zero unit base numbers l = absurd (omega (arith, l))
-calls_are_runs codes now (suc n) unit base numbers l = step (below_next n unit l) (λ h. calls_are_runs codes now n unit base numbers h)
+calls_are_runs kinds codes now zero unit base numbers l = absurd (omega (arith, l))
+calls_are_runs kinds codes now (suc n) unit base numbers l = step (below_next n unit l) (λ h. calls_are_runs kinds codes now n unit base numbers h)
   where
-    step : (unit < n) ⊎ (unit ≡ n) → (unit < n → calls_below codes now n unit base numbers ≡ unit_runs codes now unit base numbers) → calls_below codes now (suc n) unit base numbers ≡ unit_runs codes now unit base numbers
-    step (inl h) onward = earlier_unit codes now n unit base numbers h ∙ onward h
-    step (inr e) onward = ap (λ u. calls_below codes now (suc n) u base numbers) e ∙ (this_unit codes now n base numbers ∙ ap (λ u. unit_runs codes now u base numbers) (sym e))
+    step : (unit < n) ⊎ (unit ≡ n) → (unit < n → calls_below kinds codes now n unit base numbers ≡ unit_runs kinds codes now unit base numbers) → calls_below kinds codes now (suc n) unit base numbers ≡ unit_runs kinds codes now unit base numbers
+    step (inl h) onward = earlier_unit kinds codes now n unit base numbers h ∙ onward h
+    step (inr e) onward = ap (λ u. calls_below kinds codes now (suc n) u base numbers) e ∙ (this_unit kinds codes now n base numbers ∙ ap (λ u. unit_runs kinds codes now u base numbers) (sym e))

@@ -3,7 +3,6 @@ use Rattle.std.proofs.Common.{◌≡◌, ℕ, ◌+◌, Bool, true, false, ◌&&�
 use Rattle.std.specs.List.{flat_map, position_from}
 use Rattle.std.specs.Option.{option_map}
 use Rattle.std.specs.Prelude.{find, if◌then◌else◌}
-use Rattle.wc_flat.proofs.PlaceNumbers.{one_number}
 use Rattle.wc_flat.specs.Laid.{size_of, places_before, first_of_all, first_place}
 use Rattle.wc_model.specs.Language.Declarations.{Variable, same_name, variables_of, variable_named, is_block}
 use Rattle.wc_model.specs.Language.DirectVariables.{DirectVariable, direct_variables, kind_of_direct}
@@ -14,6 +13,7 @@ use Rattle.wc_model.specs.Language.Store.{Location, Direct, Path, Content, same_
 use Rattle.wc_model.specs.Language.Tree.{ProgramUnit}
 use Rattle.wc_soundness.proofs.Places.{Some-same, places_of}
 use Rattle.wc_soundness.proofs.Tests.{same_name-refl}
+use Rattle.wc_soundness.proofs.FramePlaces.{one_number}
 
 -- the number of a path among places
 abbrev pub path_from : ℕ → List (List Name × Content) → List Name → Option ℕ

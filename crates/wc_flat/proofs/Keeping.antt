@@ -6,7 +6,6 @@ use Rattle.std.specs.Prelude.{find, if◌then◌else◌, slice_get}
 use Rattle.wc_flat.proofs.Bodies.{laid_length}
 use Rattle.wc_flat.proofs.CallLines.{arguments_length}
 use Rattle.wc_flat.proofs.InstancePlaces.{all_places}
-use Rattle.wc_flat.proofs.PlaceNumbers.{one_number, number_within}
 use Rattle.wc_flat.proofs.Programs.{found_before}
 use Rattle.wc_flat.specs.Bounds.{frame_sizes, IsWithin}
 use Rattle.wc_flat.specs.Laid.{Operand, Number, At, IsPlaceOf, IsOperand, argument_line, load_line, apply_line, short_line, AreArguments, IsUnitBody, IsBodyOf, IsStepLaid, IsOpening, size_of, places_before, first_of_all, first_place, step_length, flat_length, lines_ahead, IsLaid, AreLaidBehind}
@@ -25,6 +24,7 @@ use Rattle.wc_model.specs.declared.code.Code.TheVariants.{Close}
 use Rattle.wc_model.specs.declared.place.Place.{Place}
 use Rattle.wc_soundness.proofs.CallSteps.{type_of-found}
 use Rattle.wc_soundness.proofs.Places.{Some-same, places_of, block_places-found}
+use Rattle.wc_soundness.proofs.FramePlaces.{one_number, number_within}
 
 -- each line, with how many lines stand behind it: those of the list and some more
 abbrev pub AllWithin : (ℕ → Code → Type 0) → ℕ → List Code → Type 0

@@ -6,10 +6,10 @@ use Rattle.wc_flat.proofs.PlaceNumbers.{write_both}
 use Rattle.wc_flat.proofs.Sides.{Sides, flat, AreAlike, state_of, LineFollows}
 use Rattle.wc_flat.proofs.Values.{value_number, ReadsAs, combined_follows, flipped_follows}
 use Rattle.wc_flat.specs.Contents.{AreContents}
-use Rattle.wc_flat.specs.FlatMeaning.{State, Moved, goes_on, with_result, with_all, writes, loads, applies, line_runs}
+use Rattle.wc_flat.specs.FlatMeaning.{State, Moved, goes_on, with_result, with_all, is_named, kind_at, may_hold, number_held, overwrites, writes, loads, applies, line_runs}
 use Rattle.wc_flat.specs.Laid.{Operand, Number, At, IsPlaceOf, IsOperand, load_line, apply_line}
 use Rattle.wc_flat.specs.NumberOperators.{given, flipped, combined}
-use Rattle.wc_model.specs.Language.Frames.{content_number, place_number}
+use Rattle.wc_model.specs.Language.Frames.{content_number, place_number, slot_kind_of, slot_kinds}
 use Rattle.wc_model.specs.Language.Meaning.{Effect, Goes, Fails, Running, as_truth, takes_truth, beside, value_of, written_to, from_value, from_store, next, stored, set_where, store_effect, step_effect}
 use Rattle.wc_model.specs.Language.Meaning as meaning
 use Rattle.wc_model.specs.Language.Operators.{apply, negated}
@@ -20,6 +20,7 @@ use Rattle.wc_model.specs.Language.Traces.{At as AtLine}
 use Rattle.wc_model.specs.Language.Tree.{Term, Constant, Address, Variable as NameOf, Field, Load, Store as StoreStep, Apply, Negate}
 use Rattle.wc_model.specs.declared.code.Code.{Code}
 use Rattle.wc_model.specs.declared.code.Code.TheVariants.{Store as StoreLine, Not}
+use Rattle.wc_model.specs.declared.kind.SlotKind.{SlotKind}
 use Rattle.wc_model.specs.declared.operator.Operator.{Operator}
 use Rattle.wc_model.specs.declared.operator.Storing.{Storing}
 use Rattle.wc_model.specs.declared.operator.Storing.TheVariants.{Result as StoreResult, Negation, Set, Reset}
@@ -30,20 +31,27 @@ use Rattle.wc_model.specs.declared.value.Value.TheVariants.{Bool as Truth, Dint,
 -- the number of an operand
 abbrev pub operand_number : Sides → List ℤ → Operand → Option ℤ
 operand_number w numbers (Number n) = Some n
-operand_number w numbers (At place) = slice_get numbers (w.base + place.0)
+operand_number w numbers (At place) = number_held (flat w) numbers place
 
--- the value that a store has at a place is its number
-pub value_follows : (content : Option Content) (number : Option ℤ) → number ≡ option_map content_number content → ReadsAs (elim content as (λ x. Result Value Reason) [ Some c ↦ elim c [ Plain value ↦ Ok value | Moment m ↦ Err NoSuchPlace | Phase p ↦ Err NoSuchPlace ] | None ↦ Err NoSuchPlace ]) number
-value_follows (Some (Plain value)) number e = e
-value_follows (Some (Moment m)) number e = tt
-value_follows (Some (Phase p)) number e = tt
-value_follows None number e = tt
+-- a place that holds a value is named
+pub value_held : (value : Value) (kind : Option SlotKind) → kind ≡ Some (slot_kind_of (Plain value)) → (number : Option ℤ) → given kind (λ k. if is_named k then number else None) ≡ number
+value_held (Truth b) kind e number = ap (λ (x : Option SlotKind). given x (λ k. if is_named k then number else None)) e
+value_held (Dint n) kind e number = ap (λ (x : Option SlotKind). given x (λ k. if is_named k then number else None)) e
+value_held (Time t) kind e number = ap (λ (x : Option SlotKind). given x (λ k. if is_named k then number else None)) e
+
+-- and its number is read there
+pub held_follows : (content : Option Content) (kind : Option SlotKind) → kind ≡ option_map slot_kind_of content → (number : Option ℤ) → number ≡ option_map content_number content → ReadsAs (elim content as (λ x. Result Value Reason) [ Some c ↦ elim c [ Plain value ↦ Ok value | Moment m ↦ Err NoSuchPlace | Phase p ↦ Err NoSuchPlace ] | None ↦ Err NoSuchPlace ]) (given kind (λ k. if is_named k then number else None))
+held_follows (Some (Plain value)) kind k number e = value_held value kind k number ∙ e
+held_follows (Some (Moment m)) kind k number e = tt
+held_follows (Some (Phase p)) kind k number e = tt
+held_follows None kind k number e = tt
 
 -- what stands at a place of the instance
-pub place_read : (w : Sides) → AreAlike w → (store : Store) (numbers : List ℤ) → AreContents w.frame store numbers → (found : Option Location) (place : Place) → IsPlaceOf w.here.scope found place → ReadsAs (elim found as (λ x. Result Value Reason) [ Some p ↦ value_at store (within w.here.instance p) | None ↦ Err NoSuchPlace ]) (slice_get numbers (w.base + place.0))
+pub place_read : (w : Sides) → AreAlike w → (store : Store) (numbers : List ℤ) → AreContents w.frame store numbers → (found : Option Location) (place : Place) → IsPlaceOf w.here.scope found place → ReadsAs (elim found as (λ x. Result Value Reason) [ Some p ↦ value_at store (within w.here.instance p) | None ↦ Err NoSuchPlace ]) (number_held (flat w) numbers place)
 place_read w alike store numbers contents None place is = absurd is
 place_read w alike store numbers contents (Some location) place is =
-    value_follows (store (within w.here.instance location)) (slice_get numbers (w.base + place.0)) (contents.each (within w.here.instance location) (w.base + place.0) (alike.based location place.0 is))
+    held_follows (store (within w.here.instance location)) (kind_at (flat w) place) (contents.kinds (within w.here.instance location) (w.base + place.0) (alike.based location place.0 is))
+    (slice_get numbers (w.base + place.0)) (contents.each (within w.here.instance location) (w.base + place.0) (alike.based location place.0 is))
 
 -- what is stored
 pub stored_read : (w : Sides) → AreAlike w → (store : Store) (numbers : List ℤ) → AreContents w.frame store numbers → (term : Term) (operand : Operand) → Rattle.wc_flat.specs.Laid.IsStored w.here.scope term operand → ReadsAs (meaning.stored_value w.here store term) (operand_number w numbers operand)
@@ -140,6 +148,19 @@ abbrev pub WritesAs : Sides → State → Result Store Reason → Option Moved �
 WritesAs w state (Ok new) o = (numbers : List ℤ) × AreContents w.frame new numbers × (o ≡ goes_on (with_all state numbers))
 WritesAs w state (Err reason) o = Unit {0}
 
+-- a value of the same kind may be held where another is
+pub may_replace : (old value : Value) → same_kind old value ≡ true → (slot_kind_of (Plain old) ≡ slot_kind_of (Plain value)) × (may_hold (slot_kind_of (Plain value)) (value_number value) ≡ true)
+may_replace (Truth a) (Truth true) e = (refl, refl)
+may_replace (Truth a) (Truth false) e = (refl, refl)
+may_replace (Dint a) (Dint b) e = (refl, refl)
+may_replace (Time a) (Time b) e = (refl, refl)
+may_replace (Truth a) (Dint b) e = cc
+may_replace (Truth a) (Time b) e = cc
+may_replace (Dint a) (Truth b) e = cc
+may_replace (Dint a) (Time b) e = cc
+may_replace (Time a) (Truth b) e = cc
+may_replace (Time a) (Dint b) e = cc
+
 pub write_follows : (w : Sides) → (store : Store) (numbers : List ℤ) → AreContents w.frame store numbers → (state : State) → state.numbers ≡ numbers → (location : Location) (place : Place) → place_number w.frame location ≡ Some (w.base + place.0) → (value : Value) → WritesAs w state (written store location value) (writes (flat w) state place (value_number value))
 write_follows w store numbers contents state same location place is value = step (store location) refl
   where
@@ -149,16 +170,26 @@ write_follows w store numbers contents state same location place is value = step
     there : (c : Option Content) → store location ≡ c → slice_get state.numbers k ≡ option_map content_number c
     there c e = ap (λ (ns : List ℤ). slice_get ns k) same ∙ (contents.each location k is ∙ ap (λ (x : Option Content). option_map content_number x) e)
 
-    kinds : (old : Value) → slice_get state.numbers k ≡ Some (value_number old) → (b : Bool) → WritesAs w state (if b then Ok (with_content store location (Plain value)) else Err WrongKind) (writes (flat w) state place (value_number value))
-    kinds old e true = (
-      slice_set numbers k (value_number value),
-      write_both w.frame store numbers contents location k is (Plain value),
-      ap (λ (x : Option ℤ). given x (λ o. goes_on (with_all state (slice_set state.numbers k (value_number value))))) e ∙ ap (λ (ns : List ℤ). goes_on (with_all state (slice_set ns k (value_number value)))) same,
-    )
-    kinds old e false = tt
+    kind_there : (c : Option Content) → store location ≡ c → slice_get (slot_kinds w.frame) k ≡ option_map slot_kind_of c
+    kind_there c e = contents.kinds location k is ∙ ap (λ (x : Option Content). option_map slot_kind_of x) e
+
+    overwritten : (old : Value) → slice_get state.numbers k ≡ Some (value_number old) → overwrites (flat w) state place (value_number value) ≡ goes_on (with_all state (slice_set numbers k (value_number value)))
+    overwritten old e =
+        ap (λ (x : Option ℤ). given x (λ o. goes_on (with_all state (slice_set state.numbers k (value_number value))))) e ∙ ap (λ (ns : List ℤ). goes_on (with_all state (slice_set ns k (value_number value)))) same
+
+    kinds : (old : Value) → slice_get state.numbers k ≡ Some (value_number old) → slice_get (slot_kinds w.frame) k ≡ Some (slot_kind_of (Plain old)) → (b : Bool) → same_kind old value ≡ b → WritesAs w state (if b then Ok (with_content store location (Plain value)) else Err WrongKind) (writes (flat w) state place (value_number value))
+    kinds old e kind true alike =
+        let may = may_replace old value alike in
+        let here : slice_get (slot_kinds w.frame) k ≡ Some (slot_kind_of (Plain value)) = kind ∙ ap Some may.0 in (
+          slice_set numbers k (value_number value),
+          write_both w.frame store numbers contents location k is (Plain value) here,
+          ap (λ (x : Option SlotKind). given x (λ s. if may_hold s (value_number value) then overwrites (flat w) state place (value_number value) else None)) here
+              ∙ (ap (λ (b : Bool). if b then overwrites (flat w) state place (value_number value) else None) may.1 ∙ overwritten old e),
+        )
+    kinds old e kind false alike = tt
 
     step : (c : Option Content) → store location ≡ c → WritesAs w state (elim (elim c as (λ x. Result Value Reason) [ Some d ↦ elim d [ Plain v ↦ Ok v | Moment m ↦ Err NoSuchPlace | Phase p ↦ Err NoSuchPlace ] | None ↦ Err NoSuchPlace ]) as (λ x. Result Store Reason) [ Ok old ↦ (if same_kind old value then Ok (with_content store location (Plain value)) else Err WrongKind) | Err reason ↦ Err reason ]) (writes (flat w) state place (value_number value))
-    step (Some (Plain old)) e = kinds old (there (Some (Plain old)) e) (same_kind old value)
+    step (Some (Plain old)) e = kinds old (there (Some (Plain old)) e) (kind_there (Some (Plain old)) e) (same_kind old value) refl
     step (Some (Moment m)) e = tt
     step (Some (Phase p)) e = tt
     step None e = tt

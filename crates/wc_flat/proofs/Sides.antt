@@ -7,7 +7,7 @@ use Rattle.wc_flat.specs.FlatMeaning.{State, Course, Skips, Ended, Ran, Calls, H
 use Rattle.wc_flat.specs.Laid.{lines_ahead}
 use Rattle.wc_flat.specs.NumberOperators.{given}
 use Rattle.wc_model.specs.Language.Declarations.{block_named}
-use Rattle.wc_model.specs.Language.Frames.{frame_of, place_number}
+use Rattle.wc_model.specs.Language.Frames.{frame_of, place_number, slot_kinds}
 use Rattle.wc_model.specs.Language.Meaning.{Outcome, Done, Stuck, Mode, Running, Seeking, Returned, Effect, Goes, Fails, Context, chosen}
 use Rattle.wc_model.specs.Language.Names.{Name}
 use Rattle.wc_model.specs.Language.Reasons.{Reason}
@@ -26,7 +26,7 @@ pub record Sides : Type 0 where
 
 -- where the flat code runs
 abbrev pub flat : Sides → Here
-flat w = record { base = w.base; now = w.here.now; calls = w.calls }
+flat w = record { base = w.base; now = w.here.now; kinds = slot_kinds w.frame; calls = w.calls }
 
 -- the places of a unit's frame stand in the program's from a base on
 abbrev pub IsBased : List (Location × Content) → Scope → List Name → ℕ → Type 0

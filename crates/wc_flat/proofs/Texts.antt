@@ -11,7 +11,7 @@ use Rattle.wc_flat.specs.FlatMeaning.{Ran, body_runs, calls_below, program_runs}
 use Rattle.wc_flat.specs.Laws.{RunsAlike, FlatCodeMeansTheText, FlatCodeScansTheText}
 use Rattle.wc_model.specs.Language.BodyRules.{text_body_checks}
 use Rattle.wc_model.specs.Language.Declarations.{is_block}
-use Rattle.wc_model.specs.Language.Frames.{place_number}
+use Rattle.wc_model.specs.Language.Frames.{place_number, slot_kinds}
 use Rattle.wc_model.specs.Text.Grammar.{IsProgramLast}
 use Rattle.wc_model.specs.Text.Limits.{IsBodyWithinLimits}
 use Rattle.wc_model.specs.Language.Meaning.{Outcome, Done, Stuck, program_means, called}
@@ -49,12 +49,12 @@ program_based before program no_block place k e = at_place place (own (is_block 
     at_place (Path names) f = f
 
 -- a program behind its units
-pub program_alike : (before : List ProgramUnit) (program : ProgramUnit) → is_block program ≡ false → NestWell (program ∷ before) → AreClean (program ∷ before) → (codes : List (List Code)) → AreCodesOf codes (program ∷ before) → length codes ≡ length (program ∷ before) → (store : Store) → SameSlots (initial_store before program) store → (numbers : List ℤ) → AreContents (program_frame before program) store numbers → (now : ℕ) → RunsAlike (program_frame before program) (program_means before program now store) (program_runs codes now numbers)
+pub program_alike : (before : List ProgramUnit) (program : ProgramUnit) → is_block program ≡ false → NestWell (program ∷ before) → AreClean (program ∷ before) → (codes : List (List Code)) → AreCodesOf codes (program ∷ before) → length codes ≡ length (program ∷ before) → (store : Store) → SameSlots (initial_store before program) store → (numbers : List ℤ) → AreContents (program_frame before program) store numbers → (now : ℕ) → RunsAlike (program_frame before program) (program_means before program now store) (program_runs (slot_kinds (program_frame before program)) codes now numbers)
 program_alike before program no_block well clean codes are so_many store same numbers contents now =
-    subst (λ n. RunsAlike (program_frame before program) (program_means before program now store) (body_runs (record { base = 0; now = now; calls = calls_below codes now n }) (slice_get codes n) numbers)) (sym last)
-    (alike (program_frame before program) store (program_means before program now store) (body_runs (record { base = 0; now = now; calls = calls_below codes now (length before) }) (slice_get codes (length before)) numbers)
+    subst (λ n. RunsAlike (program_frame before program) (program_means before program now store) (body_runs (record { base = 0; now = now; kinds = slot_kinds (program_frame before program); calls = calls_below (slot_kinds (program_frame before program)) codes now n }) (slice_get codes n) numbers)) (sym last)
+    (alike (program_frame before program) store (program_means before program now store) (body_runs (record { base = 0; now = now; kinds = slot_kinds (program_frame before program); calls = calls_below (slot_kinds (program_frame before program)) codes now (length before) }) (slice_get codes (length before)) numbers)
     (program_ends before program now store clean (FitsScope-same (initial_store before program) store [] (record { before = before; unit = program }) same (first_store_fits before program)))
-    (body_follows (program_frame before program) (record { before = before; unit = program }) [] now 0 (called before now) (calls_below codes now (length before))
+    (body_follows (program_frame before program) (record { before = before; unit = program }) [] now 0 (called before now) (calls_below (slot_kinds (program_frame before program)) codes now (length before))
     (calls_follow (program_frame before program) codes now before well.2 are.3) (program_based before program no_block) well.0 well.1 are.0 are.2 (slice_get codes (length before)) are.1 store numbers contents))
   where
     last : pred (length codes) ≡ length before
@@ -84,7 +84,7 @@ newest (unit ∷ next ∷ more) before last = subst Newest (turned unit (next �
 -- the statement for units that come newest first
 abbrev pub ReversedAlike : List (List Code) → List ProgramUnit → Type 0
 ReversedAlike codes units = (store : Store) → SameSlots (initial_of_reversed units) store → (numbers : List ℤ) → AreContents (frame_of_reversed units) store numbers → (now : ℕ) →
-    RunsAlike (frame_of_reversed units) (first_of_reversed units (λ before program. program_means before program now store)) (program_runs codes now numbers)
+    RunsAlike (frame_of_reversed units) (first_of_reversed units (λ before program. program_means before program now store)) (program_runs (slot_kinds (frame_of_reversed units)) codes now numbers)
 
 pub reversed_alike : (units : List ProgramUnit) → Newest units → NestWell units → AreClean units → (codes : List (List Code)) → AreCodesOf codes units → length codes ≡ length units → ReversedAlike codes units
 reversed_alike units new well clean codes are so_many =

@@ -8,7 +8,7 @@ use Rattle.wc_flat.specs.FlatPaths.{sources_of, worst_of}
 use Rattle.wc_flat.specs.Laid.{AreLaid}
 use Rattle.wc_model.specs.Language.DirectVariables.{OutputBit, OutputWord}
 use Rattle.wc_model.specs.Language.Faults.{body_fault}
-use Rattle.wc_model.specs.Language.Frames.{content_number, first_numbers, scopes_of}
+use Rattle.wc_model.specs.Language.Frames.{content_number, first_numbers, scopes_of, slot_kinds}
 use Rattle.wc_model.specs.Language.Meaning.{Outcome, Done, Stuck, program_means}
 use Rattle.wc_model.specs.Language.Paths.{IsLongest}
 use Rattle.wc_model.specs.Text.Reading.{IsRead}
@@ -20,6 +20,7 @@ use Rattle.wc_model.specs.Language.Tree.{Text}
 use Rattle.wc_model.specs.Language.WorstPaths.{AreWorstLines}
 use Rattle.wc_model.specs.declared.code.Code.{Code}
 use Rattle.wc_model.specs.declared.image.Image.{Image}
+use Rattle.wc_model.specs.declared.kind.SlotKind.{SlotKind}
 use Rattle.wc_soundness.specs.Typing.{SameSlots}
 
 -- the flat run is as the outcome: it leaves the numbers of its store and the number of its result, and takes a step for each item
@@ -39,14 +40,14 @@ abbrev pub FlatCodeMeansTheText : Type 0
 FlatCodeMeansTheText = (bytes : List ℕ) (text : Text) → IsRead bytes text → body_fault text ≡ None →
     (codes : List (List Code)) → AreLaid text codes →
     (store : Store) → SameSlots (initial_of text) store → (numbers : List ℤ) → AreContents (frame_of_text text) store numbers → (now : ℕ) →
-    RunsAlike (frame_of_text text) (text_means text now store) (program_runs codes now numbers)
+    RunsAlike (frame_of_text text) (text_means text now store) (program_runs (slot_kinds (frame_of_text text)) codes now numbers)
 
 -- and a scan is the flat run over the numbers with the image in place of the first 25
 abbrev pub FlatCodeScansTheText : Type 0
 FlatCodeScansTheText = (bytes : List ℕ) (text : Text) → IsRead bytes text → body_fault text ≡ None →
     (codes : List (List Code)) → AreLaid text codes →
     (store : Store) → SameSlots (initial_of text) store → (numbers : List ℤ) → AreContents (frame_of_text text) store numbers → (image : Image) (now : ℕ) →
-    RunsAlike (frame_of_text text) (scan_of text store image now) (program_runs codes now (with_image_numbers image numbers))
+    RunsAlike (frame_of_text text) (scan_of text store image now) (program_runs (slot_kinds (frame_of_text text)) codes now (with_image_numbers image numbers))
 
 -- the first numbers of the frame are those of the declarations' store
 abbrev pub FirstNumbersAreContents : Type 0
@@ -60,11 +61,12 @@ AreHeld text numbers = (store : Store) × SameSlots (initial_of text) store × A
 abbrev pub HeldNumbersStayHeld : Type 0
 HeldNumbersStayHeld = (bytes : List ℕ) (text : Text) → IsRead bytes text → body_fault text ≡ None →
     (codes : List (List Code)) → AreLaid text codes → (numbers : List ℤ) → AreHeld text numbers → (image : Image) (now : ℕ) →
-    (ran : Ran) × (program_runs codes now (with_image_numbers image numbers) ≡ Some ran) × AreHeld text ran.numbers
+    (ran : Ran) × (program_runs (slot_kinds (frame_of_text text)) codes now (with_image_numbers image numbers) ≡ Some ran) × AreHeld text ran.numbers
 
 -- a call of an earlier unit is that unit's run
 abbrev pub CallsAreRuns : Type 0
-CallsAreRuns = (codes : List (List Code)) (now n unit base : ℕ) (numbers : List ℤ) → unit < n → calls_below codes now n unit base numbers ≡ unit_runs codes now unit base numbers
+CallsAreRuns = (kinds : List SlotKind) (codes : List (List Code)) (now n unit base : ℕ) (numbers : List ℤ) → unit < n →
+    calls_below kinds codes now n unit base numbers ≡ unit_runs kinds codes now unit base numbers
 
 -- each line of the code of each unit keeps within the unit's frame, within the code, and calls an earlier unit
 abbrev pub LaidCodeKeepsWithin : Type 0

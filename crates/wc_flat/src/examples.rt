@@ -1,7 +1,7 @@
 ghost use Rattle.wc_flat.specs.Laid.{IsLaid};
 ghost use Rattle.wc_flat.specs.LaidExample.{laid_scope, laid_body, laid_code};
 ghost use Rattle.std.specs.Prelude.{◌≡◌, Some, None};
-ghost use Rattle.wc_flat.specs.Examples.{jump_runs, jump_ran, parenthesis_runs, parenthesis_ran, timer_runs, timer_ran, call_runs, call_ran, stray_runs, unopened_runs};
+ghost use Rattle.wc_flat.specs.Examples.{jump_runs, jump_ran, parenthesis_runs, parenthesis_ran, timer_runs, timer_ran, call_runs, call_ran, stray_runs, double_runs, moment_runs, unopened_runs};
 
 /// A jump passes over the lines between.
 pub fn jump_passes_over()
@@ -23,9 +23,12 @@ pub fn block_is_called()
     ensures { call_runs ≡ Some call_ran }
 {}
 
-/// A place that is not there and a `)` that closes nothing have no meaning.
+/// A place that is not there, a 2 stored to a BOOL, the load of a moment, and a `)` that closes nothing have no
+/// meaning.
 pub fn nothing_else_has_a_meaning()
     ensures place { stray_runs ≡ None }
+    ensures bit { double_runs ≡ None }
+    ensures moment { moment_runs ≡ None }
     ensures closing { unopened_runs ≡ None }
 {}
 

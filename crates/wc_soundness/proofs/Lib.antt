@@ -1,4 +1,5 @@
 pub mod Tests
+pub mod FramePlaces
 pub mod Places
 pub mod Entities
 pub mod StandardCalls
