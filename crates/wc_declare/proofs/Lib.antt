@@ -13,6 +13,8 @@ pub mod UnitsSoFar
 pub mod Frames
 pub mod Lookups
 pub mod ScopeTables
+pub mod Spread
+pub mod OwnNumbers
 pub mod MemberTables
 pub mod Entities
 pub mod Inputs

@@ -1,7 +1,8 @@
 -- What a path is found to be in a unit's table.
 use Rattle.std.proofs.Common.{◌≡◌, ℕ, ◌+◌, ◌<◌, ◌≤◌, Bool, true, false, ◌&&◌, List, [], ◌∷◌, map, length, Option, Some, None, is_some, option_map, refl, sym, ap, subst, ◌∙◌, arith}
-use Rattle.std.specs.Prelude.{find, option_and_then}
+use Rattle.std.specs.Prelude.{find, if◌then◌else◌, option_and_then}
 use Rattle.std.specs.List.{position_from}
+use Rattle.wc_model.specs.Language.DeclarationRules.{places_of_type}
 use Rattle.wc_model.specs.Language.Declarations.{Variable, VariableType, Elementary, Standard, Block, same_name, variables_of}
 use Rattle.wc_model.specs.Language.Names.{Name}
 use Rattle.wc_model.specs.Language.Store.{Content, below, block_places, first_content, same_path, standard_fields, unit_places, variable_places}
@@ -12,7 +13,7 @@ use Rattle.wc_model.specs.declared.source.Initial.{Initial}
 use Rattle.wc_model.specs.Language.Scopes.{Scope, type_of}
 use Rattle.wc_declare.specs.Numbered.{number_within, numbered_type, stands_in}
 use Rattle.wc_declare.specs.declared.declared_type.DeclaredType.{DeclaredType}
-use Rattle.wc_declare.specs.StandsFor.{Stands, end_of, first_place, row_named, type_at}
+use Rattle.wc_declare.specs.StandsFor.{AreRows, Stands, end_of, first_from, first_number, first_place, row_named, type_at}
 use Rattle.wc_declare.specs.declared.declared_type.DeclaredType.TheVariants as numbered
 use Rattle.wc_declare.specs.declared.unit_table.UnitTable.{UnitTable}
 use Rattle.wc_declare.specs.declared.variable.Variable.{Variable as Row}
@@ -25,6 +26,23 @@ use Rattle.wc_model.specs.Language.Declarations.{type_named}
 -- there are as many names as rows
 pub named_rows : (units : List UnitTable) (before : List ProgramUnit) (u : ProgramUnit) (h : Stands units before u) → length h.table.names ≡ length h.table.rows.items
 named_rows units before u h = ap length h.is.names ∙ rows_length before (first_place u) (variables_of u) h.table.rows.items h.is.rows
+
+-- where the places of the variable of a name begin
+rows_first : (before : List ProgramUnit) (first : ℕ) (vs : List Variable) (rows : List Row) (name : Name) → AreRows before first vs rows → option_map (λ (row : Row). row.first) (row_named (map (λ v. v.name) vs) rows name) ≡ first_from before first vs name
+rows_first before first [] [] name h = refl
+rows_first before first [] (row ∷ rows) name h = absurd h
+rows_first before first (v ∷ vs) [] name h = absurd h
+rows_first before first (v ∷ vs) (row ∷ rows) name h = by (same_name v.name name) (rows_first before (first + places_of_type before v.type_name) vs rows name h.1)
+  where
+    by : (b : Bool) → option_map (λ (r : Row). r.first) (row_named (map (λ w. w.name) vs) rows name) ≡ first_from before (first + places_of_type before v.type_name) vs name →
+        option_map (λ (r : Row). r.first) (if b then Some row else row_named (map (λ w. w.name) vs) rows name) ≡ (if b then Some first else first_from before (first + places_of_type before v.type_name) vs name)
+    by true rest = ap Some h.0.begins
+    by false rest = rest
+
+pub first_found : (units : List UnitTable) (scope : Scope) (h : Stands units scope.before scope.unit) (name : Name) → option_map (λ (row : Row). row.first) (row_named h.table.names h.table.rows.items name) ≡ first_number scope name
+first_found units scope h name =
+    ap (λ (names : List Name). option_map (λ (row : Row). row.first) (row_named names h.table.rows.items name)) h.is.names
+    ∙ rows_first scope.before (first_place scope.unit) (variables_of scope.unit) h.table.rows.items name h.is.rows
 
 -- where a path leads from a unit
 abbrev pub place_from : List ProgramUnit → ProgramUnit → List Name → Option ℕ

@@ -3,5 +3,6 @@ pub mod StandsFor
 pub mod Keys
 pub mod Words
 pub mod Rows
+pub mod Slots
 pub mod Direct
 pub mod Members

@@ -5,6 +5,7 @@ use Rattle.wc_model.specs.Language.DeclarationRules.{is_among, names_block_of, p
 use Rattle.wc_model.specs.Language.Declarations.{Variable, VariableType, Elementary, Standard, Block, is_block, same_name, type_named, variables_of}
 use Rattle.wc_model.specs.Language.Frames.{PlainVariable}
 use Rattle.wc_model.specs.Language.Names.{Name}
+use Rattle.wc_model.specs.Language.Scopes.{Scope}
 use Rattle.wc_model.specs.Language.Tree.{ProgramUnit, Text}
 use Rattle.wc_declare.specs.Numbered.{numbered_type, plain_of_field, stands_in}
 use Rattle.wc_declare.specs.declared.declared_type.DeclaredType.{DeclaredType}
@@ -56,6 +57,14 @@ AreDifferent (name ∷ names) = (is_among names name ≡ false) × AreDifferent 
 -- the number of the first place of a unit's variables: a program's frame begins with the directly represented variables
 abbrev pub first_place : ProgramUnit → ℕ
 first_place unit = (taken_at_first unit).places
+
+-- where the places of the first variable of that name begin, where those of all variables begin with this number
+abbrev pub first_from : List ProgramUnit → ℕ → List Variable → Name → Option ℕ
+first_from before first [] name = None
+first_from before first (v ∷ vs) name = if same_name v.name name then Some first else first_from before (first + places_of_type before v.type_name) vs name
+
+abbrev pub first_number : Scope → Name → Option ℕ
+first_number scope name = first_from scope.before (first_place scope.unit) (variables_of scope.unit) name
 
 -- the table of a unit behind these
 pub record IsTableOf (before : List ProgramUnit) (unit : ProgramUnit) (table : UnitTable) : Type 0 where

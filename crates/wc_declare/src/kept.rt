@@ -1,23 +1,26 @@
-ghost use Rattle.std.specs.Prelude.{◌≡◌, ℕ, Some, IfSome, is_some, length, map, option_and_then, option_map};
+ghost use Rattle.std.specs.Prelude.{◌≡◌, ℕ, Some, IfOk, IfSome, IsOkUnless, is_some, length, map, option_and_then, option_map};
 ghost use Rattle.wc_model.specs.Language.BodyRules.{input_named};
 ghost use Rattle.wc_model.specs.Language.Declarations.{VariableType, members_of};
-ghost use Rattle.wc_model.specs.Language.Frames.{frame_of, number_of_path, plain_variables};
+ghost use Rattle.wc_model.specs.Language.Frames.{first_numbers, frame_of, location_of, number_of_path, place_number, plain_variables, slot_kinds};
 ghost use Rattle.wc_model.specs.Language.Names.{name_of};
 ghost use Rattle.wc_model.specs.Language.Scopes.{Scope, entity_of, type_of};
+ghost use Rattle.wc_model.specs.Language.Store.{Location};
 ghost use Rattle.wc_model.specs.Language.Tree.{Text};
 ghost use Rattle.wc_model.specs.Language.Views.{term_view};
-ghost use Rattle.wc_declare.specs.StandsFor.{AreTables};
+ghost use Rattle.wc_declare.specs.StandsFor.{AreTables, first_number};
 ghost use Rattle.wc_declare.specs.Numbered.{IsUnit, StandsFrom, numbered_entity, numbered_input, numbered_type, plain_of_field};
 
 use crate::declared_type::DeclaredType;
 use crate::entity::Entity;
 use crate::field::Field;
+use crate::frame::{Frame, slots};
 use crate::input::{Input, input_of};
 use crate::located::Located;
 use crate::lookup::{address, number, row};
 use crate::naming::{entity, place_at};
 use crate::unit_table::UnitTable;
-use wc_model::{Operand, Path, Place};
+use std::alloc::Global;
+use wc_model::{Fault, Operand, Path, Place};
 
 /// The names of a text with what they stand for. They borrow the text, not its tree.
 #[derive(Drop)]
@@ -29,8 +32,15 @@ impl<'a> Tables<'a> {
     /// The place that a path names in a unit's frame. Fields of standard blocks that texts cannot name go by `m`,
     /// `run`, `phase` and `start`.
     pub fn place(&self, unit: usize, path: &Path<'_>) -> Option<Place>
-        ensures { (text : Text) (scope : Scope) → AreTables self.now text → IsUnit text unit scope
+        ensures number { (text : Text) (scope : Scope) → AreTables self.now text
+            → IsUnit text unit scope
             → option_map (λ p. p.0) result ≡ number_of_path scope path.now }
+        // No other place has this number: two instances share none.
+        ensures own { (text : Text) (scope : Scope) (other : Location) → AreTables self.now text
+            → IsUnit text unit scope
+            → IfSome result
+            (λ p. place_number (frame_of scope) other ≡ Some p.0
+            → location_of path.now ≡ Some other) }
     {
         match path {
             Path::Address(text) => place_at(address(&self.units, unit, text)),
@@ -59,6 +69,9 @@ impl<'a> Tables<'a> {
             → AreTables self.now text → IsUnit text unit scope
             → type_of scope (name_of name.now) ≡ Some type
             → IfSome result (λ v. StandsFrom scope (name_of name.now) type v.first) }
+        ensures begins { (text : Text) (scope : Scope) → AreTables self.now text
+            → IsUnit text unit scope
+            → option_map (λ v. v.first) result ≡ first_number scope (name_of name.now) }
     {
         match row(&self.units, unit, name) {
             Some(row) => Some(Located {
@@ -111,5 +124,18 @@ impl<'a> Tables<'a> {
             Some(table) => usize::from(table.size),
             None => 0,
         }
+    }
+
+    /// The slots of a unit's frame, in the order of its places. `Memory` is its only fault.
+    pub fn frame(&self, alloc: Global, unit: usize) -> Result<Frame, Fault>
+        ensures kinds { (text : Text) (scope : Scope) → AreTables self.now text
+            → IsUnit text unit scope
+            → IfOk result (λ frame. frame.kinds.items ≡ slot_kinds (frame_of scope)) }
+        ensures initials { (text : Text) (scope : Scope) → AreTables self.now text
+            → IsUnit text unit scope
+            → IfOk result (λ frame. frame.initials.items ≡ first_numbers (frame_of scope)) }
+        ensures memory { IsOkUnless result Fault.Memory }
+    {
+        slots(alloc, &self.units, unit)
     }
 }

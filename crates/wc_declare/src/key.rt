@@ -7,11 +7,11 @@ ghost use Rattle.wc_declare.specs.Keys.{fed_name, name_of_key, same_key, same_ke
 
 use std::hash::{Hash, Hasher};
 
-/// A name as a key. It borrows the text; names are compared without regard to letter case.
+/// A name as a key of a map or a set. It borrows the text; names are compared without regard to letter case.
 #[derive(Clone, Copy)]
-pub(crate) struct Key<'a> {
+pub struct Key<'a> {
     /// As it is spelled.
-    pub(crate) text: &'a [u8],
+    pub text: &'a [u8],
 }
 
 /// Whether two spellings are one name.

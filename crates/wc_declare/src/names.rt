@@ -11,9 +11,9 @@ use std::alloc::Global;
 use std::marker::Model;
 use wc_model::Fault;
 
-/// Different names, numbered in the order in which they came.
+/// Different names, without regard to letter case, numbered in the order in which they came.
 #[derive(Drop)]
-pub(crate) struct Names<'a> {
+pub struct Names<'a> {
     keys: IndexSet<Key<'a>>,
 }
 
@@ -25,7 +25,7 @@ impl<'a> Model for Names<'a> {
 
 impl<'a> Names<'a> {
     /// No names.
-    pub(crate) fn new(alloc: Global) -> Names<'a>
+    pub fn new(alloc: Global) -> Names<'a>
         ensures { result ≡ [] }
     {
         Names {
@@ -33,22 +33,22 @@ impl<'a> Names<'a> {
         }
     }
 
-    /// The number of a name.
-    pub(crate) fn number(&self, name: &[u8]) -> Option<usize>
+    /// The number of a name, from 0; `None` where it is not among them.
+    pub fn number(&self, name: &[u8]) -> Option<usize>
         ensures { result ≡ position_from (λ n. same_name n (name_of name.now)) 0 self.now }
     {
         self.keys.get_index_of(&Key { text: name })
     }
 
     /// Whether a name is among them.
-    pub(crate) fn contains(&self, name: &[u8]) -> bool
+    pub fn contains(&self, name: &[u8]) -> bool
         ensures { result ≡ is_among self.now (name_of name.now) }
     {
         self.keys.contains(&Key { text: name })
     }
 
-    /// Adds a name where it is new, and says whether it is.
-    pub(crate) fn add(&mut self, name: &'a [u8]) -> Result<bool, Fault>
+    /// Adds a name where it is new, and says whether it is. Its only fault is `Fault::Memory`.
+    pub fn add(&mut self, name: &'a [u8]) -> Result<bool, Fault>
         ensures new { IfOk result (λ new. new ≡ not (is_among self.old (name_of name.now))) }
         ensures names { IfOk result
             (λ new. self.new ≡ (if new then self.old ++ name_of name.now ∷ [] else self.old)) }

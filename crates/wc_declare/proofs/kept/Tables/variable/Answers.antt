@@ -6,7 +6,8 @@ use Rattle.wc_model.specs.Language.Scopes.{type_of}
 use Rattle.wc_model.specs.Language.Store.{block_places, same_path, variable_places}
 use Rattle.wc_declare.specs.Numbered.{numbered_type}
 use Rattle.wc_declare.specs.StandsFor.{Stands}
-use Rattle.wc_declare.proofs.Lookups.{from_row, named_rows, none_named, same_within, there_is, type_at_found, type_not_found}
+use Rattle.wc_declare.specs.declared.variable.Variable.{Variable as Row}
+use Rattle.wc_declare.proofs.Lookups.{first_found, from_row, named_rows, none_named, same_within, there_is, type_at_found, type_not_found}
 use Rattle.wc_declare.proofs.ScopeTables.{at_unit, frame_path}
 use Rattle.wc_declare.proofs.kept.Tables.variable.Goals as goal
 
@@ -58,3 +59,19 @@ returns-in-None-clause-declared c = λ text scope are is.
     let name = name_of c.args.name.now in
     let there = ap (slice_get c.deref.result.now) (at r.1) ∙ h.there in
     sym (ap (option_and_then (numbered_type scope.before)) (type_not_found scope name (none_named c.deref.result.now scope.before scope.unit h name (sym (c.row.ensures h.table there (named_rows c.deref.result.now scope.before scope.unit h)) ∙ c.in-None.is))))
+
+pub returns-in-Some-clause-begins : goal.returns-in-Some-clause-begins
+returns-in-Some-clause-begins c = λ text scope are is.
+    let r = at_unit text [] c.args.self.now.units.items c.args.unit scope are is in
+    let h = subst (λ ts. Stands ts scope.before scope.unit) (sym c.deref.ensures.value) r.0 in
+    let there = ap (slice_get c.deref.result.now) (at r.1) ∙ h.there in
+    ap (option_map (λ (row : Row). row.first)) (sym c.in-Some.is ∙ c.row.ensures h.table there (named_rows c.deref.result.now scope.before scope.unit h))
+    ∙ first_found c.deref.result.now scope h (name_of c.args.name.now)
+
+pub returns-in-None-clause-begins : goal.returns-in-None-clause-begins
+returns-in-None-clause-begins c = λ text scope are is.
+    let r = at_unit text [] c.args.self.now.units.items c.args.unit scope are is in
+    let h = subst (λ ts. Stands ts scope.before scope.unit) (sym c.deref.ensures.value) r.0 in
+    let there = ap (slice_get c.deref.result.now) (at r.1) ∙ h.there in
+    ap (option_map (λ (row : Row). row.first)) (sym c.in-None.is ∙ c.row.ensures h.table there (named_rows c.deref.result.now scope.before scope.unit h))
+    ∙ first_found c.deref.result.now scope h (name_of c.args.name.now)

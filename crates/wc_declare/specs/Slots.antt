@@ -1,0 +1,25 @@
+-- The slots of a frame, piece by piece. (No rule of the language.)
+use Rattle.std.specs.Prelude.{◌≡◌, Bool, true, false, List, [], ◌++◌, map}
+use Rattle.wc_model.specs.Language.DirectVariables.{direct_variables, kind_of_direct}
+use Rattle.wc_model.specs.Language.Frames.{content_number, slot_kind_of}
+use Rattle.wc_model.specs.Language.Names.{Name}
+use Rattle.wc_model.specs.Language.Store.{Content, zero_of}
+use Rattle.wc_declare.specs.declared.frame.Frame.{Frame}
+
+-- what places hold at first
+abbrev pub contents_of : List (List Name × Content) → List Content
+contents_of places = map (λ p. p.1) places
+
+-- the slots of these contents are added
+pub record IsGrown (old new : Frame) (contents : List Content) : Type 0 where
+  pub kinds : new.kinds.items ≡ old.kinds.items ++ map slot_kind_of contents
+  pub initials : new.initials.items ≡ old.initials.items ++ map content_number contents
+
+-- a frame to which nothing but the directly represented variables is added, and to a block's not even these
+abbrev pub begun_contents : Bool → List Content
+begun_contents true = []
+begun_contents false = map (λ v. zero_of (kind_of_direct v)) direct_variables
+
+pub record IsBegun (is_block : Bool) (frame : Frame) : Type 0 where
+  pub kinds : frame.kinds.items ≡ map slot_kind_of (begun_contents is_block)
+  pub initials : frame.initials.items ≡ map content_number (begun_contents is_block)
