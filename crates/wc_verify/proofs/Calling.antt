@@ -19,7 +19,7 @@ use Rattle.wc_declare.specs.declared.declared_type.DeclaredType.TheVariants as n
 use Rattle.wc_declare.specs.declared.input.Input.{Input}
 use Rattle.wc_declare.specs.declared.kept.Tables.{Tables}
 use Rattle.wc_verify.specs.Calls.{HoldsNames, is_numbered_instance}
-use Rattle.wc_verify.specs.Keys.{same_name_laws}
+use Rattle.wc_declare.specs.Keys.{same_name_laws}
 use Rattle.wc_verify.specs.Seeing.{IsScope}
 use Rattle.wc_verify.proofs.Found.{Asked, Both, Finds, asked_as, joined}
 

@@ -6,9 +6,10 @@ use Rattle.std.specs.Prelude.{if◌then◌else◌}
 use Rattle.indexmap.specs.IndexMap.{insert_entry}
 use Rattle.wc_model.specs.Language.Declarations.{named_in, same_name}
 use Rattle.wc_model.specs.Language.Names.{Name}
-use Rattle.wc_verify.specs.Keys.{name_of_key, same_key, same_name_laws}
-use Rattle.wc_verify.specs.Rows.{named_rows}
-use Rattle.wc_verify.specs.declared.key.Key.{Key}
+use Rattle.wc_declare.specs.Keys.{name_of_key, same_key, same_name_laws}
+use Rattle.wc_verify.specs.Rows.{named_rows, row_of}
+use Rattle.wc_declare.specs.declared.key.Key.{Key}
+use Rattle.wc_verify.specs.declared.labels.Row.{Row}
 
 -- a row of the same name is changed
 same_kept : {X : Type 0} (b : Bool) (v w : X) (o : Option X) → (if b then Some v else o) ≡ (if b then Some v else (if b then Some w else o))
@@ -44,3 +45,8 @@ kept k v (entry ∷ es) name = step k v entry es name (same_name (name_of_key en
 pub looked_up : {X : Type 0} (k : Key) (es : List (Key × X)) → lookup (same_key k) es ≡ named_in (named_rows es) (name_of_key k)
 looked_up k [] = refl
 looked_up k (entry ∷ es) = ap (λ o. cond (same_name (name_of_key entry.0) (name_of_key k)) (Some entry.1) o) (looked_up k es)
+
+-- the row of what is kept
+pub row_chosen : (b : Bool) (row : Row) (o : Option Row) → row_of (if b then Some row else o) ≡ (if b then row else row_of o)
+row_chosen true row o = refl
+row_chosen false row o = refl

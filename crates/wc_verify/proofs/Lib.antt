@@ -1,12 +1,12 @@
+pub mod BodyLines
+pub mod BodySteps
+pub mod BodyUnits
 pub mod Calling
 pub mod Found
 pub mod Going
 pub mod InstrLines
-pub mod Judging
-pub mod KeyNames
 pub mod KindsAlong
 pub mod LabelRows
-pub mod Lists
 pub mod Nesting
 pub mod Seeing
 pub mod WaysIn

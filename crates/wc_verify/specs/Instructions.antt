@@ -1,9 +1,9 @@
 -- What an instruction stands for as a line of a body. (No rule of the language.)
-use Rattle.std.specs.Prelude.{◌≡◌, Bool, List, ◌++◌, map, Option, Some, option_map, Result, Ok, Err}
+use Rattle.std.specs.Prelude.{◌≡◌, Bool, List, ◌++◌, map, Option, Some, None, option_map, Result, Ok, Err}
 use Rattle.wc_model.specs.Language.BodyRules.{inside_rules, is_ahead, line_rules}
 use Rattle.wc_model.specs.Language.Checks.{Check, first_broken}
 use Rattle.wc_model.specs.Language.Kinds.{BodyLine, AloneLine, PlainLine, NestedLine, kind_after, kind_behind}
-use Rattle.wc_model.specs.Language.Names.{name_of}
+use Rattle.wc_model.specs.Language.Names.{Name, name_of}
 use Rattle.wc_model.specs.Language.Scopes.{Scope}
 use Rattle.wc_model.specs.Language.Tree.{Word, Step, Load, Store, Apply, Negate, Jump, Call, Return, Lines, Alone, Plain, Nested}
 use Rattle.wc_model.specs.Language.Views.{assignment_view, lines_view, term_view}
@@ -61,3 +61,8 @@ GoesInside scope lines kind rest more (Ok after) =
     (first_broken (inside_rules scope lines kind ++ more) ≡ first_broken (inside_rules scope rest after ++ more)) × (kind_behind scope lines kind ≡ kind_behind scope rest after)
 GoesInside scope lines kind rest more (Err (Refused number place)) = first_broken (inside_rules scope lines kind ++ more) ≡ Some (record { number = number; line = place })
 GoesInside scope lines kind rest more (Err Memory) = Unit {0}
+
+-- what is said of the lines behind, where there is a jump
+abbrev pub AsksAhead : Option Name → Bool → List BodyLine → Type 0
+AsksAhead None ahead behind = Unit {0}
+AsksAhead (Some label) ahead behind = ahead ≡ is_ahead behind label

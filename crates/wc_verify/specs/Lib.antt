@@ -1,7 +1,9 @@
+pub mod Bodies
 pub mod Calls
+pub mod CheckedInside
+pub mod CheckedTexts
 pub mod Found
 pub mod Instructions
-pub mod Keys
 pub mod Rows
 pub mod Seeing
 pub mod Ways

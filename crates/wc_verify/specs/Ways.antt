@@ -1,7 +1,8 @@
 -- What the ways in to a line agree on, as it is kept. (No rule of the language.)
-use Rattle.std.specs.Prelude.{List, [], ◌∷◌, Option, None, if◌then◌else◌}
+use Rattle.std.specs.Prelude.{List, [], ◌∷◌, Option, Some, None, if◌then◌else◌}
 use Rattle.std.specs.List.{list_all}
 use Rattle.wc_model.specs.Language.Kinds.{same_result}
+use Rattle.wc_model.specs.Language.Tree.{Word}
 use Rattle.wc_model.specs.declared.kind.Kind.{Kind}
 use Rattle.wc_verify.specs.declared.ways.Way.{Way}
 use Rattle.wc_verify.specs.declared.ways.Way.TheVariants.{Unseen, Agreed, Different}
@@ -28,3 +29,8 @@ abbrev pub joined_ways : Way → Way → Way
 joined_ways Unseen others = others
 joined_ways (Agreed kind) others = with_way kind others
 joined_ways Different others = Different
+
+-- what a line with no instruction hands on: with no label it is no line of the body
+abbrev pub labelled_way : Option Word → Way → Option Kind → Way
+labelled_way None above kind = above
+labelled_way (Some word) above kind = Agreed kind

@@ -15,12 +15,11 @@ ghost use Rattle.wc_verify.specs.Seeing.{IsScope, IsSeen};
 
 use crate::first::{first_of, refuse, refused, unless};
 use crate::kinds::is_kind;
-use crate::names::Names;
 use crate::operands::is_bit_literal;
 use crate::refusals::{is_of_kind, judge_condition, judge_reading};
 use crate::seen::{Seen, see};
 use std::alloc::Global;
-use wc_declare::{DeclaredType, Tables};
+use wc_declare::{DeclaredType, Names, Tables};
 use wc_model::{Argument, Condition, Fault, Kind, Operand};
 
 /// Whether an input of a kind takes what is assigned.

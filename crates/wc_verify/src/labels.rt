@@ -1,14 +1,14 @@
 ghost use Rattle.std.specs.Prelude.{◌≡◌, [], List, Some, OnOk, IsOkUnless, if◌then◌else◌};
 ghost use Rattle.wc_model.specs.Language.Declarations.{named_in, same_name};
 ghost use Rattle.wc_model.specs.Language.Names.{Name, name_of};
-ghost use Rattle.wc_verify.specs.Rows.{named_rows};
+ghost use Rattle.wc_verify.specs.Rows.{named_rows, row_named};
 ghost use Rattle.wc_verify.specs.declared.labels.Row.{Row};
 
-use crate::key::Key;
 use crate::ways::Way;
 use indexmap::IndexMap;
 use std::alloc::Global;
 use std::marker::Model;
+use wc_declare::Key;
 use wc_model::Fault;
 
 /// What is known of a label.
@@ -45,12 +45,16 @@ impl<'a> Labels<'a> {
     }
 
     /// What is known of a label.
-    pub(crate) fn get(&self, name: &[u8]) -> Option<Row>
-        ensures { result ≡ named_in self.now (name_of name.now) }
+    pub(crate) fn row(&self, name: &[u8]) -> Row
+        ensures { result ≡ row_named self.now (name_of name.now) }
     {
         match self.entries.get(&Key { text: name }) {
-            Some(row) => Some(*row),
-            None => None,
+            Some(row) => *row,
+            None => Row {
+                ahead: 0,
+                given: false,
+                way: Way::Unseen,
+            },
         }
     }
 
@@ -58,8 +62,8 @@ impl<'a> Labels<'a> {
     pub(crate) fn set(&mut self, name: &'a [u8], row: Row) -> Result<(), Fault>
         ensures rows { OnOk result
             ((other : Name)
-            → named_in self.new other
-            ≡ (if same_name (name_of name.now) other then Some row else named_in self.old other)) }
+            → row_named self.new other
+            ≡ (if same_name (name_of name.now) other then row else row_named self.old other)) }
         ensures memory { IsOkUnless result Fault.Memory }
     {
         match self.entries.insert(Key { text: name }, row) {

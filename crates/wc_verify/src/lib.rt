@@ -1,17 +1,24 @@
 //! The rules on bodies: names, kinds, places that may be read and written, labels and calls (401 to 410).
 #![tactic(auto)]
 
+mod bodies;
 mod calls;
+mod checked;
+mod counting;
+mod entering;
 mod first;
 mod inside;
 mod instructions;
-mod key;
+mod jumps;
 mod kinds;
 mod labels;
-mod names;
 mod operands;
 mod operators;
 mod refusals;
 mod seen;
 mod steps;
+mod verifying;
 mod ways;
+
+pub use checked::Checked;
+pub use verifying::verify;

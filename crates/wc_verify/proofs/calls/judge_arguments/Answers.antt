@@ -12,8 +12,8 @@ use Rattle.wc_model.specs.declared.value.Value.TheVariants.{Bool as Truth}
 use Rattle.wc_declare.specs.declared.declared_type.DeclaredType.{DeclaredType}
 use Rattle.wc_declare.specs.declared.kept.Tables.{Tables}
 use Rattle.wc_verify.proofs.Calling.{ArgumentsBehind, one_behind}
-use Rattle.wc_verify.proofs.Judging.{judges_err, judges_ok}
-use Rattle.wc_verify.proofs.Lists.{from_index_or}
+use Rattle.wc_declare.proofs.Judging.{judges_err, judges_ok}
+use Rattle.wc_declare.proofs.Lists.{from_index_or}
 use Rattle.wc_verify.proofs.calls.judge_arguments.Goals as goal
 
 -- the arguments that are left begin with this one

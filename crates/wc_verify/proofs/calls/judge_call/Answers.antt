@@ -7,7 +7,7 @@ use Rattle.wc_model.specs.Language.Names.{name_of}
 use Rattle.wc_model.specs.Language.Scopes.{type_of}
 use Rattle.wc_model.specs.Language.Views.{assignment_view}
 use Rattle.wc_verify.proofs.Calling.{instance_found, no_instance_found, type_parts}
-use Rattle.wc_verify.proofs.Judging.{judges_same}
+use Rattle.wc_declare.proofs.Judging.{judges_same}
 use Rattle.wc_verify.proofs.calls.judge_call.Goals as goal
 
 pub returns-then-not-is_instance : goal.returns-then-not-is_instance

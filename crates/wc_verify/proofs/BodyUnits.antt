@@ -1,0 +1,50 @@
+-- What is found of the bodies of a text, unit by unit.
+use Rattle.std.proofs.Common.{◌≡◌, ℕ, zero, suc, ◌+◌, List, [], ◌∷◌, ◌++◌, map, Some, drop, add-one, refl, ap, ◌∙◌}
+use Rattle.std.specs.List.{flat_map}
+use Rattle.std.specs.Prelude.{slice_get}
+use Rattle.wc_model.specs.Language.BodyRules.{body_rules}
+use Rattle.wc_model.specs.Language.Checks.{Check, Spot, first_broken, spots_behind}
+use Rattle.wc_model.specs.Language.Faults.{body_fault}
+use Rattle.wc_model.specs.Language.Frames.{scope_of_spot, scopes_of}
+use Rattle.wc_model.specs.Language.Tree.{ProgramUnit, Text}
+
+-- where a list from an index on begins
+first_there : {X : Type 0} (xs : List X) (i : ℕ) (y : X) (ys : List X) → drop i xs ≡ y ∷ ys → slice_get xs i ≡ Some y
+first_there [] zero y ys e = absurd (cc)
+first_there [] (suc i) y ys e = absurd (cc)
+first_there (x ∷ xs) zero y ys e = cc
+first_there (x ∷ xs) (suc i) y ys e = first_there xs i y ys e
+
+rest_there : {X : Type 0} (xs : List X) (i : ℕ) (y : X) (ys : List X) → drop i xs ≡ y ∷ ys → drop (suc i) xs ≡ ys
+rest_there [] zero y ys e = absurd (cc)
+rest_there [] (suc i) y ys e = absurd (cc)
+rest_there (x ∷ xs) zero y ys e = cc
+rest_there (x ∷ xs) (suc i) y ys e = rest_there xs i y ys e
+
+-- what is asked of a unit's body
+abbrev pub unit_rules : Spot ProgramUnit → List Check
+unit_rules spot = body_rules (record { before = spot.before; unit = spot.item })
+
+-- nothing is broken before the units that are left, which stand in the text from this number on
+pub record UnitsLeft (all left : Text) (number : ℕ) : Type 0 where
+  pub before : List ProgramUnit
+  pub found : body_fault all ≡ first_broken (flat_map unit_rules (spots_behind before left))
+  pub there : drop number (scopes_of all) ≡ map scope_of_spot (spots_behind before left)
+
+pub all_left : (all : Text) → UnitsLeft all all 0
+all_left all = record { before = []; found = refl; there = refl }
+
+-- the first of them
+pub unit_there : (all left : Text) (unit : ProgramUnit) (number : ℕ) (h : UnitsLeft all (unit ∷ left) number) → slice_get (scopes_of all) number ≡ Some (record { before = h.before; unit = unit })
+unit_there all left unit number h = first_there (scopes_of all) number (record { before = h.before; unit = unit }) (map scope_of_spot (spots_behind (unit ∷ h.before) left)) h.there
+
+-- those behind it
+pub unit_passed : (all left : Text) (unit : ProgramUnit) (number : ℕ) (h : UnitsLeft all (unit ∷ left) number) →
+    ((more : List Check) → first_broken (body_rules (record { before = h.before; unit = unit }) ++ more) ≡ first_broken more) → UnitsLeft all left (number + 1)
+unit_passed all left unit number h passes =
+    let next : number + 1 ≡ suc number = add-one number in
+    record {
+      before = unit ∷ h.before;
+      found = h.found ∙ passes (flat_map unit_rules (spots_behind (unit ∷ h.before) left));
+      there = ap (λ n. drop n (scopes_of all)) next ∙ rest_there (scopes_of all) number (record { before = h.before; unit = unit }) (map scope_of_spot (spots_behind (unit ∷ h.before) left)) h.there;
+    }

@@ -1,0 +1,9 @@
+use Rattle.std.proofs.Common.{drop}
+use Rattle.wc_model.specs.Language.Kinds.{lines_of}
+use Rattle.wc_model.specs.Language.Views.{lines_view}
+use Rattle.wc_verify.proofs.BodyLines.{AreCounted}
+use Rattle.wc_verify.proofs.counting.count_labels.Given as goal
+
+-- the lines so far are counted
+abbrev pub invariant-loop-line : goal.invariant-loop-line
+invariant-loop-line l = AreCounted (lines_of (lines_view l.line-items)) (lines_of (lines_view (drop l.line-index l.line-items))) l.line-index l.labels

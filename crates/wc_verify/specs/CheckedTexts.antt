@@ -1,0 +1,22 @@
+-- A text that breaks no rule on bodies, with its tables. (No rule of the language.)
+use Rattle.std.specs.Prelude.{◌≡◌, ℕ, List, None}
+use Rattle.wc_declare.specs.StandsFor.{AreTables}
+use Rattle.wc_model.specs.Language.Faults.{declaration_fault}
+use Rattle.wc_model.specs.Language.Tree.{Text}
+use Rattle.wc_model.specs.Text.Reading.{IsRead}
+use Rattle.wc_model.specs.declared.source.Source.{Source}
+use Rattle.wc_declare.specs.declared.kept.Tables.{Tables}
+
+-- what is verified: the text and its tables
+pub record CheckedText : Type 0 where
+  pub source : Source
+  pub tables : Tables
+
+-- some bytes are read as this text
+abbrev pub WasRead : Text → Type 0
+WasRead text = (bytes : List ℕ) × IsRead bytes text
+
+-- the tables are those that declarations without a fault give: what `tables` of the declarations' pass promises of its answer
+pub record AreGiven (tables : Tables) (text : Text) : Type 0 where
+  pub stand : AreTables tables text
+  pub declared : declaration_fault text ≡ None

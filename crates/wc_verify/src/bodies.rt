@@ -1,0 +1,137 @@
+ghost use Rattle.std.specs.Prelude.{◌≡◌, ◌++◌, List, Option, OnOk, option_map, if◌then◌else◌};
+ghost use Rattle.wc_model.specs.Language.BodyRules.{body_rules};
+ghost use Rattle.wc_model.specs.Language.Checks.{Check, first_broken};
+ghost use Rattle.wc_model.specs.Language.Judging.{Judges};
+ghost use Rattle.wc_model.specs.Language.Kinds.{BodyLine, jumps_to, leaves, lines_of};
+ghost use Rattle.wc_model.specs.Language.Names.{Name, name_of};
+ghost use Rattle.wc_model.specs.Language.Scopes.{Scope};
+ghost use Rattle.wc_model.specs.Language.Tree.{Lines, Word as LabelWord};
+ghost use Rattle.wc_model.specs.Language.Views.{line_view, lines_view, word_view};
+ghost use Rattle.wc_verify.specs.Bodies.{CountsLines, GoesTo, HandsOn, StandsAt};
+ghost use Rattle.wc_verify.specs.Instructions.{AsksAhead, instr_line};
+ghost use Rattle.wc_verify.specs.Rows.{jumped_row, row_named};
+ghost use Rattle.wc_verify.specs.Seeing.{IsScope};
+ghost use Rattle.wc_verify.specs.Ways.{labelled_way};
+
+use crate::counting::count_labels;
+use crate::entering::enter;
+use crate::inside::judge_instr;
+use crate::jumps::{leaves, note, target};
+use crate::labels::Labels;
+use crate::ways::Way;
+use std::alloc::Global;
+use wc_declare::Tables;
+use wc_model::{Fault, Instr, Kind, Line, Word};
+
+/// Whether a later line carries the label of a jump.
+fn is_ahead(labels: &Labels<'_>, target: Option<&[u8]>) -> bool
+    ensures { (behind : List BodyLine) → CountsLines labels.now behind
+        → AsksAhead (option_map (λ t. name_of t.now) target.entry) result behind }
+{
+    match target {
+        Some(name) => labels.row(name).ahead > 0,
+        None => false,
+    }
+}
+
+/// What an instruction hands on to the next line.
+fn handed_on(instr: &Instr<'_>, after: Option<Kind>) -> Way
+    ensures { (label : Option LabelWord)
+        → result ≡ (if leaves (instr_line instr.now label) then Way.Unseen else Way.Agreed after) }
+{
+    if leaves(instr) {
+        Way::Unseen
+    } else {
+        Way::Agreed(after)
+    }
+}
+
+/// Judges an instruction whose line is entered, and keeps its jump: what it hands on.
+fn judge_step<'a>(
+    alloc: Global,
+    tables: &Tables<'a>,
+    unit: usize,
+    labels: &mut Labels<'a>,
+    instr: &Instr<'a>,
+    kind: Option<Kind>,
+) -> Result<Way, Fault>
+    ensures judged { (scope : Scope) (label : Option LabelWord) (behind : List BodyLine)
+        (more : List Check) → IsScope tables.now unit scope → CountsLines labels.old behind
+        → HandsOn scope (instr_line instr.now label) behind kind more result }
+    ensures rows { OnOk result
+        ((label : Option LabelWord) (name : Name)
+        → row_named labels.new name
+        ≡ jumped_row (jumps_to (instr_line instr.now label) name) kind
+        (row_named labels.old name)) }
+{
+    let target = target(instr);
+    let is_ahead = is_ahead(labels, target);
+    let after = match judge_instr(alloc, tables, unit, instr, is_ahead, kind) {
+        Ok(after) => after,
+        Err(fault) => return Err(fault),
+    };
+    if let Err(fault) = note(labels, target, kind) {
+        return Err(fault);
+    }
+    Ok(handed_on(instr, after))
+}
+
+/// What a line with no instruction hands on.
+fn handed_by_label(label: &Option<Word<'_>>, above: Way, kind: Option<Kind>) -> Way
+    ensures { result ≡ labelled_way (option_map word_view label.now) above kind }
+{
+    match label {
+        Some(_) => Way::Agreed(kind),
+        None => above,
+    }
+}
+
+/// Judges a line, from what is handed on from above: what it hands on.
+fn judge_line<'a>(
+    alloc: Global,
+    tables: &Tables<'a>,
+    unit: usize,
+    labels: &mut Labels<'a>,
+    line: &Line<'a>,
+    above: Way,
+) -> Result<Way, Fault>
+    ensures { (scope : Scope) (before : List BodyLine) (rest : Lines)
+        → IsScope tables.now unit scope
+        → StandsAt scope before (lines_of (line_view line.now rest)) labels.old above
+        → GoesTo scope before (lines_of (line_view line.now rest)) (lines_of rest)
+        labels.new result }
+{
+    let kind = match enter(labels, &line.label, above) {
+        Ok(kind) => kind,
+        Err(fault) => return Err(fault),
+    };
+    match &line.instr {
+        Some(instr) => judge_step(alloc, tables, unit, labels, instr, kind),
+        None => Ok(handed_by_label(&line.label, above, kind)),
+    }
+}
+
+/// Judges the body of a unit, line by line.
+pub(crate) fn judge_body<'a>(
+    alloc: Global,
+    tables: &Tables<'a>,
+    unit: usize,
+    lines: &Vec<Line<'a>>,
+) -> Result<(), Fault>
+    ensures { (scope : Scope) (more : List Check) → IsScope tables.now unit scope
+        → scope.unit.body ≡ lines_view lines.now.items
+        → Judges (first_broken (body_rules scope ++ more)) (first_broken more) result }
+{
+    let mut labels = match count_labels(alloc, lines) {
+        Ok(labels) => labels,
+        Err(fault) => return Err(fault),
+    };
+    let mut above = Way::Agreed(None);
+    for line in lines {
+        match judge_line(alloc, tables, unit, &mut labels, line, above) {
+            Ok(next) => above = next,
+            Err(fault) => return Err(fault),
+        }
+    }
+    Ok(())
+}

@@ -1,0 +1,77 @@
+ghost use Rattle.std.specs.Prelude.{◌≡◌, ◌++◌, Bool, List, Option, OnOk, IfOk, option_map};
+ghost use Rattle.std.specs.List.{list_any};
+ghost use Rattle.wc_model.specs.Language.BodyRules.{label_rules};
+ghost use Rattle.wc_model.specs.Language.Checks.{Check, first_broken};
+ghost use Rattle.wc_model.specs.Language.Declarations.{same_name};
+ghost use Rattle.wc_model.specs.Language.Judging.{Judges};
+ghost use Rattle.wc_model.specs.Language.Kinds.{BodyLine, label_of};
+ghost use Rattle.wc_model.specs.Language.Meaning.{carries};
+ghost use Rattle.wc_model.specs.Language.Names.{Name, name_of};
+ghost use Rattle.wc_model.specs.Language.Views.{word_view};
+ghost use Rattle.wc_verify.specs.Rows.{entered_row, row_named, way_to};
+ghost use Rattle.wc_verify.specs.Ways.{joined_ways, kind_of_way};
+
+use crate::first::refused;
+use crate::labels::{Labels, Row};
+use crate::ways::{Way, joined, kind_of};
+use wc_model::{Fault, Kind, Word};
+
+/// Enters a line with a label, from the way above: 407 where the label was given already.
+fn enter_label<'a>(
+    labels: &mut Labels<'a>,
+    word: &Word<'a>,
+    above: Way,
+) -> Result<Option<Kind>, Fault>
+    ensures judged { (before : List BodyLine) (more : List Check)
+        → (row_named labels.old (name_of word.now.text.now)).given
+        ≡ list_any (λ line. carries (label_of line) (name_of word.now.text.now)) before
+        → Judges (first_broken (label_rules before (Some (word_view word.now)) ++ more))
+        (first_broken more) result }
+    ensures kind { IfOk result
+        (λ kind. kind
+        ≡ kind_of_way (joined_ways above (way_to (Some (word_view word.now)) labels.old))) }
+    ensures entered { OnOk result
+        ((name : Name)
+        → row_named labels.new name
+        ≡ entered_row (carries (Some (word_view word.now)) name) (row_named labels.old name)) }
+{
+    let row = labels.row(word.text);
+    if row.given {
+        return Err(refused(407, word.line));
+    }
+    let entered = Row {
+        ahead: row.ahead.saturating_sub(1),
+        given: true,
+        way: Way::Unseen,
+    };
+    if let Err(fault) = labels.set(word.text, entered) {
+        return Err(fault);
+    }
+    Ok(kind_of(joined(above, row.way)))
+}
+
+/// Enters a line, from the way above: the kind of the result before its instruction.
+pub(crate) fn enter<'a>(
+    labels: &mut Labels<'a>,
+    label: &Option<Word<'a>>,
+    above: Way,
+) -> Result<Option<Kind>, Fault>
+    ensures judged { (before : List BodyLine) (more : List Check)
+        → ((name : Name)
+        → (row_named labels.old name).given
+        ≡ list_any (λ line. carries (label_of line) name) before)
+        → Judges (first_broken (label_rules before (option_map word_view label.now) ++ more))
+        (first_broken more) result }
+    ensures kind { IfOk result
+        (λ kind. kind
+        ≡ kind_of_way (joined_ways above (way_to (option_map word_view label.now) labels.old))) }
+    ensures entered { OnOk result
+        ((name : Name)
+        → row_named labels.new name
+        ≡ entered_row (carries (option_map word_view label.now) name) (row_named labels.old name)) }
+{
+    match label {
+        Some(word) => enter_label(labels, word, above),
+        None => Ok(kind_of(joined(above, Way::Unseen))),
+    }
+}

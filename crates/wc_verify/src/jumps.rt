@@ -1,0 +1,95 @@
+ghost use Rattle.std.specs.Prelude.{◌≡◌, ℕ, Bool, List, Option, OnOk, IsOkUnless, option_map};
+ghost use Rattle.wc_model.specs.Language.Declarations.{same_name};
+ghost use Rattle.wc_model.specs.Language.Kinds.{BodyLine, jumps_to, leaves, step_leaves};
+ghost use Rattle.wc_model.specs.Language.Names.{Name, name_of};
+ghost use Rattle.wc_model.specs.Language.Tree.{Word, Return};
+ghost use Rattle.wc_verify.specs.Instructions.{AsksAhead, SaysAhead, instr_line};
+ghost use Rattle.wc_verify.specs.Rows.{is_target, jumped_row, row_named};
+
+use crate::labels::{Labels, Row};
+use crate::ways::with_way;
+use wc_model::{Condition, Fault, Instr, Kind};
+
+/// Where a jump goes on, as it is spelled.
+pub(crate) fn target<'a>(instr: &Instr<'a>) -> Option<&'a [u8]>
+    ensures jumps { (label : Option Word) (name : Name)
+        → jumps_to (instr_line instr.now label) name
+        ≡ is_target (option_map (λ t. name_of t.now) result) name }
+    ensures asks { (label : Option Word) (ahead : Bool) (behind : List BodyLine)
+        → AsksAhead (option_map (λ t. name_of t.now) result) ahead behind
+        → SaysAhead (instr_line instr.now label) ahead behind }
+{
+    match instr {
+        Instr::Load { .. } => None,
+        Instr::Store { .. } => None,
+        Instr::Apply { .. } => None,
+        Instr::Defer { .. } => None,
+        Instr::Not { .. } => None,
+        Instr::Jump { label, .. } => Some(*label),
+        Instr::Call { .. } => None,
+        Instr::Return { .. } => None,
+    }
+}
+
+/// Whether a return or a jump always acts.
+fn is_always(condition: Condition) -> bool
+    ensures { result ≡ step_leaves (Return condition) }
+{
+    match condition {
+        Condition::Always => true,
+        Condition::IfTrue => false,
+        Condition::IfFalse => false,
+    }
+}
+
+/// Whether the next line is never reached from an instruction.
+pub(crate) fn leaves(instr: &Instr<'_>) -> bool
+    ensures { (label : Option Word) → leaves (instr_line instr.now label) ≡ result }
+{
+    match instr {
+        Instr::Load { .. } => false,
+        Instr::Store { .. } => false,
+        Instr::Apply { .. } => false,
+        Instr::Defer { .. } => false,
+        Instr::Not { .. } => false,
+        Instr::Jump { condition, .. } => is_always(*condition),
+        Instr::Call { .. } => false,
+        Instr::Return { condition, .. } => is_always(*condition),
+    }
+}
+
+/// Keeps a jump to a label, with the kind of the result that it brings.
+fn note_jump<'a>(labels: &mut Labels<'a>, name: &'a [u8], kind: Option<Kind>) -> Result<(), Fault>
+    ensures rows { OnOk result
+        ((other : Name)
+        → row_named labels.new other
+        ≡ jumped_row (same_name (name_of name.now) other) kind (row_named labels.old other)) }
+    ensures memory { IsOkUnless result Fault.Memory }
+{
+    let row = labels.row(name);
+    let jumped = Row {
+        ahead: row.ahead,
+        given: row.given,
+        way: with_way(kind, row.way),
+    };
+    labels.set(name, jumped)
+}
+
+/// Keeps a jump, if an instruction is one.
+pub(crate) fn note<'a>(
+    labels: &mut Labels<'a>,
+    target: Option<&'a [u8]>,
+    kind: Option<Kind>,
+) -> Result<(), Fault>
+    ensures rows { OnOk result
+        ((name : Name)
+        → row_named labels.new name
+        ≡ jumped_row (is_target (option_map (λ t. name_of t.now) target.entry) name) kind
+        (row_named labels.old name)) }
+    ensures memory { IsOkUnless result Fault.Memory }
+{
+    match target {
+        Some(name) => note_jump(labels, name, kind),
+        None => Ok(()),
+    }
+}

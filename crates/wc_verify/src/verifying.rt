@@ -1,0 +1,44 @@
+ghost use Rattle.std.specs.Prelude.{◌≡◌, None, IfOk};
+ghost use Rattle.wc_model.specs.Language.Faults.{body_fault};
+ghost use Rattle.wc_model.specs.Language.Judging.{Judges};
+ghost use Rattle.wc_model.specs.Language.Views.{text_view};
+ghost use Rattle.wc_declare.specs.StandsFor.{AreTables};
+ghost use Rattle.wc_verify.specs.CheckedTexts.{AreGiven, WasRead};
+
+use crate::bodies::judge_body;
+use crate::checked::Checked;
+use std::alloc::Global;
+use wc_declare::Tables;
+use wc_model::{Fault, Source};
+
+/// Judges the bodies of a text, unit by unit.
+fn judge_units<'a>(alloc: Global, source: &Source<'a>, tables: &Tables<'a>) -> Result<(), Fault>
+    ensures { AreTables tables.now (text_view source.now)
+        → Judges (body_fault (text_view source.now)) None result }
+{
+    for (number, unit) in source.units.iter().enumerate() {
+        if let Err(fault) = judge_body(alloc, tables, number, &unit.body) {
+            return Err(fault);
+        }
+    }
+    Ok(())
+}
+
+/// Verifies the bodies of a text that was read, by its tables: the text with its tables, or the first
+/// of the refusals 401 to 410, at its line. `Fault::Memory` where memory is refused.
+pub fn verify<'a>(
+    alloc: Global,
+    source: Source<'a>,
+    tables: Tables<'a>,
+) -> Result<Checked<'a>, Fault>
+    requires read { WasRead (text_view source) }
+    requires tables { AreGiven tables (text_view source) }
+    ensures source { IfOk result (λ checked. checked.source ≡ source.entry) }
+    ensures tables { IfOk result (λ checked. checked.tables ≡ tables.entry) }
+    ensures judged { Judges (body_fault (text_view source.entry)) None result }
+{
+    match judge_units(alloc, &source, &tables) {
+        Ok(()) => Ok(Checked { source, tables }),
+        Err(fault) => Err(fault),
+    }
+}
