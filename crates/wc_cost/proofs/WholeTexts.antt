@@ -1,0 +1,64 @@
+-- What the cost of a whole text gives.
+use Rattle.std.proofs.Common.{◌≡◌, ℕ, ◌-◌, List, [], ◌∷◌, ◌++◌, map, length, Result, Err, Vec, Global, refl, sym, ap, subst, ◌∙◌, arith}
+use Rattle.std.proofs.lemmas.List.{append-nil, length-map, length-reverse, reverse-reverse}
+use Rattle.std.specs.Prelude.{if◌then◌else◌, reverse}
+use Rattle.wc_declare.specs.Numbered.{IsUnit}
+use Rattle.wc_declare.specs.StandsFor.{AreTables, onto}
+use Rattle.wc_declare.specs.declared.kept.Tables.{Tables}
+use Rattle.wc_flat.proofs.Programs.{codes_length}
+use Rattle.wc_flat.proofs.Texts.{newest}
+use Rattle.wc_flat.specs.Contents.{frame_of_reversed, frame_of_text}
+use Rattle.wc_flat.specs.Laid.{AreLaid}
+use Rattle.wc_model.specs.Language.Frames.{frame_of}
+use Rattle.wc_model.specs.Language.Scopes.{Scope}
+use Rattle.wc_model.specs.Language.Store.{Path, program_frame, unit_places}
+use Rattle.wc_model.specs.Language.Tree.{ProgramUnit, Text}
+use Rattle.wc_model.specs.Language.Views.{text_view}
+use Rattle.wc_model.specs.Text.Grammar.{IsProgramLast}
+use Rattle.wc_model.specs.declared.fault.Fault.{Fault}
+use Rattle.wc_model.specs.declared.fault.Fault.TheVariants.{Refused, Memory}
+use Rattle.wc_model.specs.declared.source.Source.{Source}
+use Rattle.wc_soundness.proofs.Texts.{turned}
+use Rattle.wc_cost.proofs.TextUnits.{unit_at}
+use Rattle.wc_cost.specs.Costs.{IsCosted}
+use Rattle.wc_cost.specs.Faultless.{IsFaultless, LoadsUnits}
+use Rattle.wc_cost.specs.LoadedInside.{codes_of}
+use Rattle.wc_cost.specs.declared.laid.LaidUnit.{LaidUnit}
+
+-- what is said of a text is said of the same one
+pub of_same : (r : Result (Vec LaidUnit Global) Fault) (t tables : Tables) (s source : Source) → t ≡ tables → s ≡ source → (AreTables t (text_view s) → IsFaultless (text_view s) → LoadsUnits (text_view s) r) → AreTables tables (text_view source) → IsFaultless (text_view source) → LoadsUnits (text_view source) r
+of_same r t tables s source e f h =
+    subst (λ (x : Tables). AreTables x (text_view source) → IsFaultless (text_view source) → LoadsUnits (text_view source) r) e
+    (subst (λ (x : Source). AreTables t (text_view x) → IsFaultless (text_view x) → LoadsUnits (text_view x) r) f h)
+
+pub refused : (source : Source) (fault : Fault) → LoadsUnits (text_view source) (Err fault) → IsCosted (text_view source) source (Err fault)
+refused source (Refused number place) h = h
+refused source Memory h = h
+
+-- units turned round in front of others
+onto_reverse : (before units : List ProgramUnit) → onto before units ≡ reverse before ++ units
+onto_reverse [] units = refl
+onto_reverse (unit ∷ before) units = onto_reverse before (unit ∷ units) ∙ turned unit before units
+
+-- the last unit, and its frame
+pub record Last (text : Text) (n : ℕ) : Type 0 where
+  pub scope : Scope
+  pub is : IsUnit text n scope
+  pub frame : frame_of scope ≡ frame_of_text text
+
+pub last_unit : (text : Text) → IsProgramLast text → (n : ℕ) → n ≡ length text - 1 → Last text n
+last_unit text order n e =
+    let new = newest text [] order in
+    let are : reverse text ≡ new.program ∷ new.before = sym (append-nil (reverse text)) ∙ new.are in
+    let whole : onto new.before (new.program ∷ []) ≡ text = onto_reverse (new.program ∷ new.before) [] ∙ append-nil (reverse (new.program ∷ new.before)) ∙ ap reverse (sym are) ∙ reverse-reverse text in
+    let a = length-reverse text in
+    let b : length (reverse text) ≡ length (new.program ∷ new.before) = ap length are in
+    record {
+      scope = record { before = new.before; unit = new.program };
+      is = unit_at text new.before new.program [] n whole (omega (arith, e, a, b));
+      frame = ap (λ x. if x then map (λ p. (Path p.0, p.1)) (unit_places new.before new.program) else program_frame new.before new.program) new.no_block ∙ ap frame_of_reversed (sym are);
+    }
+
+-- as many units are laid as there are
+pub laid_count : (text : Text) (units : List LaidUnit) → AreLaid text (codes_of units) → length units ≡ length text
+laid_count text units h = sym (length-map units (λ (u : LaidUnit). u.code.items)) ∙ codes_length [] text (codes_of units) h

@@ -1,0 +1,38 @@
+use Rattle.std.proofs.Common.{◌<◌, ◌≤◌, List, length, refl, sym, subst, ◌∙◌, arith}
+use Rattle.std.proofs.lemmas.List.{length-map}
+use Rattle.std.proofs.lemmas.Option.{slice_get_read}
+use Rattle.wc_flat.specs.FlatPaths.{worst_of}
+use Rattle.wc_model.specs.Language.Views.{text_view}
+use Rattle.wc_model.specs.declared.code.Code.{Code}
+use Rattle.wc_cost.proofs.Going.{if_ok}
+use Rattle.wc_cost.proofs.WorstLines.{code_short, worst_stands}
+use Rattle.wc_cost.specs.LoadedInside.{bounds_of}
+use Rattle.wc_cost.specs.LoadedTexts.{AreWorstAt, LoadedText}
+use Rattle.wc_cost.specs.Ways.{AreSmall, AreWays}
+use Rattle.wc_cost.specs.declared.laid.LaidUnit.{LaidUnit}
+use Rattle.wc_cost.proofs.loaded.Loaded.worst_path.Goals as goal
+
+pub returns-in-Ok-clause-worst : goal.returns-in-Ok-clause-worst
+returns-in-Ok-clause-worst c =
+    let inside = c.self.inside in
+    let sound = c.self.invariant in
+    let units = inside.units.items in
+    let text = text_view inside.checked.source in
+    let unit = c.index-laid.result.now in
+    let within : c.args.unit < length units =
+    let l = subst (λ (v : LoadedText). c.args.unit < length v.codes) (sym c.self.view_is) c.requires in
+    let e = length-map units (λ (u : LaidUnit). u.code.items) in
+    omega (arith, l, e)
+    in
+    let there = slice_get_read units (length units) c.args.unit unit refl within c.index-laid.ensures in
+    let short = code_short sound.sound.read.0 text sound.sound.read.1 units sound.sound.laid c.args.unit unit there in
+    let ways = c.in-Ok.ensures.ways (subst (λ (us : List LaidUnit). AreSmall (bounds_of us)) (sym c.deref.ensures.value) sound.small) (subst (λ (l : List Code). length l ≤ 65536) (sym c.deref-2.ensures.value) short) in
+    let those : AreWays (bounds_of units) c.deref-in-Ok-2.result.now c.deref-in-Ok.result.now = λ sources.
+    c.deref-in-Ok.ensures.value ∙ ways sources
+    ∙ (λ i. Rattle.wc_cost.specs.Ways.steps_of (Rattle.wc_flat.specs.FlatPaths.worst_from (bounds_of (c.deref.ensures.value i)) ((c.deref-2.ensures.value ∙ sym c.deref-in-Ok-2.ensures.value) i) sources))
+    in
+    subst (λ (v : LoadedText). Rattle.std.specs.Prelude.IfOk c.worst_lines.result (λ lines. AreWorstAt (text_view v.source) c.args.unit lines.items)) c.self.view_is
+    (if_ok c.worst_lines.result
+    (λ lines e. worst_stands sound.sound.read.0 text sound.sound.read.1 units sound.sound.laid sound.bounds sound.lines c.args.unit unit there lines.items
+    (e (bounds_of units) those ∙ (λ i. (worst_of (bounds_of units) (c.deref-in-Ok-2.ensures.value i) (c.deref-in-Ok-3.ensures.value i)).lines)))
+    c.worst_lines.ensures.lines)

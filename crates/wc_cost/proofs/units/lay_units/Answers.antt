@@ -1,0 +1,77 @@
+use Rattle.std.proofs.Common.{◌≡◌, ◌+◌, ◌∷◌, [], List, Err, map, drop, refl, sym, subst, ap, ◌∙◌, arith}
+use Rattle.std.proofs.lemmas.List.{drop_all}
+use Rattle.wc_declare.specs.StandsFor.{AreTables, onto}
+use Rattle.wc_model.specs.Language.Scopes.{Scope}
+use Rattle.wc_model.specs.Language.Tree.{Text}
+use Rattle.wc_model.specs.Language.Views.{unit_view}
+use Rattle.wc_model.specs.declared.source.Unit.{Unit as CodeUnit}
+use Rattle.wc_cost.specs.Faultless.{AreLoaded, IsFaultless, IsMeasured, LoadsUnits, MeasuresUnit}
+use Rattle.wc_cost.specs.LoadedInside.{bounds_of}
+use Rattle.wc_cost.specs.Ways.{AreSmall}
+use Rattle.wc_cost.specs.declared.laid.LaidUnit.{LaidUnit}
+use Rattle.wc_cost.proofs.Lists.{from_index}
+use Rattle.wc_cost.proofs.Measured.{all_loaded, unit_refused}
+use Rattle.wc_cost.proofs.Measured.{bounds_small, measured_sound}
+use Rattle.wc_cost.proofs.TextUnits.{unit_at, unit_layable, unit_nests, unit_short}
+use Rattle.wc_cost.proofs.units.lay_units.Goals as goal
+
+pub loop-number-init : goal.loop-number-init
+loop-number-init c = ([], refl, refl, λ tables faultless. c.new-units.ensures.items)
+
+pub loop-number-preserved : goal.loop-number-preserved
+loop-number-preserved c =
+    let i = c.loop-number.number in
+    let items = c.deref-unit-items.result.now in
+    let text = map unit_view items in
+    let unit = unit_view c.unit-item.result in
+    let left = map unit_view (drop (i + 1) items) in
+    let cut = from_index items i c.unit-item.result c.loop-number-test.true c.unit-item.is in
+    let h = c.loop-number.invariant in
+    let split : onto h.0 (unit ∷ left) ≡ text = ap (λ (xs : List CodeUnit). onto h.0 (map unit_view xs)) (sym cut) ∙ h.1 in
+    let next = h.2 in (
+      unit ∷ h.0,
+      split,
+      omega (arith, next),
+      λ tables faultless.
+          let so_far = h.3 tables faultless in
+          let scope : Scope = record { before = h.0; unit = unit } in
+          let is = unit_at text h.0 unit left i split h.2 in
+          let measured = subst (λ (xs : List LaidUnit). IsMeasured (bounds_of xs) scope c.in-Ok.laid) c.deref.ensures.value
+          (c.in-Ok.ensures scope (record { text = text; tables_are = tables; unit_is = is }) refl (unit_layable text faultless i scope is) (unit_short text faultless i scope is)
+          (subst (λ (xs : List LaidUnit). AreSmall (bounds_of xs)) (sym c.deref.ensures.value) (bounds_small h.0 c.loop-number.units.items so_far)))
+          in
+          (c.loop-number.units.items, c.in-Ok.laid, c.in_default.ensures.items, measured_sound h.0 c.loop-number.units.items unit c.in-Ok.laid so_far (unit_nests text faultless i scope is) measured, so_far),
+    )
+
+pub returns-in-Err : goal.returns-in-Err
+returns-in-Err c = λ tables faultless.
+    let i = c.loop-number.number in
+    let items = c.deref-unit-items.result.now in
+    let text = map unit_view items in
+    let unit = unit_view c.unit-item.result in
+    let left = map unit_view (drop (i + 1) items) in
+    let same = ap (λ (xs : List CodeUnit). map unit_view xs) (sym c.deref-unit-items.ensures.value) in
+    let cut = from_index items i c.unit-item.result c.loop-number-test.true c.unit-item.is in
+    let h = c.loop-number.invariant in
+    let split : onto h.0 (unit ∷ left) ≡ text = ap (λ (xs : List CodeUnit). onto h.0 (map unit_view xs)) (sym cut) ∙ h.1 in
+    let those = subst (λ (t : Text). AreTables c.args.tables.now t) same tables in
+    let right = subst IsFaultless same faultless in
+    let so_far = h.3 those right in
+    let scope : Scope = record { before = h.0; unit = unit } in
+    let is = unit_at text h.0 unit left i split h.2 in
+    let judged = subst (λ (xs : List LaidUnit). MeasuresUnit (bounds_of xs) scope (Err c.in-Err.fault)) c.deref.ensures.value
+    (c.in-Err.ensures scope (record { text = text; tables_are = those; unit_is = is }) refl (unit_layable text right i scope is) (unit_short text right i scope is)
+    (subst (λ (xs : List LaidUnit). AreSmall (bounds_of xs)) (sym c.deref.ensures.value) (bounds_small h.0 c.loop-number.units.items so_far)))
+    in
+    subst (λ (t : Text). LoadsUnits t (Err c.in-Err.fault)) (sym same) (unit_refused text h.0 c.loop-number.units.items unit left c.in-Err.fault split so_far (unit_nests text right i scope is) judged)
+
+pub returns : goal.returns
+returns c = λ tables faultless.
+    let items = c.deref-unit-items.result.now in
+    let text = map unit_view items in
+    let same = ap (λ (xs : List CodeUnit). map unit_view xs) (sym c.deref-unit-items.ensures.value) in
+    let h = c.loop-number.invariant in
+    let end : drop c.loop-number.number items ≡ [] = drop_all c.loop-number.number items c.loop-number-test.false in
+    let split : onto h.0 [] ≡ text = ap (λ (xs : List CodeUnit). onto h.0 (map unit_view xs)) (sym end) ∙ h.1 in
+    subst (λ (t : Text). AreLoaded t c.loop-number.units.items) (sym same)
+    (all_loaded text h.0 c.loop-number.units.items split (h.3 (subst (λ (t : Text). AreTables c.args.tables.now t) same tables) (subst IsFaultless same faultless)))

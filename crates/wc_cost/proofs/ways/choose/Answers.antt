@@ -1,0 +1,12 @@
+use Rattle.std.proofs.Common.{sym, ◌∙◌}
+use Rattle.wc_flat.specs.FlatPaths.{from_line}
+use Rattle.wc_cost.proofs.WorstWays.{way_behind}
+use Rattle.wc_cost.proofs.ways.choose.Goals as goal
+
+pub returns-then-act : goal.returns-then-act
+returns-then-act c = λ rest are.
+    c.if-act.ensures (from_line rest c.args.acting) (from_line rest c.args.passing) (way_behind c.args.ways.now c.args.next rest are c.args.acting ∙ sym c.way_from.ensures) (way_behind c.args.ways.now c.args.next rest are c.args.passing ∙ sym c.way_from-2.ensures)
+
+pub returns-else-act : goal.returns-else-act
+returns-else-act c = λ rest are.
+    c.if-act.ensures (from_line rest c.args.acting) (from_line rest c.args.passing) (way_behind c.args.ways.now c.args.next rest are c.args.acting ∙ sym c.way_from.ensures) (way_behind c.args.ways.now c.args.next rest are c.args.passing ∙ sym c.way_from-2.ensures)

@@ -1,0 +1,11 @@
+use Rattle.std.proofs.Common.{◌≡◌, ℕ, ◌≤◌, List, drop, length}
+use Rattle.wc_flat.specs.FlatPaths.{worst_from}
+use Rattle.wc_cost.specs.LoadedInside.{bounds_of}
+use Rattle.wc_cost.specs.Ways.{AreSmall, steps_of}
+use Rattle.wc_cost.proofs.ways.ways.Given as goal
+
+-- the ways from the index on are there
+abbrev pub invariant-loop-index : goal.invariant-loop-index
+invariant-loop-index l =
+    (length l.ways.items ≡ length l.code)
+    × (AreSmall (bounds_of l.units) → length l.code ≤ 65536 → (sources : List ℕ) → drop l.index l.ways.items ≡ steps_of (worst_from (bounds_of l.units) (drop l.index l.code) (drop l.index sources)))

@@ -1,0 +1,55 @@
+-- A text that the passes before this one accept, and what this one says of it. (No rule of the language.)
+use Rattle.std.specs.Prelude.{◌≡◌, ℕ, ◌<◌, ◌≤◌, List, length, None, Some, Result, Ok, Err}
+use Rattle.std.proofs.Common.{Vec, Global}
+use Rattle.wc_flat.specs.FlatPaths.{sources_of, worst_of}
+use Rattle.wc_flat.specs.Laid.{AreLaid, IsLaid}
+use Rattle.wc_flat.specs.Laws.{AreBoundsBelow}
+use Rattle.wc_model.specs.Language.Faults.{MOST_STEPS, IsCostFault, body_fault, declaration_fault}
+use Rattle.wc_model.specs.Language.Scopes.{Scope}
+use Rattle.wc_model.specs.Language.Tree.{Text}
+use Rattle.wc_model.specs.declared.code.Code.{Code}
+use Rattle.wc_model.specs.declared.fault.Fault.{Fault}
+use Rattle.wc_model.specs.declared.fault.Fault.TheVariants.{Refused, Memory}
+use Rattle.wc_verify.specs.CheckedTexts.{WasRead}
+use Rattle.wc_cost.specs.LoadedInside.{AreLines, bounds_of, codes_of}
+use Rattle.wc_cost.specs.Ways.{AreSmall}
+use Rattle.wc_cost.specs.declared.laid.LaidUnit.{LaidUnit}
+
+-- it was read, and breaks no rule on declarations and bodies
+pub record IsFaultless (text : Text) : Type 0 where
+  pub read : WasRead text
+  pub declared : declaration_fault text ≡ None
+  pub sound : body_fault text ≡ None
+
+-- a unit is laid flat, and its bound is the length of its worst way
+pub record IsMeasured (bounds : List ℕ) (scope : Scope) (laid : LaidUnit) : Type 0 where
+  pub code : IsLaid scope scope.unit.body laid.code.items
+  pub lines : laid.lines.items ≡ sources_of scope.unit.body
+  pub bound : laid.bound ≡ (worst_of bounds laid.code.items (sources_of scope.unit.body)).steps
+  pub small : laid.bound ≤ MOST_STEPS
+
+-- or its worst way is too long
+pub record IsOverrun (bounds : List ℕ) (scope : Scope) (number place : ℕ) : Type 0 where
+  pub code : List Code
+  pub laid : IsLaid scope scope.unit.body code
+  pub long : MOST_STEPS < (worst_of bounds code (sources_of scope.unit.body)).steps
+  pub number_is : number ≡ 411
+  pub place_is : place ≡ scope.unit.line
+
+abbrev pub MeasuresUnit : List ℕ → Scope → Result LaidUnit Fault → Type 0
+MeasuresUnit bounds scope (Ok laid) = IsMeasured bounds scope laid
+MeasuresUnit bounds scope (Err (Refused number place)) = IsOverrun bounds scope number place
+MeasuresUnit bounds scope (Err Memory) = Unit {0}
+
+-- the units of a text are laid flat, and no path is too long
+pub record AreLoaded (text : Text) (units : List LaidUnit) : Type 0 where
+  pub laid : AreLaid text (codes_of units)
+  pub lines : AreLines text units
+  pub bounds : AreBoundsBelow text (codes_of units) (bounds_of units) (length units)
+  pub small : AreSmall (bounds_of units)
+  pub costs : IsCostFault text None
+
+abbrev pub LoadsUnits : Text → Result (Vec LaidUnit Global) Fault → Type 0
+LoadsUnits text (Ok units) = AreLoaded text units.items
+LoadsUnits text (Err (Refused number place)) = IsCostFault text (Some (record { number = number; line = place }))
+LoadsUnits text (Err Memory) = Unit {0}

@@ -1,0 +1,31 @@
+-- A text that every pass accepts, with its flat code. (No rule of the language.)
+use Rattle.std.specs.Prelude.{◌≡◌, ℕ, ◌-◌, List, length, None, Some, IfSome, slice_get}
+use Rattle.wc_flat.specs.Laid.{AreLaid}
+use Rattle.wc_model.specs.Language.Faults.{body_fault}
+use Rattle.wc_model.specs.Language.Frames.{scopes_of}
+use Rattle.wc_model.specs.Language.Scopes.{Scope}
+use Rattle.wc_model.specs.Language.Tree.{Text}
+use Rattle.wc_model.specs.Language.Views.{text_view}
+use Rattle.wc_model.specs.Language.WorstPaths.{AreWorstLines}
+use Rattle.wc_model.specs.declared.code.Code.{Code}
+use Rattle.wc_model.specs.declared.source.Source.{Source}
+use Rattle.wc_verify.specs.CheckedTexts.{WasRead}
+
+-- the text, and the flat codes of its units in text order
+pub record LoadedText : Type 0 where
+  pub source : Source
+  pub codes : List (List Code)
+
+-- the text was read, it breaks no rule on bodies, and the codes are its bodies laid flat
+pub record IsLoadedSound (loaded : LoadedText) : Type 0 where
+  pub read : WasRead (text_view loaded.source)
+  pub sound : body_fault (text_view loaded.source) ≡ None
+  pub laid : AreLaid (text_view loaded.source) loaded.codes
+
+-- these are the lines of the worst path of the unit of that number
+abbrev pub AreWorstAt : Text → ℕ → List ℕ → Type 0
+AreWorstAt text unit lines = IfSome (slice_get (scopes_of text) unit) (λ scope. AreWorstLines scope lines)
+
+-- a text's program is the last of its units
+abbrev pub IsProgramOf : Text → Scope → Type 0
+IsProgramOf text scope = slice_get (scopes_of text) (length text - 1) ≡ Some scope

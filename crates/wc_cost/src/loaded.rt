@@ -1,0 +1,117 @@
+ghost use Rattle.std.specs.Prelude.{◌≡◌, ◌<◌, Some, IfOk, IsOkUnless, length, option_map, slice_get};
+ghost use Rattle.wc_model.specs.Language.Frames.{first_numbers, number_of_path, slot_kinds};
+ghost use Rattle.wc_model.specs.Language.Scopes.{Scope};
+ghost use Rattle.wc_model.specs.Language.Views.{text_view};
+ghost use Rattle.wc_model.specs.Say.UnitReport.{IsBoundAt};
+ghost use Rattle.wc_flat.specs.Contents.{frame_of_text};
+ghost use Rattle.wc_cost.specs.LoadedTexts.{AreWorstAt, IsLoadedSound, IsProgramOf};
+
+use crate::laid::LaidUnit;
+use crate::path::worst_lines;
+use crate::ways::ways;
+use std::alloc::Global;
+use std::marker::Model;
+use wc_model::{Code, Fault, Path, Place, SlotKind};
+use wc_verify::Checked;
+
+/// A text that every pass accepts, with its flat code: what a machine runs.
+#[derive(Drop)]
+pub struct Loaded<'a> {
+    pub(crate) checked: Checked<'a>,
+    pub(crate) units: Vec<LaidUnit>,
+    pub(crate) kinds: Vec<SlotKind>,
+    pub(crate) initials: Vec<i64>,
+}
+
+impl<'a> Model for Loaded<'a> {
+    ghost use Rattle.std.specs.Coded.{codes};
+    ghost use Rattle.std.specs.Prelude.{[]};
+    ghost use Rattle.wc_model.specs.contracts.tree.Line as line;
+    ghost use Rattle.wc_cost.specs.LoadedTexts.{LoadedText};
+    ghost use Rattle.wc_cost.specs.LoadedInside.{loaded_view, AreFieldsSound};
+    ghost use mir.Syntax;
+
+    ghost Value = { LoadedText };
+
+    ghost coded = { Prim.hlevel (codes, (line.the_row (record { mir = Syntax.named 1; lft = [] })).coded) };
+
+    ghost view = { loaded_view };
+
+    ghost invariant = { AreFieldsSound };
+}
+
+impl<'a> Loaded<'a> {
+    /// How many units the text has. Units are counted in text order from 0; the program is the last.
+    pub fn units(&self) -> usize
+        ensures count { result ≡ length (text_view self.now.source) }
+        ensures codes { result ≡ length self.now.codes }
+        ensures sound { IsLoadedSound self.now }
+    {
+        self.units.len()
+    }
+
+    /// The name of a unit, as it is spelled.
+    pub fn name(&self, unit: usize) -> &'a [u8]
+        requires { unit < length self.now.codes }
+        ensures { option_map (λ u. u.spelled) (slice_get (text_view self.now.source) unit)
+            ≡ Some result.now }
+    {
+        self.checked.source().units[unit].name.text
+    }
+
+    /// The flat lines of a unit's body.
+    pub fn code(&self, unit: usize) -> &[Code]
+        requires { unit < length self.now.codes }
+        ensures { slice_get self.now.codes unit ≡ Some result.now }
+    {
+        self.units[unit].code.as_slice()
+    }
+
+    /// How many steps a unit takes at most: the length of its longest path.
+    pub fn bound(&self, unit: usize) -> u32
+        requires { unit < length self.now.codes }
+        ensures { IsBoundAt (text_view self.now.source) unit result }
+    {
+        self.units[unit].bound
+    }
+
+    /// The lines of a unit's own body on its worst path, in order: the one that goes on to the next
+    /// line of the text where ways are equally long. `Memory` is its only fault.
+    pub fn worst_path(&self, alloc: Global, unit: usize) -> Result<Vec<u32>, Fault>
+        requires { unit < length self.now.codes }
+        ensures worst { IfOk result
+            (λ lines. AreWorstAt (text_view self.now.source) unit lines.items) }
+        ensures memory { IsOkUnless result Fault.Memory }
+    {
+        let laid = &self.units[unit];
+        match ways(alloc, &self.units, &laid.code) {
+            Ok(ways) => worst_lines(alloc, &ways, &laid.code, &laid.lines),
+            Err(fault) => Err(fault),
+        }
+    }
+
+    /// The place that a path names in the program's frame. Fields of standard blocks that texts
+    /// cannot name go by `M`, `run`, `phase` and `start`.
+    pub fn place(&self, path: &Path<'_>) -> Option<Place>
+        ensures { (scope : Scope) → IsProgramOf (text_view self.now.source) scope
+            → option_map (λ p. p.0) result ≡ number_of_path scope path.now }
+    {
+        let units = &self.units;
+        let last = units.len().saturating_sub(1);
+        self.checked.tables().place(last, path)
+    }
+
+    /// The kinds of the places of the program's frame, in their order.
+    pub fn kinds(&self) -> &[SlotKind]
+        ensures { result.now ≡ slot_kinds (frame_of_text (text_view self.now.source)) }
+    {
+        self.kinds.as_slice()
+    }
+
+    /// What the places hold at first, in the same order: BOOL is 0 or 1, TIME is milliseconds.
+    pub fn initials(&self) -> &[i64]
+        ensures { result.now ≡ first_numbers (frame_of_text (text_view self.now.source)) }
+    {
+        self.initials.as_slice()
+    }
+}

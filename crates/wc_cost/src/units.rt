@@ -1,0 +1,101 @@
+ghost use Rattle.std.specs.Prelude.{◌≡◌, ℕ, ◌≤◌, List, IfOk, IsOkUnless, length};
+ghost use Rattle.wc_declare.specs.StandsFor.{AreTables};
+ghost use Rattle.wc_flat.specs.FlatPaths.{sources_of, worst_of};
+ghost use Rattle.wc_flat.specs.Laid.{IsLaid, flat_length};
+ghost use Rattle.wc_model.specs.Language.Scopes.{Scope};
+ghost use Rattle.wc_model.specs.Language.Views.{text_view, unit_view};
+ghost use Rattle.wc_cost.specs.Faultless.{IsFaultless, LoadsUnits, MeasuresUnit};
+ghost use Rattle.wc_cost.specs.Layable.{IsLayable};
+ghost use Rattle.wc_cost.specs.LoadedInside.{bounds_of};
+ghost use Rattle.wc_cost.specs.Ways.{AreSmall};
+ghost use Rattle.wc_verify.specs.Seeing.{IsScope};
+
+use crate::body::flat_body;
+use crate::laid::LaidUnit;
+use crate::ways::ways;
+use std::alloc::Global;
+use wc_declare::Tables;
+use wc_model::{Code, Fault, Source, Unit};
+
+/// The length of the worst way through a body.
+fn longest(alloc: Global, units: &[LaidUnit], code: &[Code]) -> Result<u64, Fault>
+    ensures longest { IfOk result
+        (λ steps. AreSmall (bounds_of units.now) → length code.now ≤ 65536 → (sources : List ℕ)
+        → steps ≡ (worst_of (bounds_of units.now) code.now sources).steps) }
+    ensures memory { IsOkUnless result Fault.Memory }
+{
+    let ways = match ways(alloc, units, code) {
+        Ok(ways) => ways,
+        Err(fault) => return Err(fault),
+    };
+    match ways.first() {
+        Some(way) => Ok(*way),
+        None => Ok(0),
+    }
+}
+
+/// A laid body with its bound, or 411 at the unit's line.
+fn bounded(code: Vec<Code>, lines: Vec<u32>, steps: u64, line: u32) -> Result<LaidUnit, Fault>
+    ensures { (bounds : List ℕ) (scope : Scope) → IsLaid scope scope.unit.body code.items
+        → lines.items ≡ sources_of scope.unit.body
+        → steps ≡ (worst_of bounds code.items (sources_of scope.unit.body)).steps
+        → line ≡ scope.unit.line → MeasuresUnit bounds scope result }
+{
+    if steps > 1000000 {
+        return Err(Fault::Refused {
+            number: 411,
+            place: line,
+        });
+    }
+    Ok(LaidUnit {
+        code,
+        lines,
+        bound: steps as u32,
+    })
+}
+
+/// A unit laid flat and measured behind those before it, or 411.
+fn lay_unit<'a>(
+    alloc: Global,
+    tables: &Tables<'a>,
+    number: usize,
+    unit: &Unit<'a>,
+    units: &[LaidUnit],
+) -> Result<LaidUnit, Fault>
+    ensures { (scope : Scope) → IsScope tables.now number scope → scope.unit ≡ unit_view unit.now
+        → IsLayable scope scope.unit.body → flat_length scope.unit.body ≤ 65536
+        → AreSmall (bounds_of units.now) → MeasuresUnit (bounds_of units.now) scope result }
+{
+    let flat = match flat_body(alloc, tables, number, &unit.body) {
+        Ok(flat) => flat,
+        Err(fault) => return Err(fault),
+    };
+    let (code, lines) = flat.into_lines();
+    match longest(alloc, units, &code) {
+        Ok(steps) => bounded(code, lines, steps, unit.line),
+        Err(fault) => Err(fault),
+    }
+}
+
+/// The units of a text laid flat and measured one after the other, or 411 at the first that is too
+/// long.
+pub(crate) fn lay_units<'a>(
+    alloc: Global,
+    tables: &Tables<'a>,
+    source: &Source<'a>,
+) -> Result<Vec<LaidUnit>, Fault>
+    ensures { AreTables tables.now (text_view source.now) → IsFaultless (text_view source.now)
+        → LoadsUnits (text_view source.now) result }
+{
+    let mut units = Vec::new(alloc);
+    for (number, unit) in source.units.iter().enumerate() {
+        let laid = match lay_unit(alloc, tables, number, unit, &units) {
+            Ok(laid) => laid,
+            Err(fault) => return Err(fault),
+        };
+        if let Err(_) = units.push(laid) {
+            return Err(Fault::Memory);
+        }
+    }
+    Ok(units)
+}

@@ -1,0 +1,106 @@
+ghost use Rattle.std.specs.Prelude.{◌≡◌, ℕ, ◌+◌, ◌≤◌, List, IfOk, IsOkUnless, if◌then◌else◌, length, slice_index};
+ghost use Rattle.wc_flat.specs.FlatPaths.{Worst, from_line, line_worst, turned};
+ghost use Rattle.wc_cost.specs.LoadedInside.{bounds_of};
+ghost use Rattle.wc_cost.specs.Ways.{AreBehind, AreSmall, AreWays, and_then, own_steps};
+
+use crate::laid::LaidUnit;
+use std::alloc::Global;
+use wc_model::{Code, Condition, Fault};
+
+/// The length of the way from the line of that number among those behind a place.
+fn way_from(ways: &[u64], next: usize, number: usize) -> u64
+    ensures { result ≡ slice_index ways.now (next + number) }
+{
+    let Some(at) = next.checked_add(number) else {
+        return 0;
+    };
+    match ways.get(at) {
+        Some(way) => *way,
+        None => 0,
+    }
+}
+
+/// Whether the way on which a conditional acts is the worst one; where it is no longer than the
+/// other, it is not.
+fn acts(condition: Condition, acting: u64, passing: u64) -> bool
+    ensures { (a p : Worst) → a.steps ≡ acting → p.steps ≡ passing
+        → turned condition a p ≡ (if result then a else p) }
+{
+    match condition {
+        Condition::Always => true,
+        Condition::IfTrue => passing < acting,
+        Condition::IfFalse => passing < acting,
+    }
+}
+
+/// How many lines the worst way of a conditional passes over: so many where it acts, so many where
+/// it goes on to the next line of the text.
+fn choose(ways: &[u64], next: usize, condition: Condition, acting: usize, passing: usize) -> usize
+    ensures { (rest : List Worst) → AreBehind ways.now next rest
+        → turned condition (from_line rest acting) (from_line rest passing)
+        ≡ from_line rest result }
+{
+    let act = acts(
+        condition,
+        way_from(ways, next, acting),
+        way_from(ways, next, passing),
+    );
+    if act { acting } else { passing }
+}
+
+/// How many of the lines behind a line its worst way passes over.
+pub(crate) fn passed(ways: &[u64], next: usize, line: &Code) -> usize
+    ensures { (bounds : List ℕ) (source : ℕ) (rest : List Worst) → AreBehind ways.now next rest
+        → line_worst bounds source rest line.now
+        ≡ and_then bounds source line.now (from_line rest result) }
+{
+    match line {
+        Code::Jump { condition, skip } => choose(ways, next, *condition, *skip as usize, 0),
+        Code::Return { condition } => choose(ways, next, *condition, ways.len(), 0),
+        Code::Call { condition, skip } => choose(ways, next, *condition, 0, *skip as usize),
+        _ => 0,
+    }
+}
+
+/// How many steps a line takes itself: what is called takes its unit's.
+fn cost(units: &[LaidUnit], line: &Code) -> u64
+    ensures { result ≡ own_steps (bounds_of units.now) line.now }
+{
+    let Code::Body { unit, .. } = line else {
+        return 1;
+    };
+    match units.get(usize::from(*unit)) {
+        Some(unit) => u64::from(unit.bound),
+        None => 0,
+    }
+}
+
+/// The length of the worst way from a line, from those behind it.
+fn way(units: &[LaidUnit], ways: &[u64], next: usize, line: &Code) -> u64
+    ensures { (source : ℕ) (rest : List Worst) → AreBehind ways.now next rest
+        → (line_worst (bounds_of units.now) source rest line.now).steps
+        ≤ 18446744073709551615
+        → result ≡ (line_worst (bounds_of units.now) source rest line.now).steps }
+{
+    let skip = passed(ways, next, line);
+    cost(units, line).saturating_add(way_from(ways, next, skip))
+}
+
+/// The length of the worst way from each flat line to the end of its body.
+pub(crate) fn ways(alloc: Global, units: &[LaidUnit], code: &[Code]) -> Result<Vec<u64>, Fault>
+    ensures ways { IfOk result
+        (λ ways. AreSmall (bounds_of units.now) → length code.now ≤ 65536
+        → AreWays (bounds_of units.now) code.now ways.items) }
+    ensures memory { IsOkUnless result Fault.Memory }
+{
+    let count = code.len();
+    let Ok(mut ways) = vec![in alloc; 0_u64; count] else {
+        return Err(Fault::Memory);
+    };
+    for index in (0..count).rev() {
+        if let Some(line) = code.get(index) {
+            ways[index] = way(units, &ways, index + 1, line);
+        }
+    }
+    Ok(ways)
+}
