@@ -1,0 +1,117 @@
+-- The first places of a program's frame, and the last of a text's units.
+use Rattle.std.proofs.Common.{◌≡◌, ℕ, zero, suc, ◌+◌, ◌<◌, ◌≤◌, Bool, true, false, ◌&&◌, List, [], ◌∷◌, ◌++◌, map, reverse, length, Some, ℤ, refl, ap, sym, ◌∙◌, subst, arith, append_assoc, length-append, ◌⊎◌, inl, inr}
+use Rattle.std.proofs.lemmas.List.{reverse-append, append-nil}
+use Rattle.std.specs.Prelude.{slice_get}
+use Rattle.wc_flat.proofs.Held.{below_next}
+use Rattle.wc_flat.proofs.Texts.{Newest, newest}
+use Rattle.wc_flat.specs.Contents.{frame_of_reversed, frame_of_text}
+use Rattle.wc_flat.specs.NumberBlocks.{is_slot}
+use Rattle.wc_machine.specs.Lines.{AreAll}
+use Rattle.wc_model.specs.Language.Checks.{Spot, spots_of, spots_behind}
+use Rattle.wc_model.specs.Language.DirectVariables.{direct_variables, kind_of_direct}
+use Rattle.wc_model.specs.Language.Frames.{slot_kinds, slot_kind_of}
+use Rattle.wc_model.specs.Language.Paths.{IsProgramBound, IsBoundOfLast}
+use Rattle.wc_model.specs.Language.Store.{Path, program_frame, unit_places, zero_of}
+use Rattle.wc_model.specs.Language.Tree.{ProgramUnit, Text}
+use Rattle.wc_model.specs.Say.UnitReport.{IsBoundAt}
+use Rattle.wc_model.specs.Text.Reading.{IsRead}
+use Rattle.wc_model.specs.declared.image.Outputs.{Outputs}
+use Rattle.wc_model.specs.declared.kind.SlotKind.{SlotKind}
+use Rattle.wc_model.specs.declared.kind.SlotKind.TheVariants as slots
+
+-- the slots of the directly represented variables
+abbrev direct_slots : List SlotKind
+direct_slots = map (λ v. slot_kind_of (zero_of (kind_of_direct v))) direct_variables
+
+-- a program's frame begins with them
+begins_with : (before : List ProgramUnit) (program : ProgramUnit) → (others : List SlotKind) × (slot_kinds (program_frame before program) ≡ direct_slots ++ others)
+begins_with before program = (slot_kinds (map (λ p. (Path p.0, p.1)) (unit_places before program)), refl)
+
+-- what stands in front is found in the whole
+found_in_front : {A : Type 0} (front rest : List A) (k : ℕ) → k < length front → slice_get (front ++ rest) k ≡ slice_get front k
+found_in_front [] rest k below = absurd (omega (arith, below))
+found_in_front (x ∷ xs) rest zero below = refl
+found_in_front (x ∷ xs) rest (suc k) below = found_in_front xs rest k (omega (arith, below))
+
+-- each of so many is of the kind, by a test
+abbrev every : SlotKind → List SlotKind → ℕ → ℕ → Bool
+every kind front first zero = true
+every kind front first (suc n) = is_slot kind (slice_get front (first + n)) && every kind front first n
+
+both_first : (a b : Bool) → (a && b) ≡ true → a ≡ true
+both_first true b e = refl
+both_first false b e = absurd (cc (e))
+
+both_second : (a b : Bool) → (a && b) ≡ true → b ≡ true
+both_second true b e = e
+both_second false b e = absurd (cc (e))
+
+each_is : (kind : SlotKind) (front : List SlotKind) (first count : ℕ) → every kind front first count ≡ true → (i : ℕ) → i < count → is_slot kind (slice_get front (first + i)) ≡ true
+each_is kind front first zero e i below = absurd (omega (arith, below))
+each_is kind front first (suc n) e i below = by_next (below_next n i below) (λ h. each_is kind front first n (both_second (is_slot kind (slice_get front (first + n))) (every kind front first n) e) i h)
+  where
+    by_next : (i < n) ⊎ (i ≡ n) → (i < n → is_slot kind (slice_get front (first + i)) ≡ true) → is_slot kind (slice_get front (first + i)) ≡ true
+    by_next (inl h) onward = onward h
+    by_next (inr same) onward = subst (λ k. is_slot kind (slice_get front (first + k)) ≡ true) (sym same) (both_first (is_slot kind (slice_get front (first + n))) (every kind front first n) e)
+
+all_in_front : (kind : SlotKind) (front rest : List SlotKind) (first count : ℕ) → every kind front first count ≡ true → first + count ≤ length front → AreAll kind (front ++ rest) first count
+all_in_front kind front rest first count e within i below =
+    subst (λ o. is_slot kind o ≡ true) (sym (found_in_front front rest (first + i) (omega (arith, within, below)))) (each_is kind front first count e i below)
+
+-- the slots of inputs, weights and outputs
+pub record AreFirst (kinds : List SlotKind) : Type 0 where
+  pub inputs : AreAll slots.Bool kinds 0 22
+  pub weights : AreAll slots.Dint kinds 22 3
+  pub bits : AreAll slots.Bool kinds 25 16
+  pub words : AreAll slots.Dint kinds 41 4
+  pub many : 45 ≤ length kinds
+
+first_in_front : (rest : List SlotKind) → AreFirst (direct_slots ++ rest)
+first_in_front rest = record {
+  inputs = all_in_front slots.Bool direct_slots rest 0 22 refl (omega arith);
+  weights = all_in_front slots.Dint direct_slots rest 22 3 refl (omega arith);
+  bits = all_in_front slots.Bool direct_slots rest 25 16 refl (omega arith);
+  words = all_in_front slots.Dint direct_slots rest 41 4 refl (omega arith);
+  many = omega (arith, length-append direct_slots rest);
+}
+
+-- a text that is read ends with a program
+pub ends_with_program : (bytes : List ℕ) (text : Text) → IsRead bytes text → Newest (reverse text)
+ends_with_program bytes text read = subst Newest (append-nil (reverse text)) (newest text [] read.spelled.order)
+
+pub first_places : (bytes : List ℕ) (text : Text) → IsRead bytes text → AreFirst (slot_kinds (frame_of_text text))
+first_places bytes text read =
+    let new = ends_with_program bytes text read in
+    let begun = begins_with new.before new.program in
+    subst (λ units. AreFirst (slot_kinds (frame_of_reversed units))) (sym new.are) (subst AreFirst (sym begun.1) (first_in_front begun.0))
+
+-- the last of the spots of a list
+record LastSpot {X : Type 0} (before : List X) (x : X) (xs : List X) : Type 0 where
+  spot : Spot X
+  is : slice_get (spots_behind before (x ∷ xs)) (length xs) ≡ Some spot
+  reversed : reverse (x ∷ xs) ++ before ≡ spot.item ∷ spot.before
+
+last_spot : {X : Type 0} (before : List X) (x : X) (xs : List X) → LastSpot before x xs
+last_spot before x [] = record { spot = record { before = before; item = x; behind = [] }; is = refl; reversed = refl }
+last_spot before x (y ∷ ys) =
+    let inner = last_spot (x ∷ before) y ys in
+    record {
+      spot = inner.spot;
+      is = inner.is;
+      reversed = ap (λ zs. zs ++ before) (reverse-append (x ∷ []) (y ∷ ys)) ∙ append_assoc (reverse (y ∷ ys)) (x ∷ []) before ∙ inner.reversed;
+    }
+
+-- the bound of the last unit is the program's
+pub last_bound : (text : Text) (n bound : ℕ) → n + 1 ≡ length text → IsBoundAt text n bound → IsProgramBound text bound
+last_bound [] n bound e is = absurd (omega (arith, e))
+last_bound (x ∷ xs) n bound e is =
+    let last = last_spot [] x xs in
+    let here : n ≡ length xs = omega (arith, e) in
+    let found : slice_get (spots_of (x ∷ xs)) n ≡ Some last.spot = ap (λ k. slice_get (spots_of (x ∷ xs)) k) here ∙ last.is in
+    let units : reverse (x ∷ xs) ≡ last.spot.item ∷ last.spot.before = sym (append-nil (reverse (x ∷ xs))) ∙ last.reversed in
+    subst (λ us. IsBoundOfLast us bound) (sym units) (rw found at is)
+
+-- outputs are their bits and words
+pub same_outputs : (o : Outputs) (bits : ℕ) (words : List ℤ) → o.bits ≡ bits → o.words ≡ words → o ≡ record { bits = bits; words = words }
+same_outputs o bits words e f =
+    ap (λ b. let p : Outputs = record { bits = b; words = o.words } in p) e ∙ ap (λ w. let p : Outputs = record { bits = bits; words = w } in p) f

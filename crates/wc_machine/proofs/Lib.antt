@@ -1,0 +1,10 @@
+pub mod Quotients
+pub mod Moments
+pub mod BlockCalls
+pub mod BlockSlots
+pub mod Filling
+pub mod Lefts
+pub mod BodyLines
+pub mod Behind
+pub mod FirstPlaces
+pub mod Scanning

@@ -1,0 +1,35 @@
+-- A new machine stands for the store of the declarations.
+use Rattle.std.proofs.Common.{◌≡◌, ◌+◌, ◌-◌, length, ap, sym, ◌∙◌, subst, arith, rules}
+use Rattle.wc_flat.proofs.Images.{first_numbers_are_contents}
+use Rattle.wc_flat.specs.Contents.{frame_of_text, AreContents}
+use Rattle.wc_machine.proofs.FirstPlaces.{last_bound}
+use Rattle.wc_machine.proofs.Scanning.{has_a_unit}
+use Rattle.wc_machine.proofs.machine.Machine.new.Goals as goal
+use Rattle.wc_model.specs.Language.Scans.{initial_of}
+use Rattle.wc_model.specs.Language.Views.{text_view}
+use Rattle.wc_soundness.proofs.Places.{SameSlots-refl}
+
+-- the first numbers are those of the declarations' store
+first_held : (g : _) (c : goal.In-Ok g) → AreContents (frame_of_text (text_view c.args.loaded.source)) (initial_of (text_view c.args.loaded.source)) (g.S.Store.numbers c.in-Ok.store)
+first_held g c =
+    let text = text_view c.args.loaded.source in
+    subst (λ ns. AreContents (frame_of_text text) (initial_of text) ns) (sym (c.in-Ok.ensures.numbers ∙ c.initials.ensures)) (first_numbers_are_contents text)
+
+pub invariant_of-result : goal.invariant_of-result
+invariant_of-result g c =
+    let text = text_view c.args.loaded.source in
+    let sound = c.units-units.ensures.sound in
+    record {
+      sound = sound;
+      kinds_are = c.in-Ok.ensures.kinds ∙ c.kinds.ensures;
+      room = c.in-Ok.ensures.room;
+      held = (initial_of text, SameSlots-refl (initial_of text), first_held g c);
+      before = c.in-Ok.ensures.moments;
+      bounded = last_bound text (c.units-units.result - 1) c.bound-bound.result (omega (arith, c.units-units.ensures.count, has_a_unit sound.read.0 text sound.read.1)) c.bound-bound.ensures;
+      fits = search rules;
+    }
+
+pub returns-clause-stands : goal.returns-clause-stands
+returns-clause-stands g c =
+    let text = text_view c.args.loaded.source in
+    record { same_text = Rattle.std.proofs.Common.refl; slots = SameSlots-refl (initial_of text); contents = first_held g c }

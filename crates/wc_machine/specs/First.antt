@@ -1,0 +1,13 @@
+-- What a slot may hold before the first scan (the profile's own).
+use Rattle.std.specs.Prelude.{◌≡◌, ℤ, pos}
+use Rattle.wc_model.specs.Language.Frames.{IsInRange}
+use Rattle.wc_model.specs.declared.kind.SlotKind.{SlotKind}
+use Rattle.wc_model.specs.declared.kind.SlotKind.TheVariants as slots
+
+-- it is in the kind's range, and no timer has begun
+abbrev pub IsFirst : SlotKind → ℤ → Type 0
+IsFirst slots.Bool n = IsInRange slots.Bool n
+IsFirst slots.Dint n = IsInRange slots.Dint n
+IsFirst slots.Time n = IsInRange slots.Time n
+IsFirst slots.Moment n = n ≡ pos 0
+IsFirst slots.Phase n = IsInRange slots.Phase n

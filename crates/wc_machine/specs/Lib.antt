@@ -1,0 +1,4 @@
+pub mod Lines
+pub mod Running
+pub mod Machines
+pub mod First

@@ -1,0 +1,22 @@
+//! The machine that runs a text scan by scan: flat code over a store of plain numbers.
+#![tactic(auto)]
+
+mod body;
+mod ctu;
+mod fields;
+mod first;
+mod image;
+mod machine;
+mod operators;
+mod outputs;
+mod places;
+mod r_trig;
+mod results;
+mod sr;
+mod standard;
+mod step;
+mod tof;
+mod ton;
+mod written;
+
+pub use machine::Machine;

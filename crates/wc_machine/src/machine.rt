@@ -1,0 +1,108 @@
+ghost use Rattle.std.specs.Prelude.{◌≡◌, ◌≤◌, ◌<◌, ℕ, IfOk, IsOkUnless};
+ghost use Rattle.wc_machine.specs.Machines.{text_of, Leaves, StandsFor};
+ghost use Rattle.wc_model.specs.Language.Paths.{IsProgramBound};
+ghost use Rattle.wc_model.specs.Language.Scans.{initial_of, outputs_of, scan_of};
+ghost use Rattle.wc_model.specs.Language.Store.{Store as Contents};
+ghost use Rattle.wc_model.specs.Language.Tree.{Text};
+ghost use Rattle.wc_model.specs.Language.Views.{text_view};
+
+use crate::body::run;
+use crate::first::first_store;
+use crate::image::copy_image;
+use crate::outputs::outputs;
+use std::alloc::Global;
+use std::marker::Model;
+use wc_cost::Loaded;
+use wc_model::{Fault, Image, Outputs, Steps};
+use wc_store::Store;
+
+/// A machine: a loaded text that is run scan by scan over a store of plain numbers.
+#[derive(Drop)]
+pub struct Machine<'a, S: Store> {
+    loaded: Loaded<'a>,
+    store: S,
+    last: u64,
+    bound: u32,
+}
+
+impl<'a, S: Store> Model for Machine<'a, S> {
+    ghost use Rattle.std.specs.Coded.{codes};
+    ghost use Rattle.std.specs.Prelude.{[]};
+    ghost use Rattle.wc_machine.specs.Machines.{machine_view, IsMachineSound, MachineState};
+    ghost use Rattle.wc_model.specs.contracts.tree.Line as line;
+    ghost use mir.Syntax;
+
+    ghost Value = { MachineState };
+
+    ghost coded = { Prim.hlevel (codes, (line.the_row (record { mir = Syntax.named 1; lft = [] })).coded) };
+
+    ghost view = { λ a. machine_view a.loaded (S.numbers a.store) a.last };
+
+    ghost invariant = { λ a.
+        IsMachineSound a.loaded (S.slot_kinds a.store) (S.numbers a.store) a.last a.bound };
+}
+
+impl<'a, S: Store> Machine<'a, S> {
+    /// A machine at the store of the declarations, before its first scan. `Memory` is its only fault.
+    pub fn new(alloc: Global, loaded: Loaded<'a>) -> Result<Machine<'a, S>, Fault>
+        ensures stands { IfOk result
+            (λ machine.
+            StandsFor machine (text_view loaded.entry.source)
+            (initial_of (text_view loaded.entry.source))) }
+        ensures last { IfOk result (λ machine. machine.last ≡ 0) }
+        ensures memory { IsOkUnless result Fault.Memory }
+    {
+        let units = loaded.units();
+        let bound = loaded.bound(units - 1);
+        let store = match first_store(alloc, loaded.kinds(), loaded.initials()) {
+            Ok(store) => store,
+            Err(fault) => return Err(fault),
+        };
+        Ok(Machine {
+            loaded,
+            store,
+            last: 0,
+            bound,
+        })
+    }
+
+    /// One scan at a moment in milliseconds: the image goes to the inputs, the program's body is executed, and its
+    /// items are counted. It takes no memory.
+    pub fn scan(&mut self, now: u64, image: &Image) -> Steps
+        requires not_before { self.old.last ≤ now }
+        requires in_range { now ≤ 1099511627775 }
+        requires status { image.now.status < 64 }
+        ensures means { (text : Text) (store : Contents) → StandsFor self.old text store
+            → Leaves self.new text result.0 (scan_of text store image.now now) }
+        ensures last { self.new.last ≡ now }
+        ensures within { (n : ℕ) → IsProgramBound (text_of self.old) n → result.0 ≤ n }
+    {
+        copy_image(&mut self.store, image);
+        let program = self.loaded.units() - 1;
+        let steps = run(&self.loaded, &mut self.store, program, 0, now);
+        self.last = now;
+        Steps(steps)
+    }
+
+    /// What the last scan left at the outputs.
+    pub fn outputs(&self) -> Outputs
+        ensures { (text : Text) (store : Contents) → StandsFor self.now text store
+            → result ≡ outputs_of store }
+    {
+        outputs(&self.store)
+    }
+
+    /// The moment of the last scan in milliseconds, 0 before the first.
+    pub fn last(&self) -> u64
+        ensures { result ≡ self.now.last }
+    {
+        self.last
+    }
+
+    /// How many steps a scan takes at most: the length of the program's longest path.
+    pub fn bound(&self) -> u32
+        ensures { IsProgramBound (text_of self.now) result }
+    {
+        self.bound
+    }
+}

@@ -1,0 +1,62 @@
+ghost use Rattle.std.specs.Prelude.{◌≡◌, Some, IsSome};
+ghost use Rattle.wc_flat.specs.NumberOperators.{bit_of, combined};
+ghost use Rattle.wc_model.specs.Language.Frames.{bit_number};
+
+use wc_model::Operator;
+
+/// Whether a number that is 0 or 1 is 1.
+pub(crate) fn truth(number: i32) -> bool
+    requires { IsSome (bit_of number) }
+    ensures { bit_of number ≡ Some result }
+{
+    number == 1
+}
+
+/// FALSE as 0, TRUE as 1.
+pub(crate) fn bit(truth: bool) -> i32
+    ensures { result ≡ bit_number truth }
+{
+    i32::from(truth)
+}
+
+/// The quotient toward zero, in 32 bits.
+fn divided(a: i32, b: i32) -> i32
+    requires { IsSome (combined Operator.Div a b) }
+    ensures { combined Operator.Div a b ≡ Some result }
+{
+    a.wrapping_div(b)
+}
+
+/// What is left of a division toward zero.
+fn remainder(a: i32, b: i32) -> i32
+    requires { IsSome (combined Operator.Mod a b) }
+    ensures { combined Operator.Mod a b ≡ Some result }
+{
+    a.wrapping_rem(b)
+}
+
+/// `a operator b`.
+pub(crate) fn combined(operator: Operator, a: i32, b: i32) -> i32
+    requires { IsSome (combined operator a b) }
+    ensures { combined operator a b ≡ Some result }
+{
+    match operator {
+        Operator::And => bit(truth(a) & truth(b)),
+        Operator::Andn => bit(truth(a) & !truth(b)),
+        Operator::Or => bit(truth(a) | truth(b)),
+        Operator::Orn => bit(truth(a) | !truth(b)),
+        Operator::Xor => bit(truth(a) != truth(b)),
+        Operator::Xorn => bit(truth(a) == truth(b)),
+        Operator::Add => a.wrapping_add(b),
+        Operator::Sub => a.wrapping_sub(b),
+        Operator::Mul => a.wrapping_mul(b),
+        Operator::Div => divided(a, b),
+        Operator::Mod => remainder(a, b),
+        Operator::Gt => bit(a > b),
+        Operator::Ge => bit(a >= b),
+        Operator::Eq => bit(a == b),
+        Operator::Ne => bit(a != b),
+        Operator::Le => bit(a <= b),
+        Operator::Lt => bit(a < b),
+    }
+}
