@@ -3,7 +3,9 @@ use Rattle.std.proofs.Common.{◌≡◌, ◌<◌, ◌+◌, ℕ, suc, ℤ, List, 
 use Rattle.std.specs.Fmt.{signed_decimal}
 use Rattle.std.proofs.lemmas.List.{append_assoc, append-nil}
 use Rattle.std.proofs.Math.Seq.{take-suc}
+use Rattle.std.specs.Prelude.{decimal}
 use Rattle.wc_model.specs.Say.Report.{spaced_numbers}
+use Rattle.wc_model.specs.Say.UnitReport.{spaced_lines}
 
 -- numbers behind others
 spaced_behind : (front back : List ℤ) → spaced_numbers (front ++ back) ≡ spaced_numbers front ++ spaced_numbers back
@@ -18,3 +20,16 @@ one_more numbers n other within =
     let next : n + 1 ≡ suc n = omega arith in
     rw next (ap spaced_numbers (take-suc numbers n other within) ∙ spaced_behind (take n numbers) (get_or numbers n other ∷ [])
     ∙ ap (λ text. spaced_numbers (take n numbers) ++ 32 ∷ text) (append-nil (signed_decimal (get_or numbers n other))))
+
+-- the same of the numbers of lines
+lines_behind : (front back : List ℕ) → spaced_lines (front ++ back) ≡ spaced_lines front ++ spaced_lines back
+lines_behind [] back = refl
+lines_behind (n ∷ front) back =
+    ap (λ rest. 32 ∷ (decimal n ++ rest)) (lines_behind front back)
+    ∙ ap (λ rest. 32 ∷ rest) (sym (append_assoc (decimal n) (spaced_lines front) (spaced_lines back)))
+
+pub one_line_more : (lines : List ℕ) (n : ℕ) (other : ℕ) → n < length lines → spaced_lines (take (n + 1) lines) ≡ spaced_lines (take n lines) ++ 32 ∷ decimal (get_or lines n other)
+one_line_more lines n other within =
+    let next : n + 1 ≡ suc n = omega arith in
+    rw next (ap spaced_lines (take-suc lines n other within) ∙ lines_behind (take n lines) (get_or lines n other ∷ [])
+    ∙ ap (λ text. spaced_lines (take n lines) ++ 32 ∷ text) (append-nil (decimal (get_or lines n other))))

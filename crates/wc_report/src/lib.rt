@@ -6,4 +6,4 @@ mod lines;
 mod memory;
 mod numbers;
 
-pub use lines::{answer_line, refused_line, scan_line, unit_line};
+pub use lines::{answer_line, path_line, refused_line, scan_line, unit_line};

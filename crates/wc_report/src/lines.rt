@@ -1,11 +1,11 @@
 ghost use Rattle.std.specs.Prelude.{◌≡◌, IfOk, IsOkUnless};
 ghost use Rattle.wc_model.specs.Say.Job.{refused_text};
 ghost use Rattle.wc_model.specs.Say.Report.{AnswerLine, ScanLine, line_text};
-ghost use Rattle.wc_model.specs.Say.UnitReport.{unit_line};
+ghost use Rattle.wc_model.specs.Say.UnitReport.{path_line, unit_line};
 
 use crate::digits::{digits_of_bytes, digits_of_word};
 use crate::memory::or_memory;
-use crate::numbers::spaced;
+use crate::numbers::{spaced, spaced_lines};
 use std::alloc::Global;
 use wc_model::{Fault, Outputs, Steps};
 
@@ -55,4 +55,15 @@ pub fn unit_line(alloc: Global, name: &[u8], bound: u32) -> Result<Vec<u8>, Faul
     let cost = or_memory(format!(in alloc; " cost {bound}\n"))?;
     or_memory(text.extend_from_slice(cost.as_bytes()))?;
     Ok(text)
+}
+
+/// The line of a unit's worst path: `path`, and the numbers of its lines in order of execution, each after a space, with a
+/// line feed at the end. A path of no lines has no numbers. `Memory` is the only fault.
+pub fn path_line(alloc: Global, lines: &[u32]) -> Result<Vec<u8>, Fault>
+    ensures text { IfOk result (λ text. text.items ≡ path_line lines.now) }
+    ensures memory { IsOkUnless result Fault.Memory }
+{
+    let numbers = spaced_lines(alloc, lines)?;
+    let text = or_memory(format!(in alloc; "path{numbers}\n"))?;
+    Ok(text.into_bytes())
 }
