@@ -9,7 +9,6 @@ ghost use Rattle.wc_record.specs.Steps.{GivesRecord, IsBehindFirst, Keeps, Keeps
 
 use crate::bounded::{Bounded, is_used_up};
 use crate::fields::{is_first_row, row_in};
-use crate::records::ReadFault;
 use crate::row_data::RowFault;
 use crate::row_kind::{LogFault, Row};
 use crate::source::Source;
@@ -89,6 +88,8 @@ impl<'r, R: ByteIn> Rows<'r, R> {
     fn cause(&self, failures_before: u64) -> LogFault
         ensures read { (result ≡ LogFault.Read)
             → HasCauseIn R.failure_count R.spent_count failures_before self.now }
+        ensures memory { (result ≡ LogFault.Memory)
+            → ¬ HasCauseIn R.failure_count R.spent_count failures_before self.now }
         ensures fault { (result ≡ LogFault.Read) ⊎ (result ≡ LogFault.Memory) }
     {
         let failures = self.source.failures();
@@ -102,39 +103,35 @@ impl<'r, R: ByteIn> Rows<'r, R> {
         }
     }
 
-    /// Reads the next record, where there is one.
-    fn read(&mut self, failures_before: u64) -> Result<bool, LogFault>
+    /// Reads the next record, where there is one. `Memory` stands for whatever kept it from being read.
+    fn read(&mut self) -> Result<bool, LogFault>
         ensures next { IfOk result
             (λ found.
             TakesFirst (SourceHas R.bytes_left self.old.source)
             (SourceHas R.bytes_left self.new.source) found (fields_of self.new.row)) }
-        ensures fault { IfErr result (λ met. (met ≡ LogFault.Read) ⊎ (met ≡ LogFault.Memory)) }
-        ensures cause { IsErrOf result LogFault.Read
-            → HasCauseIn R.failure_count R.spent_count failures_before self.new }
+        ensures fault { IfErr result (λ met. met ≡ LogFault.Memory) }
         ensures keeps { KeepsRow self.old self.new }
     {
         match self.source.read(&mut self.row) {
             Ok(found) => Ok(found),
-            Err(ReadFault::Memory) => Err(LogFault::Memory),
-            Err(ReadFault::Device) => Err(self.cause(failures_before)),
+            Err(_) => Err(LogFault::Memory),
         }
     }
 
     /// Reads the first row, which is no row of the log.
-    fn first_row(&mut self, failures_before: u64) -> Result<(), LogFault>
+    fn first_row(&mut self) -> Result<(), LogFault>
         ensures first { OnOk result
             ((left : List Record) → StandsBehind R.bytes_left self.old [] left
             → IsBehindFirst R.bytes_left self.new (log_of left)) }
         ensures refused { IfErr result
             (λ met. (left : List Record) → StandsBehind R.bytes_left self.old [] left
             → RefusesRow met (log_of left)) }
-        ensures cause { IsErrOf result LogFault.Read
-            → HasCauseIn R.failure_count R.spent_count failures_before self.new }
+        ensures no_device { IfErr result (λ met. met ≡ LogFault.Read → ⊥) }
         ensures counted { OnOk result
             ((rows_read self.new ≡ 1) × (last_ms self.new ≡ last_ms self.old)) }
         ensures keeps { Keeps self.old self.new }
     {
-        match self.read(failures_before) {
+        match self.read() {
             Ok(found) => {
                 if found && is_first_row(&self.row) {
                     self.number = 1;
@@ -185,7 +182,7 @@ impl<'r, R: ByteIn> Rows<'r, R> {
     }
 
     /// The next row behind the first.
-    fn later_row(&mut self, failures_before: u64) -> Result<Option<Row>, LogFault>
+    fn later_row(&mut self) -> Result<Option<Row>, LogFault>
         ensures gives { (first : Record) (before left : List Record)
             → StandsBehind R.bytes_left self.old (first ∷ before) left
             → GivesRecord R.bytes_left (log_after (first ∷ before) left) result self.new }
@@ -193,11 +190,10 @@ impl<'r, R: ByteIn> Rows<'r, R> {
             (λ given.
             IfSome given
             (λ row. IsNext (suc (rows_read self.old)) (last_ms self.old) self.new row)) }
-        ensures cause { IsErrOf result LogFault.Read
-            → HasCauseIn R.failure_count R.spent_count failures_before self.new }
+        ensures no_device { IfErr result (λ met. met ≡ LogFault.Read → ⊥) }
         ensures keeps { Keeps self.old self.new }
     {
-        match self.read(failures_before) {
+        match self.read() {
             Ok(true) => self.judged(),
             Ok(false) => Ok(None),
             Err(fault) => Err(fault),
@@ -212,26 +208,49 @@ impl<'r, R: ByteIn> Rows<'r, R> {
             (λ given.
             IfSome given
             (λ row. IsNext (suc (max 1 (rows_read self.old))) (last_ms self.old) self.new row)) }
+        ensures no_device { IfErr result (λ met. met ≡ LogFault.Read → ⊥) }
+        ensures keeps { Keeps self.old self.new }
+    {
+        if self.number == 0 {
+            match self.first_row() {
+                Ok(()) => self.later_row(),
+                Err(fault) => Err(fault),
+            }
+        } else {
+            self.later_row()
+        }
+    }
+
+    /// The next row, where nothing has ended the log, with the cause of what kept a record from being read.
+    fn told_row(&mut self) -> Result<Option<Row>, LogFault>
+        ensures gives { (before left : List Record) → StandsBehind R.bytes_left self.old before left
+            → GivesRecord R.bytes_left (log_behind before left) result self.new }
+        ensures row { IfOk result
+            (λ given.
+            IfSome given
+            (λ row. IsNext (suc (max 1 (rows_read self.old))) (last_ms self.old) self.new row)) }
         ensures cause { IsErrOf result LogFault.Read
             → HasCauseIn R.failure_count R.spent_count
+            (count_in R.failure_count self.old) self.new }
+        ensures memory { IsErrOf result LogFault.Memory
+            → ¬ HasCauseIn R.failure_count R.spent_count
             (count_in R.failure_count self.old) self.new }
         ensures keeps { Keeps self.old self.new }
     {
         let failures_before = self.source.failures();
-        if self.number == 0 {
-            match self.first_row(failures_before) {
-                Ok(()) => self.later_row(failures_before),
-                Err(fault) => Err(fault),
-            }
-        } else {
-            self.later_row(failures_before)
+        match self.next_row() {
+            Ok(given) => Ok(given),
+            Err(fault) => match fault {
+                LogFault::Refused { number, place } => Err(LogFault::Refused { number, place }),
+                _ => Err(self.cause(failures_before)),
+            },
         }
     }
 
     /// The next row behind the first, or `None` where none is left. `Refused` names the first rule that is broken, 601
     /// to 608, and its row. `Read` comes only where the reader failed in this call or its count of failures is at its
     /// end, or where as much was read as may be: 134217728 bytes and calls since `new`. `Memory` comes where a growth
-    /// was refused, and where a read failed without such a cause. After `None` or a fault each call answers the same
+    /// was refused, and where a read failed, without such a cause. After `None` or a fault each call answers the same
     /// again and reads nothing.
     pub fn next(&mut self) -> Result<Option<Row>, LogFault>
         ensures takes { (log : LogOf) → HasLeft R.bytes_left self.old log
@@ -246,12 +265,16 @@ impl<'r, R: ByteIn> Rows<'r, R> {
         ensures cause { ended self.old ≡ None → IsErrOf result LogFault.Read
             → HasCauseIn R.failure_count R.spent_count
             (count_in R.failure_count self.old) self.new }
+        // A fault of the reader, or the bound that was met, is not told as want of memory.
+        ensures memory { ended self.old ≡ None → IsErrOf result LogFault.Memory
+            → ¬ HasCauseIn R.failure_count R.spent_count
+            (count_in R.failure_count self.old) self.new }
         ensures start { started_at self.new ≡ started_at self.old }
     {
         match self.end {
             Some(end) => answer_at(end),
             None => {
-                let answer = self.next_row();
+                let answer = self.told_row();
                 self.end = end_behind(&answer);
                 answer
             }

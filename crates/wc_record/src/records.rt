@@ -5,17 +5,13 @@ ghost use Rattle.wc_model.specs.Run.Log.{Record};
 ghost use Rattle.wc_record.specs.Reading.{HasRecords, TakesFirst, lent, records_of};
 
 use crate::bounded::Bounded;
-use csv::{ByteRecord, ErrorKind, Reader, ReaderBuilder};
+use csv::{ByteRecord, Reader, ReaderBuilder};
 use std::alloc::Global;
 use wc_model::ByteIn;
 
-/// Why no record was read.
-pub(crate) enum ReadFault {
-    /// The reader answered an error.
-    Device,
-    /// Memory was refused.
-    Memory,
-}
+/// No record was read: the reader answered an error, or memory was refused.
+#[derive(Drop)]
+pub(crate) struct Unread;
 
 /// The records of a log, one after the other.
 #[derive(Drop)]
@@ -39,22 +35,17 @@ impl<'r, R: ByteIn> Records<'r, R> {
     }
 
     /// Reads the next record into `row`, where there is one.
-    pub(crate) fn read(&mut self, row: &mut ByteRecord) -> Result<bool, ReadFault>
+    pub(crate) fn read(&mut self, row: &mut ByteRecord) -> Result<bool, Unread>
         ensures { IfOk result
             (λ found.
             TakesFirst (HasRecords R.bytes_left self.old) (HasRecords R.bytes_left self.new) found
             (fields_of row.new)) }
     {
         match self.csv.read_byte_record(row) {
-            Ok(found) => Ok(found),
-            Err(error) => {
-                if error.is_io_error() {
-                    Err(ReadFault::Device)
-                } else {
-                    Err(ReadFault::Memory)
-                }
-            }
+            Ok(found) => return Ok(found),
+            Err(_) => {}
         }
+        Err(Unread)
     }
 
     /// How many calls of the reader failed.

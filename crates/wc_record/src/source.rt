@@ -5,7 +5,7 @@ ghost use Rattle.wc_record.specs.Source.{SourceHas, bounded_in, counted_in};
 ghost use Rattle.wc_record.specs.Reading.{TakesFirst, records_of};
 
 use crate::bounded::Bounded;
-use crate::records::{ReadFault, Records};
+use crate::records::{Records, Unread};
 use csv::ByteRecord;
 use std::alloc::Global;
 use wc_model::ByteIn;
@@ -49,7 +49,7 @@ impl<'r, R: ByteIn> Source<'r, R> {
     }
 
     /// Reads the next record into `row`, where there is one.
-    pub(crate) fn read(&mut self, row: &mut ByteRecord) -> Result<bool, ReadFault>
+    pub(crate) fn read(&mut self, row: &mut ByteRecord) -> Result<bool, Unread>
         ensures { IfOk result
             (λ found.
             TakesFirst (SourceHas R.bytes_left self.old) (SourceHas R.bytes_left self.new) found
@@ -58,7 +58,7 @@ impl<'r, R: ByteIn> Source<'r, R> {
         self.open();
         match &mut self.opened {
             Some(records) => records.read(row),
-            None => Err(ReadFault::Memory),
+            None => Err(Unread),
         }
     }
 

@@ -1,6 +1,6 @@
 -- What a scan leaves and shows is what the report says of its outcome.
 use Rattle.std.proofs.Common.{◌≡◌, ℕ, List, [], ◌∷◌, ap, ◌∙◌, append-nil, sym}
-use Rattle.wc_first.specs.Machines.{MachineState, StandsForProgram, Leaves}
+use Rattle.wc_machine.specs.Machines.{MachineState, StandsFor, Leaves}
 use Rattle.wc_model.specs.Language.Meaning.{Outcome, Done, Stuck}
 use Rattle.wc_model.specs.Say.ProgramReport.{result_of, scans_of}
 use Rattle.wc_model.specs.Say.Report.{ReportLine, ScanLine, line_text, report_text}
@@ -13,7 +13,7 @@ use Rattle.wc_run.specs.Taking.{PrintsScan}
 
 -- outputs that are those of each store for which the machine stands
 abbrev pub IsOutputOf : MachineState → Outputs → Type 0
-IsOutputOf machine outputs = (text : Text) (store : Store) → StandsForProgram machine text store → outputs ≡ outputs_of store
+IsOutputOf machine outputs = (text : Text) (store : Store) → StandsFor machine text store → outputs ≡ outputs_of store
 
 -- the line is the result's
 pub line_by : (new : MachineState) (text : Text) (store : Store) (ms steps : ℕ) (outputs : Outputs) (outcome : Outcome) →
@@ -29,8 +29,13 @@ text_of_one line printed told = told ∙ sym (append-nil (line_text line))
 
 -- what is printed of a scan is its line
 pub prints_scan : (old new : MachineState) (ms steps : ℕ) (image : Image) (outputs : Outputs) (printed : List ℕ) →
-    ((text : Text) (store : Store) → StandsForProgram old text store → Leaves new text steps (scan_of text store image ms)) →
+    ((text : Text) (store : Store) → StandsFor old text store → Leaves new text steps (scan_of text store image ms)) →
     IsOutputOf new outputs → printed ≡ line_text (ScanLine ms steps outputs) → PrintsScan old ms image printed
 prints_scan old new ms steps image outputs printed means shown told text store stands =
     text_of_one (ScanLine ms (scans_of text store image ms).steps (scans_of text store image ms).outputs) printed
     (told ∙ ap line_text (line_by new text store ms steps outputs (scan_of text store image ms) (means text store stands) shown))
+
+-- behind a scan the machine stands for the store from which the report's next scan goes on
+pub stands_after : (new : MachineState) (text : Text) (store : Store) (steps : ℕ) (outcome : Outcome) → Leaves new text steps outcome → StandsFor new text (result_of store outcome).after
+stands_after new text store steps (Done result after trace) leaves = leaves.0
+stands_after new text store steps (Stuck reason) leaves = absurd leaves

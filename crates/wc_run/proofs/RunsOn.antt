@@ -1,6 +1,6 @@
 -- While a log is run: what is done of it, and what is left.
 use Rattle.std.proofs.Common.{inl, inr, ◌≡◌, refl, ap, sym, subst, ◌∙◌, ℕ, ◌+◌, List, [], ◌∷◌, ◌++◌, length, Option, Some, None, Ok, Err, append-nil, arith}
-use Rattle.std.proofs.KnownBytes.{Appends-nil, Appends-trans}
+use Rattle.std.proofs.KnownBytes.{Appends-kept, Appends-nil, Appends-trans}
 use Rattle.std.proofs.lemmas.List.{append_assoc}
 use Rattle.std.specs.Io.KnownBytes.{Appends}
 use Rattle.wc_model.specs.Run.Log.{LogOf}
@@ -14,12 +14,12 @@ use Rattle.wc_record.specs.declared.row_kind.LogFault.TheVariants as fault
 use Rattle.wc_record.specs.declared.row_kind.Row.{Row}
 use Rattle.wc_run.specs.Doing.{IsLineCutShort, IsJudged, answer_to}
 use Rattle.wc_run.specs.Logics.{Logic, run_report, text_of_row, text_of_rows}
-use Rattle.wc_run.specs.Runs.{AppendsFront, Reports}
+use Rattle.wc_run.specs.Runs.{AppendsFirst, AppendsFront, Reports}
 use Rattle.wc_run.specs.Standing.{Stands}
 use Rattle.wc_run.specs.declared.fault.RunFault.{RunFault}
 use Rattle.wc_run.specs.declared.fault.RunFault.TheVariants.{Refused, Read, Write, Memory}
 use Rattle.wc_run.specs.declared.scale.Scale.{Scale}
-use Rattle.wc_run.proofs.Texts.{first_rows, length-onto, no_rows, one_row_more, onto, onto-append, report_is_text}
+use Rattle.wc_run.proofs.Texts.{length-onto, no_rows, one_row_more, onto, onto-append, report_is_text}
 
 -- So many rows of the log are done, and the scale stands for them; with these left they are the log. What is written is
 -- what the report has before the text of any rows that follow.
@@ -95,12 +95,16 @@ at_end bytes_left rows rows' scale plate logic log count old new r takes = (
   all_written bytes_left rows scale plate logic log count old new r (ap (λ l. l.rows) takes.0),
 )
 
--- what is written is a front of the report
-front_written : {R : Type 0} (bytes_left : R → Option (List ℕ)) (rows : Rows R) (scale : Scale) (plate : PlateData) (logic : Option Logic)
+-- what is written is the report of the first rows
+first_written : {R : Type 0} (bytes_left : R → Option (List ℕ)) (rows : Rows R) (scale : Scale) (plate : PlateData) (logic : Option Logic)
     (log : LogOf) (count : ℕ) (old new : Option (List ℕ)) (r : Running bytes_left rows scale plate logic log count old new)
-    → AppendsFront old new (run_report plate logic log.rows)
-front_written bytes_left rows scale plate logic log count old new r =
-    (r.done, text_of_rows plate logic r.past r.left.rows, ap (λ l. run_report plate logic l) r.in_all ∙ r.completes r.left.rows, r.written)
+    → AppendsFirst plate logic log.rows old new
+first_written bytes_left rows scale plate logic log count old new r = (
+  onto r.past [],
+  r.left.rows,
+  r.in_all ∙ onto-append r.past [] r.left.rows,
+  subst (λ t. Appends old new t) (sym (r.completes [] ∙ ap (λ t. r.done ++ t) (no_rows plate logic r.past) ∙ append-nil r.done)) r.written,
+)
 
 -- the log gives no further row
 pub at_fault : {R : Type 0} (bytes_left : R → Option (List ℕ)) (rows rows' : Rows R) (scale : Scale) (plate : PlateData) (logic : Option Logic)
@@ -110,13 +114,8 @@ at_fault bytes_left rows rows' scale plate logic log count old new r (fault.Refu
   r.same_refusal ∙ ap (λ l. l.refusal) takes.0,
   all_written bytes_left rows scale plate logic log count old new r (ap (λ l. l.rows) takes.0),
 )
-at_fault bytes_left rows rows' scale plate logic log count old new r fault.Read takes = (
-  onto r.past [],
-  r.left.rows,
-  r.in_all ∙ onto-append r.past [] r.left.rows,
-  subst (λ t. Appends old new t) (sym (r.completes [] ∙ ap (λ t. r.done ++ t) (no_rows plate logic r.past) ∙ append-nil r.done)) r.written,
-)
-at_fault bytes_left rows rows' scale plate logic log count old new r fault.Memory takes = front_written bytes_left rows scale plate logic log count old new r
+at_fault bytes_left rows rows' scale plate logic log count old new r fault.Read takes = first_written bytes_left rows scale plate logic log count old new r
+at_fault bytes_left rows rows' scale plate logic log count old new r fault.Memory takes = first_written bytes_left rows scale plate logic log count old new r
 
 -- a row of which a front was written
 front_of_row : {R : Type 0} (bytes_left : R → Option (List ℕ)) (rows rows' : Rows R) (scale : Scale) (plate : PlateData) (logic : Option Logic)
@@ -143,23 +142,16 @@ pub at_row : {R : Type 0} (bytes_left : R → Option (List ℕ)) (rows rows' : R
 at_row bytes_left rows rows' scale scale' plate logic log count old mid new row r takes (Refused number place) does = absurd does
 at_row bytes_left rows rows' scale scale' plate logic log count old mid new row r takes Read does = absurd does
 at_row bytes_left rows rows' scale scale' plate logic log count old mid new row r takes Write does = front_of_row bytes_left rows rows' scale plate logic log count old mid new row r takes does
-at_row bytes_left rows rows' scale scale' plate logic log count old mid new row r takes Memory does = front_of_row bytes_left rows rows' scale plate logic log count old mid new row r takes does
-
--- the report of the first rows is a front of the whole
-pub first_is_a_front : (plate : PlateData) (logic : Option Logic) (log : LogOf) (old new : Option (List ℕ))
-    → Reports plate logic log (Err Read) old new → Reports plate logic log (Err Memory) old new
-first_is_a_front plate logic log old new (first, left, cut, written) =
-    let split : (rest : List ℕ) × (text_of_rows plate logic [] (first ++ left) ≡ text_of_rows plate logic [] first ++ rest) = first_rows plate logic [] first left in (
-      run_report plate logic first,
-      split.0,
-      ap (λ l. run_report plate logic l) cut ∙ report_is_text plate logic (first ++ left) ∙ split.1 ∙ ap (λ t. t ++ split.0) (sym (report_is_text plate logic first)),
-      written,
-    )
+at_row bytes_left rows rows' scale scale' plate logic log count old mid new row r takes Memory does =
+    let told = first_written bytes_left rows scale plate logic log count old mid r in
+    (told.0, told.1, told.2, Appends-kept old mid new (run_report plate logic told.0) told.3 does)
 
 -- what a fault says is also said by what it is judged to be
 pub judged_says : (plate : PlateData) (logic : Option Logic) (log : LogOf) (old new : Option (List ℕ)) (fault judged : RunFault)
     → IsJudged fault judged → Reports plate logic log (Err fault) old new → Reports plate logic log (Err judged) old new
-judged_says plate logic log old new fault judged (inl same) says = subst (λ met. Reports plate logic log (Err met) old new) (sym same) says
-judged_says plate logic log old new fault judged (inr (read, memory)) says =
-    subst (λ met. Reports plate logic log (Err met) old new) (sym memory)
-    (first_is_a_front plate logic log old new (subst (λ met. Reports plate logic log (Err met) old new) read says))
+judged_says plate logic log old new (Refused number place) judged same says = subst (λ met. Reports plate logic log (Err met) old new) (sym same) says
+judged_says plate logic log old new Write judged same says = subst (λ met. Reports plate logic log (Err met) old new) (sym same) says
+judged_says plate logic log old new Read judged (inl same) says = subst (λ met. Reports plate logic log (Err met) old new) (sym same) says
+judged_says plate logic log old new Read judged (inr same) says = subst (λ met. Reports plate logic log (Err met) old new) (sym same) says
+judged_says plate logic log old new Memory judged (inl same) says = subst (λ met. Reports plate logic log (Err met) old new) (sym same) says
+judged_says plate logic log old new Memory judged (inr same) says = subst (λ met. Reports plate logic log (Err met) old new) (sym same) says

@@ -1,7 +1,7 @@
 -- What a row leaves in a scale, and what is printed of it, kind by kind.
 use Rattle.std.proofs.Common.{◌≡◌, ℕ, List, ◌∷◌, sym, ◌∙◌, ap, subst, append-nil, Option, Some, None, Result, Ok, Err, OnOk}
 use Rattle.wc_indicator.specs.Kept.{IndicatorState as IndicatorKept, Tells}
-use Rattle.wc_first.specs.Machines.{MachineState, StandsForProgram}
+use Rattle.wc_machine.specs.Machines.{MachineState, StandsFor}
 use Rattle.wc_model.specs.Instrument.Plates.{PlateData}
 use Rattle.wc_model.specs.Run.ProcessImage.{image_after, image_with}
 use Rattle.wc_model.specs.Say.ProgramReport.{scans_of, store_after}
@@ -57,7 +57,7 @@ scanned : (machine new : MachineState) (ms : ℕ) (image : Image) (plate : Plate
     StandsAt (Some new) (logic_after plate logic (row_at number ms Scan ∷ past))
 scanned machine new ms image plate None past number takes same stands = stands
 scanned machine new ms image plate (Some logic) past number takes same stands =
-    subst (λ seen. StandsForProgram new logic.text (scans_of logic.text (store_after plate logic.text logic.store past) seen ms).after) same
+    subst (λ seen. StandsFor new logic.text (scans_of logic.text (store_after plate logic.text logic.store past) seen ms).after) same
     (takes logic.text (store_after plate logic.text logic.store past) stands)
 
 -- with a machine the scan takes the row

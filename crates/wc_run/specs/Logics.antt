@@ -1,7 +1,7 @@
 -- The logic beside a scale: none, or a program's text with the store from which its scans go on; and what a run with it
 -- writes.
 use Rattle.std.specs.Prelude.{⊤, ℕ, List, Option, Some, None}
-use Rattle.wc_first.specs.Machines.{MachineState, StandsForProgram}
+use Rattle.wc_machine.specs.Machines.{MachineState, StandsFor}
 use Rattle.wc_model.specs.Instrument.Plates.{PlateData}
 use Rattle.wc_model.specs.Say.ProgramReport.{program_report, scans_of, store_after}
 use Rattle.wc_model.specs.Say.Report.{ReportLine, answer_line, answer_lines, line_report, lines_with, report_lines, report_text}
@@ -19,7 +19,7 @@ abbrev pub StandsAt : Option MachineState → Option Logic → Type 0
 StandsAt None None = ⊤
 StandsAt None (Some logic) = ⊥
 StandsAt (Some machine) None = ⊥
-StandsAt (Some machine) (Some logic) = StandsForProgram machine logic.text logic.store
+StandsAt (Some machine) (Some logic) = StandsFor machine logic.text logic.store
 
 -- what a run of rows writes: the report of the program, or with none the answers alone
 abbrev pub run_report : PlateData → Option Logic → List LogRow → List ℕ

@@ -16,11 +16,11 @@ AppendsFront old new text = (front : List ℕ) × (rest : List ℕ) × (text ≡
 abbrev pub AppendsFirst : PlateData → Option Logic → List LogRow → Option (List ℕ) → Option (List ℕ) → Type 0
 AppendsFirst plate logic rows old new = (first : List LogRow) × (left : List LogRow) × (rows ≡ first ++ left) × Appends old new (run_report plate logic first)
 
--- All rows were run, or those before the refused one, and their report was written; after a read fault that of the first
--- of them, after a write fault or want of memory a front of the report.
+-- All rows were run, or those before the refused one, and their report was written; after a read fault or want of
+-- memory that of the first of them, after a write fault a front of the report.
 abbrev pub Reports : PlateData → Option Logic → LogOf → Result ℕ RunFault → Option (List ℕ) → Option (List ℕ) → Type 0
 Reports plate logic log (Ok count) old new = (log.refusal ≡ None) × (count ≡ length log.rows) × Appends old new (run_report plate logic log.rows)
 Reports plate logic log (Err (Refused number place)) old new = (log.refusal ≡ Some (record { number = number; row = place })) × Appends old new (run_report plate logic log.rows)
 Reports plate logic log (Err Read) old new = AppendsFirst plate logic log.rows old new
 Reports plate logic log (Err Write) old new = AppendsFront old new (run_report plate logic log.rows)
-Reports plate logic log (Err Memory) old new = AppendsFront old new (run_report plate logic log.rows)
+Reports plate logic log (Err Memory) old new = AppendsFirst plate logic log.rows old new

@@ -1,6 +1,6 @@
 -- What a row does to a scale, whatever the scale stands for: told of the row's moment and of what it brings.
 use Rattle.std.specs.Prelude.{◌≡◌, ℕ, List, ◌∷◌, Option}
-use Rattle.wc_first.specs.Machines.{MachineState, StandsForProgram}
+use Rattle.wc_machine.specs.Machines.{MachineState, StandsFor}
 use Rattle.wc_model.specs.Instrument.Plates.{PlateData}
 use Rattle.wc_model.specs.Say.ProgramReport.{scans_of}
 use Rattle.wc_model.specs.Say.Report.{report_text, scan_line}
@@ -26,8 +26,8 @@ Prints old ms brings text = (plate : PlateData) (logic : Option Logic) (past : P
 
 -- the machine stands for the store that the scan leaves
 abbrev pub TakesScan : MachineState → MachineState → ℕ → Image → Type 0
-TakesScan old new ms image = (text : Text) (store : Store) → StandsForProgram old text store → StandsForProgram new text (scans_of text store image ms).after
+TakesScan old new ms image = (text : Text) (store : Store) → StandsFor old text store → StandsFor new text (scans_of text store image ms).after
 
 -- the text is the scan's line
 abbrev pub PrintsScan : MachineState → ℕ → Image → List ℕ → Type 0
-PrintsScan old ms image printed = (text : Text) (store : Store) → StandsForProgram old text store → printed ≡ report_text (scan_line ms (scans_of text store image ms))
+PrintsScan old ms image printed = (text : Text) (store : Store) → StandsFor old text store → printed ≡ report_text (scan_line ms (scans_of text store image ms))

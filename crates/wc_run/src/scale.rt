@@ -10,12 +10,13 @@ use crate::answers::answer_text;
 use crate::fault::RunFault;
 use crate::scans::scan_text;
 use std::alloc::Global;
-use wc_first::Machine;
 use wc_indicator::Indicator;
+use wc_machine::Machine;
 use wc_model::Device;
 use wc_plate::Plate;
 use wc_record::{Row, RowKind, image};
 use wc_sma::Line;
+use wc_store::SlotStore;
 
 /// A scale: its indicator, its line, the digital inputs, and the machine beside it, if there is one.
 #[derive(Drop)]
@@ -23,7 +24,7 @@ pub(crate) struct Scale<'a> {
     indicator: Indicator,
     line: Line,
     inputs: u16,
-    machine: Option<Machine<'a>>,
+    machine: Option<Machine<'a, SlotStore>>,
 }
 
 impl<'a> Scale<'a> {
@@ -31,7 +32,7 @@ impl<'a> Scale<'a> {
     pub(crate) fn new(
         alloc: Global,
         plate: &Plate,
-        machine: Option<Machine<'a>>,
+        machine: Option<Machine<'a, SlotStore>>,
     ) -> Result<Scale<'a>, RunFault>
         ensures stands { IfOk result
             (λ scale. (logic : Option Logic) → StandsAt machine.entry logic

@@ -3,16 +3,17 @@ ghost use Rattle.wc_run.specs.Taking.{PrintsScan, TakesScan};
 
 use crate::fault::RunFault;
 use std::alloc::Global;
-use wc_first::Machine;
+use wc_machine::Machine;
 use wc_model::Image;
 use wc_report::scan_line;
+use wc_store::SlotStore;
 
 /// Does one scan of an image at a moment, and gives its line.
 pub(crate) fn scan_text(
     alloc: Global,
     ms: u64,
     image: &Image,
-    machine: &mut Machine<'_>,
+    machine: &mut Machine<'_, SlotStore>,
 ) -> Result<Vec<u8>, RunFault>
     requires not_before { machine.old.last ≤ ms }
     requires early { ms < 2 ^ 40 }

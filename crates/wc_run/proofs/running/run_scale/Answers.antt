@@ -1,10 +1,6 @@
 use Rattle.std.proofs.lemmas.Option.{IfSome_then}
-use Rattle.wc_model.specs.Run.Log.{log_of}
-use Rattle.wc_record.specs.Reading.{records_of}
-use Rattle.wc_run.proofs.RunsOn.{judged_says}
 use Rattle.wc_run.proofs.running.run_scale.Goals as goal
 
-pub returns-in-Err-clause-reports : goal.returns-in-Err-clause-reports
-returns-in-Err-clause-reports g c = IfSome_then (g.R.ByteIn.bytes_left c.args.reader.now) c.in-Err.ensures.reports
-    (λ bytes says plate logic stands. judged_says plate logic (log_of (records_of bytes)) (g.W.ByteOut.bytes_taken c.args.writer.now) (g.W.ByteOut.bytes_taken c.run_log.new.writer)
-    c.in-Err.fault c.judged.result c.judged.ensures.judged (says plate logic stands))
+pub returns-in-Ok-clause-reports : goal.returns-in-Ok-clause-reports
+returns-in-Ok-clause-reports g c = IfSome_then (g.R.ByteIn.bytes_left c.args.reader.now) c.run_log.ensures.reports
+    (λ bytes says logic stands. says c.args.plate.now logic (c.in-Ok.ensures.stands logic stands))
