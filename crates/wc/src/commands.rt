@@ -4,18 +4,20 @@ use crate::files::{open, read_file, read_plate};
 use crate::stops::{Stopped, stop_at, stop_by};
 use crate::words::ProgramFiles;
 use wc_controller::{check, load, run};
-use wc_first::Machine;
+use wc_machine::Machine;
 use wc_model::ByteOut;
 use wc_plate::Plate;
+use wc_store::SlotStore;
 
-/// Writes the cost of each unit of a program.
+/// Writes the cost of each unit of a program, and its worst path where it is asked for.
 pub(crate) fn check_file<'a, W: ByteOut>(
     rt: &HostRuntime,
     program: &'a str,
+    paths: bool,
     writer: &mut W,
 ) -> Result<(), Stopped<'a>> {
     let text = read_file(rt, program)?;
-    match check(rt.alloc(), &text, writer) {
+    match check(rt.alloc(), &text, paths, writer) {
         Ok(()) => Ok(()),
         Err(fault) => Err(stop_at(program, fault)),
     }
@@ -25,7 +27,7 @@ pub(crate) fn check_file<'a, W: ByteOut>(
 fn run_log<'a, W: ByteOut>(
     rt: &HostRuntime,
     plate: &Plate,
-    machine: Option<Machine<'_>>,
+    machine: Option<Machine<'_, SlotStore>>,
     log: &'a str,
     writer: &mut W,
 ) -> Result<(), Stopped<'a>>

@@ -1,4 +1,4 @@
-use clap::{Arg, ArgMatches, Command, Error};
+use clap::{Arg, ArgAction, ArgMatches, Command, Error};
 use std::alloc::{AllocError, Global};
 
 /// The paths of a program and of the log that is run with it.
@@ -13,9 +13,10 @@ pub(crate) struct ProgramFiles<'a> {
 pub(crate) enum Wanted<'a> {
     /// No words: a job from standard input.
     Job,
-    /// The cost of each unit of a program.
+    /// The cost of each unit of a program, and its worst path where `paths` says so.
     Check {
         program: &'a str,
+        paths: bool,
     },
     /// A run of a log with a program.
     Run {
@@ -62,9 +63,14 @@ fn check_command<'a>(alloc: Global) -> Result<Command<'a>, AllocError> {
         .value_name("PROGRAM")
         .required(true)
         .help("The program text (Instruction List)");
+    let path = Arg::new(alloc, "path")
+        .long("path")
+        .action(ArgAction::SetTrue)
+        .help("Print the lines of a longest path behind each unit too");
     let command = Command::new(alloc, "check")
         .about("Load a program and print the greatest number of steps of each unit")
-        .arg(program)?;
+        .arg(program)?
+        .arg(path)?;
     Ok(command)
 }
 
@@ -111,6 +117,7 @@ fn wanted_by<'a>(word: &str, matches: &ArgMatches<'a>) -> Wanted<'a> {
     match word {
         "check" => Wanted::Check {
             program: file(matches, "program"),
+            paths: matches.get_flag("path"),
         },
         "run" => Wanted::Run {
             plate: file(matches, "plate"),

@@ -1,45 +1,35 @@
 -- Which answers are allowed, from the program to the whole job.
-use Rattle.std.proofs.Common.{◌≡◌, ℕ, ◌<◌, List, true, length, nat_lt, ap, sym, ◌∙◌, subst, inl, inr, arith}
+use Rattle.std.proofs.Common.{◌≡◌, ℕ, ◌<◌, List, true, length, nat_lt, ap, sym, ◌∙◌, subst, arith}
 use Rattle.std.proofs.lemmas.Bool.Decides.{nat_tests}
 use Rattle.std.specs.Prelude.{Option, Some, None, IfSome, Ok, Err, if◌then◌else◌}
 use Rattle.wc_controller.proofs.Givings.{gives_more}
-use Rattle.wc_controller.specs.Jobs.{Allows, as_defined, outside, AllowsProgram, AllowsSections, Gives}
-use Rattle.wc_controller.specs.Loads.{IsWhy, at_a_pass, at_the_language}
-use Rattle.wc_model.specs.Say.Job.{JobAnswer, AnswersPlate, AnswersSections, refuses_program, refusing}
+use Rattle.wc_controller.specs.Jobs.{Allows, AllowsSections, Gives}
+use Rattle.wc_model.specs.Say.Job.{JobAnswer, AnswersPlate, AnswersProgram, AnswersSections, refusing}
 use Rattle.wc_model.specs.Run.JobSections.{Sections, longest_job, sections_in, sections_of, sections_or_refusal, whole_lines}
-use Rattle.wc_model.specs.Run.Log.{LogOf, log_of}
+use Rattle.wc_model.specs.Run.Log.{log_of}
 use Rattle.wc_model.specs.Instrument.PlateTable.{plate_of}
 use Rattle.wc_model.specs.Instrument.Plates.{PlateData}
 use Rattle.wc_plate.specs.TomlTable.{table_read}
 use Rattle.wc_record.specs.Reading.{records_of}
 
--- a program that is not loaded
-pub program_refused : (plate : PlateData) (program : List ℕ) (log : LogOf) (number place : ℕ) → IsWhy program number place →
-    (answer : JobAnswer) → answer ≡ refusing number place → AllowsProgram plate program log answer
-program_refused plate program log number place (at_a_pass refused) answer e = inl (refuses_program number place refused e)
-program_refused plate program log number place (at_the_language text read left) answer e =
-    inr (record { text = text; number = number; line = place; read = read; left_at = left; refused = e })
-
 -- a plate that stands, and what is allowed of the program
 pub sections_run : (sections : Sections) (plate : PlateData) → plate_of (table_read sections.plate) ≡ Ok plate →
-    (answer : JobAnswer) → AllowsProgram plate sections.program (log_of (records_of sections.log)) answer → AllowsSections sections answer
-sections_run sections plate e answer (inl h) = inl (subst (λ judged. AnswersPlate records_of sections judged answer) (sym e) h)
-sections_run sections plate e answer (inr left) = inr (plate, e, left)
+    (answer : JobAnswer) → AnswersProgram plate sections.program (log_of (records_of sections.log)) answer → AllowsSections sections answer
+sections_run sections plate e answer h = subst (λ judged. AnswersPlate records_of sections judged answer) (sym e) h
 
 -- a plate that is refused
 pub plate_refused : (sections : Sections) (number place : ℕ) → plate_of (table_read sections.plate) ≡ Err number → place ≡ 0 →
     (answer : JobAnswer) → answer ≡ refusing number place → AllowsSections sections answer
 plate_refused sections number place e none answer a =
-    inl (subst (λ judged. AnswersPlate records_of sections judged answer) (sym e) (a ∙ ap (λ p. refusing number p) none))
+    subst (λ judged. AnswersPlate records_of sections judged answer) (sym e) (a ∙ ap (λ p. refusing number p) none)
 
 -- a job that has its sections
 pub job_run : (bytes : List ℕ) (sections : Sections) → Ok sections ≡ sections_of bytes → (answer : JobAnswer) → AllowsSections sections answer → Allows bytes answer
-job_run bytes sections e answer (inl h) = as_defined (subst (λ cut. AnswersSections table_read records_of cut answer) e h)
-job_run bytes sections e answer (inr left) = outside sections left.0 (sym e) left.1 left.2
+job_run bytes sections e answer h = subst (λ cut. AnswersSections table_read records_of cut answer) e h
 
 -- a job that has not
 pub job_refused : (bytes : List ℕ) (number : ℕ) → Err number ≡ sections_of bytes → (answer : JobAnswer) → answer ≡ refusing number 0 → Allows bytes answer
-job_refused bytes number e answer a = as_defined (subst (λ cut. AnswersSections table_read records_of cut answer) e a)
+job_refused bytes number e answer a = subst (λ cut. AnswersSections table_read records_of cut answer) e a
 
 -- a job that is too long has no sections
 too_long : (bytes : List ℕ) → longest_job < length bytes → Err 702 ≡ sections_of bytes

@@ -116,4 +116,4 @@ module _ (plate : PlateData) (text : Text) (log : LogOf) (old new : Option (List
   front_told (Refused number place) told = whole_front old new report told.1
   front_told Read told = first_is_front told
   front_told Write told = told
-  front_told Memory told = told
+  front_told Memory told = first_is_front told

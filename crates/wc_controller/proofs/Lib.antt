@@ -1,4 +1,5 @@
 pub mod Endings
+pub mod LoadedTexts
 pub mod Refusals
 pub mod UnitReports
 pub mod Givings

@@ -1,31 +1,57 @@
 -- Why a text is not loaded, pass by pass.
-use Rattle.std.proofs.Common.{ℕ, List, inl, inr}
-use Rattle.wc_controller.specs.Loads.{IsRefusedLoad, IsWhy, at_a_pass, at_the_language}
-use Rattle.wc_first.specs.Passes as machine
-use Rattle.wc_first.specs.Passes.{Refuses}
+use Rattle.std.proofs.Common.{◌≡◌, ℕ, List, None, Result, Ok, Err, sym, subst, inl, inr}
+use Rattle.wc_controller.specs.Loads.{IsRefusedLoad}
+use Rattle.wc_model.specs.Language.Faults.{body_fault, declaration_fault}
+use Rattle.wc_model.specs.Language.Judging.{Judges}
+use Rattle.std.specs.Prelude.{IfErr, IfOk}
+use Rattle.wc_controller.specs.Headline.{HasTheHeadline, IsTheHeadline}
+use Rattle.wc_cost.specs.Costs.{IsCosted}
+use Rattle.wc_cost.specs.LoadedTexts.{LoadedText}
+use Rattle.wc_model.specs.Instrument.Plates.{PlateData}
+use Rattle.wc_model.specs.Language.Views.{text_view}
+use Rattle.wc_model.specs.declared.source.Source.{Source}
 use Rattle.wc_model.specs.Language.Loading as loading
-use Rattle.wc_model.specs.Text.Reading.{IsRead}
+use Rattle.wc_model.specs.Language.Loading.{IsLoaded, IsRefused}
 use Rattle.wc_model.specs.Language.Tree.{Text}
+use Rattle.wc_model.specs.Text.Reading.{IsRead}
 use Rattle.wc_model.specs.declared.fault.Fault.{Fault}
 use Rattle.wc_model.specs.declared.fault.Fault.TheVariants.{Memory, Refused}
 use Rattle.wc_reader.specs.ReadTexts.{IsFirstOf, IsRefusedAs}
 
 -- a text that is not read
-first_of : (bytes : List ℕ) (number place : ℕ) → IsFirstOf bytes number place → IsWhy bytes number place
-first_of bytes number place (inl tokens) = at_a_pass (loading.at_tokens tokens)
-first_of bytes number place (inr k) = at_a_pass (loading.at_reading k.0 k.1 k.2)
+first_of : (bytes : List ℕ) (number place : ℕ) → IsFirstOf bytes number place → IsRefused bytes number place
+first_of bytes number place (inl tokens) = loading.at_tokens tokens
+first_of bytes number place (inr k) = loading.at_reading k.0 k.1 k.2
 
 pub not_read : (bytes : List ℕ) (fault : Fault) → IsRefusedAs bytes fault → IsRefusedLoad bytes fault
 not_read bytes (Refused number place) h = first_of bytes number place h.first
 not_read bytes Memory h = tt
 
--- a text that is read, and refused by a later pass
-later : (bytes : List ℕ) (text : Text) (number place : ℕ) → IsRead bytes text → machine.IsRefusedByFirst text number place → IsWhy bytes number place
-later bytes text number place r (machine.at_language e) = at_the_language text r e
-later bytes text number place r (machine.at_declarations l e) = at_a_pass (loading.at_declarations text r e)
-later bytes text number place r (machine.at_bodies l d e) = at_a_pass (loading.at_bodies text r d e)
-later bytes text number place r (machine.at_costs l d b e) = at_a_pass (loading.at_costs text r d b e)
+-- a text whose declarations are refused
+pub not_declared : (bytes : List ℕ) (text : Text) → IsRead bytes text → (X : Type 0) (fault : Fault) → Judges {X = X} (declaration_fault text) None (Err fault) → IsRefusedLoad bytes fault
+not_declared bytes text read X (Refused number place) h = loading.at_declarations text read h
+not_declared bytes text read X Memory h = tt
 
-pub not_accepted : (bytes : List ℕ) (text : Text) → IsRead bytes text → (fault : Fault) → Refuses text fault → IsRefusedLoad bytes fault
-not_accepted bytes text r (Refused number place) h = later bytes text number place r h
-not_accepted bytes text r Memory h = tt
+-- a text whose bodies are refused
+pub not_verified : (bytes : List ℕ) (text : Text) → IsRead bytes text → declaration_fault text ≡ None → (X : Type 0) (fault : Fault) → Judges {X = X} (body_fault text) None (Err fault) → IsRefusedLoad bytes fault
+not_verified bytes text read declared X (Refused number place) h = loading.at_bodies text read declared h
+not_verified bytes text read declared X Memory h = tt
+
+-- a text that is too long to run
+pub not_costed : (bytes : List ℕ) (text : Text) → IsRead bytes text → declaration_fault text ≡ None → body_fault text ≡ None → (source : Source) (result : Result LoadedText Fault) → IsCosted text source result → IfErr result (IsRefusedLoad bytes)
+not_costed bytes text read declared sound source (Ok loaded) h = tt
+not_costed bytes text read declared sound source (Err (Refused number place)) h = loading.at_costs text read declared sound h
+not_costed bytes text read declared sound source (Err Memory) h = tt
+
+-- a text that no pass refuses
+pub is_loaded : (bytes : List ℕ) (source : Source) → IsRead bytes (text_view source) → declaration_fault (text_view source) ≡ None → body_fault (text_view source) ≡ None → (result : Result LoadedText Fault) → IsCosted (text_view source) source result →
+    IfOk result (λ loaded. IsLoaded bytes (text_view loaded.source))
+is_loaded bytes source read declared sound (Ok loaded) h =
+    subst (λ (s : Source). IsLoaded bytes (text_view s)) (sym h.0) (record { read = read; declarations = declared; bodies = sound; costs = h.1 })
+is_loaded bytes source read declared sound (Err fault) h = tt
+
+-- and so the headline holds of it
+pub with_headline : (bytes : List ℕ) (result : Result LoadedText Fault) → IfOk result (λ loaded. IsLoaded bytes (text_view loaded.source)) → IsTheHeadline →
+    IfOk result (λ loaded. (plate : PlateData) → HasTheHeadline plate (text_view loaded.source))
+with_headline bytes (Ok loaded) h law = λ plate. law plate bytes (text_view loaded.source) h
+with_headline bytes (Err fault) h law = tt

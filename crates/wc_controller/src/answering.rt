@@ -1,10 +1,11 @@
 ghost use Rattle.std.specs.Prelude.{◌≡◌, ◌⊎◌, ◌+◌, IfSome};
-ghost use Rattle.wc_controller.specs.Jobs.{Allows, AllowsProgram, AllowsSections, Gives, IsStatus};
+ghost use Rattle.wc_controller.specs.Jobs.{Allows, AllowsSections, Gives, IsStatus};
 ghost use Rattle.wc_job.specs.Reads.{TakesAtMost};
 ghost use Rattle.wc_job.specs.Views.{sections_view};
 ghost use Rattle.wc_model.specs.Run.JobSections.{longest_job};
-ghost use Rattle.wc_first.specs.Machines.{StandsForProgram, text_by_itself};
-ghost use Rattle.wc_model.specs.Say.Job.{run_answer};
+ghost use Rattle.wc_machine.specs.Machines.{StandsFor};
+ghost use Rattle.wc_model.specs.Language.Views.{text_view};
+ghost use Rattle.wc_model.specs.Say.Job.{AnswersProgram, run_answer};
 ghost use Rattle.wc_model.specs.Run.Log.{log_of};
 ghost use Rattle.wc_model.specs.Language.Scans.{initial_of};
 ghost use Rattle.wc_model.specs.Language.Tree.{Text};
@@ -14,23 +15,24 @@ ghost use Rattle.wc_model.specs.Run.Writing.{HasFailedSince};
 use crate::loading::load;
 use crate::refusing::{DEVICE_FAULT, NO_MEMORY, SUCCESS, refuse};
 use std::alloc::Global;
-use wc_first::Machine;
-use wc_first::first::Loaded;
+use wc_cost::Loaded;
 use wc_job::{ReadFault, Sections, read_whole, sections};
+use wc_machine::Machine;
 use wc_model::{ByteIn, ByteOut, Device, Fault};
 use wc_plate::{Plate, plate};
 use wc_run::{RunFault, run};
+use wc_store::SlotStore;
 
 /// Runs a log with a machine before its first scan.
 fn run_log<W: ByteOut>(
     alloc: Global,
     plate: &Plate,
-    machine: Machine<'_>,
+    machine: Machine<'_, SlotStore>,
     log: &[u8],
     writer: &mut W,
 ) -> u8
     requires { machine.last ≡ 0 }
-    ensures gives { (text : Text) → StandsForProgram machine.entry text (initial_of text)
+    ensures gives { (text : Text) → StandsFor machine.entry text (initial_of text)
         → Gives (λ answer. answer ≡ run_answer plate.now text (log_of (records_of log.now))) result
         (W.bytes_taken writer.old) (W.bytes_taken writer.new) }
     ensures status { IsStatus result }
@@ -61,7 +63,7 @@ fn run_loaded<W: ByteOut>(
 ) -> u8
     ensures gives { Gives
         (λ answer.
-        answer ≡ run_answer plate.now (text_by_itself loaded.entry) (log_of (records_of log.now)))
+        answer ≡ run_answer plate.now (text_view loaded.entry.source) (log_of (records_of log.now)))
         result (W.bytes_taken writer.old) (W.bytes_taken writer.new) }
     ensures status { IsStatus result }
     ensures device { result ≡ 3
@@ -83,7 +85,7 @@ fn run_program<W: ByteOut>(
     log: &[u8],
     writer: &mut W,
 ) -> u8
-    ensures gives { Gives (AllowsProgram plate.now program.now (log_of (records_of log.now))) result
+    ensures gives { Gives (AnswersProgram plate.now program.now (log_of (records_of log.now))) result
         (W.bytes_taken writer.old) (W.bytes_taken writer.new) }
     ensures status { IsStatus result }
     ensures device { result ≡ 3

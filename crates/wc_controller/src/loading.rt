@@ -1,23 +1,36 @@
 ghost use Rattle.std.specs.Prelude.{IfErr, IfOk};
 ghost use Rattle.wc_controller.specs.Loads.{IsRefusedLoad};
-ghost use Rattle.wc_first.specs.Machines.{text_by_itself};
+ghost use Rattle.wc_model.specs.Language.Views.{text_view};
+ghost use Rattle.wc_controller.specs.Headline.{HasTheHeadline};
+ghost use Rattle.wc_model.specs.Instrument.Plates.{PlateData};
 ghost use Rattle.wc_model.specs.Language.Loading.{IsLoaded};
 
 use std::alloc::Global;
-use wc_first::first;
-use wc_first::first::Loaded;
+use wc_cost::{Loaded, cost};
+use wc_declare::tables;
 use wc_model::Fault;
 use wc_reader::read;
+use wc_verify::verify;
 
 /// Loads a program text in five passes: tokens, reading, declarations, bodies, cost. `Err(Refused)` has the number and the
-/// line of the first fault of the first pass that has one, by the list of refusals; behind reading, what the first
-/// language has not is refused before all else. `Err(Memory)` is want of memory.
+/// line of the first fault of the first pass that has one, by the list of refusals. `Err(Memory)` is want of memory. With what
+/// is loaded every scan ends, within the program's bound, and leaves the line as it is with no program.
 pub fn load<'a>(alloc: Global, text: &'a [u8]) -> Result<Loaded<'a>, Fault>
-    ensures loaded { IfOk result (λ loaded. IsLoaded text.now (text_by_itself loaded)) }
+    ensures loaded { IfOk result (λ loaded. IsLoaded text.now (text_view loaded.source)) }
+    ensures headline { IfOk result
+        (λ loaded. (plate : PlateData) → HasTheHeadline plate (text_view loaded.source)) }
     ensures refused { IfErr result (λ fault. IsRefusedLoad text.now fault) }
 {
-    match read(alloc, text) {
-        Ok(source) => first::load(alloc, source),
+    let source = match read(alloc, text) {
+        Ok(source) => source,
+        Err(fault) => return Err(fault),
+    };
+    let tables = match tables(alloc, &source) {
+        Ok(tables) => tables,
+        Err(fault) => return Err(fault),
+    };
+    match verify(alloc, source, tables) {
+        Ok(checked) => cost(alloc, checked),
         Err(fault) => Err(fault),
     }
 }

@@ -1,40 +1,84 @@
 ghost use Rattle.std.specs.Prelude.{◌≡◌, ◌<◌, ◌++◌, length, IfOk, OnOk, IsOkUnless};
-ghost use Rattle.wc_controller.specs.UnitLines.{IsLineAt};
-ghost use Rattle.wc_first.specs.Machines.{text_by_itself};
+ghost use Rattle.wc_controller.specs.UnitLines.{AreLinesAt, IsPathPartAt};
+ghost use Rattle.wc_model.specs.Language.Views.{text_view};
 ghost use Rattle.wc_model.specs.Say.UnitReport.{IsUnitReport};
 
 use std::alloc::Global;
-use wc_first::first::Loaded;
-use wc_report::unit_line;
+use wc_cost::Loaded;
+use wc_report::{path_line, unit_line};
 use wc_run::RunFault;
 
-/// The line of a unit by its place.
-fn line_at(alloc: Global, loaded: &Loaded<'_>, unit: usize) -> Result<Vec<u8>, RunFault>
-    requires { unit < length (text_by_itself loaded.now) }
-    ensures line { IfOk result (λ line. IsLineAt (text_by_itself loaded.now) unit line.items) }
+/// The line of the worst path of a unit by its place, where paths are asked for.
+fn path_at(
+    alloc: Global,
+    loaded: &Loaded<'_>,
+    paths: bool,
+    unit: usize,
+) -> Result<Vec<u8>, RunFault>
+    requires { unit < length loaded.now.codes }
+    ensures part { IfOk result
+        (λ part. IsPathPartAt paths (text_view loaded.now.source) unit part.items) }
     ensures memory { IsOkUnless result RunFault.Memory }
 {
-    match unit_line(alloc, loaded.name(unit), loaded.bound(unit)) {
+    if !paths {
+        return Ok(Vec::new(alloc));
+    }
+    let lines = match loaded.worst_path(alloc, unit) {
+        Ok(lines) => lines,
+        Err(_) => return Err(RunFault::Memory),
+    };
+    match path_line(alloc, &lines) {
         Ok(line) => Ok(line),
         Err(_) => Err(RunFault::Memory),
     }
 }
 
-/// The lines of all units, in the text's order. `Memory` is the only fault.
-pub(crate) fn unit_lines(alloc: Global, loaded: &Loaded<'_>) -> Result<Vec<u8>, RunFault>
-    ensures report { IfOk result (λ lines. IsUnitReport (text_by_itself loaded.now) lines.items) }
+/// The lines of a unit by its place.
+fn lines_at(
+    alloc: Global,
+    loaded: &Loaded<'_>,
+    paths: bool,
+    unit: usize,
+) -> Result<Vec<u8>, RunFault>
+    requires { unit < length loaded.now.codes }
+    ensures lines { IfOk result
+        (λ lines. AreLinesAt paths (text_view loaded.now.source) unit lines.items) }
     ensures memory { IsOkUnless result RunFault.Memory }
 {
-    let mut lines = Vec::new(alloc);
+    let mut lines = match unit_line(alloc, loaded.name(unit), loaded.bound(unit)) {
+        Ok(line) => line,
+        Err(_) => return Err(RunFault::Memory),
+    };
+    let path = match path_at(alloc, loaded, paths, unit) {
+        Ok(path) => path,
+        Err(fault) => return Err(fault),
+    };
+    match lines.extend_from_slice(&path) {
+        Ok(()) => Ok(lines),
+        Err(_) => Err(RunFault::Memory),
+    }
+}
+
+/// The lines of all units, in the text's order. `Memory` is the only fault.
+pub(crate) fn unit_lines(
+    alloc: Global,
+    loaded: &Loaded<'_>,
+    paths: bool,
+) -> Result<Vec<u8>, RunFault>
+    ensures report { IfOk result
+        (λ lines. IsUnitReport paths (text_view loaded.now.source) lines.items) }
+    ensures memory { IsOkUnless result RunFault.Memory }
+{
+    let mut report = Vec::new(alloc);
     for unit in 0..loaded.units() {
-        let line = match line_at(alloc, loaded, unit) {
-            Ok(line) => line,
+        let lines = match lines_at(alloc, loaded, paths, unit) {
+            Ok(lines) => lines,
             Err(fault) => return Err(fault),
         };
-        match lines.extend_from_slice(&line) {
+        match report.extend_from_slice(&lines) {
             Ok(()) => {}
             Err(_) => return Err(RunFault::Memory),
         }
     }
-    Ok(lines)
+    Ok(report)
 }

@@ -1,8 +1,8 @@
 //! Declarations of texts: names, types, frames and places.
 use std::alloc::{AllocError, Global};
 use std::test::Fail;
-use wc_declare::{DeclaredType, Input, tables};
-use wc_model::{Fault, Kind, Path, Place, StandardBlock};
+use wc_declare::{DeclaredType, Entity, Input, Located, tables};
+use wc_model::{Fault, Kind, Operand, Path, Place, SlotKind, StandardBlock, Value, Word};
 use wc_reader::read;
 
 /// The number and the line of a text's refusal: 0 where there is none.
@@ -51,6 +51,50 @@ fn input(rt: HostRuntime, text: &[u8], declared: DeclaredType, name: &[u8]) -> O
     match tables(rt.alloc(), &source) {
         Ok(tables) => tables.input(declared, name),
         Err(_) => None,
+    }
+}
+
+/// What an operand names in a unit.
+fn entity(rt: HostRuntime, text: &[u8], unit: usize, operand: &Operand<'_>) -> Option<Entity> {
+    let source = match read(rt.alloc(), text) {
+        Ok(source) => source,
+        Err(_) => return None,
+    };
+    match tables(rt.alloc(), &source) {
+        Ok(tables) => tables.entity(unit, operand),
+        Err(_) => None,
+    }
+}
+
+/// The type of a variable of a unit, and where its places begin.
+fn variable(rt: HostRuntime, text: &[u8], unit: usize, name: &[u8]) -> Option<Located> {
+    let source = match read(rt.alloc(), text) {
+        Ok(source) => source,
+        Err(_) => return None,
+    };
+    match tables(rt.alloc(), &source) {
+        Ok(tables) => tables.variable(unit, name),
+        Err(_) => None,
+    }
+}
+
+/// The kind of a place of a unit's frame, and the number that it holds at first.
+fn slot(rt: HostRuntime, text: &[u8], unit: usize, place: usize) -> Option<(SlotKind, i64)> {
+    let source = match read(rt.alloc(), text) {
+        Ok(source) => source,
+        Err(_) => return None,
+    };
+    let tables = match tables(rt.alloc(), &source) {
+        Ok(tables) => tables,
+        Err(_) => return None,
+    };
+    let frame = match tables.frame(rt.alloc(), unit) {
+        Ok(frame) => frame,
+        Err(_) => return None,
+    };
+    match (frame.kinds.get(place), frame.initials.get(place)) {
+        (Some(kind), Some(number)) => Some((*kind, *number)),
+        _ => None,
     }
 }
 
@@ -245,4 +289,88 @@ fn inputs_have_places(rt: HostRuntime) {
     };
     assert_eq!(rt; input(rt, PLANT, DeclaredType::Block(0), b"Y"), Some(y));
     assert_eq!(rt; input(rt, PLANT, DeclaredType::Block(0), b"z"), None);
+}
+
+#[test]
+fn operands_name_places(rt: HostRuntime) {
+    let own = Entity {
+        kind: Some(Kind::Dint),
+        readable: true,
+        writable: true,
+        place: Some(Place(72)),
+    };
+    assert_eq!(rt; entity(rt, PLANT, 1, &Operand::Name(b"N")), Some(own));
+    let x = Operand::Field {
+        instance: b"two",
+        field: b"x",
+    };
+    let input = Entity {
+        kind: Some(Kind::Bool),
+        readable: false,
+        writable: true,
+        place: Some(Place(62)),
+    };
+    assert_eq!(rt; entity(rt, PLANT, 1, &x), Some(input));
+    let z = Operand::Field {
+        instance: b"ONE",
+        field: b"z",
+    };
+    let output = Entity {
+        kind: Some(Kind::Time),
+        readable: true,
+        writable: false,
+        place: Some(Place(54)),
+    };
+    assert_eq!(rt; entity(rt, PLANT, 1, &z), Some(output));
+    // An instance is there, but has no kind and no place: to load or store it is a fault of its kind.
+    let instance = Entity {
+        kind: None,
+        readable: true,
+        writable: true,
+        place: None,
+    };
+    assert_eq!(rt; entity(rt, PLANT, 1, &Operand::Name(b"t")), Some(instance));
+    let address = Word {
+        text: b"%ix0.3",
+        line: 1,
+    };
+    let bit = Entity {
+        kind: Some(Kind::Bool),
+        readable: true,
+        writable: false,
+        place: Some(Place(3)),
+    };
+    assert_eq!(rt; entity(rt, PLANT, 1, &Operand::Address(address)), Some(bit));
+    assert_eq!(rt; entity(rt, PLANT, 1, &Operand::Name(b"x")), None);
+}
+
+#[test]
+fn variables_begin_somewhere(rt: HostRuntime) {
+    let timer = Located {
+        declared: DeclaredType::Standard(StandardBlock::Ton),
+        first: 46,
+    };
+    assert_eq!(rt; variable(rt, PLANT, 1, b"T"), Some(timer));
+    let two = Located {
+        declared: DeclaredType::Block(0),
+        first: 62,
+    };
+    assert_eq!(rt; variable(rt, PLANT, 1, b"two"), Some(two));
+    assert_eq!(rt; variable(rt, PLANT, 0, b"two"), None);
+}
+
+#[test]
+fn frames_have_slots(rt: HostRuntime) {
+    assert_eq!(rt; slot(rt, PLANT, 1, 0), Some((SlotKind::Bool, 0)));
+    assert_eq!(rt; slot(rt, PLANT, 1, 24), Some((SlotKind::Dint, 0)));
+    assert_eq!(rt; slot(rt, PLANT, 1, 51), Some((SlotKind::Moment, 0)));
+    assert_eq!(rt; slot(rt, PLANT, 1, 72), Some((SlotKind::Dint, 5)));
+    assert_eq!(rt; slot(rt, PLANT, 1, 73), None);
+    assert_eq!(rt; slot(rt, PLANT, 0, 2), Some((SlotKind::Time, 0)));
+    let text =
+        b"PROGRAM P\nVAR a : BOOL := 1; b : TIME := T#-1s; c : BOOL := TRUE; d : TOF; END_VAR\nEND_PROGRAM";
+    assert_eq!(rt; slot(rt, text, 0, 45), Some((SlotKind::Bool, 1)));
+    assert_eq!(rt; slot(rt, text, 0, 46), Some((SlotKind::Time, -1000)));
+    assert_eq!(rt; slot(rt, text, 0, 47), Some((SlotKind::Bool, 1)));
+    assert_eq!(rt; slot(rt, text, 0, 52), Some((SlotKind::Phase, 0)));
 }

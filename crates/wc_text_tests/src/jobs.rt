@@ -2,8 +2,9 @@
 use std::alloc::Global;
 use std::test::Fail;
 use wc_controller::{RunFault, check, job, load, refuse};
-use wc_first::Machine;
+use wc_machine::Machine;
 use wc_model::{ByteOut, Device, Fault, FuseIn, FuseOut, Image};
+use wc_store::SlotStore;
 
 /// The first of the examples.
 const FIRST_JOB: &[u8] =
@@ -33,7 +34,7 @@ fn a_program_is_loaded_and_runs(rt: HostRuntime) {
         Ok(loaded) => {
             assert_eq!(rt; loaded.units(), 1);
             assert_eq!(rt; loaded.bound(0), 2);
-            match Machine::new(alloc, loaded) {
+            match Machine::<SlotStore>::new(alloc, loaded) {
                 Ok(mut machine) => {
                     let image = Image {
                         inputs: 1,
@@ -55,7 +56,7 @@ fn each_pass_refuses_its_faults(rt: HostRuntime) {
     assert!(rt; is_refused(rt, b"(* a (* b *)", 103, 1));
     assert!(rt; is_refused(rt, b"", 203, 1));
     assert!(rt; is_refused(rt, b"PROGRAM P\nLD %IX0.0\n", 202, 1));
-    assert!(rt; is_refused(rt, b"PROGRAM P\nLD 5\nEND_PROGRAM", 201, 2));
+    assert!(rt; is_refused(rt, b"PROGRAM P\nLD 5 6\nEND_PROGRAM", 201, 2));
     assert!(rt;
         is_refused(
             rt,
@@ -67,6 +68,16 @@ fn each_pass_refuses_its_faults(rt: HostRuntime) {
     assert!(rt; is_refused(rt, b"PROGRAM P\nLD x\nEND_PROGRAM", 401, 2));
     assert!(rt; is_refused(rt, b"PROGRAM P\nAND %IX0.0\nEND_PROGRAM", 403, 2));
     assert!(rt; is_refused(rt, b"PROGRAM P\nLD %IX0.0\nST %IX0.1\nEND_PROGRAM", 404, 3));
+    // In text order: a reserved name before an address, and a name that is declared twice before its type.
+    assert!(rt; is_refused(rt, b"PROGRAM R\nLD %Z\nEND_PROGRAM", 307, 1));
+    assert!(rt;
+        is_refused(
+            rt,
+            b"PROGRAM P\nVAR a, a : TON; END_VAR\nEND_PROGRAM",
+            301,
+            2
+        )
+    );
 }
 
 #[test]
@@ -145,15 +156,17 @@ fn a_reader_that_fails(rt: HostRuntime) -> Result<(), Fail> {
 fn units_are_checked(rt: HostRuntime) -> Result<(), Fail> {
     let mut out = Vec::new(rt.alloc());
     let mut writer = Device::new(&mut out);
-    assert!(rt; check(rt.alloc(), b"PROGRAM P\nEND_PROGRAM\n", &mut writer) == Ok(()));
+    assert!(rt; check(rt.alloc(), b"PROGRAM P\nEND_PROGRAM\n", false, &mut writer) == Ok(()));
     assert_eq!(rt; out.as_slice(), b"unit P cost 0\n".as_slice());
     let mut two = Vec::new(rt.alloc());
     let mut lines = Device::new(&mut two);
     let text = b"PROGRAM P\nLD %IX0.0\nST %QX0.0\nEND_PROGRAM\n";
-    assert!(rt; check(rt.alloc(), text, &mut lines) == Ok(()));
-    assert_eq!(rt; two.as_slice(), b"unit P cost 2\n".as_slice());
+    assert!(rt; check(rt.alloc(), text, true, &mut lines) == Ok(()));
+    assert_eq!(rt; two.as_slice(), b"unit P cost 2\npath 2 3\n".as_slice());
     let mut full = FuseOut::new(rt.alloc(), 0, 100)?;
-    assert!(rt; check(rt.alloc(), b"PROGRAM P\nEND_PROGRAM\n", &mut full) == Err(RunFault::Write));
+    assert!(rt;
+        check(rt.alloc(), b"PROGRAM P\nEND_PROGRAM\n", false, &mut full) == Err(RunFault::Write)
+    );
     Ok(())
 }
 
@@ -161,7 +174,12 @@ fn units_are_checked(rt: HostRuntime) -> Result<(), Fail> {
 fn a_refused_text_prints_nothing(rt: HostRuntime) -> Result<(), Fail> {
     let mut out = Vec::new(rt.alloc());
     let mut writer = Device::new(&mut out);
-    let answer = check(rt.alloc(), b"PROGRAM P\nLD x\nEND_PROGRAM\n", &mut writer);
+    let answer = check(
+        rt.alloc(),
+        b"PROGRAM P\nLD x\nEND_PROGRAM\n",
+        true,
+        &mut writer,
+    );
     assert!(rt;
         answer
             == Err(RunFault::Refused {

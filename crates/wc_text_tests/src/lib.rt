@@ -2,6 +2,10 @@
 #![tactic(auto)]
 
 #[cfg(test)]
+mod bodies;
+#[cfg(test)]
+mod costs;
+#[cfg(test)]
 mod declarations;
 #[cfg(test)]
 mod jobs;
