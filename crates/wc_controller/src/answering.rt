@@ -85,8 +85,8 @@ fn run_program<W: ByteOut>(
     log: &[u8],
     writer: &mut W,
 ) -> u8
-    ensures gives { Gives (AnswersProgram plate.now program.now (log_of (records_of log.now))) result
-        (W.bytes_taken writer.old) (W.bytes_taken writer.new) }
+    ensures gives { Gives (AnswersProgram plate.now program.now (log_of (records_of log.now)))
+        result (W.bytes_taken writer.old) (W.bytes_taken writer.new) }
     ensures status { IsStatus result }
     ensures device { result ≡ 3
         → HasFailedSince (W.failure_count writer.old) (W.failure_count writer.new) }

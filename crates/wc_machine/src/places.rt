@@ -60,8 +60,8 @@ pub(crate) fn put<S: Store>(
     requires room { length (S.slot_kinds store.old) ≤ 65536 }
     requires there { IsSome
         (stored base (S.slot_kinds store.old) (S.numbers store.old) storing place current) }
-    ensures numbers { stored base (S.slot_kinds store.old) (S.numbers store.old) storing place current
-        ≡ Some (S.numbers store.new) }
+    ensures numbers { stored base (S.slot_kinds store.old) (S.numbers store.old) storing place
+        current ≡ Some (S.numbers store.new) }
     ensures kinds { S.slot_kinds store.new ≡ S.slot_kinds store.old }
     ensures moments { (now : ℕ) → AreBefore now (S.slot_kinds store.old) (S.numbers store.old)
         → AreBefore now (S.slot_kinds store.new) (S.numbers store.new) }
