@@ -1,16 +1,40 @@
--- Which answers are allowed, from the program to the whole job.
-use Rattle.std.proofs.Common.{◌≡◌, ℕ, ◌<◌, List, true, length, nat_lt, ap, sym, ◌∙◌, subst, arith}
+-- Which answers are allowed, from the program to the whole job and to the files that a command names.
+use Rattle.std.proofs.Common.{◌≡◌, ℕ, ◌<◌, ◌≤◌, List, true, length, nat_lt, Result, Ok, Err, refl, ap, sym, ◌∙◌, subst, arith, inl, inr}
+use Rattle.std.proofs.KnownBytes.{Keeps-refl}
 use Rattle.std.proofs.lemmas.Bool.Decides.{nat_tests}
-use Rattle.std.specs.Prelude.{Option, Some, None, IfSome, Ok, Err, if◌then◌else◌}
-use Rattle.wc_controller.proofs.Givings.{gives_more}
-use Rattle.wc_controller.specs.Jobs.{Allows, AllowsSections, Gives}
-use Rattle.wc_model.specs.Say.Job.{JobAnswer, AnswersPlate, AnswersProgram, AnswersSections, refusing}
-use Rattle.wc_model.specs.Run.JobSections.{Sections, longest_job, sections_in, sections_of, sections_or_refusal, whole_lines}
-use Rattle.wc_model.specs.Run.Log.{log_of}
+use Rattle.std.specs.Prelude.{◌⊎◌, Option, Some, None, IfSome, if◌then◌else◌}
+use Rattle.wc_controller.proofs.Givings.{only_refused, upto_more}
+use Rattle.wc_controller.specs.Endings.{RefusesPlate, RefusesLength, WritesUpTo, run_fault_of}
+use Rattle.wc_controller.specs.Files.{AnswersFile, AnswersPlateFile, AnswersWithPlate, too_long, whole}
+use Rattle.wc_controller.specs.Jobs.{Allows, AllowsSections}
+use Rattle.wc_job.specs.Reads.{IsWhole}
 use Rattle.wc_model.specs.Instrument.PlateTable.{plate_of}
 use Rattle.wc_model.specs.Instrument.Plates.{PlateData}
+use Rattle.wc_model.specs.Run.JobSections.{Sections, longest_job, sections_in, sections_of, sections_or_refusal, whole_lines}
+use Rattle.wc_model.specs.Run.Log.{log_of}
+use Rattle.wc_model.specs.Say.Job.{JobAnswer, AnswersPlate, AnswersProgram, AnswersSections, refused_text, refusing}
+use Rattle.wc_model.specs.declared.fault.Fault.{Fault}
+use Rattle.wc_model.specs.declared.fault.Fault.TheVariants as fault
 use Rattle.wc_plate.specs.TomlTable.{table_read}
+use Rattle.wc_plate.specs.Verdict.{AgreesWith}
 use Rattle.wc_record.specs.Reading.{records_of}
+use Rattle.wc_run.specs.declared.fault.RunFault.{RunFault}
+use Rattle.wc_run.specs.declared.fault.RunFault.TheVariants.{Refused, Read, Write, Memory}
+
+-- what follows of what holds of a value holds of it too
+pub on_known : {A : Type 0} (known : Option A) (P Q : A → Type 0) → ((value : A) → P value → Q value) → IfSome known P → IfSome known Q
+on_known None P Q f h = tt
+on_known (Some value) P Q f h = f value h
+
+-- what holds of each value holds of one that is known
+pub on_each : {A : Type 0} (known : Option A) (P : A → Type 0) → ((value : A) → P value) → IfSome known P
+on_each None P f = tt
+on_each (Some value) P f = f value
+
+-- what holds of the bytes that were read holds of all that are known
+pub of_known : (known : Option (List ℕ)) (bytes : List ℕ) (P : List ℕ → Type 0) → IfSome known (λ all. bytes ≡ all) → P bytes → IfSome known P
+of_known None bytes P e h = tt
+of_known (Some all) bytes P e h = subst P e h
 
 -- a plate that stands, and what is allowed of the program
 pub sections_run : (sections : Sections) (plate : PlateData) → plate_of (table_read sections.plate) ≡ Ok plate →
@@ -18,31 +42,79 @@ pub sections_run : (sections : Sections) (plate : PlateData) → plate_of (table
 sections_run sections plate e answer h = subst (λ judged. AnswersPlate records_of sections judged answer) (sym e) h
 
 -- a plate that is refused
-pub plate_refused : (sections : Sections) (number place : ℕ) → plate_of (table_read sections.plate) ≡ Err number → place ≡ 0 →
-    (answer : JobAnswer) → answer ≡ refusing number place → AllowsSections sections answer
-plate_refused sections number place e none answer a =
-    subst (λ judged. AnswersPlate records_of sections judged answer) (sym e) (a ∙ ap (λ p. refusing number p) none)
+pub plate_refused : (sections : Sections) (why : Fault) (old : Option (List ℕ)) → AgreesWith (plate_of (table_read sections.plate)) (Err why) →
+    WritesUpTo (AllowsSections sections) (Some (run_fault_of why)) old old
+plate_refused sections (fault.Refused number place) old h =
+    only_refused (AllowsSections sections) number place old
+    (subst (λ judged. AnswersPlate records_of sections judged (refusing number place)) (sym h.0) (ap (λ p. refusing number p) h.1))
+plate_refused sections fault.Memory old h = inl (Keeps-refl old)
 
 -- a job that has its sections
 pub job_run : (bytes : List ℕ) (sections : Sections) → Ok sections ≡ sections_of bytes → (answer : JobAnswer) → AllowsSections sections answer → Allows bytes answer
 job_run bytes sections e answer h = subst (λ cut. AnswersSections table_read records_of cut answer) e h
 
 -- a job that has not
-pub job_refused : (bytes : List ℕ) (number : ℕ) → Err number ≡ sections_of bytes → (answer : JobAnswer) → answer ≡ refusing number 0 → Allows bytes answer
-job_refused bytes number e answer a = subst (λ cut. AnswersSections table_read records_of cut answer) e a
+pub job_refused : (bytes : List ℕ) (number : ℕ) (old : Option (List ℕ)) → Err number ≡ sections_of bytes →
+    WritesUpTo (Allows bytes) (Some (Refused number 0)) old old
+job_refused bytes number old e =
+    only_refused (Allows bytes) number 0 old (subst (λ cut. AnswersSections table_read records_of cut (refusing number 0)) e refl)
 
 -- a job that is too long has no sections
-too_long : (bytes : List ℕ) → longest_job < length bytes → Err 702 ≡ sections_of bytes
-too_long bytes h =
+long_job : (bytes : List ℕ) → longest_job < length bytes → Err 702 ≡ sections_of bytes
+long_job bytes h =
     let longer : nat_lt longest_job (length bytes) ≡ true = grind (arith, nat_tests) in
     sym (ap (λ b. if b then Err 702 else sections_or_refusal (sections_in (whole_lines bytes))) longer)
 
-pub long_job : (known : Option (List ℕ)) (status : ℕ) (old new : Option (List ℕ)) → IfSome known (λ bytes. longest_job < length bytes) →
-    Gives (λ answer. answer ≡ refusing 702 0) status old new → IfSome known (λ bytes. Gives (Allows bytes) status old new)
-long_job None status old new h g = tt
-long_job (Some bytes) status old new h g = gives_more (λ answer. answer ≡ refusing 702 0) (Allows bytes) status old new (job_refused bytes 702 (too_long bytes h)) g
+-- an input that was not read whole, where one that is too long is refused by what is allowed
+not_read : (allowed : JobAnswer → Type 0) (bytes : List ℕ) (why : RunFault) (old : Option (List ℕ)) →
+    (longest_job < length bytes → allowed (refusing 702 0)) → RefusesLength (Some bytes) why → WritesUpTo allowed (Some why) old old
+not_read allowed bytes (Refused number place) old f h =
+    only_refused allowed number place old
+    (subst (λ n. allowed (refusing n place)) (sym h.0) (subst (λ p. allowed (refusing 702 p)) (sym h.1) (f h.2)))
+not_read allowed bytes Read old f h = inl (Keeps-refl old)
+not_read allowed bytes Write old f h = absurd h
+not_read allowed bytes Memory old f h = inl (Keeps-refl old)
 
--- what holds of the bytes that were read holds of all that are known
-pub of_known : (known : Option (List ℕ)) (bytes : List ℕ) (P : List ℕ → Type 0) → IfSome known (λ all. bytes ≡ all) → P bytes → IfSome known P
-of_known None bytes P e h = tt
-of_known (Some all) bytes P e h = subst P e h
+-- a job that was not read whole
+pub job_not_read : (known : Option (List ℕ)) (why : RunFault) (old : Option (List ℕ)) → RefusesLength known why →
+    IfSome known (λ bytes. WritesUpTo (Allows bytes) (Some why) old old)
+job_not_read None why old h = tt
+job_not_read (Some bytes) why old h =
+    not_read (Allows bytes) bytes why old
+    (λ longer. subst (λ cut. AnswersSections table_read records_of cut (refusing 702 0)) (long_job bytes longer) refl) h
+
+-- a file that was not read whole
+pub file_not_read : (known left : Option (List ℕ)) (rest : List ℕ → List ℕ → JobAnswer → Type 0) (why : RunFault) (old : Option (List ℕ)) → RefusesLength known why →
+    IfSome known (λ bytes. IfSome left (λ log. WritesUpTo (AnswersFile bytes (rest bytes log)) (Some why) old old))
+file_not_read None left rest why old h = tt
+file_not_read (Some bytes) left rest why old h =
+    on_each left (λ log. WritesUpTo (AnswersFile bytes (rest bytes log)) (Some why) old old)
+    (λ log. not_read (AnswersFile bytes (rest bytes log)) bytes why old (λ longer. too_long longer refl) h)
+
+-- a file that was read whole, and a log behind it
+pub file_read : (known left : Option (List ℕ)) (items : List ℕ) (rest : List ℕ → List ℕ → JobAnswer → Type 0) (answer : Option RunFault) (old new : Option (List ℕ)) →
+    IsWhole known items → IfSome left (λ log. WritesUpTo (rest items log) answer old new) →
+    IfSome known (λ bytes. IfSome left (λ log. WritesUpTo (AnswersFile bytes (rest bytes log)) answer old new))
+file_read known left items rest answer old new is h =
+    of_known known items (λ bytes. IfSome left (λ log. WritesUpTo (AnswersFile bytes (rest bytes log)) answer old new)) is.1
+    (on_known left (λ log. WritesUpTo (rest items log) answer old new) (λ log. WritesUpTo (AnswersFile items (rest items log)) answer old new)
+    (λ log k. upto_more (rest items log) (AnswersFile items (rest items log)) answer old new (λ one w. whole is.0 w) k) h)
+
+-- a plate's file that was not taken
+pub plate_not_read : (bytes : List ℕ) (rest : PlateData → JobAnswer → Type 0) (why : RunFault) (old : Option (List ℕ)) → RefusesPlate bytes why →
+    WritesUpTo (AnswersWithPlate bytes rest) (Some why) old old
+plate_not_read bytes rest (Refused number place) old h =
+    only_refused (AnswersWithPlate bytes rest) number place old (subst (λ p. AnswersWithPlate bytes rest (refusing number p)) (sym h.0) (by_cause h.1)) where
+      by_cause : ((number ≡ 702) × (longest_job < length bytes)) ⊎ ((length bytes ≤ longest_job) × (plate_of (table_read bytes) ≡ Err number)) → AnswersWithPlate bytes rest (refusing number 0)
+      by_cause (inl k) = too_long k.1 (ap (λ n. refusing n 0) k.0)
+      by_cause (inr k) = whole k.0 (subst (λ judged. AnswersPlateFile judged rest (refusing number 0)) (sym k.1) refl)
+plate_not_read bytes rest Read old h = inl (Keeps-refl old)
+plate_not_read bytes rest Write old h = absurd h
+plate_not_read bytes rest Memory old h = inl (Keeps-refl old)
+
+-- a plate's file that was taken
+pub plate_read : (bytes : List ℕ) (plate : PlateData) (rest : PlateData → JobAnswer → Type 0) (answer : Option RunFault) (old new : Option (List ℕ)) →
+    (length bytes ≤ longest_job) × (plate_of (table_read bytes) ≡ Ok plate) → WritesUpTo (rest plate) answer old new → WritesUpTo (AnswersWithPlate bytes rest) answer old new
+plate_read bytes plate rest answer old new is h =
+    upto_more (rest plate) (AnswersWithPlate bytes rest) answer old new
+    (λ one k. whole is.0 (subst (λ judged. AnswersPlateFile judged rest one) (sym is.1) k)) h

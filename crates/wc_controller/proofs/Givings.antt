@@ -1,39 +1,49 @@
--- What a status says of what was written, step by step of a job.
-use Rattle.std.proofs.Common.{◌≡◌, ℕ, List, [], ◌∷◌, ◌++◌, refl, ap, sym, ◌∙◌, subst, append_assoc, append-nil, inl}
-use Rattle.std.proofs.KnownBytes.{Appends-trans, Appends-kept}
+-- How far an answer was written, step by step of a command.
+use Rattle.std.proofs.Common.{◌≡◌, ℕ, ◌<◌, ◌≤◌, List, [], ◌∷◌, ◌++◌, length, Result, Ok, Err, refl, ap, sym, ◌∙◌, subst, append_assoc, append-nil, inl, inr}
+use Rattle.std.proofs.KnownBytes.{Appends-nil, Appends-trans, Appends-kept, Keeps-refl, Keeps-trans}
 use Rattle.std.proofs.lemmas.List.Concat.{flat_map-append}
-use Rattle.std.specs.Prelude.{Option, Some, None, Err, flat_map}
-use Rattle.std.specs.Io.KnownBytes.{Appends}
-use Rattle.wc_controller.specs.Jobs.{Gives, answered, cut_short, silent, IsFailure}
-use Rattle.wc_model.specs.Say.Job.{JobAnswer, behind_report, refused_text, refusing, run_answer}
-use Rattle.wc_model.specs.Run.Log.{LogOf, LogRefusal}
+use Rattle.std.specs.Prelude.{Bool, Option, Some, None, IfSome, flat_map}
+use Rattle.std.specs.Io.KnownBytes.{Appends, Keeps}
+use Rattle.wc_controller.specs.Checking.{Checks}
+use Rattle.wc_controller.specs.Endings.{IsAt, IsReadFaultAt, EndsAs, EndsBehind, EndsBehindFault, EndsRefused, WritesFront, WritesUpTo, answered, failed, fault_in_memory, fault_met, met, run_fault_of, status_of}
+use Rattle.wc_controller.specs.Files.{AnswersCheck, refuses_text, reports_units}
+use Rattle.wc_controller.specs.Jobs as jobs
+use Rattle.wc_controller.specs.Jobs.{Gives}
+use Rattle.wc_controller.specs.Loads.{IsRefusedLoad}
+use Rattle.wc_controller.specs.declared.ending.Ending.{Ending}
+use Rattle.wc_controller.specs.declared.ending.Ending.TheVariants as ended
+use Rattle.wc_controller.specs.declared.input.Input.{Input}
+use Rattle.wc_controller.specs.declared.input.Stopped.{Stopped}
 use Rattle.wc_model.specs.Instrument.Plates.{PlateData}
-use Rattle.wc_model.specs.Say.ProgramReport.{program_report, scans_of}
-use Rattle.wc_model.specs.Say.Report.{ReportLine, Scans, line_text, lines_with, report_lines}
-use Rattle.wc_model.specs.Run.Rows.{LogRow, Past}
-use Rattle.wc_model.specs.Language.Scans.{initial_of}
+use Rattle.wc_model.specs.Language.Loading.{IsLoaded}
 use Rattle.wc_model.specs.Language.Tree.{Text}
+use Rattle.wc_model.specs.Run.Log.{LogOf, LogRefusal}
+use Rattle.wc_model.specs.Run.Rows.{LogRow, Past, answer_of_row}
+use Rattle.wc_model.specs.Run.Writing.{TakesFront}
+use Rattle.wc_model.specs.Say.Job.{AnswersProgram, JobAnswer, behind_report, refused_text, refuses_program, run_answer, runs}
+use Rattle.wc_model.specs.Say.ProgramReport.{scans_of}
+use Rattle.wc_model.specs.Say.Report.{ReportLine, Scans, answer_line, answer_lines, line_text, lines_with, report_lines}
+use Rattle.wc_model.specs.declared.fault.Fault.{Fault}
+use Rattle.wc_model.specs.declared.fault.Fault.TheVariants as fault
+use Rattle.wc_run.specs.Logics.{Logic, run_report}
 use Rattle.wc_run.specs.Runs.{AppendsFirst, AppendsFront, Reports}
 use Rattle.wc_run.specs.declared.fault.RunFault.{RunFault}
 use Rattle.wc_run.specs.declared.fault.RunFault.TheVariants.{Refused, Read, Write, Memory}
-use Rattle.wc_model.specs.Run.Writing.{TakesFront}
+
+-- more may be allowed of a front
+front_more : (allowed more : JobAnswer → Type 0) (old new : Option (List ℕ)) → ((answer : JobAnswer) → allowed answer → more answer)
+    → WritesFront allowed old new → WritesFront more old new
+front_more allowed more old new f (inl kept) = inl kept
+front_more allowed more old new f (inr k) = inr (k.0, f k.0 k.1, k.2)
 
 -- more may be allowed
-pub gives_more : (allowed more : JobAnswer → Type 0) (status : ℕ) (old new : Option (List ℕ)) →
-    ((answer : JobAnswer) → allowed answer → more answer) → Gives allowed status old new → Gives more status old new
-gives_more allowed more status old new f (answered answer a s w) = answered answer (f answer a) s w
-gives_more allowed more status old new f (cut_short answer a s w) = cut_short answer (f answer a) s w
-gives_more allowed more status old new f (silent s k) = silent s k
-
--- a refusal that was written, whole or in part
-pub refuses_whole : (number place : ℕ) (line : List ℕ) (old new : Option (List ℕ)) → line ≡ refused_text number place → Appends old new line →
-    Gives (λ answer. answer ≡ refusing number place) 1 old new
-refuses_whole number place line old new e w = answered (refusing number place) refl refl (subst (Appends old new) e w)
-
-pub refuses_in_part : (number place : ℕ) (line : List ℕ) (old new : Option (List ℕ)) → line ≡ refused_text number place → TakesFront old new line →
-    Gives (λ answer. answer ≡ refusing number place) 3 old new
-refuses_in_part number place line old new e w =
-    cut_short (refusing number place) refl (inl refl) (w.front, w.rest, sym e ∙ w.cut, w.taken)
+pub upto_more : (allowed more : JobAnswer → Type 0) (answer : Option RunFault) (old new : Option (List ℕ))
+    → ((answer : JobAnswer) → allowed answer → more answer) → WritesUpTo allowed answer old new → WritesUpTo more answer old new
+upto_more allowed more None old new f k = (k.0, f k.0 k.1, k.2, k.3)
+upto_more allowed more (Some (Refused number place)) old new f k = (k.0, f (record { output = k.0 ++ refused_text number place; status = 1 }) k.1, k.2)
+upto_more allowed more (Some Read) old new f k = front_more allowed more old new f k
+upto_more allowed more (Some Write) old new f k = front_more allowed more old new f k
+upto_more allowed more (Some Memory) old new f k = front_more allowed more old new f k
 
 -- a front behind a text is a front of both
 front_behind : (old middle new : Option (List ℕ)) (text more : List ℕ) → Appends old middle text → AppendsFront middle new more → AppendsFront old new (text ++ more)
@@ -47,25 +57,9 @@ front_of_more old new text more f = (f.0, f.1 ++ more, ap (λ t. t ++ more) f.2 
 whole_front : (old new : Option (List ℕ)) (text : List ℕ) → Appends old new text → AppendsFront old new text
 whole_front old new text w = (text, [], sym (append-nil text), w)
 
--- a refusal behind a report
-behind : (report : List ℕ) (number place status : ℕ) (old middle new : Option (List ℕ)) → Appends old middle report →
-    Gives (λ answer. answer ≡ refusing number place) status middle new →
-    Gives (λ answer. answer ≡ record { output = report ++ refused_text number place; status = 1 }) status old new
-behind report number place status old middle new w (answered answer a s t) =
-    answered (record { output = report ++ refused_text number place; status = 1 }) refl (s ∙ ap (λ x. x.status) a)
-    (Appends-trans old middle new report (refused_text number place) w (subst (λ x. Appends middle new x.output) a t))
-behind report number place status old middle new w (cut_short answer a s f) =
-    cut_short (record { output = report ++ refused_text number place; status = 1 }) refl s
-    (front_behind old middle new report (refused_text number place) w (subst (λ x. AppendsFront middle new x.output) a f))
-behind report number place status old middle new w (silent s k) =
-    cut_short (record { output = report ++ refused_text number place; status = 1 }) refl s
-    (front_of_more old new report (refused_text number place) (whole_front old new report (Appends-kept old middle new report w k)))
-
--- a front of a report is one of the output
-front_of_output : (report : List ℕ) (refusal : Option LogRefusal) (old new : Option (List ℕ)) → AppendsFront old new report →
-    AppendsFront old new (behind_report report refusal).output
-front_of_output report None old new f = f
-front_of_output report (Some refusal) old new f = front_of_more old new report (refused_text refusal.number refusal.row) f
+-- a front behind which nothing was written
+kept_front : (old middle new : Option (List ℕ)) (text : List ℕ) → AppendsFront old middle text → Keeps middle new → AppendsFront old new text
+kept_front old middle new text f k = (f.0, f.1, f.2, Appends-kept old middle new f.0 f.3 k)
 
 -- the lines of the first rows stand before the lines of the others
 lines_first : {State : Type 0} (plate : PlateData) (scan : Scans State) (start : State) (past : Past) (first left : List LogRow) →
@@ -78,42 +72,161 @@ lines_first plate scan start past (row ∷ rows) left =
           ∙ sym (append_assoc (lines_with plate scan start row.brings past row) (report_lines plate scan start (row ∷ past) rows) rest.0),
     )
 
--- what a run of a log answers, by how it ended
-module _ (plate : PlateData) (text : Text) (log : LogOf) (old new : Option (List ℕ)) where
-  abbrev report : List ℕ
-  report = program_report plate text (initial_of text) log.rows
+-- the same of the answers alone
+answers_first : (plate : PlateData) (past : Past) (first left : List LogRow) →
+    (others : List ReportLine) × (answer_lines plate past (first ++ left) ≡ answer_lines plate past first ++ others)
+answers_first plate past [] left = (answer_lines plate past left, refl)
+answers_first plate past (row ∷ rows) left =
+    let rest = answers_first plate (row ∷ past) rows left in (
+      rest.0,
+      ap (λ l. answer_line row.ms (answer_of_row plate past row) ++ l) rest.1
+          ∙ sym (append_assoc (answer_line row.ms (answer_of_row plate past row)) (answer_lines plate (row ∷ past) rows) rest.0),
+    )
+
+-- the report of the first rows is a front of the report
+pub report_first : (plate : PlateData) (logic : Option Logic) (first left : List LogRow) →
+    (rest : List ℕ) × (run_report plate logic (first ++ left) ≡ run_report plate logic first ++ rest)
+report_first plate None first left =
+    let lines = answers_first plate [] first left in
+    (flat_map line_text lines.0, ap (flat_map line_text) lines.1 ∙ flat_map-append line_text (answer_lines plate [] first) lines.0)
+report_first plate (Some logic) first left =
+    let lines = lines_first plate (scans_of logic.text) logic.store [] first left in
+    (flat_map line_text lines.0, ap (flat_map line_text) lines.1 ∙ flat_map-append line_text (report_lines plate (scans_of logic.text) logic.store [] first) lines.0)
+
+-- what a run of a log writes, by how it ended
+module _ (plate : PlateData) (logic : Option Logic) (log : LogOf) (old new : Option (List ℕ)) where
+  abbrev whole : List ℕ
+  whole = run_report plate logic log.rows
 
   abbrev pub IsRun : JobAnswer → Type 0
-  IsRun answer = answer ≡ run_answer plate text log
+  IsRun answer = answer ≡ behind_report whole log.refusal
 
   -- all rows ran
-  pub ran : log.refusal ≡ None → Appends old new report → Gives IsRun 0 old new
-  ran e w = answered (record { output = report; status = 0 }) (sym (ap (behind_report report) e)) refl w
+  pub ran : (count : ℕ) → Reports plate logic log (Ok count) old new → WritesUpTo IsRun None old new
+  ran count told = (record { output = whole; status = 0 }, sym (ap (behind_report whole) told.0), refl, told.2)
 
-  -- a row was refused, and its refusal was written behind the report
-  pub ran_refused : (number place status : ℕ) (middle : Option (List ℕ)) → log.refusal ≡ Some (record { number = number; row = place }) →
-      Appends old middle report → Gives (λ answer. answer ≡ refusing number place) status middle new → Gives IsRun status old new
-  ran_refused number place status middle e w g =
-      subst (λ answer. Gives (λ x. x ≡ answer) status old new) (sym (ap (behind_report report) e)) (behind report number place status old middle new w g)
+  -- a front of a report is one of the output
+  front_of_output : (refusal : Option LogRefusal) → AppendsFront old new whole → AppendsFront old new (behind_report whole refusal).output
+  front_of_output None f = f
+  front_of_output (Some refusal) f = front_of_more old new whole (refused_text refusal.number refusal.row) f
 
-  -- the run was cut short
-  pub ran_short : (status : ℕ) → IsFailure status → AppendsFront old new report → Gives IsRun status old new
-  ran_short status f w = cut_short (run_answer plate text log) refl f (front_of_output report log.refusal old new w)
+  cut_short : AppendsFront old new whole → WritesFront IsRun old new
+  cut_short f = inr (behind_report whole log.refusal, refl, front_of_output log.refusal f)
 
-  -- the report of the first rows is a front of the report
-  pub first_is_front : AppendsFirst plate (Some (record { text = text; store = initial_of text })) log.rows old new → AppendsFront old new report
-  first_is_front f =
-      let lines = lines_first plate (scans_of text) (initial_of text) [] f.0 f.1 in (
-        program_report plate text (initial_of text) f.0,
-        flat_map line_text lines.0,
-        ap (λ rows. program_report plate text (initial_of text) rows) f.2 ∙ ap (flat_map line_text) lines.1
-            ∙ flat_map-append line_text (report_lines plate (scans_of text) (initial_of text) [] f.0) lines.0,
-        f.3,
-      )
+  first_rows : AppendsFirst plate logic log.rows old new → AppendsFront old new whole
+  first_rows f =
+      let rest = report_first plate logic f.0 f.1 in
+      (run_report plate logic f.0, rest.0, ap (λ rows. run_report plate logic rows) f.2 ∙ rest.1, f.3)
 
-  -- whatever ended the run, a front of the report was written
-  pub front_told : (fault : RunFault) → Reports plate (Some (record { text = text; store = initial_of text })) log (Err fault) old new → AppendsFront old new report
-  front_told (Refused number place) told = whole_front old new report told.1
-  front_told Read told = first_is_front told
-  front_told Write told = told
-  front_told Memory told = first_is_front told
+  -- it was stopped
+  pub ran_short : (why : RunFault) → Reports plate logic log (Err why) old new → WritesUpTo IsRun (Some why) old new
+  ran_short (Refused number place) told = (whole, sym (ap (behind_report whole) told.0), told.1)
+  ran_short Read told = cut_short (first_rows told)
+  ran_short Write told = cut_short told
+  ran_short Memory told = cut_short (first_rows told)
+
+-- nothing but a refusal is to be written
+pub only_refused : (allowed : JobAnswer → Type 0) (number place : ℕ) (old : Option (List ℕ))
+    → allowed (record { output = refused_text number place; status = 1 }) → WritesUpTo allowed (Some (Refused number place)) old old
+only_refused allowed number place old h = ([], h, Appends-nil old)
+
+-- a program that is not loaded
+pub not_loaded : (plate : PlateData) (bytes : List ℕ) (log : LogOf) (why : Fault) (old : Option (List ℕ))
+    → IsRefusedLoad bytes why → WritesUpTo (AnswersProgram plate bytes log) (Some (run_fault_of why)) old old
+not_loaded plate bytes log (fault.Refused number place) old h = only_refused (AnswersProgram plate bytes log) number place old (refuses_program number place h refl)
+not_loaded plate bytes log fault.Memory old h = inl (Keeps-refl old)
+
+-- a log that lies in memory
+pub in_memory : (allowed : JobAnswer → Type 0) (why : RunFault) (old new : Option (List ℕ))
+    → WritesUpTo allowed (Some why) old new → WritesUpTo allowed (Some (fault_in_memory why)) old new
+in_memory allowed (Refused number place) old new k = k
+in_memory allowed Read old new k = k
+in_memory allowed Write old new k = k
+in_memory allowed Memory old new k = k
+
+-- a check of a text
+pub checked : {X : Type 0} (paths : Bool) (bytes : List ℕ) (answer : Result X RunFault) (old new : Option (List ℕ))
+    → Checks paths bytes answer old new → WritesUpTo (AnswersCheck paths bytes) (fault_met answer) old new
+checked paths bytes (Ok done) old new k =
+    (record { output = k.1; status = 0 }, reports_units k.0 k.1 k.2 k.3 refl, refl, k.4)
+checked paths bytes (Err (Refused number place)) old new k =
+    ([], refuses_text number place k.0 refl, Appends-kept old old new [] (Appends-nil old) k.1)
+checked paths bytes (Err Read) old new k = absurd k
+checked paths bytes (Err Write) old new k =
+    inr (record { output = k.1; status = 0 }, reports_units k.0 k.1 k.2 k.3 refl, (k.4.front, k.4.rest, k.4.cut, k.4.taken))
+checked paths bytes (Err Memory) old new k = inl k
+
+-- a refusal behind a report
+behind : (input : Input) (allowed : JobAnswer → Type 0) (said : List ℕ) (number place : ℕ) (ending : Ending) (old middle new : Option (List ℕ))
+    → allowed (record { output = said ++ refused_text number place; status = 1 }) → Appends old middle said
+    → EndsRefused input number place ending middle new → EndsAs allowed ending old new
+behind input allowed said number place ended.Done old middle new h w k = absurd k
+behind input allowed said number place (ended.Refused at other line) old middle new h w k =
+    answered (record { output = said ++ refused_text number place; status = 1 }) h
+    (said, sym (ap (λ n. record { output = said ++ refused_text n place; status = 1 }) k.1) ∙ sym (ap (λ p. record { output = said ++ refused_text other p; status = 1 }) k.2))
+    (Appends-trans old middle new said (refused_text number place) w k.3)
+behind input allowed said number place (ended.ReadFault at) old middle new h w k = absurd k
+behind input allowed said number place ended.WriteFault old middle new h w k =
+    failed tt (inr (
+      record { output = said ++ refused_text number place; status = 1 },
+      h,
+      front_behind old middle new said (refused_text number place) w (k.front, k.rest, k.cut, k.taken),
+    ))
+behind input allowed said number place ended.NoMemory old middle new h w k =
+    failed tt (inr (
+      record { output = said ++ refused_text number place; status = 1 },
+      h,
+      front_of_more old new said (refused_text number place) (whole_front old new said (Appends-kept old middle new said w k)),
+    ))
+
+-- a front behind which nothing was written
+kept_behind : (allowed : JobAnswer → Type 0) (old middle new : Option (List ℕ)) → WritesFront allowed old middle → Keeps middle new → WritesFront allowed old new
+kept_behind allowed old middle new (inl kept) k = inl (Keeps-trans old middle new kept k)
+kept_behind allowed old middle new (inr f) k = inr (f.0, f.1, kept_front old middle new f.0.output f.2 k)
+
+-- a fault by which a command stopped, and its ending
+ended_by : (input : Input) (allowed : JobAnswer → Type 0) (why : RunFault) (ending : Ending) (old middle new : Option (List ℕ))
+    → WritesUpTo allowed (Some why) old middle → EndsBehindFault input why ending middle new → EndsAs allowed ending old new
+ended_by input allowed (Refused number place) ending old middle new w k = behind input allowed w.0 number place ending old middle new w.1 w.2 k
+ended_by input allowed Read ending old middle new w k =
+    subst (λ e. EndsAs allowed e old new) (sym k.0) (failed tt (kept_behind allowed old middle new w k.1))
+ended_by input allowed Write ending old middle new w k =
+    subst (λ e. EndsAs allowed e old new) (sym k.0) (failed tt (kept_behind allowed old middle new w k.1))
+ended_by input allowed Memory ending old middle new w k =
+    subst (λ e. EndsAs allowed e old new) (sym k.0) (failed tt (kept_behind allowed old middle new w k.1))
+
+-- whatever a command answered, and its ending
+pub ends : {X : Type 0} (allowed : JobAnswer → Type 0) (answer : Result X Stopped) (ending : Ending) (old middle new : Option (List ℕ))
+    → WritesUpTo allowed (met answer) old middle → EndsBehind answer ending middle new → EndsAs allowed ending old new
+ends allowed (Ok done) ending old middle new w k =
+    subst (λ e. EndsAs allowed e old new) (sym k.0) (answered w.0 w.1 w.2 (Appends-kept old middle new w.0.output w.3 k.1))
+ends allowed (Err stopped) ending old middle new w k = ended_by stopped.input allowed stopped.fault ending old middle new w k
+
+-- a front, at a status that says that something failed
+in_front : (allowed : JobAnswer → Type 0) (status : ℕ) (old new : Option (List ℕ)) → jobs.IsFailure status → WritesFront allowed old new → Gives allowed status old new
+in_front allowed status old new failure (inl kept) = jobs.silent failure kept
+in_front allowed status old new failure (inr f) = jobs.cut_short f.0 f.1 failure f.2
+
+-- an ending's status
+pub gives : (allowed : JobAnswer → Type 0) (ending : Ending) (old new : Option (List ℕ)) → EndsAs allowed ending old new → Gives allowed (status_of ending) old new
+gives allowed ended.Done old new (answered answer h is w) = jobs.answered answer h (sym is) w
+gives allowed (ended.Refused input number place) old new (answered answer h is w) = jobs.answered answer h (sym (ap (λ a. a.status) is.1)) w
+gives allowed (ended.ReadFault input) old new (answered answer h is w) = absurd is
+gives allowed ended.WriteFault old new (answered answer h is w) = absurd is
+gives allowed ended.NoMemory old new (answered answer h is w) = absurd is
+gives allowed ended.Done old new (failed is f) = absurd is
+gives allowed (ended.Refused input number place) old new (failed is f) = absurd is
+gives allowed (ended.ReadFault input) old new (failed is f) = in_front allowed 3 old new (inl refl) f
+gives allowed ended.WriteFault old new (failed is f) = in_front allowed 3 old new (inl refl) f
+gives allowed ended.NoMemory old new (failed is f) = in_front allowed 4 old new (inr refl) f
+
+-- an ending that tells a read fault at an input comes of one
+pub read_fault_told : {X : Type 0} (input : Input) (answer : Result X Stopped) (ending : Ending) (old new : Option (List ℕ))
+    → EndsBehind answer ending old new → ending ≡ ended.ReadFault input → IsReadFaultAt input answer
+read_fault_told input (Ok done) ending old new k e = absurd (cc (sym k.0 ∙ e))
+read_fault_told input (Err stopped) ending old new k e = by_fault stopped.fault stopped.input refl k where
+  by_fault : (why : RunFault) (at : Input) → stopped.fault ≡ why → EndsBehindFault at why ending old new → (at ≡ input) × (stopped.fault ≡ Read)
+  by_fault (Refused number place) at same h = absurd (subst (λ one. EndsRefused at number place one old new) e h)
+  by_fault Read at same h = (sym (subst (λ one. IsAt at one) (sym h.0 ∙ e) refl), same)
+  by_fault Write at same h = absurd (cc (sym h.0 ∙ e))
+  by_fault Memory at same h = absurd (cc (sym h.0 ∙ e))

@@ -1,4 +1,4 @@
-pub mod Endings
+pub mod ScanEndings
 pub mod LoadedTexts
 pub mod Refusals
 pub mod UnitReports

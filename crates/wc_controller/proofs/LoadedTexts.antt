@@ -1,6 +1,6 @@
 -- The headline of a loaded text.
 use Rattle.std.proofs.Common.{ℕ, List, [], reverse, Option}
-use Rattle.wc_controller.proofs.Endings.{ends_within, has_bound, shows_outcome}
+use Rattle.wc_controller.proofs.ScanEndings.{ends_within, has_bound, shows_outcome}
 use Rattle.wc_controller.specs.Headline.{IsTheHeadline}
 use Rattle.wc_instrument_laws.proofs.Independence.{is_free_of_programs}
 use Rattle.wc_model.specs.Run.ProcessImage.{image_after}

@@ -3,3 +3,5 @@ pub mod Loads
 pub mod UnitLines
 pub mod Checking
 pub mod Jobs
+pub mod Files
+pub mod Endings

@@ -1,146 +1,125 @@
-ghost use Rattle.std.specs.Prelude.{◌≡◌, ◌⊎◌, ◌+◌, IfSome};
+ghost use Rattle.std.specs.Prelude.{◌≡◌, ◌⊎◌, ◌+◌, Some, IfSome};
+ghost use Rattle.wc_controller.specs.Endings.{EndsAs, IsReadFaultAt, TellsFailures, TellsReadEndings, TellsReadFaults, TellsWriteFaults, WritesUpTo, fault_in_memory, met};
 ghost use Rattle.wc_controller.specs.Jobs.{Allows, AllowsSections, Gives, IsStatus};
 ghost use Rattle.wc_job.specs.Reads.{TakesAtMost};
 ghost use Rattle.wc_job.specs.Views.{sections_view};
 ghost use Rattle.wc_model.specs.Run.JobSections.{longest_job};
-ghost use Rattle.wc_machine.specs.Machines.{StandsFor};
-ghost use Rattle.wc_model.specs.Language.Views.{text_view};
-ghost use Rattle.wc_model.specs.Say.Job.{AnswersProgram, run_answer};
-ghost use Rattle.wc_model.specs.Run.Log.{log_of};
-ghost use Rattle.wc_model.specs.Language.Scans.{initial_of};
-ghost use Rattle.wc_model.specs.Language.Tree.{Text};
-ghost use Rattle.wc_record.specs.Reading.{records_of};
 ghost use Rattle.wc_model.specs.Run.Writing.{HasFailedSince};
 
-use crate::loading::load;
-use crate::refusing::{DEVICE_FAULT, NO_MEMORY, SUCCESS, refuse};
+use crate::ending::{Ending, end};
+use crate::input::{Input, Stopped};
+use crate::reading::{read_input, run_fault_of};
+use crate::running::run_text;
 use std::alloc::Global;
-use wc_cost::Loaded;
-use wc_job::{ReadFault, Sections, read_whole, sections};
-use wc_machine::Machine;
-use wc_model::{ByteIn, ByteOut, Device, Fault};
-use wc_plate::{Plate, plate};
-use wc_run::{RunFault, run};
-use wc_store::SlotStore;
+use wc_job::{Sections, sections};
+use wc_model::{ByteIn, ByteOut, Device};
+use wc_plate::plate;
+use wc_run::RunFault;
 
-/// Runs a log with a machine before its first scan.
-fn run_log<W: ByteOut>(
-    alloc: Global,
-    plate: &Plate,
-    machine: Machine<'_, SlotStore>,
-    log: &[u8],
-    writer: &mut W,
-) -> u8
-    requires { machine.last ≡ 0 }
-    ensures gives { (text : Text) → StandsFor machine.entry text (initial_of text)
-        → Gives (λ answer. answer ≡ run_answer plate.now text (log_of (records_of log.now))) result
-        (W.bytes_taken writer.old) (W.bytes_taken writer.new) }
-    ensures status { IsStatus result }
-    ensures device { result ≡ 3
-        → HasFailedSince (W.failure_count writer.old) (W.failure_count writer.new) }
-    ensures steady { ¬ (result ≡ 3)
-        → W.failure_count writer.new ≡ W.failure_count writer.old }
+/// What stopped a run of a log that lies in memory: to read it fails only for want of memory.
+fn stopped_in_memory(stopped: Stopped) -> Stopped
+    ensures input { result.input ≡ stopped.input }
+    ensures fault { result.fault ≡ fault_in_memory stopped.fault }
 {
-    let mut reader = Device::new(log);
-    match run(alloc, plate, Some(machine), &mut reader, writer) {
-        Ok(_) => SUCCESS,
-        Err(fault) => match fault {
-            RunFault::Refused { number, place } => refuse(alloc, number, place, writer),
-            RunFault::Write => DEVICE_FAULT,
-            RunFault::Read => NO_MEMORY,
-            RunFault::Memory => NO_MEMORY,
-        },
-    }
-}
-
-/// Runs a log with a program.
-fn run_loaded<W: ByteOut>(
-    alloc: Global,
-    plate: &Plate,
-    loaded: Loaded<'_>,
-    log: &[u8],
-    writer: &mut W,
-) -> u8
-    ensures gives { Gives
-        (λ answer.
-        answer ≡ run_answer plate.now (text_view loaded.entry.source) (log_of (records_of log.now)))
-        result (W.bytes_taken writer.old) (W.bytes_taken writer.new) }
-    ensures status { IsStatus result }
-    ensures device { result ≡ 3
-        → HasFailedSince (W.failure_count writer.old) (W.failure_count writer.new) }
-    ensures steady { ¬ (result ≡ 3)
-        → W.failure_count writer.new ≡ W.failure_count writer.old }
-{
-    match Machine::new(alloc, loaded) {
-        Ok(machine) => run_log(alloc, plate, machine, log, writer),
-        Err(_) => NO_MEMORY,
-    }
-}
-
-/// Loads a program and runs a log with it.
-fn run_program<W: ByteOut>(
-    alloc: Global,
-    plate: &Plate,
-    program: &[u8],
-    log: &[u8],
-    writer: &mut W,
-) -> u8
-    ensures gives { Gives (AnswersProgram plate.now program.now (log_of (records_of log.now)))
-        result (W.bytes_taken writer.old) (W.bytes_taken writer.new) }
-    ensures status { IsStatus result }
-    ensures device { result ≡ 3
-        → HasFailedSince (W.failure_count writer.old) (W.failure_count writer.new) }
-    ensures steady { ¬ (result ≡ 3)
-        → W.failure_count writer.new ≡ W.failure_count writer.old }
-{
-    match load(alloc, program) {
-        Ok(loaded) => run_loaded(alloc, plate, loaded, log, writer),
-        Err(fault) => match fault {
-            Fault::Refused { number, place } => refuse(alloc, number, place, writer),
-            Fault::Memory => NO_MEMORY,
-        },
+    let fault = match stopped.fault {
+        RunFault::Read => RunFault::Memory,
+        fault => fault,
+    };
+    Stopped {
+        input: stopped.input,
+        fault,
     }
 }
 
 /// Answers a job by its sections.
-fn answer_sections<W: ByteOut>(alloc: Global, sections: Sections<'_>, writer: &mut W) -> u8
-    ensures gives { Gives (AllowsSections (sections_view sections.entry)) result
+fn answer_sections<W: ByteOut>(
+    alloc: Global,
+    sections: Sections<'_>,
+    writer: &mut W,
+) -> Result<(), Stopped>
+    ensures writes { WritesUpTo (AllowsSections (sections_view sections.entry)) (met result)
         (W.bytes_taken writer.old) (W.bytes_taken writer.new) }
-    ensures status { IsStatus result }
-    ensures device { result ≡ 3
-        → HasFailedSince (W.failure_count writer.old) (W.failure_count writer.new) }
-    ensures steady { ¬ (result ≡ 3)
-        → W.failure_count writer.new ≡ W.failure_count writer.old }
+    ensures held { ¬ (met result ≡ Some RunFault.Read) }
+    ensures failures { TellsWriteFaults (met result) (W.failure_count writer.old)
+        (W.failure_count writer.new) }
 {
-    match plate(alloc, sections.plate) {
-        Ok(plate) => run_program(alloc, &plate, sections.program, sections.log, writer),
-        Err(fault) => match fault {
-            Fault::Refused { number, place } => refuse(alloc, number, place, writer),
-            Fault::Memory => NO_MEMORY,
-        },
+    let plate = match plate(alloc, sections.plate) {
+        Ok(plate) => plate,
+        Err(fault) => return Err(Stopped {
+            input: Input::Plate,
+            fault: run_fault_of(fault),
+        }),
+    };
+    let mut log = Device::new(sections.log);
+    match run_text(alloc, &plate, sections.program, &mut log, writer) {
+        Ok(()) => Ok(()),
+        Err(stopped) => Err(stopped_in_memory(stopped)),
     }
 }
 
 /// Answers a job by its bytes.
-fn answer_bytes<W: ByteOut>(alloc: Global, bytes: &[u8], writer: &mut W) -> u8
-    ensures gives { Gives (Allows bytes.now) result (W.bytes_taken writer.old)
-        (W.bytes_taken writer.new) }
-    ensures status { IsStatus result }
-    ensures device { result ≡ 3
-        → HasFailedSince (W.failure_count writer.old) (W.failure_count writer.new) }
-    ensures steady { ¬ (result ≡ 3)
-        → W.failure_count writer.new ≡ W.failure_count writer.old }
+fn answer_bytes<W: ByteOut>(alloc: Global, bytes: &[u8], writer: &mut W) -> Result<(), Stopped>
+    ensures writes { WritesUpTo (Allows bytes.now) (met result)
+        (W.bytes_taken writer.old) (W.bytes_taken writer.new) }
+    ensures held { ¬ (met result ≡ Some RunFault.Read) }
+    ensures failures { TellsWriteFaults (met result) (W.failure_count writer.old)
+        (W.failure_count writer.new) }
 {
     match sections(bytes) {
         Ok(sections) => answer_sections(alloc, sections, writer),
-        Err(number) => refuse(alloc, number, 0, writer),
+        Err(number) => Err(Stopped {
+            input: Input::Job,
+            fault: RunFault::Refused { number, place: 0 },
+        }),
+    }
+}
+
+/// Reads a job and answers it, up to its refusal.
+fn answer_input<R: ByteIn, W: ByteOut>(
+    alloc: Global,
+    reader: &mut R,
+    writer: &mut W,
+) -> Result<(), Stopped>
+    ensures writes { IfSome (R.bytes_left reader.old)
+        (λ bytes. WritesUpTo (Allows bytes) (met result)
+        (W.bytes_taken writer.old) (W.bytes_taken writer.new)) }
+    ensures reads { TellsReadFaults Input.Job result (R.failure_count reader.old)
+        (R.failure_count reader.new) }
+    ensures own { (input : Input) → IsReadFaultAt input result → input ≡ Input.Job }
+    ensures failures { TellsWriteFaults (met result) (W.failure_count writer.old)
+        (W.failure_count writer.new) }
+    ensures taken { TakesAtMost (longest_job + 1) (R.bytes_left reader.old)
+        (R.bytes_left reader.new) }
+{
+    match read_input(alloc, Input::Job, reader) {
+        Ok(bytes) => answer_bytes(alloc, &bytes, writer),
+        Err(stopped) => Err(stopped),
     }
 }
 
 /// Reads a job, of at most 1048576 bytes, and answers it: its plate, its program and its log are read, the log is run row by
-/// row, and each line is written as its row comes. The status is 0 where all rows ran, and 1 where something was refused: the
-/// refusal, with its number and its place, is then written behind the lines of the rows before it. It is 3 where the reader or
-/// the writer failed in this call, and 4 for want of memory: a front of the output is then written, or nothing.
+/// row, and each line is written as its row comes. Where something is refused, the refusal with its number and its place is
+/// written behind the lines of the rows before it. A read fault comes where the reader failed in this call and only there, a
+/// write fault where the writer did; at such a fault, and for want of memory, a front of the output is written, or nothing.
+pub fn answer_job<R: ByteIn, W: ByteOut>(alloc: Global, reader: &mut R, writer: &mut W) -> Ending
+    ensures ends { IfSome (R.bytes_left reader.old)
+        (λ bytes.
+        EndsAs (Allows bytes) result (W.bytes_taken writer.old) (W.bytes_taken writer.new)) }
+    ensures reads { TellsReadEndings Input.Job result (R.failure_count reader.old)
+        (R.failure_count reader.new) }
+    ensures own { (input : Input) → result ≡ Ending.ReadFault input → input ≡ Input.Job }
+    ensures failures { TellsFailures result (W.failure_count writer.old)
+        (W.failure_count writer.new) }
+    // It reads no further than the byte that makes a job too long.
+    ensures taken { TakesAtMost (longest_job + 1) (R.bytes_left reader.old)
+        (R.bytes_left reader.new) }
+{
+    let answer = answer_input(alloc, reader, writer);
+    end(alloc, answer, writer)
+}
+
+/// Answers a job as `answer_job` does. The status is 0 where all rows ran, 1 where something was refused, 3 where the reader or
+/// the writer failed in this call, and 4 for want of memory.
 pub fn job<R: ByteIn, W: ByteOut>(alloc: Global, reader: &mut R, writer: &mut W) -> u8
     ensures gives { IfSome (R.bytes_left reader.old)
         (λ bytes.
@@ -152,16 +131,8 @@ pub fn job<R: ByteIn, W: ByteOut>(alloc: Global, reader: &mut R, writer: &mut W)
     ensures steady { ¬ (result ≡ 3)
         → (R.failure_count reader.new ≡ R.failure_count reader.old)
         × (W.failure_count writer.new ≡ W.failure_count writer.old) }
-    // It reads no further than the byte that makes a job too long.
     ensures taken { TakesAtMost (longest_job + 1) (R.bytes_left reader.old)
         (R.bytes_left reader.new) }
 {
-    match read_whole(alloc, reader) {
-        Ok(bytes) => answer_bytes(alloc, &bytes, writer),
-        Err(fault) => match fault {
-            ReadFault::TooLong => refuse(alloc, 702, 0, writer),
-            ReadFault::Read => DEVICE_FAULT,
-            ReadFault::Memory => NO_MEMORY,
-        },
-    }
+    answer_job(alloc, reader, writer).status()
 }

@@ -1,13 +1,18 @@
-ghost use Rattle.std.specs.Prelude.{◌≡◌, IsErrOf};
+ghost use Rattle.std.specs.Prelude.{◌≡◌, IfSome, IsErrOf};
 ghost use Rattle.wc_controller.specs.Checking.{Checks, WritesReport};
+ghost use Rattle.wc_controller.specs.Endings.{EndsAs, IsReadFaultAt, TellsFailures, TellsReadEndings, TellsReadFaults, TellsWriteFaults, WritesUpTo, met};
+ghost use Rattle.wc_controller.specs.Files.{AnswersCheck, AnswersCheckFile};
 ghost use Rattle.wc_model.specs.Language.Views.{text_view};
 ghost use Rattle.wc_model.specs.Run.Writing.{HasFailedSince};
 
+use crate::ending::{Ending, end};
+use crate::input::{Input, Stopped};
 use crate::loading::load;
+use crate::reading::read_input;
 use crate::unit_lines::unit_lines;
 use std::alloc::Global;
 use wc_cost::Loaded;
-use wc_model::{ByteOut, Fault, write_whole};
+use wc_model::{ByteIn, ByteOut, Fault, write_whole};
 use wc_run::RunFault;
 
 /// Writes the report of the units.
@@ -58,4 +63,67 @@ pub fn check<W: ByteOut>(
             Fault::Memory => Err(RunFault::Memory),
         },
     }
+}
+
+/// Checks a program, up to its refusal.
+fn check_text<W: ByteOut>(
+    alloc: Global,
+    paths: bool,
+    text: &[u8],
+    writer: &mut W,
+) -> Result<(), Stopped>
+    ensures writes { WritesUpTo (AnswersCheck paths text.now) (met result)
+        (W.bytes_taken writer.old) (W.bytes_taken writer.new) }
+    ensures held { ¬ IsReadFaultAt Input.Program result }
+    ensures failures { TellsWriteFaults (met result) (W.failure_count writer.old)
+        (W.failure_count writer.new) }
+{
+    match check(alloc, text, paths, writer) {
+        Ok(()) => Ok(()),
+        Err(fault) => Err(Stopped {
+            input: Input::Program,
+            fault,
+        }),
+    }
+}
+
+/// Reads and checks a program, up to its refusal.
+fn check_input<T: ByteIn, W: ByteOut>(
+    alloc: Global,
+    paths: bool,
+    program: &mut T,
+    writer: &mut W,
+) -> Result<(), Stopped>
+    ensures writes { IfSome (T.bytes_left program.old)
+        (λ bytes. WritesUpTo (AnswersCheckFile paths bytes) (met result)
+        (W.bytes_taken writer.old) (W.bytes_taken writer.new)) }
+    ensures program { TellsReadFaults Input.Program result (T.failure_count program.old)
+        (T.failure_count program.new) }
+    ensures failures { TellsWriteFaults (met result) (W.failure_count writer.old)
+        (W.failure_count writer.new) }
+{
+    match read_input(alloc, Input::Program, program) {
+        Ok(text) => check_text(alloc, paths, &text, writer),
+        Err(stopped) => Err(stopped),
+    }
+}
+
+/// Checks a program as `check` does, and writes the line of its refusal. A read fault comes where the reader failed in this call
+/// and only there, a write fault where the writer did; a front of the output is then written, or nothing, as for want of memory.
+pub fn check_file<T: ByteIn, W: ByteOut>(
+    alloc: Global,
+    paths: bool,
+    program: &mut T,
+    writer: &mut W,
+) -> Ending
+    ensures ends { IfSome (T.bytes_left program.old)
+        (λ bytes. EndsAs (AnswersCheckFile paths bytes) result
+        (W.bytes_taken writer.old) (W.bytes_taken writer.new)) }
+    ensures program { TellsReadEndings Input.Program result (T.failure_count program.old)
+        (T.failure_count program.new) }
+    ensures failures { TellsFailures result (W.failure_count writer.old)
+        (W.failure_count writer.new) }
+{
+    let answer = check_input(alloc, paths, program, writer);
+    end(alloc, answer, writer)
 }

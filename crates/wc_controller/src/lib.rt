@@ -3,14 +3,22 @@
 
 mod answering;
 mod checking;
+mod ending;
 mod headline;
+mod input;
+mod lining;
 mod loading;
+mod reading;
 mod refusing;
+mod running;
 mod unit_lines;
 
-pub use answering::job;
-pub use checking::check;
+pub use answering::{answer_job, job};
+pub use checking::{check, check_file};
+pub use ending::Ending;
 pub use headline::the_headline;
+pub use input::{Input, Stopped};
+pub use lining::line_files;
 pub use loading::load;
-pub use refusing::refuse;
+pub use running::run_files;
 pub use wc_run::{RunFault, run};

@@ -1,25 +1,34 @@
-use Rattle.std.proofs.Common.{◌≡◌, subst, Err}
+use Rattle.std.proofs.Common.{◌≡◌, ap, sym, subst}
+use Rattle.std.specs.Prelude.{Some, None}
 use Rattle.wc_controller.proofs.Allowing.{plate_refused, sections_run}
-use Rattle.wc_controller.proofs.Givings.{gives_more}
+use Rattle.wc_controller.proofs.Givings.{in_memory, upto_more}
 use Rattle.wc_controller.proofs.answering.answer_sections.Goals as goal
+use Rattle.wc_controller.specs.Endings.{WritesUpTo, fault_in_memory}
 use Rattle.wc_controller.specs.Jobs.{AllowsSections}
 use Rattle.wc_job.specs.Views.{sections_view}
-use Rattle.wc_model.specs.Say.Job.{AnswersProgram, refusing}
 use Rattle.wc_model.specs.Run.Log.{log_of}
-use Rattle.wc_model.specs.Instrument.PlateTable.{plate_of}
-use Rattle.wc_plate.specs.TomlTable.{table_read}
-use Rattle.wc_plate.specs.Verdict.{AgreesWith}
+use Rattle.wc_model.specs.Say.Job.{AnswersProgram}
 use Rattle.wc_record.specs.Reading.{records_of}
 
-pub returns-in-Ok-clause-gives : goal.returns-in-Ok-clause-gives
-returns-in-Ok-clause-gives g c =
-    gives_more (AnswersProgram c.in-Ok.plate c.args.sections.program.now (log_of (records_of c.args.sections.log.now))) (AllowsSections (sections_view c.args.sections)) c.run_program.result
-    (g.W.ByteOut.bytes_taken c.args.writer.now) (g.W.ByteOut.bytes_taken c.run_program.new.writer)
-    (sections_run (sections_view c.args.sections) c.in-Ok.plate c.in-Ok.ensures.verdict) c.run_program.ensures.gives
+pub returns-in-Ok-run_text-clause-writes : goal.returns-in-Ok-run_text-clause-writes
+returns-in-Ok-run_text-clause-writes g c =
+    let old = g.W.ByteOut.bytes_taken c.args.writer.now in
+    let new = g.W.ByteOut.bytes_taken c.run_text.new.writer in
+    upto_more (AnswersProgram c.in-Ok.plate c.args.sections.program.now (log_of (records_of c.args.sections.log.now)))
+    (AllowsSections (sections_view c.args.sections)) None old new
+    (sections_run (sections_view c.args.sections) c.in-Ok.plate c.in-Ok.ensures.verdict)
+    (subst (λ log. WritesUpTo (AnswersProgram c.in-Ok.plate c.args.sections.program.now (log_of (records_of log))) None old new)
+    (ap (λ log. log.now) c.new-log.ensures.inner) c.in-Ok-run_text.ensures.writes)
 
-pub returns-in-Refused-clause-gives : goal.returns-in-Refused-clause-gives
-returns-in-Refused-clause-gives g c =
-    let judged = subst (λ fault. AgreesWith (plate_of (table_read c.args.sections.plate.now)) (Err fault)) c.in-Refused.is c.in-Err.ensures.verdict in
-    gives_more (λ answer. answer ≡ refusing c.in-Refused.number c.in-Refused.place) (AllowsSections (sections_view c.args.sections)) c.refuse.result
-    (g.W.ByteOut.bytes_taken c.args.writer.now) (g.W.ByteOut.bytes_taken c.refuse.new.writer)
-    (plate_refused (sections_view c.args.sections) c.in-Refused.number c.in-Refused.place judged.0 judged.1) c.refuse.ensures.gives
+pub returns-in-Err-run_text-clause-writes : goal.returns-in-Err-run_text-clause-writes
+returns-in-Err-run_text-clause-writes g c =
+    let old = g.W.ByteOut.bytes_taken c.args.writer.now in
+    let new = g.W.ByteOut.bytes_taken c.run_text.new.writer in
+    let why = c.in-Err-run_text.stopped.fault in
+    subst (λ fault. WritesUpTo (AllowsSections (sections_view c.args.sections)) (Some fault) old new) (sym c.stopped_in_memory.ensures.fault)
+    (in_memory (AllowsSections (sections_view c.args.sections)) why old new
+    (upto_more (AnswersProgram c.in-Ok.plate c.args.sections.program.now (log_of (records_of c.args.sections.log.now)))
+    (AllowsSections (sections_view c.args.sections)) (Some why) old new
+    (sections_run (sections_view c.args.sections) c.in-Ok.plate c.in-Ok.ensures.verdict)
+    (subst (λ log. WritesUpTo (AnswersProgram c.in-Ok.plate c.args.sections.program.now (log_of (records_of log))) (Some why) old new)
+    (ap (λ log. log.now) c.new-log.ensures.inner) c.in-Err-run_text.ensures.writes)))

@@ -1,0 +1,17 @@
+use Rattle.wc_controller.proofs.Allowing.{on_known}
+use Rattle.wc_controller.proofs.Givings.{ends, read_fault_told}
+use Rattle.wc_controller.proofs.answering.answer_job.Goals as goal
+use Rattle.wc_controller.specs.Jobs.{Allows}
+
+pub returns-clause-ends : goal.returns-clause-ends
+returns-clause-ends g c =
+    let taken = g.W.ByteOut.bytes_taken in
+    on_known (g.R.ByteIn.bytes_left c.args.reader.now) _ _
+    (λ bytes upto. ends (Allows bytes) c.answer_input-answer.result c.end.result (taken c.args.writer.now) (taken c.answer_input-answer.new.writer) (taken c.end.new.writer)
+    upto c.end.ensures.ends) c.answer_input-answer.ensures.writes
+
+pub returns-clause-own : goal.returns-clause-own
+returns-clause-own g c = λ input told.
+    let taken = g.W.ByteOut.bytes_taken in
+    c.answer_input-answer.ensures.own input
+    (read_fault_told input c.answer_input-answer.result c.end.result (taken c.answer_input-answer.new.writer) (taken c.end.new.writer) c.end.ensures.ends told)

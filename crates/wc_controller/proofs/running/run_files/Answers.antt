@@ -1,0 +1,13 @@
+use Rattle.wc_controller.proofs.Allowing.{on_known}
+use Rattle.wc_controller.proofs.Givings.{ends}
+use Rattle.wc_controller.proofs.running.run_files.Goals as goal
+use Rattle.wc_controller.specs.Files.{AnswersRun}
+
+pub returns-clause-ends : goal.returns-clause-ends
+returns-clause-ends g c =
+    let taken = g.W.ByteOut.bytes_taken in
+    on_known (g.P.ByteIn.bytes_left c.args.plate.now) _ _
+    (λ table told. on_known (g.T.ByteIn.bytes_left c.args.program.now) _ _
+    (λ text more. on_known (g.L.ByteIn.bytes_left c.args.log.now) _ _
+    (λ log upto. ends (AnswersRun table text log) c.run_inputs-answer.result c.end.result (taken c.args.writer.now) (taken c.run_inputs-answer.new.writer) (taken c.end.new.writer)
+    upto c.end.ensures.ends) more) told) c.run_inputs-answer.ensures.writes

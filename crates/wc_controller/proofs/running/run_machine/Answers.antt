@@ -1,0 +1,24 @@
+use Rattle.std.proofs.Common.{◌≡◌}
+use Rattle.std.specs.Prelude.{Some}
+use Rattle.wc_controller.proofs.Allowing.{on_known}
+use Rattle.wc_controller.proofs.Givings.{ran, ran_short}
+use Rattle.wc_controller.proofs.running.run_machine.Goals as goal
+use Rattle.wc_model.specs.Language.Scans.{initial_of}
+use Rattle.wc_model.specs.Run.Log.{log_of}
+use Rattle.wc_record.specs.Reading.{records_of}
+
+pub returns-in-Ok-clause-writes : goal.returns-in-Ok-clause-writes
+returns-in-Ok-clause-writes g c =
+    on_known (g.L.ByteIn.bytes_left c.args.log.now) _ _
+    (λ bytes told text stands.
+    let logic = Some (record { text = text; store = initial_of text }) in
+    ran c.args.plate.now logic (log_of (records_of bytes)) (g.W.ByteOut.bytes_taken c.args.writer.now) (g.W.ByteOut.bytes_taken c.run.new.writer)
+    c.in-Ok.field-0 (told logic stands)) c.in-Ok.ensures.reports
+
+pub returns-in-Err-clause-writes : goal.returns-in-Err-clause-writes
+returns-in-Err-clause-writes g c =
+    on_known (g.L.ByteIn.bytes_left c.args.log.now) _ _
+    (λ bytes told text stands.
+    let logic = Some (record { text = text; store = initial_of text }) in
+    ran_short c.args.plate.now logic (log_of (records_of bytes)) (g.W.ByteOut.bytes_taken c.args.writer.now) (g.W.ByteOut.bytes_taken c.run.new.writer)
+    c.in-Err.fault (told logic stands)) c.in-Err.ensures.reports

@@ -1,0 +1,179 @@
+-- How far an answer was written when a command stopped, and how it ended. (The profile's own.)
+use Rattle.std.specs.Prelude.{◌≡◌, ⊤, ℕ, ◌<◌, ◌≤◌, ◌⊎◌, List, ◌++◌, length, Option, Some, None, IfSome, Result, Ok, Err}
+use Rattle.std.specs.Io.KnownBytes.{Appends, Keeps}
+use Rattle.wc_controller.specs.declared.ending.Ending.{Ending}
+use Rattle.wc_controller.specs.declared.ending.Ending.TheVariants as ended
+use Rattle.wc_controller.specs.declared.input.Input.{Input}
+use Rattle.wc_controller.specs.declared.input.Stopped.{Stopped}
+use Rattle.wc_job.specs.declared.reading.ReadFault.{ReadFault}
+use Rattle.wc_job.specs.declared.reading.ReadFault.TheVariants as unread
+use Rattle.wc_model.specs.declared.fault.Fault.{Fault}
+use Rattle.wc_model.specs.declared.fault.Fault.TheVariants as fault
+use Rattle.wc_model.specs.Instrument.PlateTable.{plate_of}
+use Rattle.wc_model.specs.Instrument.Plates.{PlateData}
+use Rattle.wc_model.specs.Run.JobSections.{longest_job}
+use Rattle.wc_model.specs.Run.Writing.{HasFailedSince, TakesFront}
+use Rattle.wc_model.specs.Say.Job.{JobAnswer, refused_text}
+use Rattle.wc_plate.specs.TomlTable.{table_read}
+use Rattle.wc_run.specs.Runs.{AppendsFront}
+use Rattle.wc_run.specs.declared.fault.RunFault.{RunFault}
+use Rattle.wc_run.specs.declared.fault.RunFault.TheVariants.{Refused, Read, Write, Memory}
+
+-- the fault with which something stopped, if it did
+abbrev pub met : {X : Type 0} → Result X Stopped → Option RunFault
+met (Ok x) = None
+met (Err stopped) = Some stopped.fault
+
+-- the same of a fault alone
+abbrev pub fault_met : {X : Type 0} → Result X RunFault → Option RunFault
+fault_met (Ok x) = None
+fault_met (Err fault) = Some fault
+
+-- nothing was written, or a front of an answer that is allowed
+abbrev pub WritesFront : (JobAnswer → Type 0) → Option (List ℕ) → Option (List ℕ) → Type 0
+WritesFront allowed old new = Keeps old new ⊎ ((answer : JobAnswer) × allowed answer × AppendsFront old new answer.output)
+
+-- an answer that is allowed was written: all of it; all but its refusal; at a fault a front of it, or nothing
+abbrev pub WritesUpTo : (JobAnswer → Type 0) → Option RunFault → Option (List ℕ) → Option (List ℕ) → Type 0
+WritesUpTo allowed None old new = (answer : JobAnswer) × allowed answer × (answer.status ≡ 0) × Appends old new answer.output
+WritesUpTo allowed (Some (Refused number place)) old new =
+    (report : List ℕ) × allowed (record { output = report ++ refused_text number place; status = 1 }) × Appends old new report
+WritesUpTo allowed (Some Read) old new = WritesFront allowed old new
+WritesUpTo allowed (Some Write) old new = WritesFront allowed old new
+WritesUpTo allowed (Some Memory) old new = WritesFront allowed old new
+
+-- a file is refused only because it is too long
+abbrev pub RefusesLength : Option (List ℕ) → RunFault → Type 0
+RefusesLength known (Refused number place) = (number ≡ 702) × (place ≡ 0) × IfSome known (λ all. longest_job < length all)
+RefusesLength known Read = ⊤
+RefusesLength known Write = ⊥
+RefusesLength known Memory = ⊤
+
+-- why no plate was read of these bytes
+abbrev pub RefusesPlate : List ℕ → RunFault → Type 0
+RefusesPlate bytes (Refused number place) =
+    (place ≡ 0) × (((number ≡ 702) × (longest_job < length bytes)) ⊎ ((length bytes ≤ longest_job) × (plate_of (table_read bytes) ≡ Err number)))
+RefusesPlate bytes Read = ⊤
+RefusesPlate bytes Write = ⊥
+RefusesPlate bytes Memory = ⊤
+
+-- a plate that was read of these bytes, or why there is none
+abbrev pub ReadsPlate : List ℕ → Result PlateData Stopped → Type 0
+ReadsPlate bytes (Ok plate) = (length bytes ≤ longest_job) × (plate_of (table_read bytes) ≡ Ok plate)
+ReadsPlate bytes (Err stopped) = RefusesPlate bytes stopped.fault
+
+-- a fault of reading or loading, as the fault of a command
+abbrev pub run_fault_of : Fault → RunFault
+run_fault_of (fault.Refused number place) = Refused number place
+run_fault_of fault.Memory = Memory
+
+-- the fault of an input that was not read whole
+abbrev pub whole_fault : ReadFault → RunFault
+whole_fault unread.TooLong = Refused 702 0
+whole_fault unread.Read = Read
+whole_fault unread.Memory = Memory
+
+-- the exit status of an ending
+abbrev pub status_of : Ending → ℕ
+status_of ended.Done = 0
+status_of (ended.Refused input number place) = 1
+status_of (ended.ReadFault input) = 3
+status_of ended.WriteFault = 3
+status_of ended.NoMemory = 4
+
+-- an ending that says that a device or the memory failed
+abbrev pub IsFailing : Ending → Type 0
+IsFailing ended.Done = ⊥
+IsFailing (ended.Refused input number place) = ⊥
+IsFailing (ended.ReadFault input) = ⊤
+IsFailing ended.WriteFault = ⊤
+IsFailing ended.NoMemory = ⊤
+
+-- what an ending tells of an answer that was written whole: that nothing is refused, or the refusal in its last line
+abbrev pub IsEndingOf : JobAnswer → Ending → Type 0
+IsEndingOf answer ended.Done = answer.status ≡ 0
+IsEndingOf answer (ended.Refused input number place) =
+    (report : List ℕ) × (answer ≡ record { output = report ++ refused_text number place; status = 1 })
+IsEndingOf answer (ended.ReadFault input) = ⊥
+IsEndingOf answer ended.WriteFault = ⊥
+IsEndingOf answer ended.NoMemory = ⊥
+
+-- An answer that is allowed was written whole, and the ending tells how it ends; or something failed, and a front of such an
+-- answer was written, or nothing.
+pub data EndsAs (allowed : JobAnswer → Type 0) (ending : Ending) (old new : Option (List ℕ)) : Type 0 where
+  answered : (answer : JobAnswer) → allowed answer → IsEndingOf answer ending → Appends old new answer.output → EndsAs allowed ending old new
+  failed : IsFailing ending → WritesFront allowed old new → EndsAs allowed ending old new
+
+-- a refusal's line was written; at a write fault a front of it, and not all; for want of memory nothing
+abbrev pub WritesRefusal : {X : Type 0} → ℕ → ℕ → Result X RunFault → Option (List ℕ) → Option (List ℕ) → Type 0
+WritesRefusal number place (Ok done) old new = Appends old new (refused_text number place)
+WritesRefusal number place (Err (Refused other at)) old new = ⊥
+WritesRefusal number place (Err Read) old new = ⊥
+WritesRefusal number place (Err Write) old new = TakesFront old new (refused_text number place)
+WritesRefusal number place (Err Memory) old new = Keeps old new
+
+-- the ending of a refusal, and what was written behind the report
+abbrev pub EndsRefused : Input → ℕ → ℕ → Ending → Option (List ℕ) → Option (List ℕ) → Type 0
+EndsRefused input number place ended.Done old new = ⊥
+EndsRefused input number place (ended.Refused at other line) old new =
+    (at ≡ input) × (other ≡ number) × (line ≡ place) × Appends old new (refused_text number place)
+EndsRefused input number place (ended.ReadFault at) old new = ⊥
+EndsRefused input number place ended.WriteFault old new = TakesFront old new (refused_text number place)
+EndsRefused input number place ended.NoMemory old new = Keeps old new
+
+-- the ending of what stopped with a fault at an input, and what was written behind
+abbrev pub EndsBehindFault : Input → RunFault → Ending → Option (List ℕ) → Option (List ℕ) → Type 0
+EndsBehindFault input (Refused number place) ending old new = EndsRefused input number place ending old new
+EndsBehindFault input Read ending old new = (ending ≡ ended.ReadFault input) × Keeps old new
+EndsBehindFault input Write ending old new = (ending ≡ ended.WriteFault) × Keeps old new
+EndsBehindFault input Memory ending old new = (ending ≡ ended.NoMemory) × Keeps old new
+
+-- the same of whatever is answered
+abbrev pub EndsBehind : {X : Type 0} → Result X Stopped → Ending → Option (List ℕ) → Option (List ℕ) → Type 0
+EndsBehind (Ok done) ending old new = (ending ≡ ended.Done) × Keeps old new
+EndsBehind (Err stopped) ending old new = EndsBehindFault stopped.input stopped.fault ending old new
+
+-- a write fault is told where the writer's failed calls rose, and only there
+abbrev pub TellsFailures : Ending → ℕ → ℕ → Type 0
+TellsFailures ending old new = (ending ≡ ended.WriteFault → HasFailedSince old new) × ((ending ≡ ended.WriteFault → ⊥) → new ≡ old)
+
+-- the same of a fault
+abbrev pub TellsWriteFaults : Option RunFault → ℕ → ℕ → Type 0
+TellsWriteFaults None old new = new ≡ old
+TellsWriteFaults (Some (Refused number place)) old new = new ≡ old
+TellsWriteFaults (Some Read) old new = new ≡ old
+TellsWriteFaults (Some Write) old new = HasFailedSince old new
+TellsWriteFaults (Some Memory) old new = new ≡ old
+
+-- it stopped at this input
+abbrev pub StopsAt : {X : Type 0} → Input → Result X Stopped → Type 0
+StopsAt input (Ok done) = ⊥
+StopsAt input (Err stopped) = stopped.input ≡ input
+
+-- it stopped because this input's reader failed
+abbrev pub IsReadFaultAt : {X : Type 0} → Input → Result X Stopped → Type 0
+IsReadFaultAt input (Ok done) = ⊥
+IsReadFaultAt input (Err stopped) = (stopped.input ≡ input) × (stopped.fault ≡ Read)
+
+-- a read fault is told of this input where its reader's failed calls rose, and only there
+abbrev pub TellsReadFaults : {X : Type 0} → Input → Result X Stopped → ℕ → ℕ → Type 0
+TellsReadFaults input result old new = (IsReadFaultAt input result → HasFailedSince old new) × ((IsReadFaultAt input result → ⊥) → new ≡ old)
+
+-- the same of an ending
+abbrev pub TellsReadEndings : Input → Ending → ℕ → ℕ → Type 0
+TellsReadEndings input ending old new = (ending ≡ ended.ReadFault input → HasFailedSince old new) × ((ending ≡ ended.ReadFault input → ⊥) → new ≡ old)
+
+-- of a log that lies in memory: to read it fails only for want of memory
+abbrev pub fault_in_memory : RunFault → RunFault
+fault_in_memory (Refused number place) = Refused number place
+fault_in_memory Read = Memory
+fault_in_memory Write = Write
+fault_in_memory Memory = Memory
+
+-- the ending is that of this input
+abbrev pub IsAt : Input → Ending → Type 0
+IsAt input ended.Done = ⊥
+IsAt input (ended.Refused at number place) = at ≡ input
+IsAt input (ended.ReadFault at) = at ≡ input
+IsAt input ended.WriteFault = ⊥
+IsAt input ended.NoMemory = ⊥

@@ -1,0 +1,95 @@
+ghost use Rattle.std.specs.Prelude.{◌≡◌, ℕ};
+ghost use Rattle.wc_controller.specs.Endings.{EndsBehind, EndsRefused, TellsFailures, TellsWriteFaults, met, status_of};
+
+use crate::input::{Input, Stopped};
+use crate::refusing::write_refusal;
+use std::alloc::Global;
+use wc_model::ByteOut;
+use wc_run::RunFault;
+
+/// How a command ended.
+#[derive(Clone, Copy, Debug, PartialEq, Eq)]
+pub enum Ending {
+    /// All was read, done and written.
+    Done,
+    /// An input breaks a rule: the line of the refusal was written last.
+    Refused {
+        /// The input that breaks it.
+        input: Input,
+        /// The rule's number, by the list of refusals.
+        number: u16,
+        /// The line or row that breaks it, counted from 1; 0 where no line does.
+        place: u32,
+    },
+    /// An input's reader failed, or more of the log was read than may be.
+    ReadFault {
+        /// The input.
+        input: Input,
+    },
+    /// The writer failed, or took nothing.
+    WriteFault,
+    /// Memory was refused.
+    NoMemory,
+}
+
+impl Ending {
+    /// The exit status: 0 where all was done, 1 where something was refused, 3 where a device failed, 4 for want of memory.
+    pub fn status(&self) -> u8
+        ensures { result ≡ status_of self.now }
+    {
+        match self {
+            Ending::Done => 0,
+            Ending::Refused { .. } => 1,
+            Ending::ReadFault { .. } => 3,
+            Ending::WriteFault => 3,
+            Ending::NoMemory => 4,
+        }
+    }
+}
+
+/// The ending of a refusal, whose line is written behind what stands.
+fn end_refused<W: ByteOut>(
+    alloc: Global,
+    input: Input,
+    number: u16,
+    place: u32,
+    writer: &mut W,
+) -> Ending
+    ensures ends { EndsRefused input number place result (W.bytes_taken writer.old)
+        (W.bytes_taken writer.new) }
+    ensures failures { TellsFailures result (W.failure_count writer.old)
+        (W.failure_count writer.new) }
+{
+    match write_refusal(alloc, number, place, writer) {
+        Ok(()) => Ending::Refused {
+            input,
+            number,
+            place,
+        },
+        Err(fault) => match fault {
+            RunFault::Write => Ending::WriteFault,
+            _ => Ending::NoMemory,
+        },
+    }
+}
+
+/// The ending of what was done, or of what stopped it: a refusal's line is written behind what stands.
+pub(crate) fn end<W: ByteOut>(alloc: Global, answer: Result<(), Stopped>, writer: &mut W) -> Ending
+    ensures ends { EndsBehind answer result (W.bytes_taken writer.old)
+        (W.bytes_taken writer.new) }
+    ensures failures { (before : ℕ)
+        → TellsWriteFaults (met answer) before (W.failure_count writer.old)
+        → TellsFailures result before (W.failure_count writer.new) }
+{
+    let stopped = match answer {
+        Ok(()) => return Ending::Done,
+        Err(stopped) => stopped,
+    };
+    let input = stopped.input;
+    match stopped.fault {
+        RunFault::Refused { number, place } => end_refused(alloc, input, number, place, writer),
+        RunFault::Read => Ending::ReadFault { input },
+        RunFault::Write => Ending::WriteFault,
+        RunFault::Memory => Ending::NoMemory,
+    }
+}

@@ -1,0 +1,23 @@
+use wc_run::RunFault;
+
+/// What a command reads, in the order in which it is read.
+#[derive(Clone, Copy, Debug, PartialEq, Eq)]
+pub enum Input {
+    /// A job, of which the others are sections.
+    Job,
+    /// The plate.
+    Plate,
+    /// The program's text.
+    Program,
+    /// The log.
+    Log,
+}
+
+/// Why a command stopped, and the input that was being read or answered then.
+#[derive(Clone, Copy, Debug, PartialEq, Eq)]
+pub struct Stopped {
+    /// The input.
+    pub input: Input,
+    /// The fault.
+    pub fault: RunFault,
+}

@@ -1,0 +1,91 @@
+ghost use Rattle.std.specs.Prelude.{◌≡◌, IfErr, IfSome, None};
+ghost use Rattle.wc_controller.specs.Endings.{EndsAs, IsAt, IsReadFaultAt, StopsAt, TellsFailures, TellsReadEndings, TellsReadFaults, TellsWriteFaults, WritesUpTo, met};
+ghost use Rattle.wc_controller.specs.Files.{AnswersLine, line_answer};
+ghost use Rattle.wc_model.specs.Run.Log.{log_of};
+ghost use Rattle.wc_record.specs.Left.{HasCause};
+ghost use Rattle.wc_record.specs.Reading.{records_of};
+
+use crate::ending::{Ending, end};
+use crate::input::{Input, Stopped};
+use crate::reading::read_plate;
+use std::alloc::Global;
+use wc_model::{ByteIn, ByteOut};
+use wc_plate::Plate;
+use wc_run::run;
+
+/// Runs a log with no program.
+fn line_plate<L: ByteIn, W: ByteOut>(
+    alloc: Global,
+    plate: &Plate,
+    log: &mut L,
+    writer: &mut W,
+) -> Result<(), Stopped>
+    ensures writes { IfSome (L.bytes_left log.old)
+        (λ bytes. WritesUpTo (λ answer. answer ≡ line_answer plate.now (log_of (records_of bytes)))
+        (met result) (W.bytes_taken writer.old) (W.bytes_taken writer.new)) }
+    ensures input { IfErr result (λ stopped. stopped.input ≡ Input.Log) }
+    ensures read { IsReadFaultAt Input.Log result
+        → HasCause (L.failure_count log.old) (L.failure_count log.new)
+        (L.spent_count log.old) (L.spent_count log.new) }
+    ensures failures { TellsWriteFaults (met result) (W.failure_count writer.old)
+        (W.failure_count writer.new) }
+{
+    match run(alloc, plate, None, log, writer) {
+        Ok(_) => Ok(()),
+        Err(fault) => Err(Stopped {
+            input: Input::Log,
+            fault,
+        }),
+    }
+}
+
+/// Reads a plate, and runs a log with no program.
+fn line_inputs<P: ByteIn, L: ByteIn, W: ByteOut>(
+    alloc: Global,
+    plate: &mut P,
+    log: &mut L,
+    writer: &mut W,
+) -> Result<(), Stopped>
+    ensures writes { IfSome (P.bytes_left plate.old) (λ table. IfSome (L.bytes_left log.old)
+        (λ bytes. WritesUpTo (AnswersLine table bytes) (met result)
+        (W.bytes_taken writer.old) (W.bytes_taken writer.new))) }
+    ensures unread { StopsAt Input.Plate result
+        → L.spent_count log.new ≡ L.spent_count log.old }
+    ensures plate { TellsReadFaults Input.Plate result (P.failure_count plate.old)
+        (P.failure_count plate.new) }
+    ensures log { IsReadFaultAt Input.Log result
+        → HasCause (L.failure_count log.old) (L.failure_count log.new)
+        (L.spent_count log.old) (L.spent_count log.new) }
+    ensures failures { TellsWriteFaults (met result) (W.failure_count writer.old)
+        (W.failure_count writer.new) }
+{
+    match read_plate(alloc, plate) {
+        Ok(plate) => line_plate(alloc, &plate, log, writer),
+        Err(stopped) => Err(stopped),
+    }
+}
+
+/// Runs a log with no program, so that the answers of the line alone are written: the plate is read and judged first, and the
+/// log is not read where it is refused. All else is as `run_files` has it.
+pub fn line_files<P: ByteIn, L: ByteIn, W: ByteOut>(
+    alloc: Global,
+    plate: &mut P,
+    log: &mut L,
+    writer: &mut W,
+) -> Ending
+    ensures ends { IfSome (P.bytes_left plate.old) (λ table. IfSome (L.bytes_left log.old)
+        (λ bytes. EndsAs (AnswersLine table bytes) result
+        (W.bytes_taken writer.old) (W.bytes_taken writer.new))) }
+    ensures unread { IsAt Input.Plate result
+        → L.spent_count log.new ≡ L.spent_count log.old }
+    ensures plate { TellsReadEndings Input.Plate result (P.failure_count plate.old)
+        (P.failure_count plate.new) }
+    ensures log { result ≡ Ending.ReadFault Input.Log
+        → HasCause (L.failure_count log.old) (L.failure_count log.new)
+        (L.spent_count log.old) (L.spent_count log.new) }
+    ensures failures { TellsFailures result (W.failure_count writer.old)
+        (W.failure_count writer.new) }
+{
+    let answer = line_inputs(alloc, plate, log, writer);
+    end(alloc, answer, writer)
+}

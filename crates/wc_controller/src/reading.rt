@@ -1,0 +1,81 @@
+ghost use Rattle.std.specs.Prelude.{◌≡◌, ℕ, ◌+◌, IfErr, IfOk, IfSome};
+ghost use Rattle.wc_controller.specs.Endings.{ReadsPlate, RefusesLength, TellsReadFaults, TellsWriteFaults, met};
+ghost use Rattle.wc_controller.specs.Endings as endings;
+ghost use Rattle.wc_job.specs.Reads.{IsWhole, TakesAtMost};
+ghost use Rattle.wc_model.specs.Run.JobSections.{longest_job};
+
+use crate::input::{Input, Stopped};
+use std::alloc::Global;
+use wc_job::{ReadFault, read_whole};
+use wc_model::{ByteIn, Fault};
+use wc_plate::{Plate, plate};
+use wc_run::RunFault;
+
+/// A fault of loading, as the fault of a command.
+pub(crate) fn run_fault_of(fault: Fault) -> RunFault
+    ensures { result ≡ endings.run_fault_of fault }
+{
+    match fault {
+        Fault::Refused { number, place } => RunFault::Refused { number, place },
+        Fault::Memory => RunFault::Memory,
+    }
+}
+
+/// The fault of an input that was not read whole: one that is too long is refused as a job is.
+fn whole_fault(fault: ReadFault) -> RunFault
+    ensures { result ≡ endings.whole_fault fault }
+{
+    match fault {
+        ReadFault::TooLong => RunFault::Refused {
+            number: 702,
+            place: 0,
+        },
+        ReadFault::Read => RunFault::Read,
+        ReadFault::Memory => RunFault::Memory,
+    }
+}
+
+/// All bytes of an input, at most 1048576.
+pub(crate) fn read_input<R: ByteIn>(
+    alloc: Global,
+    input: Input,
+    reader: &mut R,
+) -> Result<Vec<u8>, Stopped>
+    ensures whole { IfOk result (λ bytes. IsWhole (R.bytes_left reader.old) bytes.items) }
+    ensures too_long { IfErr result
+        (λ stopped. RefusesLength (R.bytes_left reader.old) stopped.fault) }
+    ensures input { IfErr result (λ stopped. stopped.input ≡ input) }
+    ensures failures { TellsReadFaults input result (R.failure_count reader.old)
+        (R.failure_count reader.new) }
+    ensures taken { TakesAtMost (longest_job + 1) (R.bytes_left reader.old)
+        (R.bytes_left reader.new) }
+{
+    match read_whole(alloc, reader) {
+        Ok(bytes) => Ok(bytes),
+        Err(fault) => Err(Stopped {
+            input,
+            fault: whole_fault(fault),
+        }),
+    }
+}
+
+/// The plate that a reader gives.
+pub(crate) fn read_plate<R: ByteIn>(alloc: Global, reader: &mut R) -> Result<Plate, Stopped>
+    ensures plate { IfSome (R.bytes_left reader.old) (λ bytes. ReadsPlate bytes result) }
+    ensures input { IfErr result (λ stopped. stopped.input ≡ Input.Plate) }
+    ensures silent { (count : ℕ) → TellsWriteFaults (met result) count count }
+    ensures failures { TellsReadFaults Input.Plate result (R.failure_count reader.old)
+        (R.failure_count reader.new) }
+{
+    let bytes = match read_input(alloc, Input::Plate, reader) {
+        Ok(bytes) => bytes,
+        Err(stopped) => return Err(stopped),
+    };
+    match plate(alloc, &bytes) {
+        Ok(plate) => Ok(plate),
+        Err(fault) => Err(Stopped {
+            input: Input::Plate,
+            fault: run_fault_of(fault),
+        }),
+    }
+}
