@@ -1,82 +1,92 @@
-ghost use Rattle.std.specs.Prelude.{◌≡◌, IfSome};
-
-use crate::files::{open, read_file, read_plate};
-use crate::stops::{Stopped, stop_at, stop_by};
+use crate::devices::{Noting, Opening};
+use crate::telling::{Met, Sources, end};
 use crate::words::ProgramFiles;
-use wc_controller::{check, load, run};
-use wc_machine::Machine;
-use wc_model::ByteOut;
-use wc_plate::Plate;
-use wc_store::SlotStore;
+use std::io::Stdout;
+use wc_controller::{Input, answer_job, check_file, line_files, run_files};
+use wc_model::Device;
 
-/// Writes the cost of each unit of a program, and its worst path where it is asked for.
-pub(crate) fn check_file<'a, W: ByteOut>(
-    rt: &HostRuntime,
-    program: &'a str,
-    paths: bool,
-    writer: &mut W,
-) -> Result<(), Stopped<'a>> {
-    let text = read_file(rt, program)?;
-    match check(rt.alloc(), &text, paths, writer) {
-        Ok(()) => Ok(()),
-        Err(fault) => Err(stop_at(program, fault)),
-    }
+/// What is written to standard output.
+type Output = Device<Noting<Stdout>>;
+
+/// A file that is read.
+type Source<'a> = Device<Noting<Opening<'a>>>;
+
+/// Standard output.
+fn output(rt: &HostRuntime) -> Output {
+    Device::new(Noting::new(rt.stdout()))
 }
 
-/// Runs a log, with a machine or with none.
-fn run_log<'a, W: ByteOut>(
-    rt: &HostRuntime,
-    plate: &Plate,
-    machine: Option<Machine<'_, SlotStore>>,
-    log: &'a str,
-    writer: &mut W,
-) -> Result<(), Stopped<'a>>
-    requires { IfSome machine (λ machine. machine.last ≡ 0) }
-{
-    let mut reader = open(rt, log)?;
-    match run(rt.alloc(), plate, machine, &mut reader, writer) {
-        Ok(_) => Ok(()),
-        Err(fault) => Err(stop_at(log, fault)),
-    }
+/// A file, which is opened when it is first read.
+fn source<'a>(rt: &'a HostRuntime, path: &'a str) -> Source<'a> {
+    Device::new(Noting::new(Opening::new(rt, path)))
 }
 
-/// Loads a program and runs a log with it. The log is opened only where the program is loaded.
-fn run_text<'a, W: ByteOut>(
-    rt: &HostRuntime,
-    plate: &Plate,
-    files: ProgramFiles<'a>,
-    text: &[u8],
-    writer: &mut W,
-) -> Result<(), Stopped<'a>> {
-    let loaded = match load(rt.alloc(), text) {
-        Ok(loaded) => loaded,
-        Err(fault) => return Err(stop_by(files.program, fault)),
+/// Answers a job on standard input: the exit status.
+pub(crate) fn run_job(rt: &HostRuntime) -> u8 {
+    let mut reader = Device::new(Noting::new(rt.stdin()));
+    let mut writer = output(rt);
+    let ending = answer_job(rt.alloc(), &mut reader, &mut writer);
+    let met = Met {
+        ending,
+        reading: reader.get_ref().cause(),
+        writing: writer.get_ref().cause(),
     };
-    match Machine::new(rt.alloc(), loaded) {
-        Ok(machine) => run_log(rt, plate, Some(machine), files.log, writer),
-        Err(fault) => Err(stop_by(files.program, fault)),
-    }
+    end(rt, &met, &Sources::Job)
 }
 
-/// Runs a log with a program.
-pub(crate) fn run_files<'a, W: ByteOut>(
-    rt: &HostRuntime,
-    plate: &'a str,
-    files: ProgramFiles<'a>,
-    writer: &mut W,
-) -> Result<(), Stopped<'a>> {
-    let plate = read_plate(rt, plate)?;
-    let text = read_file(rt, files.program)?;
-    run_text(rt, &plate, files, &text, writer)
+/// Checks the program in a file: the exit status.
+pub(crate) fn check_words(rt: &HostRuntime, program: &str, paths: bool) -> u8 {
+    let mut reader = source(rt, program);
+    let mut writer = output(rt);
+    let ending = check_file(rt.alloc(), paths, &mut reader, &mut writer);
+    let met = Met {
+        ending,
+        reading: reader.get_ref().cause(),
+        writing: writer.get_ref().cause(),
+    };
+    end(rt, &met, &Sources::Program { program })
 }
 
-/// Runs a log with no program.
-pub(crate) fn line_files<'a, W: ByteOut>(
-    rt: &HostRuntime,
-    plate: &'a str,
-    log: &'a str,
-    writer: &mut W,
-) -> Result<(), Stopped<'a>> {
-    let plate = read_plate(rt, plate)?;
-    run_log(rt, &plate, None, log, writer)
+/// Runs the log in a file with a program: the exit status.
+pub(crate) fn run_words(rt: &HostRuntime, plate: &str, files: ProgramFiles<'_>) -> u8 {
+    let mut plate_reader = source(rt, plate);
+    let mut program_reader = source(rt, files.program);
+    let mut log_reader = source(rt, files.log);
+    let mut writer = output(rt);
+    let ending = run_files(
+        rt.alloc(),
+        &mut plate_reader,
+        &mut program_reader,
+        &mut log_reader,
+        &mut writer,
+    );
+    let reading = plate_reader
+        .get_ref()
+        .cause()
+        .or(program_reader.get_ref().cause())
+        .or(log_reader.get_ref().cause());
+    let met = Met {
+        ending,
+        reading,
+        writing: writer.get_ref().cause(),
+    };
+    end(rt, &met, &Sources::Files { plate, files })
+}
+
+/// Runs the log in a file with no program: the exit status.
+pub(crate) fn line_words(rt: &HostRuntime, plate: &str, log: &str) -> u8 {
+    let mut plate_reader = source(rt, plate);
+    let mut log_reader = source(rt, log);
+    let mut writer = output(rt);
+    let ending = line_files(rt.alloc(), &mut plate_reader, &mut log_reader, &mut writer);
+    let reading = plate_reader
+        .get_ref()
+        .cause()
+        .or(log_reader.get_ref().cause());
+    let met = Met {
+        ending,
+        reading,
+        writing: writer.get_ref().cause(),
+    };
+    end(rt, &met, &Sources::Line { plate, log })
 }

@@ -3,21 +3,29 @@
 #![tactic(auto)]
 
 mod commands;
-mod ending;
-mod files;
+mod devices;
+mod excerpts;
+mod hints;
+mod printable;
 mod sentences;
-mod stops;
+mod telling;
 mod words;
 
 use clap::Error;
 use clap::error::ErrorKind;
-use commands::{check_file, line_files, run_files};
-use ending::{DEVICE_FAULT, NO_MEMORY, WRONG_WORDS, end, say};
+use commands::{check_words, line_words, run_job, run_words};
 use std::process::ExitCode;
 use std::{env, io};
-use wc_controller::job;
-use wc_model::Device;
 use words::{Wanted, read_words};
+
+/// The exit status where the words are wrong.
+const WRONG_WORDS: u8 = 2;
+
+/// The exit status where a device failed.
+const DEVICE_FAULT: u8 = 3;
+
+/// The exit status of want of memory.
+const NO_MEMORY: u8 = 4;
 
 /// The words of the command line, the first of which is the program's own name.
 fn words_given(rt: &HostRuntime) -> io::Result<Vec<String>> {
@@ -25,10 +33,16 @@ fn words_given(rt: &HostRuntime) -> io::Result<Vec<String>> {
     Ok(words)
 }
 
+/// The exit status where memory was refused to the words, which is told.
+fn without_memory(rt: &HostRuntime) -> u8 {
+    let _told = rt.eprintln("memory");
+    NO_MEMORY
+}
+
 /// The exit status where the words could not be had.
 fn end_without_words(rt: &HostRuntime, error: &io::Error) -> u8 {
     if error.kind() == io::ErrorKind::OutOfMemory {
-        return NO_MEMORY;
+        return without_memory(rt);
     }
     let _told = rt.eprintln("error: the words of the command line are not UTF-8");
     WRONG_WORDS
@@ -37,24 +51,25 @@ fn end_without_words(rt: &HostRuntime, error: &io::Error) -> u8 {
 /// Prints help, the version, or what is wrong with the words: the exit status.
 fn show(rt: &HostRuntime, error: &Error) -> u8 {
     if error.kind() == ErrorKind::OutOfMemory {
-        return NO_MEMORY;
+        return without_memory(rt);
     }
     match error.print(rt) {
         Ok(()) => error.exit_code() as u8,
-        Err(_) => DEVICE_FAULT,
+        Err(_) => {
+            let _told = rt.eprintln("device fault");
+            DEVICE_FAULT
+        }
     }
 }
 
 /// Does what is wanted: the exit status.
 fn execute(rt: &HostRuntime, wanted: Wanted<'_>) -> u8 {
-    let mut writer = Device::new(rt.stdout());
-    let answer = match wanted {
-        Wanted::Job => return job(rt.alloc(), &mut Device::new(rt.stdin()), &mut writer),
-        Wanted::Check { program, paths } => check_file(rt, program, paths, &mut writer),
-        Wanted::Run { plate, files } => run_files(rt, plate, files, &mut writer),
-        Wanted::Line { plate, log } => line_files(rt, plate, log, &mut writer),
-    };
-    end(rt, answer, &mut writer)
+    match wanted {
+        Wanted::Job => run_job(rt),
+        Wanted::Check { program, paths } => check_words(rt, program, paths),
+        Wanted::Run { plate, files } => run_words(rt, plate, files),
+        Wanted::Line { plate, log } => line_words(rt, plate, log),
+    }
 }
 
 /// Does what the words ask for: the exit status, 0 where it succeeded, 1 where something was refused, 2 where the words are
@@ -70,8 +85,5 @@ fn answer(rt: &HostRuntime) -> u8 {
 }
 
 fn main(rt: HostRuntime) -> ExitCode {
-    let status = answer(&rt);
-    // Where standard error fails there is nobody left to tell.
-    let _told = say(&rt, status);
-    ExitCode::from(status)
+    ExitCode::from(answer(&rt))
 }

@@ -7,7 +7,9 @@ pub(crate) fn sentence(number: u16) -> &'static str {
         401..=411 => body_sentence(number),
         501..=508 => plate_sentence(number),
         601..=608 => log_sentence(number),
-        702 => "the file has more than 1048576 bytes",
+        701 =>
+            "a job has the lines @plate, @program and @log, in this order, the first of them first",
+        702 => "there are more than 1048576 bytes",
         _ => "a rule is broken",
     }
 }
