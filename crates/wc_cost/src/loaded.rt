@@ -1,8 +1,9 @@
-ghost use Rattle.std.specs.Prelude.{◌≡◌, ◌<◌, Some, IfOk, IsOkUnless, length, option_map, slice_get};
+ghost use Rattle.std.specs.Prelude.{◌≡◌, ◌<◌, ◌≤◌, Some, IfOk, IsOkUnless, length, option_map, slice_get};
 ghost use Rattle.wc_model.specs.Language.Frames.{first_numbers, number_of_path, slot_kinds};
 ghost use Rattle.wc_model.specs.Language.Scopes.{Scope};
 ghost use Rattle.wc_model.specs.Language.Views.{text_view};
 ghost use Rattle.wc_model.specs.Say.UnitReport.{IsBoundAt};
+ghost use Rattle.wc_soundness.specs.FirstNumbers.{AreFirst};
 ghost use Rattle.wc_flat.specs.Contents.{frame_of_text};
 ghost use Rattle.wc_cost.specs.LoadedTexts.{AreWorstAt, IsLoadedSound, IsProgramOf};
 
@@ -103,14 +104,17 @@ impl<'a> Loaded<'a> {
 
     /// The kinds of the places of the program's frame, in their order.
     pub fn kinds(&self) -> &[SlotKind]
-        ensures { result.now ≡ slot_kinds (frame_of_text (text_view self.now.source)) }
+        ensures kinds { result.now ≡ slot_kinds (frame_of_text (text_view self.now.source)) }
+        ensures few { length result.now ≤ 4096 }
     {
         self.kinds.as_slice()
     }
 
     /// What the places hold at first, in the same order: BOOL is 0 or 1, TIME is milliseconds.
     pub fn initials(&self) -> &[i64]
-        ensures { result.now ≡ first_numbers (frame_of_text (text_view self.now.source)) }
+        ensures numbers { result.now ≡ first_numbers (frame_of_text (text_view self.now.source)) }
+        // Each is in the range of its slot's kind, and no timer has begun.
+        ensures first { AreFirst (slot_kinds (frame_of_text (text_view self.now.source))) result.now }
     {
         self.initials.as_slice()
     }
