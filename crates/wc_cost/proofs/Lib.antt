@@ -13,6 +13,7 @@ pub mod Measured
 pub mod Placed
 pub mod PlacesThere
 pub mod TextUnits
+pub mod UnitNames
 pub mod WorstWays
 pub mod WholeTexts
 pub mod WorstLines

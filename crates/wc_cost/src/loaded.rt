@@ -12,6 +12,7 @@ use crate::path::worst_lines;
 use crate::ways::ways;
 use std::alloc::Global;
 use std::marker::Model;
+use std::str::from_utf8_unchecked;
 use wc_model::{Code, Fault, Path, Place, SlotKind};
 use wc_verify::Checked;
 
@@ -52,12 +53,14 @@ impl<'a> Loaded<'a> {
     }
 
     /// The name of a unit, as it is spelled.
-    pub fn name(&self, unit: usize) -> &'a [u8]
+    pub fn name(&self, unit: usize) -> &'a str
         requires { unit < length self.now.codes }
         ensures { option_map (λ u. u.spelled) (slice_get (text_view self.now.source) unit)
             ≡ Some result.now }
     {
-        self.checked.source().units[unit].name.text
+        let spelled = self.checked.source().units[unit].name.text;
+        // A name is ASCII, so it is UTF-8 and needs no test.
+        unsafe { from_utf8_unchecked(spelled) }
     }
 
     /// The flat lines of a unit's body.
