@@ -45,7 +45,7 @@ fn lines_at(
         (λ lines. AreLinesAt paths (text_view loaded.now.source) unit lines.items) }
     ensures memory { IsOkUnless result RunFault.Memory }
 {
-    let mut lines = match unit_line(alloc, loaded.name(unit), loaded.bound(unit)) {
+    let mut lines = match unit_line(alloc, loaded.name(unit).as_bytes(), loaded.bound(unit)) {
         Ok(line) => line,
         Err(_) => return Err(RunFault::Memory),
     };

@@ -10,11 +10,10 @@ use Rattle.wc_model.specs.Language.Names.{Name}
 use Rattle.wc_model.specs.Language.Scopes.{Scope}
 use Rattle.wc_model.specs.Language.Tree.{Word, Lines, End}
 use Rattle.wc_model.specs.Language.Views.{label_view, line_view, lines_view, word_view}
-use Rattle.wc_model.specs.declared.tree.Instr.{Instr, out-Instr}
-use Rattle.wc_model.specs.declared.tree.Instr.TheOpen.{Instr-F}
+use Rattle.wc_model.specs.declared.tree.Instr.{Instr}
 use Rattle.wc_model.specs.declared.tree.Line.{Line}
 use Rattle.wc_verify.proofs.InstrLines.{view_instr, view_none}
-use Rattle.wc_verify.specs.Instructions.{instr_line, opened_line, put}
+use Rattle.wc_verify.specs.Instructions.{instr_line, put}
 use Rattle.wc_model.specs.Language.Kinds.{label_of}
 use Rattle.wc_cost.proofs.LinesLaid.{put_laid, put_sources}
 use Rattle.wc_cost.specs.FlatLines.{FlatLines, no_lines}
@@ -117,17 +116,3 @@ layable_from scope (suc i) (line ∷ items) h = layable_from scope i items (laya
 pub nothing_kept : (scope : Scope) (labels : List (Name × ℕ)) (flat : FlatLines) → labels ≡ [] → flat ≡ no_lines → IsKeptFlat scope End labels flat
 nothing_kept scope labels flat e f =
     subst (λ (x : List (Name × ℕ)). IsKeptFlat scope End x flat) (sym e) (subst (λ (x : FlatLines). IsKeptFlat scope End [] x) (sym f) ((refl, refl), λ label. tt))
-
--- an instruction's line has its label
-label_opened : (layer : Instr-F Instr Line) (label : Option Word) → label_of (opened_line layer label) ≡ label
-label_opened (Instr-F.Load negated operand line) label = refl
-label_opened (Instr-F.Store storing target line) label = refl
-label_opened (Instr-F.Apply operator operand line) label = refl
-label_opened (Instr-F.Defer operator operand inside line close) label = refl
-label_opened (Instr-F.Not line) label = refl
-label_opened (Instr-F.Jump condition target line) label = refl
-label_opened (Instr-F.Call condition instance arguments line) label = refl
-label_opened (Instr-F.Return condition line) label = refl
-
-pub label_instr : (instr : Instr) (label : Option Word) → label_of (instr_line instr label) ≡ label
-label_instr instr label = label_opened (out-Instr instr) label

@@ -1,10 +1,11 @@
 -- What the rules on declarations and bodies let pass can be laid flat.
 use Rattle.std.proofs.Common.{◌≡◌, ℕ, ◌+◌, ◌<◌, ◌≤◌, Bool, true, false, ◌||◌, ◌&&◌, List, [], ◌∷◌, ◌++◌, length, Option, Some, None, is_some, option_map, refl, sym, ap, subst, ◌∙◌, inl, inr, ⊎_elim, arith}
+use Rattle.std.proofs.lemmas.Bool.{and_parts}
 use Rattle.std.specs.List.{flat_map, list_any}
 use Rattle.std.specs.Prelude.{if◌then◌else◌}
 use Rattle.wc_flat.specs.Laid.{flat_length, lines_ahead, step_length}
 use Rattle.wc_model.specs.Language.BodyRules.{argument_checks, call_checks, closing_checks, condition_checks, input_named, inside_rules, is_ahead, is_bit_literal, is_bool, is_instance, is_no_instance, is_of, is_readable, is_writable, label_rules, line_rules, load_checks, members_called, opening_checks, opening_operand_checks, reading_checks, result_checks, divisor_checks, spot_rules, step_rules, store_checks, suits_input, suits_result, suits_target, truth_checks, writing_checks}
-use Rattle.wc_model.specs.Language.Checks.{Check, Spot, asks, spots_behind, spots_of}
+use Rattle.wc_model.specs.Language.Checks.{Spot, asks, spots_behind, spots_of}
 use Rattle.wc_model.specs.Language.DeclarationRules.{body_name_checks, label_checks, operand_checks, step_checks, term_checks}
 use Rattle.wc_model.specs.Language.Declarations.{Member, VariableType, Elementary, Standard, Block, block_named, is_block, member_named, members_of, same_name}
 use Rattle.wc_model.specs.Language.Kinds.{BodyLine, AloneLine, PlainLine, NestedLine, elementary_kind, is_kind, kind_after_operator, kind_after_step, kind_at, kind_behind, label_of, lines_of, opening_kind, term_kind}
@@ -22,6 +23,8 @@ use Rattle.wc_model.specs.declared.value.Value.TheVariants.{Bool as Truth, Dint,
 use Rattle.wc_soundness.proofs.CallSteps.{block_known, input_found, type_of-found}
 use Rattle.wc_soundness.proofs.Steps.{clean_first, clean_second, or-true, some_of}
 use Rattle.wc_soundness.proofs.Entities.{writable_is_stored}
+use Rattle.wc_soundness.proofs.Bodies.{nested_parts}
+use Rattle.wc_soundness.proofs.Programs.{three_parts}
 use Rattle.wc_soundness.specs.Sound.{Clean}
 use Rattle.wc_cost.proofs.PlacesThere.{HasKind, readable, writable}
 use Rattle.wc_cost.specs.Layable.{AreAssignable, IsCallable, IsInsideLayable, IsKnownBlock, IsLayable, IsLoadable, IsNear, IsOpenable, IsReadable, IsStepLayable, IsWritable, Nowhere}
@@ -30,10 +33,6 @@ use Rattle.wc_cost.specs.Layable.{AreAssignable, IsCallable, IsInsideLayable, Is
 of_some : (test : Kind → Bool) (o : Option Kind) → is_of test o ≡ true → is_some o ≡ true
 of_some test None h = cc
 of_some test (Some kind) h = refl
-
-and_last : (a b : Bool) → (a && b) ≡ true → b ≡ true
-and_last true b h = h
-and_last false b h = cc
 
 -- LDN
 loadable : (scope : Scope) (term : Term) → is_bool (term_kind scope term) ≡ true → IsLoadable true term
@@ -99,7 +98,7 @@ input_kinds scope (Some m) term h = by (elementary_kind m.type) h
   where
     by : (k : Option Kind) → (elim k as (λ x. Bool) [ Some kind ↦ is_of (is_kind kind) (term_kind scope term) || (is_kind KindBool kind && is_bit_literal term) | None ↦ false ]) ≡ true → HasKind scope term
     by None g = cc
-    by (Some kind) g = ⊎_elim (λ a. inl (of_some (is_kind kind) (term_kind scope term) a)) (λ b. inr (and_last (is_kind KindBool kind) (is_bit_literal term) b)) (or-true (is_of (is_kind kind) (term_kind scope term)) (is_kind KindBool kind && is_bit_literal term) g)
+    by (Some kind) g = ⊎_elim (λ a. inl (of_some (is_kind kind) (term_kind scope term) a)) (λ b. inr ((and_parts (is_kind KindBool kind) (is_bit_literal term) b).1)) (or-true (is_of (is_kind kind) (term_kind scope term)) (is_kind KindBool kind && is_bit_literal term) g)
 
 member_kind : (scope : Scope) (m : Member) (term : Term) → suits_input scope (Some m) term ≡ true → is_some (elementary_kind m.type) ≡ true
 member_kind scope m term h = by (elementary_kind m.type) h
@@ -196,25 +195,19 @@ step_layable scope line (Call condition instance arguments) behind kind reached 
 step_layable scope line (Return condition) behind kind reached few short go named c = tt
 
 -- the lines inside a parenthesis
-three : (a b c : List Check) → Clean ((a ++ b) ++ c) → Clean a × Clean b × Clean c
-three a b c h = (clean_first a b (clean_first (a ++ b) c h), clean_second a b (clean_first (a ++ b) c h), clean_second (a ++ b) c h)
-
-four : (a b c d : List Check) → Clean (((a ++ b) ++ c) ++ d) → Clean a × Clean b × Clean c × Clean d
-four a b c d h = let t = three a b c (clean_first ((a ++ b) ++ c) d h) in (t.0, t.1, t.2, clean_second ((a ++ b) ++ c) d h)
-
 pub inside_layable : (scope : Scope) (lines : Lines) (kind : Option Kind) → length scope.before < 65536 → flat_length lines ≤ 65536 → Clean (body_name_checks scope.unit lines) → Clean (inside_rules scope lines kind) → IsInsideLayable scope lines
 inside_layable scope End kind few short named c = tt
 inside_layable scope (Alone label rest) kind few short named c = inside_layable scope rest kind few short named.1 c
 inside_layable scope (Plain label line step rest) kind few short named c =
-    let names = three (label_checks label) (step_checks scope.unit step) (body_name_checks scope.unit rest) named in
+    let names = three_parts (label_checks label) (step_checks scope.unit step) (body_name_checks scope.unit rest) named in
     let next = kind_after_step scope step kind in (
       step_layable scope line step [] kind Nowhere few (omega (arith, short)) (λ label h. cc) names.1 (clean_first (step_rules scope line step [] kind) (inside_rules scope rest next) c),
       inside_layable scope rest next few (omega (arith, short)) names.2 (clean_second (step_rules scope line step [] kind) (inside_rules scope rest next) c),
     )
 inside_layable scope (Nested label line operator operand inside close rest) kind few short named c =
-    let names = four (label_checks label) (operand_checks scope.unit operand) (body_name_checks scope.unit inside) (body_name_checks scope.unit rest) named in
+    let names = nested_parts (label_checks label) (operand_checks scope.unit operand) (body_name_checks scope.unit inside) (body_name_checks scope.unit rest) named in
     let inner = opening_kind scope operand in
-    let parts = four (opening_checks scope line operator operand kind) (inside_rules scope inside inner) (closing_checks close kind (kind_behind scope inside inner)) (inside_rules scope rest (kind_after_operator operator kind)) c in
+    let parts = nested_parts (opening_checks scope line operator operand kind) (inside_rules scope inside inner) (closing_checks close kind (kind_behind scope inside inner)) (inside_rules scope rest (kind_after_operator operator kind)) c in
     ((openable scope line operator operand kind names.1 parts.0, inside_layable scope inside inner few (omega (arith, short)) names.2 parts.1), inside_layable scope rest (kind_after_operator operator kind) few (omega (arith, short)) names.3 parts.3)
 
 -- a label that a later line has is ahead
@@ -248,7 +241,7 @@ lines_layable scope (Alone word rest) before few short named c =
 lines_layable scope (Plain label number step rest) before few short named c =
     let line : BodyLine = PlainLine label number step in
     let spot : Spot BodyLine = record { before = before; item = line; behind = lines_of rest } in
-    let names = three (label_checks label) (step_checks scope.unit step) (body_name_checks scope.unit rest) named in
+    let names = three_parts (label_checks label) (step_checks scope.unit step) (body_name_checks scope.unit rest) named in
     let others = flat_map (spot_rules scope) (spots_behind (line ∷ before) (lines_of rest)) in
     let kind = kind_at scope before line in
     let own = clean_second (label_rules before label) (step_rules scope number step (lines_of rest) kind) (clean_first (spot_rules scope spot) others c) in
@@ -257,10 +250,10 @@ lines_layable scope (Plain label number step rest) before few short named c =
 lines_layable scope (Nested label number operator operand inside close rest) before few short named c =
     let line : BodyLine = NestedLine label number operator operand inside close in
     let spot : Spot BodyLine = record { before = before; item = line; behind = lines_of rest } in
-    let names = four (label_checks label) (operand_checks scope.unit operand) (body_name_checks scope.unit inside) (body_name_checks scope.unit rest) named in
+    let names = nested_parts (label_checks label) (operand_checks scope.unit operand) (body_name_checks scope.unit inside) (body_name_checks scope.unit rest) named in
     let others = flat_map (spot_rules scope) (spots_behind (line ∷ before) (lines_of rest)) in
     let kind = kind_at scope before line in
     let inner = opening_kind scope operand in
     let own = clean_second (label_rules before label) (line_rules scope line (lines_of rest) kind) (clean_first (spot_rules scope spot) others c) in
-    let parts = three (opening_checks scope number operator operand kind) (inside_rules scope inside inner) (closing_checks close kind (kind_behind scope inside inner)) own in
+    let parts = three_parts (opening_checks scope number operator operand kind) (inside_rules scope inside inner) (closing_checks close kind (kind_behind scope inside inner)) own in
     ((openable scope number operator operand kind names.1 parts.0, inside_layable scope inside inner few (omega (arith, short)) names.2 parts.1), lines_layable scope rest (line ∷ before) few (omega (arith, short)) names.3 (clean_second (spot_rules scope spot) others c))

@@ -3,16 +3,15 @@ pub mod Bounds
 pub mod Calling
 pub mod CallsLaid
 pub mod Going
-pub mod LabelRows
 pub mod LabelsLaid
 pub mod LayableLines
 pub mod LinesLaid
-pub mod Lists
 pub mod Loading
 pub mod Measured
 pub mod Placed
 pub mod PlacesThere
 pub mod TextUnits
+pub mod UnitNames
 pub mod WorstWays
 pub mod WholeTexts
 pub mod WorstLines

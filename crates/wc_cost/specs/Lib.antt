@@ -1,11 +1,9 @@
 pub mod Costs
 pub mod Faultless
 pub mod FlatLines
-pub mod Keys
 pub mod Layable
 pub mod Laying
 pub mod LoadedInside
 pub mod LoadedTexts
 pub mod Operands
-pub mod Rows
 pub mod Ways

@@ -1,5 +1,5 @@
 -- What a loaded text holds in its fields. (No rule of the language.)
-use Rattle.std.specs.Prelude.{◌≡◌, ℕ, List, [], ◌∷◌, map, length}
+use Rattle.std.specs.Prelude.{◌≡◌, ◌≤◌, ℕ, List, [], ◌∷◌, map, length}
 use Rattle.wc_flat.specs.Contents.{frame_of_text}
 use Rattle.wc_flat.specs.FlatPaths.{sources_of}
 use Rattle.wc_flat.specs.Laws.{AreBoundsBelow}
@@ -7,6 +7,7 @@ use Rattle.wc_model.specs.Language.Frames.{first_numbers, slot_kinds}
 use Rattle.wc_model.specs.Language.Tree.{Text}
 use Rattle.wc_model.specs.Language.Views.{text_view}
 use Rattle.wc_model.specs.declared.code.Code.{Code}
+use Rattle.wc_soundness.specs.FirstNumbers.{AreFirst}
 use Rattle.wc_cost.specs.LoadedTexts.{LoadedText, IsLoadedSound}
 use Rattle.wc_cost.specs.Ways.{AreSmall}
 use Rattle.wc_cost.specs.declared.laid.LaidUnit.{LaidUnit}
@@ -30,11 +31,14 @@ AreLines (unit ∷ text) (laid ∷ units) = (laid.lines.items ≡ sources_of uni
 AreLines [] (laid ∷ units) = ⊥
 AreLines (unit ∷ text) [] = ⊥
 
--- the codes are the text's, the bounds the lengths of their worst paths and not too great, and kinds and first numbers those of the program's frame
+-- the codes are the text's, the bounds the lengths of their worst paths and not too great, and kinds and first numbers those of
+-- the program's frame: few enough, and each number one that its slot may hold at first
 pub record AreFieldsSound (a : LoadedFields) : Type 0 where
   pub sound : IsLoadedSound (loaded_view a)
   pub lines : AreLines (text_view a.checked.source) a.units.items
   pub bounds : AreBoundsBelow (text_view a.checked.source) (codes_of a.units.items) (bounds_of a.units.items) (length a.units.items)
   pub small : AreSmall (bounds_of a.units.items)
   pub kinds : a.kinds.items ≡ slot_kinds (frame_of_text (text_view a.checked.source))
+  pub few : length a.kinds.items ≤ 4096
   pub initials : a.initials.items ≡ first_numbers (frame_of_text (text_view a.checked.source))
+  pub first : AreFirst a.kinds.items a.initials.items

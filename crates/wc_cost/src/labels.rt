@@ -1,12 +1,12 @@
 ghost use Rattle.std.specs.Prelude.{◌≡◌, ℕ, [], List, Some, OnOk, IsOkUnless, if◌then◌else◌};
 ghost use Rattle.wc_model.specs.Language.Declarations.{named_in, same_name};
 ghost use Rattle.wc_model.specs.Language.Names.{Name, name_of};
-ghost use Rattle.wc_cost.specs.Rows.{named_rows};
+ghost use Rattle.wc_verify.specs.Rows.{named_rows};
 
-use crate::key::Key;
 use indexmap::IndexMap;
 use std::alloc::Global;
 use std::marker::Model;
+use wc_declare::Key;
 use wc_model::Fault;
 
 /// The labels of a body, with how many flat lines there are from each to the last.

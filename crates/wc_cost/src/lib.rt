@@ -8,7 +8,6 @@ mod costing;
 mod flat;
 mod flat_operand;
 mod inside;
-mod key;
 mod labels;
 mod laid;
 mod loaded;

@@ -1,8 +1,9 @@
-ghost use Rattle.std.specs.Prelude.{◌≡◌, ◌<◌, Some, IfOk, IsOkUnless, length, option_map, slice_get};
+ghost use Rattle.std.specs.Prelude.{◌≡◌, ◌<◌, ◌≤◌, Some, IfOk, IsOkUnless, length, option_map, slice_get};
 ghost use Rattle.wc_model.specs.Language.Frames.{first_numbers, number_of_path, slot_kinds};
 ghost use Rattle.wc_model.specs.Language.Scopes.{Scope};
 ghost use Rattle.wc_model.specs.Language.Views.{text_view};
 ghost use Rattle.wc_model.specs.Say.UnitReport.{IsBoundAt};
+ghost use Rattle.wc_soundness.specs.FirstNumbers.{AreFirst};
 ghost use Rattle.wc_flat.specs.Contents.{frame_of_text};
 ghost use Rattle.wc_cost.specs.LoadedTexts.{AreWorstAt, IsLoadedSound, IsProgramOf};
 
@@ -11,6 +12,7 @@ use crate::path::worst_lines;
 use crate::ways::ways;
 use std::alloc::Global;
 use std::marker::Model;
+use std::str::from_utf8_unchecked;
 use wc_model::{Code, Fault, Path, Place, SlotKind};
 use wc_verify::Checked;
 
@@ -51,12 +53,14 @@ impl<'a> Loaded<'a> {
     }
 
     /// The name of a unit, as it is spelled.
-    pub fn name(&self, unit: usize) -> &'a [u8]
+    pub fn name(&self, unit: usize) -> &'a str
         requires { unit < length self.now.codes }
         ensures { option_map (λ u. u.spelled) (slice_get (text_view self.now.source) unit)
             ≡ Some result.now }
     {
-        self.checked.source().units[unit].name.text
+        let spelled = self.checked.source().units[unit].name.text;
+        // A name is ASCII, so it is UTF-8 and needs no test.
+        unsafe { from_utf8_unchecked(spelled) }
     }
 
     /// The flat lines of a unit's body.
@@ -103,14 +107,17 @@ impl<'a> Loaded<'a> {
 
     /// The kinds of the places of the program's frame, in their order.
     pub fn kinds(&self) -> &[SlotKind]
-        ensures { result.now ≡ slot_kinds (frame_of_text (text_view self.now.source)) }
+        ensures kinds { result.now ≡ slot_kinds (frame_of_text (text_view self.now.source)) }
+        ensures few { length result.now ≤ 4096 }
     {
         self.kinds.as_slice()
     }
 
     /// What the places hold at first, in the same order: BOOL is 0 or 1, TIME is milliseconds.
     pub fn initials(&self) -> &[i64]
-        ensures { result.now ≡ first_numbers (frame_of_text (text_view self.now.source)) }
+        ensures numbers { result.now ≡ first_numbers (frame_of_text (text_view self.now.source)) }
+        // Each is in the range of its slot's kind, and no timer has begun.
+        ensures first { AreFirst (slot_kinds (frame_of_text (text_view self.now.source))) result.now }
     {
         self.initials.as_slice()
     }

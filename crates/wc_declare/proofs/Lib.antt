@@ -14,6 +14,7 @@ pub mod Frames
 pub mod Lookups
 pub mod ScopeTables
 pub mod Spread
+pub mod FirstSlots
 pub mod OwnNumbers
 pub mod MemberTables
 pub mod Entities

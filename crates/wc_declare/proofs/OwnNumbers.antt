@@ -1,5 +1,5 @@
 -- A number that a path has in a frame is no other place's.
-use Rattle.std.proofs.Common.{◌≡◌, Option, Some, None, option_map, sym, ap, ◌∙◌, refl}
+use Rattle.std.proofs.Common.{◌≡◌, Option, Some, None, option_map, sym, ap}
 use Rattle.std.specs.Prelude.{IfSome, option_and_then}
 use Rattle.wc_model.specs.Language.Frames.{frame_of, location_of, number_of_path, place_number}
 use Rattle.wc_model.specs.Language.Scopes.{Scope}

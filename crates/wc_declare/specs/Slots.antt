@@ -4,7 +4,12 @@ use Rattle.wc_model.specs.Language.DirectVariables.{direct_variables, kind_of_di
 use Rattle.wc_model.specs.Language.Frames.{content_number, slot_kind_of}
 use Rattle.wc_model.specs.Language.Names.{Name}
 use Rattle.wc_model.specs.Language.Store.{Content, zero_of}
+use Rattle.wc_soundness.specs.FirstNumbers.{AreFirst}
 use Rattle.wc_declare.specs.declared.frame.Frame.{Frame}
+
+-- each slot of a frame holds what it may before the first scan
+abbrev pub HoldsFirst : Frame → Type 0
+HoldsFirst frame = AreFirst frame.kinds.items frame.initials.items
 
 -- what places hold at first
 abbrev pub contents_of : List (List Name × Content) → List Content

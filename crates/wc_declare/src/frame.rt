@@ -6,7 +6,9 @@ ghost use Rattle.wc_model.specs.Language.DirectVariables.{direct_variables, kind
 ghost use Rattle.wc_model.specs.Language.Scopes.{Scope};
 ghost use Rattle.wc_model.specs.Language.Tree.{ProgramUnit};
 ghost use Rattle.wc_model.specs.declared.source.Initial.{Initial};
-ghost use Rattle.wc_declare.specs.Slots.{IsBegun, IsGrown, contents_of};
+ghost use Rattle.wc_soundness.specs.FirstNumbers.{IsFirst};
+ghost use Rattle.wc_soundness.specs.Typing.{slot_of_kind};
+ghost use Rattle.wc_declare.specs.Slots.{HoldsFirst, IsBegun, IsGrown, contents_of};
 ghost use Rattle.wc_declare.specs.StandsFor.{Stands};
 
 use crate::declared_type::DeclaredType;
@@ -29,6 +31,8 @@ fn push(frame: &mut Frame, kind: SlotKind, number: i64) -> Result<(), Fault>
         (frame.new.kinds.items ≡ frame.old.kinds.items ++ kind ∷ []) }
     ensures initials { OnOk result
         (frame.new.initials.items ≡ frame.old.initials.items ++ number ∷ []) }
+    ensures first { OnOk result
+        (IsFirst kind number → HoldsFirst frame.old → HoldsFirst frame.new) }
     ensures memory { IsOkUnless result Fault.Memory }
 {
     if frame.kinds.push(kind).is_err() {
@@ -47,6 +51,7 @@ fn push_zeros(frame: &mut Frame, kinds: &[SlotKind]) -> Result<(), Fault>
     ensures initials { OnOk result
         (frame.new.initials.items
         ≡ frame.old.initials.items ++ replicate (length kinds.now) (pos 0)) }
+    ensures first { OnOk result (HoldsFirst frame.old → HoldsFirst frame.new) }
     ensures memory { IsOkUnless result Fault.Memory }
 {
     for kind in kinds {
@@ -59,7 +64,9 @@ fn push_zeros(frame: &mut Frame, kinds: &[SlotKind]) -> Result<(), Fault>
 
 /// The kind of the slot of a variable of this kind.
 fn slot_of(kind: Kind) -> SlotKind
-    ensures { (initial : Option Initial) → result ≡ slot_kind_of (first_content kind initial) }
+    ensures content { (initial : Option Initial)
+        → result ≡ slot_kind_of (first_content kind initial) }
+    ensures kind { result ≡ slot_of_kind kind }
 {
     match kind {
         Kind::Bool => SlotKind::Bool,
@@ -70,8 +77,9 @@ fn slot_of(kind: Kind) -> SlotKind
 
 /// What a variable of this kind holds at first, with a literal or without.
 fn first_number(kind: Kind, literal: Option<Value>) -> i64
-    ensures { (initial : Option Initial) → literal ≡ option_map (λ i. i.value) initial
+    ensures content { (initial : Option Initial) → literal ≡ option_map (λ i. i.value) initial
         → result ≡ content_number (first_content kind initial) }
+    ensures first { IsFirst (slot_of_kind kind) result }
 {
     match (kind, literal) {
         (Kind::Bool, Some(Value::Bool(true))) => 1,
@@ -86,6 +94,7 @@ fn first_number(kind: Kind, literal: Option<Value>) -> i64
 fn push_standard(frame: &mut Frame, block: StandardBlock) -> Result<(), Fault>
     ensures grown { OnOk result
         (IsGrown frame.old frame.new (map (λ f. f.1) (standard_fields block))) }
+    ensures first { OnOk result (HoldsFirst frame.old → HoldsFirst frame.new) }
     ensures memory { IsOkUnless result Fault.Memory }
 {
     match block {
@@ -132,6 +141,7 @@ fn push_unit<'a>(frame: &mut Frame, units: &[UnitTable<'a>], unit: usize) -> Res
     ensures grown { (before : List ProgramUnit) (u : ProgramUnit) → Stands units.now before u
         → unit ≡ length before
         → OnOk result (IsGrown frame.old frame.new (contents_of (unit_places before u))) }
+    ensures first { OnOk result (HoldsFirst frame.old → HoldsFirst frame.new) }
     ensures memory { IsOkUnless result Fault.Memory }
 {
     let Some(table) = units.get(unit) else {
@@ -166,6 +176,7 @@ fn push_unit<'a>(frame: &mut Frame, units: &[UnitTable<'a>], unit: usize) -> Res
 fn push_direct(frame: &mut Frame) -> Result<(), Fault>
     ensures grown { OnOk result
         (IsGrown frame.old frame.new (map (λ v. zero_of (kind_of_direct v)) direct_variables)) }
+    ensures first { OnOk result (HoldsFirst frame.old → HoldsFirst frame.new) }
     ensures memory { IsOkUnless result Fault.Memory }
 {
     if let Err(fault) = push_zeros(frame, &[SlotKind::Bool; 22]) {
@@ -186,6 +197,7 @@ fn push_direct(frame: &mut Frame) -> Result<(), Fault>
 /// The slots that stand before those of a unit's variables.
 fn begun(alloc: Global, is_block: bool) -> Result<Frame, Fault>
     ensures begins { IfOk result (IsBegun is_block) }
+    ensures first { IfOk result HoldsFirst }
     ensures memory { IsOkUnless result Fault.Memory }
 {
     let mut frame = Frame {
@@ -221,6 +233,7 @@ pub(crate) fn slots<'a>(alloc: Global, units: &[UnitTable<'a>], unit: usize) -> 
     ensures initials { (scope : Scope) → Stands units.now scope.before scope.unit
         → unit ≡ length scope.before
         → IfOk result (λ frame. frame.initials.items ≡ first_numbers (frame_of scope)) }
+    ensures first { IfOk result HoldsFirst }
     ensures memory { IsOkUnless result Fault.Memory }
 {
     let mut frame = match begun(alloc, is_function_block(units, unit)) {

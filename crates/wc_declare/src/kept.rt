@@ -1,4 +1,4 @@
-ghost use Rattle.std.specs.Prelude.{◌≡◌, ℕ, Some, IfOk, IfSome, IsOkUnless, is_some, length, map, option_and_then, option_map};
+ghost use Rattle.std.specs.Prelude.{◌≡◌, ◌≤◌, ℕ, Some, IfOk, IfSome, IsOkUnless, is_some, length, map, option_and_then, option_map};
 ghost use Rattle.wc_model.specs.Language.BodyRules.{input_named};
 ghost use Rattle.wc_model.specs.Language.Declarations.{VariableType, members_of};
 ghost use Rattle.wc_model.specs.Language.Frames.{first_numbers, frame_of, location_of, number_of_path, place_number, plain_variables, slot_kinds};
@@ -7,6 +7,7 @@ ghost use Rattle.wc_model.specs.Language.Scopes.{Scope, entity_of, type_of};
 ghost use Rattle.wc_model.specs.Language.Store.{Location};
 ghost use Rattle.wc_model.specs.Language.Tree.{Text};
 ghost use Rattle.wc_model.specs.Language.Views.{term_view};
+ghost use Rattle.wc_soundness.specs.FirstNumbers.{AreFirst};
 ghost use Rattle.wc_declare.specs.StandsFor.{AreTables, first_number};
 ghost use Rattle.wc_declare.specs.Numbered.{IsUnit, StandsFrom, numbered_entity, numbered_input, numbered_type, plain_of_field};
 
@@ -134,6 +135,12 @@ impl<'a> Tables<'a> {
         ensures initials { (text : Text) (scope : Scope) → AreTables self.now text
             → IsUnit text unit scope
             → IfOk result (λ frame. frame.initials.items ≡ first_numbers (frame_of scope)) }
+        ensures few { (text : Text) (scope : Scope) → AreTables self.now text
+            → IsUnit text unit scope
+            → IfOk result (λ frame. length frame.kinds.items ≤ 4096) }
+        // Each is in the range of its slot's kind, and no timer has begun.
+        ensures first { IfOk result
+            (λ frame. AreFirst frame.kinds.items frame.initials.items) }
         ensures memory { IsOkUnless result Fault.Memory }
     {
         slots(alloc, &self.units, unit)

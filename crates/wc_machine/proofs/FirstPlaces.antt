@@ -1,5 +1,6 @@
 -- The first places of a program's frame, and the last of a text's units.
-use Rattle.std.proofs.Common.{◌≡◌, ℕ, zero, suc, ◌+◌, ◌<◌, ◌≤◌, Bool, true, false, ◌&&◌, List, [], ◌∷◌, ◌++◌, map, reverse, length, Some, ℤ, refl, ap, sym, ◌∙◌, subst, arith, append_assoc, length-append, ◌⊎◌, inl, inr}
+use Rattle.std.proofs.Common.{◌≡◌, ℕ, zero, suc, ◌+◌, ◌<◌, ◌≤◌, Bool, true, ◌&&◌, List, [], ◌∷◌, ◌++◌, map, reverse, length, Some, ℤ, refl, ap, sym, ◌∙◌, subst, arith, append_assoc, length-append, ◌⊎◌, inl, inr}
+use Rattle.std.proofs.lemmas.Bool.{and_parts}
 use Rattle.std.proofs.lemmas.List.{reverse-append, append-nil}
 use Rattle.std.specs.Prelude.{slice_get}
 use Rattle.wc_flat.proofs.Held.{below_next}
@@ -38,21 +39,13 @@ abbrev every : SlotKind → List SlotKind → ℕ → ℕ → Bool
 every kind front first zero = true
 every kind front first (suc n) = is_slot kind (slice_get front (first + n)) && every kind front first n
 
-both_first : (a b : Bool) → (a && b) ≡ true → a ≡ true
-both_first true b e = refl
-both_first false b e = absurd (cc (e))
-
-both_second : (a b : Bool) → (a && b) ≡ true → b ≡ true
-both_second true b e = e
-both_second false b e = absurd (cc (e))
-
 each_is : (kind : SlotKind) (front : List SlotKind) (first count : ℕ) → every kind front first count ≡ true → (i : ℕ) → i < count → is_slot kind (slice_get front (first + i)) ≡ true
 each_is kind front first zero e i below = absurd (omega (arith, below))
-each_is kind front first (suc n) e i below = by_next (below_next n i below) (λ h. each_is kind front first n (both_second (is_slot kind (slice_get front (first + n))) (every kind front first n) e) i h)
+each_is kind front first (suc n) e i below = by_next (below_next n i below) (λ h. each_is kind front first n (and_parts (is_slot kind (slice_get front (first + n))) (every kind front first n) e).1 i h)
   where
     by_next : (i < n) ⊎ (i ≡ n) → (i < n → is_slot kind (slice_get front (first + i)) ≡ true) → is_slot kind (slice_get front (first + i)) ≡ true
     by_next (inl h) onward = onward h
-    by_next (inr same) onward = subst (λ k. is_slot kind (slice_get front (first + k)) ≡ true) (sym same) (both_first (is_slot kind (slice_get front (first + n))) (every kind front first n) e)
+    by_next (inr same) onward = subst (λ k. is_slot kind (slice_get front (first + k)) ≡ true) (sym same) (and_parts (is_slot kind (slice_get front (first + n))) (every kind front first n) e).0
 
 all_in_front : (kind : SlotKind) (front rest : List SlotKind) (first count : ℕ) → every kind front first count ≡ true → first + count ≤ length front → AreAll kind (front ++ rest) first count
 all_in_front kind front rest first count e within i below =

@@ -6,5 +6,6 @@ pub mod Filling
 pub mod Lefts
 pub mod BodyLines
 pub mod Behind
+pub mod FirstNumbers
 pub mod FirstPlaces
 pub mod Scanning

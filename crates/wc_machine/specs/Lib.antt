@@ -1,4 +1,3 @@
 pub mod Lines
 pub mod Running
 pub mod Machines
-pub mod First

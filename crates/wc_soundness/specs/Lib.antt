@@ -1,3 +1,4 @@
 pub mod Typing
 pub mod Sound
 pub mod Laws
+pub mod FirstNumbers

@@ -45,7 +45,7 @@ fn costs(
     rt: HostRuntime,
     text: &[u8],
     unit: usize,
-    name: &[u8],
+    name: &str,
     steps: u32,
     lines: &[u32],
 ) -> bool {
@@ -66,7 +66,7 @@ fn costs(
 
 /// A text of one unit P has this cost, and its worst path these lines.
 fn program_costs(rt: HostRuntime, text: &[u8], steps: u32, lines: &[u32]) -> bool {
-    units(rt, text) == 1 && costs(rt, text, 0, b"P", steps, lines)
+    units(rt, text) == 1 && costs(rt, text, 0, "P", steps, lines)
 }
 
 /// The flat lines of a unit are these.
@@ -218,18 +218,18 @@ fn a_call_costs_its_block(rt: HostRuntime) {
     let text =
         b"FUNCTION_BLOCK Cnt\nVAR_INPUT IN : BOOL; END_VAR\nVAR_OUTPUT N : DINT; END_VAR\nVAR e : R_TRIG; END_VAR\nCAL e(CLK := IN)\nLD e.Q\nRETCN\nLD N\nADD 1\nST N\nEND_FUNCTION_BLOCK\nPROGRAM P\nVAR a, b : Cnt; END_VAR\nCAL a(IN := %IX0.0)\nCAL b(IN := %IX0.1)\nLD a.N\nST %QD0\nLD b.N\nST %QD1\nEND_PROGRAM";
     assert_eq!(rt; units(rt, text), 2);
-    assert!(rt; costs(rt, text, 0, b"Cnt", 8, &[5, 6, 7, 8, 9, 10]));
-    assert!(rt; costs(rt, text, 1, b"P", 24, &[14, 15, 16, 17, 18, 19]));
+    assert!(rt; costs(rt, text, 0, "Cnt", 8, &[5, 6, 7, 8, 9, 10]));
+    assert!(rt; costs(rt, text, 1, "P", 24, &[14, 15, 16, 17, 18, 19]));
 }
 
 #[test]
 fn blocks_cost_more_and_more(rt: HostRuntime) -> Result<(), Fail> {
     let once = with_blocks(rt.alloc(), b"CAL f\n")?;
     assert_eq!(rt; units(rt, &once), 20);
-    assert!(rt; costs(rt, &once, 0, b"U1", 1, &[2]));
-    assert!(rt; costs(rt, &once, 1, b"U2", 4, &[6, 7]));
-    assert!(rt; costs(rt, &once, 18, b"U19", 786430, &[91, 92]));
-    assert!(rt; costs(rt, &once, 19, b"P", 786431, &[96]));
+    assert!(rt; costs(rt, &once, 0, "U1", 1, &[2]));
+    assert!(rt; costs(rt, &once, 1, "U2", 4, &[6, 7]));
+    assert!(rt; costs(rt, &once, 18, "U19", 786430, &[91, 92]));
+    assert!(rt; costs(rt, &once, 19, "P", 786431, &[96]));
     Ok(())
 }
 
@@ -241,7 +241,7 @@ fn more_than_a_million_steps_are_refused(rt: HostRuntime) -> Result<(), Fail> {
     let most = with_blocks(rt.alloc(), body)?;
     assert_eq!(rt; refusal(rt, &most), (0, 0));
     let lines = [96, 97, 98, 99, 100, 101, 102, 103];
-    assert!(rt; costs(rt, &most, 19, b"P", 1000000, &lines));
+    assert!(rt; costs(rt, &most, 19, "P", 1000000, &lines));
     let body = b"CAL f\nCAL g\nCAL h\nCAL i\nCAL j\nCAL k\nCAL l\nCAL l\nLD TRUE\n";
     let more = with_blocks(rt.alloc(), body)?;
     assert_eq!(rt; refusal(rt, &more), (411, 94));

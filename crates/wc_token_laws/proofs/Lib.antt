@@ -1,4 +1,5 @@
 pub mod Reach
+pub mod Ascii
 pub mod TokenSteps
 pub mod TokenLaws
 pub mod Attained

@@ -1,12 +1,12 @@
 -- What stands beside a name once a row is kept.
 use Rattle.std.proofs.Common.{◌≡◌, Bool, true, false, List, [], ◌∷◌, Option, Some, cond, refl, sym, ap, ◌∙◌}
-use Rattle.std.proofs.lemmas.Slice.Eq.{bytes_eq-Decides}
 use Rattle.std.specs.Map.{lookup}
 use Rattle.std.specs.Prelude.{if◌then◌else◌}
 use Rattle.indexmap.specs.IndexMap.{insert_entry}
 use Rattle.wc_model.specs.Language.Declarations.{named_in, same_name}
 use Rattle.wc_model.specs.Language.Names.{Name}
 use Rattle.wc_declare.specs.Keys.{name_of_key, same_key, same_name_laws}
+use Rattle.wc_soundness.proofs.Tests.{same_name-sound}
 use Rattle.wc_verify.specs.Rows.{named_rows, row_of}
 use Rattle.wc_declare.specs.declared.key.Key.{Key}
 use Rattle.wc_verify.specs.declared.labels.Row.{Row}
@@ -23,19 +23,15 @@ other_kept true false v w o h = refl
 other_kept false true v w o h = refl
 other_kept false false v w o h = refl
 
--- two names that are one
-one_name : (a b : Name) → same_name a b ≡ true → a ≡ b
-one_name a b e = (bytes_eq-Decides a b).0 e
-
 step : {X : Type 0} (k : Key) (v : X) (entry : Key × X) (es : List (Key × X)) (name : Name) (b : Bool) → same_name (name_of_key entry.0) (name_of_key k) ≡ b →
     named_in (named_rows (insert_entry same_key es k v)) name ≡ (if same_name (name_of_key k) name then Some v else named_in (named_rows es) name) →
     named_in (named_rows (if b then (entry.0, v) ∷ es else entry ∷ insert_entry same_key es k v)) name ≡ (if same_name (name_of_key k) name then Some v else named_in (named_rows (entry ∷ es)) name)
 step k v entry es name true e more =
-    let same : name_of_key entry.0 ≡ name_of_key k = one_name (name_of_key entry.0) (name_of_key k) e in
+    let same : name_of_key entry.0 ≡ name_of_key k = same_name-sound (name_of_key entry.0) (name_of_key k) e in
     rw same (same_kept (same_name (name_of_key k) name) v entry.1 (named_in (named_rows es) name))
 step k v entry es name false e more =
     rw more (other_kept (same_name (name_of_key entry.0) name) (same_name (name_of_key k) name) v entry.1 (named_in (named_rows es) name)
-    (λ p q. sym e ∙ ap (λ n. same_name n (name_of_key k)) (one_name (name_of_key entry.0) name p) ∙ same_name_laws.symm name (name_of_key k) ∙ q))
+    (λ p q. sym e ∙ ap (λ n. same_name n (name_of_key k)) (same_name-sound (name_of_key entry.0) name p) ∙ same_name_laws.symm name (name_of_key k) ∙ q))
 
 pub kept : {X : Type 0} (k : Key) (v : X) (es : List (Key × X)) (name : Name) → named_in (named_rows (insert_entry same_key es k v)) name ≡ (if same_name (name_of_key k) name then Some v else named_in (named_rows es) name)
 kept k v [] name = refl

@@ -1,29 +1,12 @@
 -- The ways in to a line agree on what they are kept as.
-use Rattle.std.proofs.Common.{◌≡◌, Bool, true, false, List, [], ◌∷◌, ◌++◌, Option, Some, None, refl, sym, ap}
+use Rattle.std.proofs.Common.{◌≡◌, Bool, true, false, List, [], ◌∷◌, ◌++◌, Option, None, refl, sym, ap}
 use Rattle.std.specs.List.{list_all}
 use Rattle.std.specs.Prelude.{if◌then◌else◌, ◌&&◌}
-use Rattle.wc_model.specs.Language.Kinds.{agreed, is_kind, same_result}
+use Rattle.wc_model.specs.Language.Kinds.{agreed, same_result}
 use Rattle.wc_model.specs.declared.kind.Kind.{Kind}
-use Rattle.wc_model.specs.declared.kind.Kind.TheVariants.{Bool as KindBool, Dint as KindDint, Time as KindTime}
+use Rattle.wc_soundness.proofs.Bodies.{same_result-sound}
 use Rattle.wc_verify.specs.Ways.{joined_ways, kind_of_way, way_of, with_way}
 use Rattle.wc_verify.specs.declared.ways.Way.TheVariants.{Agreed, Different}
-
-kind_is : (a b : Kind) → is_kind a b ≡ true → a ≡ b
-kind_is KindBool KindBool e = refl
-kind_is KindDint KindDint e = refl
-kind_is KindTime KindTime e = refl
-kind_is KindBool KindDint e = absurd (cc)
-kind_is KindBool KindTime e = absurd (cc)
-kind_is KindDint KindBool e = absurd (cc)
-kind_is KindDint KindTime e = absurd (cc)
-kind_is KindTime KindBool e = absurd (cc)
-kind_is KindTime KindDint e = absurd (cc)
-
-same_is : (a b : Option Kind) → same_result a b ≡ true → a ≡ b
-same_is None None e = refl
-same_is (Some a) (Some b) e = ap Some (kind_is a b e)
-same_is None (Some b) e = absurd (cc)
-same_is (Some a) None e = absurd (cc)
 
 kept : (all : Bool) (way : Option Kind) → kind_of_way (if all then Agreed way else Different) ≡ (if all then way else None)
 kept true way = refl
@@ -46,7 +29,7 @@ same_first false others false kind other is e s = refl
 pub with_one : (kind : Option Kind) (ways : List (Option Kind)) → way_of (kind ∷ ways) ≡ with_way kind (way_of ways)
 with_one kind [] = refl
 with_one kind (other ∷ ways) =
-    same_first (same_result kind other) (list_all (same_result kind) ways) (list_all (same_result other) ways) kind other (same_is kind other) (λ e. ap (λ k. list_all (same_result k) ways) (same_is kind other e)) refl
+    same_first (same_result kind other) (list_all (same_result kind) ways) (list_all (same_result other) ways) kind other (same_result-sound kind other) (λ e. ap (λ k. list_all (same_result k) ways) (same_result-sound kind other e)) refl
 
 -- of none or one, and others
 pub none_joined : (ways : List (Option Kind)) → way_of ([] ++ ways) ≡ joined_ways (way_of []) (way_of ways)

@@ -5,7 +5,7 @@ use Rattle.wc_model.specs.Language.Views.{assignment_view}
 use Rattle.wc_cost.specs.Layable.{AreAssignable}
 use Rattle.wc_cost.specs.Laying.{AddsArguments}
 use Rattle.wc_cost.proofs.Assigned.{assignable_from, none_added, one_added}
-use Rattle.wc_cost.proofs.Lists.{from_index}
+use Rattle.wc_declare.proofs.Lists.{from_index}
 use Rattle.wc_cost.proofs.arguments.put_arguments.Goals as goal
 
 pub loop-index-init : goal.loop-index-init

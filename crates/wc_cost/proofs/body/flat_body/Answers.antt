@@ -4,7 +4,7 @@ use Rattle.wc_model.specs.Language.Views.{lines_view}
 use Rattle.wc_cost.specs.Layable.{IsLayable}
 use Rattle.wc_cost.specs.Laying.{IsKeptFlat}
 use Rattle.wc_cost.proofs.LabelsLaid.{layable_from, nothing_kept}
-use Rattle.wc_cost.proofs.Lists.{from_index}
+use Rattle.wc_declare.proofs.Lists.{from_index}
 use Rattle.wc_cost.proofs.body.flat_body.Goals as goal
 
 pub loop-index-init : goal.loop-index-init

@@ -5,7 +5,8 @@ use Rattle.wc_verify.specs.Instructions.{instr_line}
 use Rattle.wc_cost.specs.Layable.{IsLayable}
 use Rattle.wc_cost.specs.Laying.{AddsLine, HoldsLabels, IsKeptFlat, KeepsLabel}
 use Rattle.wc_cost.proofs.Going.{on_ok}
-use Rattle.wc_cost.proofs.LabelsLaid.{label_instr, label_kept, layable_put, line_kept}
+use Rattle.wc_cost.proofs.LabelsLaid.{label_kept, layable_put, line_kept}
+use Rattle.wc_verify.proofs.BodyLines.{label_kept as label_instr}
 use Rattle.wc_cost.proofs.body.put_line.Goals as goal
 use Rattle.wc_cost.proofs.body.put_line.Goals.{in-Some+in_default-put_instr, in_default}
 

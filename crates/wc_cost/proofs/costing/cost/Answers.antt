@@ -33,5 +33,7 @@ invariant_of-result c =
       bounds = loaded.bounds;
       small = loaded.small;
       kinds = c.in-Ok-frame.ensures.kinds text last.scope stand last.is ∙ ap slot_kinds last.frame;
+      few = c.in-Ok-frame.ensures.few text last.scope stand last.is;
       initials = c.in-Ok-frame.ensures.initials text last.scope stand last.is ∙ ap first_numbers last.frame;
+      first = c.in-Ok-frame.ensures.first;
     }

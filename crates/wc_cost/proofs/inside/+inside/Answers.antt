@@ -11,7 +11,7 @@ use Rattle.wc_model.specs.declared.tree.Line.{Line}
 use Rattle.wc_verify.proofs.InstrLines.{line_apply, line_call, line_defer, line_jump, line_load, line_not, line_return, line_store, view_instr, view_none}
 use Rattle.wc_verify.specs.Instructions.{instr_line}
 use Rattle.wc_cost.proofs.Going.{on_ok}
-use Rattle.wc_cost.proofs.Lists.{from_index}
+use Rattle.wc_declare.proofs.Lists.{from_index}
 use Rattle.wc_cost.proofs.LinesLaid.{as_line, inside_from, inside_put, label_added, line_added, line_anywhere, nested_added, no_lines_added, one_line}
 use Rattle.wc_cost.specs.Layable.{IsAhead, IsInsideLayable}
 use Rattle.wc_cost.specs.Laying.{AddsLines}

@@ -9,7 +9,7 @@ use Rattle.wc_cost.specs.Faultless.{AreLoaded, IsFaultless, IsMeasured, LoadsUni
 use Rattle.wc_cost.specs.LoadedInside.{bounds_of}
 use Rattle.wc_cost.specs.Ways.{AreSmall}
 use Rattle.wc_cost.specs.declared.laid.LaidUnit.{LaidUnit}
-use Rattle.wc_cost.proofs.Lists.{from_index}
+use Rattle.wc_declare.proofs.Lists.{from_index}
 use Rattle.wc_cost.proofs.Measured.{all_loaded, unit_refused}
 use Rattle.wc_cost.proofs.Measured.{bounds_small, measured_sound}
 use Rattle.wc_cost.proofs.TextUnits.{unit_at, unit_layable, unit_nests, unit_short}

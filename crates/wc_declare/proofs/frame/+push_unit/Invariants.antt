@@ -1,9 +1,6 @@
-use Rattle.std.proofs.Common.{◌≡◌, ◌++◌, List, drop, map, length}
-use Rattle.wc_model.specs.Language.Declarations.{Variable, variables_of}
-use Rattle.wc_model.specs.Language.Frames.{content_number, slot_kind_of}
-use Rattle.wc_model.specs.Language.Store.{unit_places}
+use Rattle.std.proofs.Common.{◌≡◌, List, drop, length}
 use Rattle.wc_model.specs.Language.Tree.{ProgramUnit}
-use Rattle.wc_declare.specs.Slots.{contents_of}
+use Rattle.wc_declare.specs.Slots.{HoldsFirst}
 use Rattle.wc_declare.specs.StandsFor.{Stands}
 use Rattle.wc_declare.proofs.Spread.{SpreadsOn}
 use Rattle.wc_declare.proofs.frame.+push_unit.Given as goal
@@ -11,6 +8,10 @@ use Rattle.wc_declare.proofs.frame.+push_unit.Given as goal
 abbrev pub decreases-push_unit : goal.decreases-push_unit
 decreases-push_unit l = l.unit
 
--- with the variables that are left the whole frame is added
+-- with the variables that are left the whole frame is added, and each slot may hold its number
+pub record Grows (l : goal.Live-loop-row) : Type 0 where
+  pub spread : (before : List ProgramUnit) (u : ProgramUnit) → Stands l.fn.units before u → l.fn.unit ≡ length before → SpreadsOn before u l.initial.frame l.frame (drop l.row-index l.row-items)
+  pub first : HoldsFirst l.initial.frame → HoldsFirst l.frame
+
 abbrev pub invariant-loop-row : goal.invariant-loop-row
-invariant-loop-row l = (before : List ProgramUnit) (u : ProgramUnit) → Stands l.fn.units before u → l.fn.unit ≡ length before → SpreadsOn before u l.initial.frame l.frame (drop l.row-index l.row-items)
+invariant-loop-row l = Grows l

@@ -1,13 +1,14 @@
-use Rattle.std.proofs.Common.{◌≡◌, ◌+◌, ◌++◌, get_or, ◌∷◌, [], drop, length, ap, refl, sym, subst, ◌∙◌}
+use Rattle.std.proofs.Common.{◌≡◌, ◌+◌, ◌++◌, get_or, ◌∷◌, [], drop, length, ap, refl, sym, ◌∙◌}
 use Rattle.std.proofs.lemmas.List.{append-nil, drop_all}
 use Rattle.std.specs.Prelude.{pos, replicate}
 use Rattle.wc_model.specs.declared.kind.SlotKind.TheVariants as SlotKind
+use Rattle.wc_declare.proofs.FirstSlots.{zero_is_first}
 use Rattle.wc_declare.proofs.Lists.{from_index_or}
 use Rattle.wc_declare.proofs.Spread.{piece_added}
 use Rattle.wc_declare.proofs.frame.push_zeros.Goals as goal
 
 pub loop-kind-init : goal.loop-kind-init
-loop-kind-init c = record { kinds = refl; initials = refl }
+loop-kind-init c = record { kinds = refl; initials = refl; first = λ h. h }
 
 pub loop-kind-preserved : goal.loop-kind-preserved
 loop-kind-preserved c =
@@ -23,6 +24,7 @@ loop-kind-preserved c =
       initials =
           piece_added old.initials.items new.initials.items (pos 0 ∷ []) (replicate (length (drop (i + 1) kinds)) (pos 0)) (c.args.frame.now.initials.items ++ replicate (length kinds) (pos 0))
           (ap (λ xs. old.initials.items ++ replicate (length xs) (pos 0)) (sym cut) ∙ c.loop-kind.invariant.initials) c.in_default.ensures.initials;
+      first = λ h. c.in_default.ensures.first (zero_is_first (get_or kinds i SlotKind.Bool)) (c.loop-kind.invariant.first h);
     }
 
 pub returns-clause-kinds : goal.returns-clause-kinds

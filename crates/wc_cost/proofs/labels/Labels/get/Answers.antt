@@ -1,7 +1,7 @@
 use Rattle.std.proofs.Common.{ap, ◌∙◌}
 use Rattle.wc_model.specs.Language.Declarations.{named_in}
 use Rattle.wc_model.specs.Language.Names.{name_of}
-use Rattle.wc_cost.proofs.LabelRows.{looked_up}
+use Rattle.wc_verify.proofs.LabelRows.{looked_up}
 use Rattle.wc_cost.proofs.labels.Labels.get.Goals as goal
 
 pub returns-in-Some : goal.returns-in-Some

@@ -2,8 +2,8 @@ use Rattle.std.proofs.Common.{Some, ap, ◌∙◌}
 use Rattle.std.specs.Prelude.{if◌then◌else◌}
 use Rattle.wc_model.specs.Language.Declarations.{named_in, same_name}
 use Rattle.wc_model.specs.Language.Names.{name_of}
-use Rattle.wc_cost.specs.Rows.{named_rows}
-use Rattle.wc_cost.proofs.LabelRows.{kept}
+use Rattle.wc_verify.specs.Rows.{named_rows}
+use Rattle.wc_verify.proofs.LabelRows.{kept}
 use Rattle.wc_cost.proofs.labels.Labels.set.Goals as goal
 use Rattle.wc_cost.proofs.labels.Labels.set.Goals.{in-Ok, in-Err}
 

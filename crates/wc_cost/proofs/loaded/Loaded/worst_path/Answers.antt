@@ -1,10 +1,10 @@
 use Rattle.std.proofs.Common.{◌<◌, ◌≤◌, List, length, refl, sym, subst, ◌∙◌, arith}
 use Rattle.std.proofs.lemmas.List.{length-map}
+use Rattle.std.proofs.lemmas.Result.{IfOk-weaker}
 use Rattle.std.proofs.lemmas.Option.{slice_get_read}
 use Rattle.wc_flat.specs.FlatPaths.{worst_of}
 use Rattle.wc_model.specs.Language.Views.{text_view}
 use Rattle.wc_model.specs.declared.code.Code.{Code}
-use Rattle.wc_cost.proofs.Going.{if_ok}
 use Rattle.wc_cost.proofs.WorstLines.{code_short, worst_stands}
 use Rattle.wc_cost.specs.LoadedInside.{bounds_of}
 use Rattle.wc_cost.specs.LoadedTexts.{AreWorstAt, LoadedText}
@@ -32,7 +32,7 @@ returns-in-Ok-clause-worst c =
     ∙ (λ i. Rattle.wc_cost.specs.Ways.steps_of (Rattle.wc_flat.specs.FlatPaths.worst_from (bounds_of (c.deref.ensures.value i)) ((c.deref-2.ensures.value ∙ sym c.deref-in-Ok-2.ensures.value) i) sources))
     in
     subst (λ (v : LoadedText). Rattle.std.specs.Prelude.IfOk c.worst_lines.result (λ lines. AreWorstAt (text_view v.source) c.args.unit lines.items)) c.self.view_is
-    (if_ok c.worst_lines.result
+    (IfOk-weaker c.worst_lines.result _ _
     (λ lines e. worst_stands sound.sound.read.0 text sound.sound.read.1 units sound.sound.laid sound.bounds sound.lines c.args.unit unit there lines.items
     (e (bounds_of units) those ∙ (λ i. (worst_of (bounds_of units) (c.deref-in-Ok-2.ensures.value i) (c.deref-in-Ok-3.ensures.value i)).lines)))
     c.worst_lines.ensures.lines)

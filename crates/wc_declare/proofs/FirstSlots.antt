@@ -1,0 +1,25 @@
+-- Slots that hold what they may before the first scan.
+use Rattle.std.proofs.Common.{◌≡◌, List, [], ◌∷◌, ◌++◌, ℤ, pos, refl, sym, subst, arith}
+use Rattle.std.proofs.lemmas.Int.{ints}
+use Rattle.wc_model.specs.declared.kind.SlotKind.{SlotKind}
+use Rattle.wc_model.specs.declared.kind.SlotKind.TheVariants as slots
+use Rattle.wc_soundness.specs.FirstNumbers.{AreFirst, IsFirst}
+
+-- each may hold 0
+pub zero_is_first : (kind : SlotKind) → IsFirst kind (pos 0)
+zero_is_first slots.Bool = search (arith, ints)
+zero_is_first slots.Dint = search (arith, ints)
+zero_is_first slots.Time = search (arith, ints)
+zero_is_first slots.Moment = refl
+zero_is_first slots.Phase = search (arith, ints)
+
+-- one more slot
+one_more : (kinds : List SlotKind) (numbers : List ℤ) (kind : SlotKind) (n : ℤ) → AreFirst kinds numbers → IsFirst kind n → AreFirst (kinds ++ kind ∷ []) (numbers ++ n ∷ [])
+one_more [] [] kind n h first = (first, tt)
+one_more [] (m ∷ numbers) kind n h first = absurd h
+one_more (k ∷ kinds) [] kind n h first = absurd h
+one_more (k ∷ kinds) (m ∷ numbers) kind n h first = (h.0, one_more kinds numbers kind n h.1 first)
+
+pub first_added : (kinds more : List SlotKind) (numbers others : List ℤ) (kind : SlotKind) (n : ℤ) → more ≡ kinds ++ kind ∷ [] → others ≡ numbers ++ n ∷ [] → IsFirst kind n → AreFirst kinds numbers → AreFirst more others
+first_added kinds more numbers others kind n e f first h =
+    subst (λ ks. AreFirst ks others) (sym e) (subst (λ ns. AreFirst (kinds ++ kind ∷ []) ns) (sym f) (one_more kinds numbers kind n h first))
