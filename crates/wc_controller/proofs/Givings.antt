@@ -13,6 +13,7 @@ use Rattle.wc_model.specs.Say.Report.{ReportLine, Scans, line_text, lines_with, 
 use Rattle.wc_model.specs.Run.Rows.{LogRow, Past}
 use Rattle.wc_model.specs.Language.Scans.{initial_of}
 use Rattle.wc_model.specs.Language.Tree.{Text}
+use Rattle.wc_run.specs.Logics.{run_report}
 use Rattle.wc_run.specs.Runs.{AppendsFirst, AppendsFront, Reports}
 use Rattle.wc_run.specs.declared.fault.RunFault.{RunFault}
 use Rattle.wc_run.specs.declared.fault.RunFault.TheVariants.{Refused, Read, Write, Memory}
@@ -101,7 +102,7 @@ module _ (plate : PlateData) (text : Text) (log : LogOf) (old new : Option (List
   ran_short status f w = cut_short (run_answer plate text log) refl f (front_of_output report log.refusal old new w)
 
   -- the report of the first rows is a front of the report
-  pub first_is_front : AppendsFirst plate (Some (record { text = text; store = initial_of text })) log.rows old new → AppendsFront old new report
+  pub first_is_front : AppendsFirst (run_report plate (Some (record { text = text; store = initial_of text }))) log.rows old new → AppendsFront old new report
   first_is_front f =
       let lines = lines_first plate (scans_of text) (initial_of text) [] f.0 f.1 in (
         program_report plate text (initial_of text) f.0,

@@ -13,4 +13,4 @@ pub use checking::check;
 pub use headline::the_headline;
 pub use loading::load;
 pub use refusing::refuse;
-pub use wc_run::{RunFault, run};
+pub use wc_run::{RunFault, run, run_last};
