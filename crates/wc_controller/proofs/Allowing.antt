@@ -5,13 +5,15 @@ use Rattle.std.proofs.lemmas.Bool.Decides.{nat_tests}
 use Rattle.std.specs.Prelude.{◌⊎◌, Option, Some, None, IfSome, if◌then◌else◌}
 use Rattle.wc_controller.proofs.Givings.{only_refused, upto_more}
 use Rattle.wc_controller.specs.Endings.{RefusesPlate, RefusesLength, WritesUpTo, run_fault_of}
-use Rattle.wc_controller.specs.Files.{AnswersFile, AnswersPlateFile, AnswersWithPlate, too_long, whole}
+use Rattle.wc_controller.specs.Files as files
+use Rattle.wc_controller.specs.Files.{AnswersFile, AnswersText, AnswersPlateFile, AnswersWithPlate, too_long, whole}
 use Rattle.wc_controller.specs.Jobs.{Allows, AllowsSections}
 use Rattle.wc_job.specs.Reads.{IsWhole}
 use Rattle.wc_model.specs.Instrument.PlateTable.{plate_of}
 use Rattle.wc_model.specs.Instrument.Plates.{PlateData}
 use Rattle.wc_model.specs.Run.JobSections.{Sections, longest_job, sections_in, sections_of, sections_or_refusal, whole_lines}
-use Rattle.wc_model.specs.Run.Log.{log_of}
+use Rattle.wc_model.specs.Run.Log.{LogOf, log_of}
+use Rattle.wc_model.specs.Say.Job as job
 use Rattle.wc_model.specs.Say.Job.{JobAnswer, AnswersPlate, AnswersProgram, AnswersSections, refused_text, refusing}
 use Rattle.wc_model.specs.declared.fault.Fault.{Fault}
 use Rattle.wc_model.specs.declared.fault.Fault.TheVariants as fault
@@ -36,10 +38,16 @@ pub of_known : (known : Option (List ℕ)) (bytes : List ℕ) (P : List ℕ → 
 of_known None bytes P e h = tt
 of_known (Some all) bytes P e h = subst P e h
 
+-- what is allowed of a text whose every scan is printed is allowed of the program of a job
+of_text : (plate : PlateData) (program : List ℕ) (log : LogOf) (answer : JobAnswer) → AnswersText None plate program log answer → AnswersProgram plate program log answer
+of_text plate program log answer (files.refuses_program number line h e) = job.refuses_program number line h e
+of_text plate program log answer (files.runs_program text h e) = job.runs text h e
+
 -- a plate that stands, and what is allowed of the program
 pub sections_run : (sections : Sections) (plate : PlateData) → plate_of (table_read sections.plate) ≡ Ok plate →
-    (answer : JobAnswer) → AnswersProgram plate sections.program (log_of (records_of sections.log)) answer → AllowsSections sections answer
-sections_run sections plate e answer h = subst (λ judged. AnswersPlate records_of sections judged answer) (sym e) h
+    (answer : JobAnswer) → AnswersText None plate sections.program (log_of (records_of sections.log)) answer → AllowsSections sections answer
+sections_run sections plate e answer h =
+    subst (λ judged. AnswersPlate records_of sections judged answer) (sym e) (of_text plate sections.program (log_of (records_of sections.log)) answer h)
 
 -- a plate that is refused
 pub plate_refused : (sections : Sections) (why : Fault) (old : Option (List ℕ)) → AgreesWith (plate_of (table_read sections.plate)) (Err why) →

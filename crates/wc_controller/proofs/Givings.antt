@@ -6,7 +6,7 @@ use Rattle.std.specs.Prelude.{Bool, Option, Some, None, IfSome, flat_map}
 use Rattle.std.specs.Io.KnownBytes.{Appends, Keeps}
 use Rattle.wc_controller.specs.Checking.{Checks}
 use Rattle.wc_controller.specs.Endings.{IsAt, IsReadFaultAt, EndsAs, EndsBehind, EndsBehindFault, EndsRefused, WritesFront, WritesUpTo, answered, failed, fault_in_memory, fault_met, met, run_fault_of, status_of}
-use Rattle.wc_controller.specs.Files.{AnswersCheck, refuses_text, reports_units}
+use Rattle.wc_controller.specs.Files.{AnswersCheck, AnswersText, refuses_program, refuses_text, reports_units}
 use Rattle.wc_controller.specs.Jobs as jobs
 use Rattle.wc_controller.specs.Jobs.{Gives}
 use Rattle.wc_controller.specs.Loads.{IsRefusedLoad}
@@ -20,13 +20,15 @@ use Rattle.wc_model.specs.Language.Tree.{Text}
 use Rattle.wc_model.specs.Run.Log.{LogOf, LogRefusal}
 use Rattle.wc_model.specs.Run.Rows.{LogRow, Past, answer_of_row}
 use Rattle.wc_model.specs.Run.Writing.{TakesFront}
-use Rattle.wc_model.specs.Say.Job.{AnswersProgram, JobAnswer, behind_report, refused_text, refuses_program, run_answer, runs}
+use Rattle.wc_model.specs.Say.Job.{JobAnswer, behind_report, refused_text}
 use Rattle.wc_model.specs.Say.ProgramReport.{scans_of}
-use Rattle.wc_model.specs.Say.Report.{ReportLine, Scans, answer_line, answer_lines, line_text, lines_with, report_lines}
+use Rattle.wc_model.specs.Say.Report.{ReportLine, Scans, answer_line, answer_lines, line_report, line_text, lines_with, report_lines}
 use Rattle.wc_model.specs.declared.fault.Fault.{Fault}
 use Rattle.wc_model.specs.declared.fault.Fault.TheVariants as fault
-use Rattle.wc_run.specs.Logics.{Logic, run_report}
-use Rattle.wc_run.specs.Runs.{AppendsFirst, AppendsFront, Reports}
+use Rattle.wc_run.proofs.Texts.{all_is_last, at_once_is_line}
+use Rattle.wc_run.specs.Deferring.{text_at_end}
+use Rattle.wc_run.specs.Logics.{Logic, run_report, run_report_last}
+use Rattle.wc_run.specs.Runs.{AppendsFirst, AppendsFront, ReportsBy}
 use Rattle.wc_run.specs.declared.fault.RunFault.{RunFault}
 use Rattle.wc_run.specs.declared.fault.RunFault.TheVariants.{Refused, Read, Write, Memory}
 
@@ -93,37 +95,44 @@ report_first plate (Some logic) first left =
     let lines = lines_first plate (scans_of logic.text) logic.store [] first left in
     (flat_map line_text lines.0, ap (flat_map line_text) lines.1 ∙ flat_map-append line_text (report_lines plate (scans_of logic.text) logic.store [] first) lines.0)
 
--- what a run of a log writes, by how it ended
-module _ (plate : PlateData) (logic : Option Logic) (log : LogOf) (old new : Option (List ℕ)) where
-  abbrev whole : List ℕ
-  whole = run_report plate logic log.rows
+-- the answers of the first rows are a front of the report of the last scans
+pub last_first : (number : ℕ) (plate : PlateData) (logic : Option Logic) (first left : List LogRow) →
+    (rest : List ℕ) × (run_report_last number plate logic (first ++ left) ≡ line_report plate first ++ rest)
+last_first number plate logic first left =
+    let lines = report_first plate None first left in
+    let behind = text_at_end (Some number) plate logic (first ++ left) in (
+      lines.0 ++ behind,
+      sym (all_is_last number plate logic (first ++ left)) ∙ ap (λ text. text ++ behind) (at_once_is_line number plate logic (first ++ left) ∙ lines.1)
+          ∙ append_assoc (line_report plate first) lines.0 behind,
+    )
 
+-- what a run of a log writes, by how it ended: a whole text, and as the rows come another that is a front of it
+module _ (whole coming : List LogRow → List ℕ) (log : LogOf) (old new : Option (List ℕ)) where
   abbrev pub IsRun : JobAnswer → Type 0
-  IsRun answer = answer ≡ behind_report whole log.refusal
+  IsRun answer = answer ≡ behind_report (whole log.rows) log.refusal
 
   -- all rows ran
-  pub ran : (count : ℕ) → Reports plate logic log (Ok count) old new → WritesUpTo IsRun None old new
-  ran count told = (record { output = whole; status = 0 }, sym (ap (behind_report whole) told.0), refl, told.2)
+  pub ran : (count : ℕ) → ReportsBy whole coming log (Ok count) old new → WritesUpTo IsRun None old new
+  ran count told = (record { output = whole log.rows; status = 0 }, sym (ap (behind_report (whole log.rows)) told.0), refl, told.2)
 
   -- a front of a report is one of the output
-  front_of_output : (refusal : Option LogRefusal) → AppendsFront old new whole → AppendsFront old new (behind_report whole refusal).output
+  front_of_output : (refusal : Option LogRefusal) → AppendsFront old new (whole log.rows) → AppendsFront old new (behind_report (whole log.rows) refusal).output
   front_of_output None f = f
-  front_of_output (Some refusal) f = front_of_more old new whole (refused_text refusal.number refusal.row) f
+  front_of_output (Some refusal) f = front_of_more old new (whole log.rows) (refused_text refusal.number refusal.row) f
 
-  cut_short : AppendsFront old new whole → WritesFront IsRun old new
-  cut_short f = inr (behind_report whole log.refusal, refl, front_of_output log.refusal f)
+  cut_short : AppendsFront old new (whole log.rows) → WritesFront IsRun old new
+  cut_short f = inr (behind_report (whole log.rows) log.refusal, refl, front_of_output log.refusal f)
 
-  first_rows : AppendsFirst plate logic log.rows old new → AppendsFront old new whole
-  first_rows f =
-      let rest = report_first plate logic f.0 f.1 in
-      (run_report plate logic f.0, rest.0, ap (λ rows. run_report plate logic rows) f.2 ∙ rest.1, f.3)
+  module _ (fronts : (first left : List LogRow) → (rest : List ℕ) × (whole (first ++ left) ≡ coming first ++ rest)) where
+    first_rows : AppendsFirst coming log.rows old new → AppendsFront old new (whole log.rows)
+    first_rows f = let rest = fronts f.0 f.1 in (coming f.0, rest.0, ap whole f.2 ∙ rest.1, f.3)
 
-  -- it was stopped
-  pub ran_short : (why : RunFault) → Reports plate logic log (Err why) old new → WritesUpTo IsRun (Some why) old new
-  ran_short (Refused number place) told = (whole, sym (ap (behind_report whole) told.0), told.1)
-  ran_short Read told = cut_short (first_rows told)
-  ran_short Write told = cut_short told
-  ran_short Memory told = cut_short (first_rows told)
+    -- it was stopped
+    pub ran_short : (why : RunFault) → ReportsBy whole coming log (Err why) old new → WritesUpTo IsRun (Some why) old new
+    ran_short (Refused number place) told = (whole log.rows, sym (ap (behind_report (whole log.rows)) told.0), told.1)
+    ran_short Read told = cut_short (first_rows told)
+    ran_short Write told = cut_short told
+    ran_short Memory told = cut_short (first_rows told)
 
 -- nothing but a refusal is to be written
 pub only_refused : (allowed : JobAnswer → Type 0) (number place : ℕ) (old : Option (List ℕ))
@@ -131,10 +140,10 @@ pub only_refused : (allowed : JobAnswer → Type 0) (number place : ℕ) (old : 
 only_refused allowed number place old h = ([], h, Appends-nil old)
 
 -- a program that is not loaded
-pub not_loaded : (plate : PlateData) (bytes : List ℕ) (log : LogOf) (why : Fault) (old : Option (List ℕ))
-    → IsRefusedLoad bytes why → WritesUpTo (AnswersProgram plate bytes log) (Some (run_fault_of why)) old old
-not_loaded plate bytes log (fault.Refused number place) old h = only_refused (AnswersProgram plate bytes log) number place old (refuses_program number place h refl)
-not_loaded plate bytes log fault.Memory old h = inl (Keeps-refl old)
+pub not_loaded : (last : Option ℕ) (plate : PlateData) (bytes : List ℕ) (log : LogOf) (why : Fault) (old : Option (List ℕ))
+    → IsRefusedLoad bytes why → WritesUpTo (AnswersText last plate bytes log) (Some (run_fault_of why)) old old
+not_loaded last plate bytes log (fault.Refused number place) old h = only_refused (AnswersText last plate bytes log) number place old (refuses_program number place h refl)
+not_loaded last plate bytes log fault.Memory old h = inl (Keeps-refl old)
 
 -- a log that lies in memory
 pub in_memory : (allowed : JobAnswer → Type 0) (why : RunFault) (old new : Option (List ℕ))

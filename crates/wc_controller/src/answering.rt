@@ -51,7 +51,7 @@ fn answer_sections<W: ByteOut>(
         }),
     };
     let mut log = Device::new(sections.log);
-    match run_text(alloc, &plate, sections.program, &mut log, writer) {
+    match run_text(alloc, None, &plate, sections.program, &mut log, writer) {
         Ok(()) => Ok(()),
         Err(stopped) => Err(stopped_in_memory(stopped)),
     }

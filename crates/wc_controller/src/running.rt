@@ -1,13 +1,12 @@
-ghost use Rattle.std.specs.Prelude.{◌≡◌, IfErr, IfSome, IsErrOf};
+ghost use Rattle.std.specs.Prelude.{◌≡◌, ◌≤◌, Some, None, IfErr, IfSome};
 ghost use Rattle.wc_controller.specs.Endings.{EndsAs, IsAt, IsReadFaultAt, StopsAt, TellsFailures, TellsReadEndings, TellsReadFaults, TellsWriteFaults, WritesUpTo, met};
-ghost use Rattle.wc_controller.specs.Files.{AnswersFile, AnswersRun};
+ghost use Rattle.wc_controller.specs.Files.{AnswersFile, AnswersRun, AnswersText, answer_printing};
 ghost use Rattle.wc_machine.specs.Machines.{StandsFor};
 ghost use Rattle.wc_model.specs.Language.Scans.{initial_of};
 ghost use Rattle.wc_model.specs.Language.Tree.{Text};
 ghost use Rattle.wc_model.specs.Language.Views.{text_view};
 ghost use Rattle.wc_model.specs.Run.Log.{log_of};
 ghost use Rattle.wc_model.specs.Run.Writing.{HasFailedSince};
-ghost use Rattle.wc_model.specs.Say.Job.{AnswersProgram, run_answer};
 ghost use Rattle.wc_record.specs.Left.{HasCause};
 ghost use Rattle.wc_record.specs.Reading.{records_of};
 
@@ -20,21 +19,22 @@ use wc_cost::Loaded;
 use wc_machine::Machine;
 use wc_model::{ByteIn, ByteOut};
 use wc_plate::Plate;
-use wc_run::{RunFault, run};
+use wc_run::{RunFault, run, run_last};
 use wc_store::SlotStore;
 
-/// Runs a log with a machine before its first scan.
-fn run_machine<L: ByteIn, W: ByteOut>(
+/// Runs a log with a machine before its first scan, and prints every scan.
+fn run_every<L: ByteIn, W: ByteOut>(
     alloc: Global,
     plate: &Plate,
     machine: Machine<'_, SlotStore>,
     log: &mut L,
     writer: &mut W,
 ) -> Result<(), Stopped>
-    requires { machine.last ≡ 0 }
+    requires first { machine.last ≡ 0 }
     ensures writes { IfSome (L.bytes_left log.old)
         (λ bytes. (text : Text) → StandsFor machine.entry text (initial_of text)
-        → WritesUpTo (λ answer. answer ≡ run_answer plate.now text (log_of (records_of bytes)))
+        → WritesUpTo
+        (λ answer. answer ≡ answer_printing None plate.now text (log_of (records_of bytes)))
         (met result) (W.bytes_taken writer.old) (W.bytes_taken writer.new)) }
     ensures input { IfErr result (λ stopped. stopped.input ≡ Input.Log) }
     ensures read { IsReadFaultAt Input.Log result
@@ -52,18 +52,83 @@ fn run_machine<L: ByteIn, W: ByteOut>(
     }
 }
 
+/// Runs a log with a machine before its first scan, and prints the last so many scans.
+fn run_latest<L: ByteIn, W: ByteOut>(
+    alloc: Global,
+    number: u16,
+    plate: &Plate,
+    machine: Machine<'_, SlotStore>,
+    log: &mut L,
+    writer: &mut W,
+) -> Result<(), Stopped>
+    requires some { 1 ≤ number }
+    requires few { number ≤ 1000 }
+    requires first { machine.last ≡ 0 }
+    ensures writes { IfSome (L.bytes_left log.old)
+        (λ bytes. (text : Text) → StandsFor machine.entry text (initial_of text)
+        → WritesUpTo
+        (λ answer. answer ≡ answer_printing (Some number) plate.now text (log_of (records_of bytes)))
+        (met result) (W.bytes_taken writer.old) (W.bytes_taken writer.new)) }
+    ensures input { IfErr result (λ stopped. stopped.input ≡ Input.Log) }
+    ensures read { IsReadFaultAt Input.Log result
+        → HasCause (L.failure_count log.old) (L.failure_count log.new)
+        (L.spent_count log.old) (L.spent_count log.new) }
+    ensures failures { TellsWriteFaults (met result) (W.failure_count writer.old)
+        (W.failure_count writer.new) }
+{
+    match run_last(alloc, number, plate, Some(machine), log, writer) {
+        Ok(_) => Ok(()),
+        Err(fault) => Err(Stopped {
+            input: Input::Log,
+            fault,
+        }),
+    }
+}
+
+/// Runs a log with a machine before its first scan, and prints every scan or the last so many.
+fn run_machine<L: ByteIn, W: ByteOut>(
+    alloc: Global,
+    last: Option<u16>,
+    plate: &Plate,
+    machine: Machine<'_, SlotStore>,
+    log: &mut L,
+    writer: &mut W,
+) -> Result<(), Stopped>
+    requires few { IfSome last (λ n. (1 ≤ n) × (n ≤ 1000)) }
+    requires first { machine.last ≡ 0 }
+    ensures writes { IfSome (L.bytes_left log.old)
+        (λ bytes. (text : Text) → StandsFor machine.entry text (initial_of text)
+        → WritesUpTo
+        (λ answer. answer ≡ answer_printing last plate.now text (log_of (records_of bytes)))
+        (met result) (W.bytes_taken writer.old) (W.bytes_taken writer.new)) }
+    ensures input { IfErr result (λ stopped. stopped.input ≡ Input.Log) }
+    ensures read { IsReadFaultAt Input.Log result
+        → HasCause (L.failure_count log.old) (L.failure_count log.new)
+        (L.spent_count log.old) (L.spent_count log.new) }
+    ensures failures { TellsWriteFaults (met result) (W.failure_count writer.old)
+        (W.failure_count writer.new) }
+{
+    match last {
+        None => run_every(alloc, plate, machine, log, writer),
+        Some(number) => run_latest(alloc, number, plate, machine, log, writer),
+    }
+}
+
 /// Runs a log with a program that is loaded.
 fn run_loaded<L: ByteIn, W: ByteOut>(
     alloc: Global,
+    last: Option<u16>,
     plate: &Plate,
     loaded: Loaded<'_>,
     log: &mut L,
     writer: &mut W,
 ) -> Result<(), Stopped>
+    requires few { IfSome last (λ n. (1 ≤ n) × (n ≤ 1000)) }
     ensures writes { IfSome (L.bytes_left log.old)
         (λ bytes. WritesUpTo
         (λ answer.
-        answer ≡ run_answer plate.now (text_view loaded.entry.source) (log_of (records_of bytes)))
+        answer ≡ answer_printing last plate.now (text_view loaded.entry.source)
+        (log_of (records_of bytes)))
         (met result) (W.bytes_taken writer.old) (W.bytes_taken writer.new)) }
     ensures input { IfErr result (λ stopped. stopped.input ≡ Input.Log) }
     ensures read { IsReadFaultAt Input.Log result
@@ -73,7 +138,7 @@ fn run_loaded<L: ByteIn, W: ByteOut>(
         (W.failure_count writer.new) }
 {
     match Machine::new(alloc, loaded) {
-        Ok(machine) => run_machine(alloc, plate, machine, log, writer),
+        Ok(machine) => run_machine(alloc, last, plate, machine, log, writer),
         Err(_) => Err(Stopped {
             input: Input::Log,
             fault: RunFault::Memory,
@@ -84,14 +149,16 @@ fn run_loaded<L: ByteIn, W: ByteOut>(
 /// Loads a program and runs a log with it. The log is not read where the program is refused.
 pub(crate) fn run_text<L: ByteIn, W: ByteOut>(
     alloc: Global,
+    last: Option<u16>,
     plate: &Plate,
     text: &[u8],
     log: &mut L,
     writer: &mut W,
 ) -> Result<(), Stopped>
+    requires few { IfSome last (λ n. (1 ≤ n) × (n ≤ 1000)) }
     ensures writes { IfSome (L.bytes_left log.old)
         (λ bytes. WritesUpTo
-        (AnswersProgram plate.now text.now (log_of (records_of bytes)))
+        (AnswersText last plate.now text.now (log_of (records_of bytes)))
         (met result) (W.bytes_taken writer.old) (W.bytes_taken writer.new)) }
     ensures unread { StopsAt Input.Program result
         → L.spent_count log.new ≡ L.spent_count log.old }
@@ -104,7 +171,7 @@ pub(crate) fn run_text<L: ByteIn, W: ByteOut>(
         (W.failure_count writer.new) }
 {
     match load(alloc, text) {
-        Ok(loaded) => run_loaded(alloc, plate, loaded, log, writer),
+        Ok(loaded) => run_loaded(alloc, last, plate, loaded, log, writer),
         Err(fault) => Err(Stopped {
             input: Input::Program,
             fault: run_fault_of(fault),
@@ -115,14 +182,16 @@ pub(crate) fn run_text<L: ByteIn, W: ByteOut>(
 /// Reads and loads a program, and runs a log with it.
 fn run_program<T: ByteIn, L: ByteIn, W: ByteOut>(
     alloc: Global,
+    last: Option<u16>,
     plate: &Plate,
     program: &mut T,
     log: &mut L,
     writer: &mut W,
 ) -> Result<(), Stopped>
+    requires few { IfSome last (λ n. (1 ≤ n) × (n ≤ 1000)) }
     ensures writes { IfSome (T.bytes_left program.old) (λ text. IfSome (L.bytes_left log.old)
         (λ bytes. WritesUpTo
-        (AnswersFile text (AnswersProgram plate.now text (log_of (records_of bytes))))
+        (AnswersFile text (AnswersText last plate.now text (log_of (records_of bytes))))
         (met result) (W.bytes_taken writer.old) (W.bytes_taken writer.new))) }
     ensures unread { StopsAt Input.Program result
         → L.spent_count log.new ≡ L.spent_count log.old }
@@ -136,7 +205,7 @@ fn run_program<T: ByteIn, L: ByteIn, W: ByteOut>(
         (W.failure_count writer.new) }
 {
     match read_input(alloc, Input::Program, program) {
-        Ok(text) => run_text(alloc, plate, &text, log, writer),
+        Ok(text) => run_text(alloc, last, plate, &text, log, writer),
         Err(stopped) => Err(stopped),
     }
 }
@@ -144,14 +213,16 @@ fn run_program<T: ByteIn, L: ByteIn, W: ByteOut>(
 /// Reads a plate and a program, and runs a log.
 fn run_inputs<P: ByteIn, T: ByteIn, L: ByteIn, W: ByteOut>(
     alloc: Global,
+    last: Option<u16>,
     plate: &mut P,
     program: &mut T,
     log: &mut L,
     writer: &mut W,
 ) -> Result<(), Stopped>
+    requires few { IfSome last (λ n. (1 ≤ n) × (n ≤ 1000)) }
     ensures writes { IfSome (P.bytes_left plate.old) (λ table. IfSome (T.bytes_left program.old)
         (λ text. IfSome (L.bytes_left log.old)
-        (λ bytes. WritesUpTo (AnswersRun table text bytes) (met result)
+        (λ bytes. WritesUpTo (AnswersRun last table text bytes) (met result)
         (W.bytes_taken writer.old) (W.bytes_taken writer.new)))) }
     ensures unread { StopsAt Input.Program result
         → L.spent_count log.new ≡ L.spent_count log.old }
@@ -169,26 +240,28 @@ fn run_inputs<P: ByteIn, T: ByteIn, L: ByteIn, W: ByteOut>(
         (W.failure_count writer.new) }
 {
     match read_plate(alloc, plate) {
-        Ok(plate) => run_program(alloc, &plate, program, log, writer),
+        Ok(plate) => run_program(alloc, last, &plate, program, log, writer),
         Err(stopped) => Err(stopped),
     }
 }
 
-/// Runs a log with a program: the plate is read and judged first, then the program, then the log is run row by row, and each
+/// Runs a log with a program, and prints every scan, or the last so many alone, 1 to 1000: the plate is read and judged first, then the program, then the log is run row by row, and each
 /// line is written as its row comes. The first input that breaks a rule is refused, behind the lines of the rows before, and what
 /// follows it is not read. A read fault names the input whose reader failed in this call, or the log where as much was read as
 /// may be; a write fault comes where the writer failed in this call and only there. At such a fault, and for want of memory, a
 /// front of the output is written, or nothing.
 pub fn run_files<P: ByteIn, T: ByteIn, L: ByteIn, W: ByteOut>(
     alloc: Global,
+    last: Option<u16>,
     plate: &mut P,
     program: &mut T,
     log: &mut L,
     writer: &mut W,
 ) -> Ending
+    requires few { IfSome last (λ n. (1 ≤ n) × (n ≤ 1000)) }
     ensures ends { IfSome (P.bytes_left plate.old) (λ table. IfSome (T.bytes_left program.old)
         (λ text. IfSome (L.bytes_left log.old)
-        (λ bytes. EndsAs (AnswersRun table text bytes) result
+        (λ bytes. EndsAs (AnswersRun last table text bytes) result
         (W.bytes_taken writer.old) (W.bytes_taken writer.new)))) }
     ensures unread { IsAt Input.Program result
         → L.spent_count log.new ≡ L.spent_count log.old }
@@ -205,6 +278,6 @@ pub fn run_files<P: ByteIn, T: ByteIn, L: ByteIn, W: ByteOut>(
     ensures failures { TellsFailures result (W.failure_count writer.old)
         (W.failure_count writer.new) }
 {
-    let answer = run_inputs(alloc, plate, program, log, writer);
+    let answer = run_inputs(alloc, last, plate, program, log, writer);
     end(alloc, answer, writer)
 }

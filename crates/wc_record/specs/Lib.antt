@@ -4,3 +4,5 @@ pub mod Reading
 pub mod Source
 pub mod Left
 pub mod Steps
+pub mod Recorders
+pub mod RecorderFields

@@ -1,9 +1,10 @@
-//! The log of a run, row by row, and what a scan sees of the rows so far.
+//! The log of a run, row by row, what a scan sees of the rows so far, and the records of the last scans.
 #![tactic(auto)]
 
 mod bounded;
 mod fields;
 mod hexadecimal;
+mod last_scans;
 mod log;
 mod numbers;
 mod process_image;
@@ -13,6 +14,7 @@ mod row_kind;
 mod source;
 
 pub use bounded::is_used_up;
+pub use last_scans::{Record, Recorder};
 pub use log::Rows;
 pub use process_image::image;
 pub use row_kind::{LogFault, Row, RowKind};

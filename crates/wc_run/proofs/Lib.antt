@@ -1,4 +1,5 @@
 pub mod Texts
+pub mod Puttings
 pub mod RunsOn
-pub mod Outcomes
+pub mod RunEnds
 pub mod ScaleRows

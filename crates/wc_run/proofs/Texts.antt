@@ -1,12 +1,16 @@
--- The text of rows, one after the other.
-use Rattle.std.proofs.Common.{◌≡◌, refl, ap, sym, ◌∙◌, arith, ℕ, ◌+◌, List, [], ◌∷◌, ◌++◌, length, Option, Some, None}
+-- The lines of rows, one after the other, and what is written of them at once and at the end.
+use Rattle.std.proofs.Common.{◌≡◌, refl, ap, sym, ◌∙◌, arith, ℕ, zero, suc, ◌+◌, ◌-◌, List, [], ◌∷◌, ◌++◌, length, drop, map, Option, Some, None, append-nil}
 use Rattle.std.proofs.lemmas.Grind.{flat_map-append}
-use Rattle.std.proofs.lemmas.List.{append_assoc}
+use Rattle.std.proofs.lemmas.List.{append_assoc, length-map}
+use Rattle.std.proofs.lemmas.List.Elements.{filter-append}
+use Rattle.std.specs.Prelude.{filter}
+use Rattle.wc_instrument_laws.proofs.Independence.{is_free_of_programs}
 use Rattle.wc_model.specs.Instrument.Plates.{PlateData}
 use Rattle.wc_model.specs.Say.ProgramReport.{scans_of}
-use Rattle.wc_model.specs.Say.Report.{answer_line, answer_lines, line_text, lines_with, report_lines}
+use Rattle.wc_model.specs.Say.Report.{ReportLine, answer_line, answer_lines, is_answer_line, is_scan_line, line_report, line_text, report_text}
 use Rattle.wc_model.specs.Run.Rows.{LogRow, Past, answer_of_row}
-use Rattle.wc_run.specs.Logics.{Logic, run_report, text_of_row, text_of_rows}
+use Rattle.wc_run.specs.Deferring.{lines_at_once, text_at_end, text_at_once, text_in_all}
+use Rattle.wc_run.specs.Logics.{Logic, lines_of_row, lines_of_rows, run_report, run_report_last}
 
 -- rows with those before them, the newest of which stands first
 abbrev pub onto : Past → List LogRow → List LogRow
@@ -23,33 +27,94 @@ pub onto-append : (past : Past) (rows more : List LogRow) → onto past (rows ++
 onto-append [] rows more = refl
 onto-append (row ∷ past) rows more = onto-append past (row ∷ rows) more
 
--- the text of a row stands before that of the rows behind it
-pub one_row_more : (plate : PlateData) (logic : Option Logic) (past : Past) (row : LogRow) (rows : List LogRow)
-    → text_of_rows plate logic past (row ∷ rows) ≡ text_of_row plate logic past row ++ text_of_rows plate logic (row ∷ past) rows
-one_row_more plate None past row rows = flat_map-append line_text (answer_line row.ms (answer_of_row plate past row)) (answer_lines plate (row ∷ past) rows)
-one_row_more plate (Some logic) past row rows =
-    flat_map-append line_text (lines_with plate (scans_of logic.text) logic.store row.brings past row) (report_lines plate (scans_of logic.text) logic.store (row ∷ past) rows)
+-- the lines of the rows so far
+abbrev pub lines_so_far : PlateData → Option Logic → Past → List ReportLine
+lines_so_far plate logic [] = []
+lines_so_far plate logic (row ∷ past) = lines_so_far plate logic past ++ lines_of_row plate logic past row
 
--- no rows have no text
-pub no_rows : (plate : PlateData) (logic : Option Logic) (past : Past) → text_of_rows plate logic past [] ≡ []
+-- the lines of a row stand before those of the rows behind it
+pub one_row_more : (plate : PlateData) (logic : Option Logic) (past : Past) (row : LogRow) (rows : List LogRow)
+    → lines_of_rows plate logic past (row ∷ rows) ≡ lines_of_row plate logic past row ++ lines_of_rows plate logic (row ∷ past) rows
+one_row_more plate None past row rows = refl
+one_row_more plate (Some logic) past row rows = refl
+
+-- no rows have no lines
+pub no_rows : (plate : PlateData) (logic : Option Logic) (past : Past) → lines_of_rows plate logic past [] ≡ []
 no_rows plate None past = refl
 no_rows plate (Some logic) past = refl
 
--- a run's report is the text of its rows
-pub report_is_text : (plate : PlateData) (logic : Option Logic) (rows : List LogRow) → run_report plate logic rows ≡ text_of_rows plate logic [] rows
-report_is_text plate None rows = refl
-report_is_text plate (Some logic) rows = refl
+-- the lines of all rows are those so far, and those of the rows that follow
+pub lines_of_all : (plate : PlateData) (logic : Option Logic) (past : Past) (rows : List LogRow)
+    → lines_of_rows plate logic [] (onto past rows) ≡ lines_so_far plate logic past ++ lines_of_rows plate logic past rows
+lines_of_all plate logic [] rows = refl
+lines_of_all plate logic (row ∷ past) rows =
+    lines_of_all plate logic past (row ∷ rows)
+    ∙ ap (λ lines. lines_so_far plate logic past ++ lines) (one_row_more plate logic past row rows)
+    ∙ sym (append_assoc (lines_so_far plate logic past) (lines_of_row plate logic past row) (lines_of_rows plate logic (row ∷ past) rows))
 
--- the text of rows stands before that of the rows behind them
-pub first_rows : (plate : PlateData) (logic : Option Logic) (past : Past) (first left : List LogRow)
-    → (rest : List ℕ) × (text_of_rows plate logic past (first ++ left) ≡ text_of_rows plate logic past first ++ rest)
-first_rows plate logic past [] left = (text_of_rows plate logic past left, sym (ap (λ t. t ++ text_of_rows plate logic past left) (no_rows plate logic past)))
-first_rows plate logic past (row ∷ first) left =
-    let others : (rest : List ℕ) × (text_of_rows plate logic (row ∷ past) (first ++ left) ≡ text_of_rows plate logic (row ∷ past) first ++ rest) = first_rows plate logic (row ∷ past) first left in
-    let here : List ℕ = text_of_row plate logic past row in (
-      others.0,
-      one_row_more plate logic past row (first ++ left)
-          ∙ ap (λ t. here ++ t) others.1
-          ∙ sym (append_assoc here (text_of_rows plate logic (row ∷ past) first) others.0)
-          ∙ ap (λ t. t ++ others.0) (sym (one_row_more plate logic past row first)),
-    )
+-- where no row follows they are those so far
+pub lines_at_last : (plate : PlateData) (logic : Option Logic) (past : Past) → lines_of_rows plate logic [] (onto past []) ≡ lines_so_far plate logic past
+lines_at_last plate logic past =
+    lines_of_all plate logic past [] ∙ ap (λ lines. lines_so_far plate logic past ++ lines) (no_rows plate logic past) ∙ append-nil (lines_so_far plate logic past)
+
+-- what is written at once of lines, and of those behind them
+once-append : (number : Option ℕ) (lines more : List ReportLine) → lines_at_once number (lines ++ more) ≡ lines_at_once number lines ++ lines_at_once number more
+once-append None lines more = refl
+once-append (Some number) lines more = filter-append is_answer_line lines more
+
+-- and its text
+pub once_text : (number : Option ℕ) (lines more : List ReportLine)
+    → report_text (lines_at_once number (lines ++ more)) ≡ report_text (lines_at_once number lines) ++ report_text (lines_at_once number more)
+once_text number lines more =
+    ap report_text (once-append number lines more) ∙ flat_map-append line_text (lines_at_once number lines) (lines_at_once number more)
+
+-- with each line written at once a run's report is the text of its lines
+pub at_once_is_report : (plate : PlateData) (logic : Option Logic) (rows : List LogRow) → text_at_once None plate logic rows ≡ run_report plate logic rows
+at_once_is_report plate None rows = refl
+at_once_is_report plate (Some logic) rows = refl
+
+-- and nothing is left for the end
+pub all_is_report : (plate : PlateData) (logic : Option Logic) (rows : List LogRow) → text_in_all None plate logic rows ≡ run_report plate logic rows
+all_is_report plate logic rows = append-nil (text_at_once None plate logic rows) ∙ at_once_is_report plate logic rows
+
+-- the line of an answer is an answer's, and no scan's
+answer_kept : (ms : ℕ) (bytes : List ℕ) → filter is_answer_line (answer_line ms bytes) ≡ answer_line ms bytes
+answer_kept ms [] = refl
+answer_kept ms (byte ∷ bytes) = refl
+
+answer_dropped : (ms : ℕ) (bytes : List ℕ) → filter is_scan_line (answer_line ms bytes) ≡ []
+answer_dropped ms [] = refl
+answer_dropped ms (byte ∷ bytes) = refl
+
+-- the lines with no program are answers, and no scans
+answers_kept : (plate : PlateData) (past : Past) (rows : List LogRow) → filter is_answer_line (answer_lines plate past rows) ≡ answer_lines plate past rows
+answers_kept plate past [] = refl
+answers_kept plate past (row ∷ rows) =
+    filter-append is_answer_line (answer_line row.ms (answer_of_row plate past row)) (answer_lines plate (row ∷ past) rows)
+    ∙ λ i. answer_kept row.ms (answer_of_row plate past row) i ++ answers_kept plate (row ∷ past) rows i
+
+answers_dropped : (plate : PlateData) (past : Past) (rows : List LogRow) → filter is_scan_line (answer_lines plate past rows) ≡ []
+answers_dropped plate past [] = refl
+answers_dropped plate past (row ∷ rows) =
+    filter-append is_scan_line (answer_line row.ms (answer_of_row plate past row)) (answer_lines plate (row ∷ past) rows)
+    ∙ λ i. answer_dropped row.ms (answer_of_row plate past row) i ++ answers_dropped plate (row ∷ past) rows i
+
+-- where the last scans are asked for, what is written at once is what a run with no program writes
+pub at_once_is_line : (number : ℕ) (plate : PlateData) (logic : Option Logic) (rows : List LogRow) → text_at_once (Some number) plate logic rows ≡ line_report plate rows
+at_once_is_line number plate None rows = ap report_text (answers_kept plate [] rows)
+at_once_is_line number plate (Some logic) rows = (is_free_of_programs plate (scans_of logic.text) logic.store rows).bytes
+
+-- nothing is left of no lines
+drop-none : (n : ℕ) (lines : List ReportLine) → lines ≡ [] → drop n lines ≡ []
+drop-none zero lines none = none
+drop-none (suc n) [] none = refl
+drop-none (suc n) (line ∷ lines) none = absurd (cc)
+
+-- and all of it is the report of the last scans
+pub all_is_last : (number : ℕ) (plate : PlateData) (logic : Option Logic) (rows : List LogRow) → text_in_all (Some number) plate logic rows ≡ run_report_last number plate logic rows
+all_is_last number plate None rows =
+    let begun : List ℕ = text_at_once (Some number) plate None rows in
+    let scans : List ReportLine = filter is_scan_line (answer_lines plate [] rows) in
+    ap (λ lines. begun ++ report_text lines) (drop-none (length scans - number) scans (answers_dropped plate [] rows))
+    ∙ append-nil begun ∙ at_once_is_line number plate None rows
+all_is_last number plate (Some logic) rows = refl

@@ -1,4 +1,6 @@
 pub mod Logics
+pub mod Outputs
+pub mod Deferring
 pub mod Standing
 pub mod Taking
 pub mod Runs

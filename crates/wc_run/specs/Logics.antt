@@ -3,8 +3,8 @@
 use Rattle.std.specs.Prelude.{⊤, ℕ, List, Option, Some, None}
 use Rattle.wc_machine.specs.Machines.{MachineState, StandsFor}
 use Rattle.wc_model.specs.Instrument.Plates.{PlateData}
-use Rattle.wc_model.specs.Say.ProgramReport.{program_report, scans_of, store_after}
-use Rattle.wc_model.specs.Say.Report.{ReportLine, answer_line, answer_lines, line_report, lines_with, report_lines, report_text}
+use Rattle.wc_model.specs.Say.ProgramReport.{program_report, program_report_last, scans_of, store_after}
+use Rattle.wc_model.specs.Say.Report.{ReportLine, answer_line, answer_lines, line_report, lines_with, report_lines}
 use Rattle.wc_model.specs.Run.Rows.{LogRow, Past, answer_of_row}
 use Rattle.wc_model.specs.Language.Store.{Store}
 use Rattle.wc_model.specs.Language.Tree.{Text}
@@ -26,6 +26,11 @@ abbrev pub run_report : PlateData → Option Logic → List LogRow → List ℕ
 run_report plate None rows = line_report plate rows
 run_report plate (Some logic) rows = program_report plate logic.text logic.store rows
 
+-- what a run of rows writes that keeps the last so many scans: the answers, then those scans
+abbrev pub run_report_last : ℕ → PlateData → Option Logic → List LogRow → List ℕ
+run_report_last number plate None rows = line_report plate rows
+run_report_last number plate (Some logic) rows = program_report_last number plate logic.text logic.store rows
+
 -- the logic after rows, the newest first: its store is the one that their scans have left
 abbrev pub logic_after : PlateData → Option Logic → Past → Option Logic
 logic_after plate None past = None
@@ -36,11 +41,7 @@ abbrev pub lines_of_row : PlateData → Option Logic → Past → LogRow → Lis
 lines_of_row plate None past row = answer_line row.ms (answer_of_row plate past row)
 lines_of_row plate (Some logic) past row = lines_with plate (scans_of logic.text) logic.store row.brings past row
 
--- the text of a row behind the rows so far
-abbrev pub text_of_row : PlateData → Option Logic → Past → LogRow → List ℕ
-text_of_row plate logic past row = report_text (lines_of_row plate logic past row)
-
--- the text of the rows that follow those so far
-abbrev pub text_of_rows : PlateData → Option Logic → Past → List LogRow → List ℕ
-text_of_rows plate None past rows = report_text (answer_lines plate past rows)
-text_of_rows plate (Some logic) past rows = report_text (report_lines plate (scans_of logic.text) logic.store past rows)
+-- the lines of the rows that follow those so far
+abbrev pub lines_of_rows : PlateData → Option Logic → Past → List LogRow → List ReportLine
+lines_of_rows plate None past rows = answer_lines plate past rows
+lines_of_rows plate (Some logic) past rows = report_lines plate (scans_of logic.text) logic.store past rows

@@ -4,7 +4,8 @@ use Rattle.std.specs.Io.KnownBytes.{Appends}
 use Rattle.wc_model.specs.Run.Log.{LogOf}
 use Rattle.wc_model.specs.Instrument.Plates.{PlateData}
 use Rattle.wc_model.specs.Run.Rows.{LogRow}
-use Rattle.wc_run.specs.Logics.{Logic, run_report}
+use Rattle.wc_model.specs.Say.Report.{line_report}
+use Rattle.wc_run.specs.Logics.{Logic, run_report, run_report_last}
 use Rattle.wc_run.specs.declared.fault.RunFault.{RunFault}
 use Rattle.wc_run.specs.declared.fault.RunFault.TheVariants.{Refused, Read, Write, Memory}
 
@@ -12,15 +13,24 @@ use Rattle.wc_run.specs.declared.fault.RunFault.TheVariants.{Refused, Read, Writ
 abbrev pub AppendsFront : Option (List ℕ) → Option (List ℕ) → List ℕ → Type 0
 AppendsFront old new text = (front : List ℕ) × (rest : List ℕ) × (text ≡ front ++ rest) × Appends old new front
 
--- the report of the first of these rows was written
-abbrev pub AppendsFirst : PlateData → Option Logic → List LogRow → Option (List ℕ) → Option (List ℕ) → Type 0
-AppendsFirst plate logic rows old new = (first : List LogRow) × (left : List LogRow) × (rows ≡ first ++ left) × Appends old new (run_report plate logic first)
+-- the text of the first of these rows was written
+abbrev pub AppendsFirst : (List LogRow → List ℕ) → List LogRow → Option (List ℕ) → Option (List ℕ) → Type 0
+AppendsFirst text rows old new = (first : List LogRow) × (left : List LogRow) × (rows ≡ first ++ left) × Appends old new (text first)
 
--- All rows were run, or those before the refused one, and their report was written; after a read fault or want of
--- memory that of the first of them, after a write fault a front of the report.
+-- All rows were run, or those before the refused one, and their whole text was written; after a read fault or want of memory
+-- what is written of the first of them as they come, after a write fault a front of the whole.
+abbrev pub ReportsBy : (List LogRow → List ℕ) → (List LogRow → List ℕ) → LogOf → Result ℕ RunFault → Option (List ℕ) → Option (List ℕ) → Type 0
+ReportsBy whole coming log (Ok count) old new = (log.refusal ≡ None) × (count ≡ length log.rows) × Appends old new (whole log.rows)
+ReportsBy whole coming log (Err (Refused number place)) old new = (log.refusal ≡ Some (record { number = number; row = place })) × Appends old new (whole log.rows)
+ReportsBy whole coming log (Err Read) old new = AppendsFirst coming log.rows old new
+ReportsBy whole coming log (Err Write) old new = AppendsFront old new (whole log.rows)
+ReportsBy whole coming log (Err Memory) old new = AppendsFirst coming log.rows old new
+
+-- A run writes the report, line for line as the rows come.
 abbrev pub Reports : PlateData → Option Logic → LogOf → Result ℕ RunFault → Option (List ℕ) → Option (List ℕ) → Type 0
-Reports plate logic log (Ok count) old new = (log.refusal ≡ None) × (count ≡ length log.rows) × Appends old new (run_report plate logic log.rows)
-Reports plate logic log (Err (Refused number place)) old new = (log.refusal ≡ Some (record { number = number; row = place })) × Appends old new (run_report plate logic log.rows)
-Reports plate logic log (Err Read) old new = AppendsFirst plate logic log.rows old new
-Reports plate logic log (Err Write) old new = AppendsFront old new (run_report plate logic log.rows)
-Reports plate logic log (Err Memory) old new = AppendsFirst plate logic log.rows old new
+Reports plate logic log answer old new = ReportsBy (run_report plate logic) (run_report plate logic) log answer old new
+
+-- A run that keeps the last so many scans writes the answers as the rows come, which are those of a run with no program, and
+-- those scans behind them: the report of the last scans.
+abbrev pub ReportsLast : ℕ → PlateData → Option Logic → LogOf → Result ℕ RunFault → Option (List ℕ) → Option (List ℕ) → Type 0
+ReportsLast number plate logic log answer old new = ReportsBy (run_report_last number plate logic) (line_report plate) log answer old new

@@ -1,15 +1,18 @@
 -- What a row does to a scale, whatever the scale stands for: told of the row's moment and of what it brings.
-use Rattle.std.specs.Prelude.{◌≡◌, ℕ, List, ◌∷◌, Option}
+use Rattle.std.specs.Prelude.{◌≡◌, ℕ, ◌∷◌, Option}
 use Rattle.wc_machine.specs.Machines.{MachineState, StandsFor}
 use Rattle.wc_model.specs.Instrument.Plates.{PlateData}
 use Rattle.wc_model.specs.Say.ProgramReport.{scans_of}
-use Rattle.wc_model.specs.Say.Report.{report_text, scan_line}
+use Rattle.wc_model.specs.Say.Report.{ScanLine}
 use Rattle.wc_model.specs.Run.Rows.{RowData, LogRow, Past}
 use Rattle.wc_model.specs.Language.Store.{Store}
 use Rattle.wc_model.specs.Language.Tree.{Text}
 use Rattle.wc_model.specs.declared.image.Image.{Image}
-use Rattle.wc_run.specs.Logics.{Logic, text_of_row}
+use Rattle.wc_record.specs.declared.last_scans.Record.{Record}
+use Rattle.wc_run.specs.Logics.{Logic, lines_of_row}
+use Rattle.wc_run.specs.Outputs.{IsOutput, line_of_record}
 use Rattle.wc_run.specs.Standing.{Stands}
+use Rattle.wc_run.specs.declared.row_output.RowOutput.{RowOutput}
 use Rattle.wc_run.specs.declared.scale.Scale.{Scale}
 
 -- the row of this number and moment that brings this
@@ -20,14 +23,15 @@ row_at number ms brings = record { number = number; ms = ms; brings = brings }
 abbrev pub TakesRow : Scale → Scale → ℕ → RowData → Type 0
 TakesRow old new ms brings = (plate : PlateData) (logic : Option Logic) (past : Past) (number : ℕ) → Stands old plate logic past → Stands new plate logic (row_at number ms brings ∷ past)
 
--- the text is what the report has of that row
-abbrev pub Prints : Scale → ℕ → RowData → List ℕ → Type 0
-Prints old ms brings text = (plate : PlateData) (logic : Option Logic) (past : Past) (number : ℕ) → Stands old plate logic past → text ≡ text_of_row plate logic past (row_at number ms brings)
+-- the output is what the report has of that row
+abbrev pub Gives : Scale → ℕ → RowData → RowOutput → Type 0
+Gives old ms brings output = (plate : PlateData) (logic : Option Logic) (past : Past) (number : ℕ) → Stands old plate logic past → IsOutput output (lines_of_row plate logic past (row_at number ms brings))
 
 -- the machine stands for the store that the scan leaves
 abbrev pub TakesScan : MachineState → MachineState → ℕ → Image → Type 0
 TakesScan old new ms image = (text : Text) (store : Store) → StandsFor old text store → StandsFor new text (scans_of text store image ms).after
 
--- the text is the scan's line
-abbrev pub PrintsScan : MachineState → ℕ → Image → List ℕ → Type 0
-PrintsScan old ms image printed = (text : Text) (store : Store) → StandsFor old text store → printed ≡ report_text (scan_line ms (scans_of text store image ms))
+-- the record has the scan's line
+abbrev pub RecordsScan : MachineState → ℕ → Image → Record → Type 0
+RecordsScan old ms image scan =
+    (text : Text) (store : Store) → StandsFor old text store → line_of_record scan ≡ ScanLine ms (scans_of text store image ms).steps (scans_of text store image ms).outputs

@@ -3,9 +3,12 @@
 
 mod answers;
 mod fault;
+mod log_rows;
+mod printing;
+mod row_output;
 mod running;
 mod scale;
 mod scans;
 
 pub use fault::RunFault;
-pub use running::run;
+pub use running::{run, run_last};

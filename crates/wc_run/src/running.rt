@@ -1,119 +1,133 @@
-ghost use Rattle.std.specs.Prelude.{◌≡◌, ◌<◌, ◌≤◌, ◌^◌, [], Option, None, IfOk, IfSome, IsErrOf, IsOkUnless, OnOk};
-ghost use Rattle.wc_model.specs.Run.Log.{LogOf, log_of};
+ghost use Rattle.std.specs.Prelude.{◌≡◌, ◌≤◌, ℕ, [], Option, Some, None, IfOk, IfSome, IsErrOf, IsOkUnless};
+ghost use Rattle.wc_model.specs.Run.Log.{log_of};
 ghost use Rattle.wc_model.specs.Instrument.Plates.{PlateData};
-ghost use Rattle.wc_model.specs.Run.Rows.{Past};
-ghost use Rattle.wc_record.specs.Left.{HasCause, HasLeft, ended, last_ms, rows_read};
-ghost use Rattle.wc_record.specs.Reading.{records_of};
-ghost use Rattle.wc_record.specs.Views.{IsDataInRange, data_view, row_view};
-ghost use Rattle.wc_run.specs.Logics.{Logic, StandsAt};
-ghost use Rattle.wc_run.specs.Doing.{Does, IsJudged};
-ghost use Rattle.wc_run.specs.Doing as doing;
-ghost use Rattle.wc_run.specs.Runs.{Reports};
-ghost use Rattle.wc_run.specs.Standing.{IsNotBehind, Stands};
 ghost use Rattle.wc_model.specs.Run.Writing.{HasFailedSince};
+ghost use Rattle.wc_record.specs.Left.{HasCause};
+ghost use Rattle.wc_record.specs.Reading.{records_of};
+ghost use Rattle.wc_run.specs.Deferring.{HoldsScans};
+ghost use Rattle.wc_run.specs.Doing.{Ends, IsJudged, is_cut_short};
+ghost use Rattle.wc_run.specs.Logics.{Logic, StandsAt};
+ghost use Rattle.wc_run.specs.Runs.{Reports, ReportsLast};
+ghost use Rattle.wc_run.specs.Standing.{IsNotBehind, Stands};
 
 use crate::fault::RunFault;
+use crate::log_rows::run_log;
+use crate::printing::write_last;
 use crate::scale::Scale;
 use std::alloc::Global;
 use wc_machine::Machine;
-use wc_model::{ByteIn, ByteOut, write_whole};
+use wc_model::{ByteIn, ByteOut};
 use wc_plate::Plate;
-use wc_record::{LogFault, Row, Rows, is_used_up};
+use wc_record::{Recorder, is_used_up};
 use wc_store::SlotStore;
 
-/// Does a row and writes what is printed of it.
-fn run_row<W: ByteOut>(
-    alloc: Global,
-    scale: &mut Scale<'_>,
-    row: Row,
-    writer: &mut W,
-) -> Result<(), RunFault>
-    requires in_range { IsDataInRange (data_view row.kind) }
-    requires early { row.ms < 2 ^ 40 }
-    requires in_order { IsNotBehind scale.old row.ms }
-    ensures does { (plate : PlateData) (logic : Option Logic) (past : Past)
-        → Stands scale.old plate logic past
-        → Does plate logic past (row_view row) scale.new result (W.bytes_taken writer.old)
-        (W.bytes_taken writer.new) }
-    ensures in_order { OnOk result (IsNotBehind scale.new row.ms) }
-    ensures write { IsErrOf result RunFault.Write
-        → HasFailedSince (W.failure_count writer.old) (W.failure_count writer.new) }
-    ensures steady { ¬ IsErrOf result RunFault.Write
-        → W.failure_count writer.new ≡ W.failure_count writer.old }
+/// Whether a device failed or memory was refused before a log came to its end or to a refused row.
+fn is_cut_short(answer: &Result<u32, RunFault>) -> bool
+    ensures { result ≡ is_cut_short answer.now }
 {
-    match scale.take(alloc, &row) {
-        Ok(text) => match write_whole(writer, &text) {
-            Ok(()) => Ok(()),
-            Err(_) => Err(RunFault::Write),
+    match answer {
+        Ok(_) => false,
+        Err(fault) => match fault {
+            RunFault::Refused { .. } => false,
+            _ => true,
         },
-        Err(fault) => Err(fault),
     }
 }
 
-/// What the run answers where the log gives no further row.
-fn answer_to(fault: LogFault) -> RunFault
-    ensures { result ≡ doing.answer_to fault }
-{
-    match fault {
-        LogFault::Refused { number, place } => RunFault::Refused { number, place },
-        LogFault::Read => RunFault::Read,
-        LogFault::Memory => RunFault::Memory,
-    }
-}
-
-/// Runs the rows that are left: how many there were.
-fn run_rows<R: ByteIn, W: ByteOut>(
+/// Runs a log, and behind its rows writes the lines of the scans that are kept, unless a device failed or memory was refused.
+fn run_to_end<R: ByteIn, W: ByteOut>(
     alloc: Global,
     scale: &mut Scale<'_>,
-    rows: &mut Rows<'_, R>,
-    writer: &mut W,
-) -> Result<u32, RunFault>
-    requires unread { rows_read rows.old ≡ 0 }
-    requires in_order { IsNotBehind scale.old (last_ms rows.old) }
-    ensures reports { (log : LogOf) → HasLeft R.bytes_left rows.old log
-        → (plate : PlateData) (logic : Option Logic) → Stands scale.old plate logic []
-        → Reports plate logic log result (W.bytes_taken writer.old) (W.bytes_taken writer.new) }
-    ensures write { IsErrOf result RunFault.Write
-        → HasFailedSince (W.failure_count writer.old) (W.failure_count writer.new) }
-    ensures steady { ¬ IsErrOf result RunFault.Write
-        → W.failure_count writer.new ≡ W.failure_count writer.old }
-{
-    let mut count = 0;
-    loop {
-        match rows.next() {
-            Ok(given) => match given {
-                Some(row) => match run_row(alloc, scale, row, writer) {
-                    Ok(()) => count += 1,
-                    Err(fault) => return Err(fault),
-                },
-                None => return Ok(count),
-            },
-            Err(fault) => return Err(answer_to(fault)),
-        }
-    }
-}
-
-/// Runs the log that the reader has to give.
-fn run_log<R: ByteIn, W: ByteOut>(
-    alloc: Global,
-    scale: &mut Scale<'_>,
+    recorder: &mut Option<Recorder>,
     reader: &mut R,
     writer: &mut W,
 ) -> Result<u32, RunFault>
     requires { IsNotBehind scale.old 0 }
-    ensures reports { IfSome (R.bytes_left reader.old)
-        (λ bytes. (plate : PlateData) (logic : Option Logic) → Stands scale.old plate logic []
-        → Reports plate logic (log_of (records_of bytes)) result (W.bytes_taken writer.old)
+    ensures ends { IfSome (R.bytes_left reader.old)
+        (λ bytes. (plate : PlateData) (logic : Option Logic) (number : Option ℕ)
+        → Stands scale.old plate logic [] → HoldsScans recorder.old number []
+        → Ends number plate logic (log_of (records_of bytes)) result (W.bytes_taken writer.old)
         (W.bytes_taken writer.new)) }
     ensures write { IsErrOf result RunFault.Write
         → HasFailedSince (W.failure_count writer.old) (W.failure_count writer.new) }
     ensures steady { ¬ IsErrOf result RunFault.Write
         → W.failure_count writer.new ≡ W.failure_count writer.old }
 {
-    let mut rows = Rows::new(alloc, reader);
-    let answer = run_rows(alloc, scale, &mut rows, writer);
-    drop(rows);
+    let answer = run_log(alloc, scale, recorder, reader, writer);
+    if is_cut_short(&answer) {
+        return answer;
+    }
+    if let Err(fault) = write_last(alloc, recorder, writer) {
+        return Err(fault);
+    }
     answer
+}
+
+/// A recorder of the last so many scans, where they are asked for.
+fn recorder_of(alloc: Global, number: Option<u16>) -> Result<Option<Recorder>, RunFault>
+    requires { IfSome number (λ n. (1 ≤ n) × (n ≤ 1000)) }
+    ensures holds { IfOk result (λ recorder. HoldsScans recorder number []) }
+    ensures memory { IsOkUnless result RunFault.Memory }
+{
+    match number {
+        Some(number) => match Recorder::new(alloc, number) {
+            Ok(recorder) => Ok(Some(recorder)),
+            Err(_) => Err(RunFault::Memory),
+        },
+        None => Ok(None),
+    }
+}
+
+/// Runs the log that the reader has to give with a scale to which no row has come.
+fn run_scale<R: ByteIn, W: ByteOut>(
+    alloc: Global,
+    plate: &Plate,
+    machine: Option<Machine<'_, SlotStore>>,
+    recorder: &mut Option<Recorder>,
+    reader: &mut R,
+    writer: &mut W,
+) -> Result<u32, RunFault>
+    requires { IfSome machine (λ m. m.last ≡ 0) }
+    ensures ends { IfSome (R.bytes_left reader.old)
+        (λ bytes. (logic : Option Logic) (number : Option ℕ) → StandsAt machine.entry logic
+        → HoldsScans recorder.old number []
+        → Ends number plate.now logic (log_of (records_of bytes)) result
+        (W.bytes_taken writer.old) (W.bytes_taken writer.new)) }
+    ensures write { IsErrOf result RunFault.Write
+        → HasFailedSince (W.failure_count writer.old) (W.failure_count writer.new) }
+    ensures steady { ¬ IsErrOf result RunFault.Write
+        → W.failure_count writer.new ≡ W.failure_count writer.old }
+{
+    match Scale::new(alloc, plate, machine) {
+        Ok(mut scale) => run_to_end(alloc, &mut scale, recorder, reader, writer),
+        Err(fault) => Err(fault),
+    }
+}
+
+/// Runs the log that the reader has to give, with a recorder of the last so many scans where they are asked for.
+fn run_recorded<R: ByteIn, W: ByteOut>(
+    alloc: Global,
+    number: Option<u16>,
+    plate: &Plate,
+    machine: Option<Machine<'_, SlotStore>>,
+    reader: &mut R,
+    writer: &mut W,
+) -> Result<u32, RunFault>
+    requires few { IfSome number (λ n. (1 ≤ n) × (n ≤ 1000)) }
+    requires first { IfSome machine (λ m. m.last ≡ 0) }
+    ensures ends { IfSome (R.bytes_left reader.old)
+        (λ bytes. (logic : Option Logic) → StandsAt machine.entry logic
+        → Ends number plate.now logic (log_of (records_of bytes)) result
+        (W.bytes_taken writer.old) (W.bytes_taken writer.new)) }
+    ensures write { IsErrOf result RunFault.Write
+        → HasFailedSince (W.failure_count writer.old) (W.failure_count writer.new) }
+    ensures steady { ¬ IsErrOf result RunFault.Write
+        → W.failure_count writer.new ≡ W.failure_count writer.old }
+{
+    match recorder_of(alloc, number) {
+        Ok(mut recorder) => run_scale(alloc, plate, machine, &mut recorder, reader, writer),
+        Err(fault) => Err(fault),
+    }
 }
 
 /// A read fault where the reader has failed since, or as much was read as may be; else want of memory. A refusal and a
@@ -138,27 +152,38 @@ fn judged<R: ByteIn>(fault: RunFault, reader: &R, failures: u64, spent: u64) -> 
     }
 }
 
-/// Runs the log that the reader has to give with a scale to which no row has come.
-fn run_scale<R: ByteIn, W: ByteOut>(
+/// Runs a log, with the last so many scans at its end where they are asked for: a fault behind which there is no other cause
+/// is want of memory.
+fn run_judged<R: ByteIn, W: ByteOut>(
     alloc: Global,
+    number: Option<u16>,
     plate: &Plate,
     machine: Option<Machine<'_, SlotStore>>,
     reader: &mut R,
     writer: &mut W,
 ) -> Result<u32, RunFault>
-    requires { IfSome machine (λ m. m.last ≡ 0) }
-    ensures reports { IfSome (R.bytes_left reader.old)
+    requires few { IfSome number (λ n. (1 ≤ n) × (n ≤ 1000)) }
+    requires first { IfSome machine (λ m. m.last ≡ 0) }
+    ensures ends { IfSome (R.bytes_left reader.old)
         (λ bytes. (logic : Option Logic) → StandsAt machine.entry logic
-        → Reports plate.now logic (log_of (records_of bytes)) result (W.bytes_taken writer.old)
-        (W.bytes_taken writer.new)) }
+        → Ends number plate.now logic (log_of (records_of bytes)) result
+        (W.bytes_taken writer.old) (W.bytes_taken writer.new)) }
+    ensures read { IsErrOf result RunFault.Read
+        → HasCause (R.failure_count reader.old) (R.failure_count reader.new)
+        (R.spent_count reader.old) (R.spent_count reader.new) }
+    ensures memory { IsErrOf result RunFault.Memory
+        → ¬ HasCause (R.failure_count reader.old) (R.failure_count reader.new)
+        (R.spent_count reader.old) (R.spent_count reader.new) }
     ensures write { IsErrOf result RunFault.Write
         → HasFailedSince (W.failure_count writer.old) (W.failure_count writer.new) }
     ensures steady { ¬ IsErrOf result RunFault.Write
         → W.failure_count writer.new ≡ W.failure_count writer.old }
 {
-    match Scale::new(alloc, plate, machine) {
-        Ok(mut scale) => run_log(alloc, &mut scale, reader, writer),
-        Err(fault) => Err(fault),
+    let failures = reader.failures();
+    let spent = reader.spent();
+    match run_recorded(alloc, number, plate, machine, reader, writer) {
+        Ok(count) => Ok(count),
+        Err(fault) => Err(judged(fault, reader, failures, spent)),
     }
 }
 
@@ -191,10 +216,39 @@ pub fn run<R: ByteIn, W: ByteOut>(
     ensures steady { ¬ IsErrOf result RunFault.Write
         → W.failure_count writer.new ≡ W.failure_count writer.old }
 {
-    let failures = reader.failures();
-    let spent = reader.spent();
-    match run_scale(alloc, plate, machine, reader, writer) {
-        Ok(count) => Ok(count),
-        Err(fault) => Err(judged(fault, reader, failures, spent)),
-    }
+    run_judged(alloc, None, plate, machine, reader, writer)
+}
+
+/// Runs a log as `run` does, but of its scans prints the last `number` alone, 1 to 1000, in order, behind the rows: the answers
+/// of the line are written as their rows come, and the lines of those scans behind the last row, or behind the last before a
+/// refused one. Each scan is kept as a record in a ring, so a run takes no more memory for more rows. After a read fault or want
+/// of memory the answers of the first rows are written and no scan, after a write fault a front of the report.
+pub fn run_last<R: ByteIn, W: ByteOut>(
+    alloc: Global,
+    number: u16,
+    plate: &Plate,
+    machine: Option<Machine<'_, SlotStore>>,
+    reader: &mut R,
+    writer: &mut W,
+) -> Result<u32, RunFault>
+    requires some { 1 ≤ number }
+    requires few { number ≤ 1000 }
+    requires first { IfSome machine (λ m. m.last ≡ 0) }
+    ensures reports { IfSome (R.bytes_left reader.old)
+        (λ bytes. (logic : Option Logic) → StandsAt machine.entry logic
+        → ReportsLast number plate.now logic (log_of (records_of bytes)) result
+        (W.bytes_taken writer.old) (W.bytes_taken writer.new)) }
+    ensures read { IsErrOf result RunFault.Read
+        → HasCause (R.failure_count reader.old) (R.failure_count reader.new)
+        (R.spent_count reader.old) (R.spent_count reader.new) }
+    // A fault of the reader, or the bound that was met, is not told as want of memory.
+    ensures memory { IsErrOf result RunFault.Memory
+        → ¬ HasCause (R.failure_count reader.old) (R.failure_count reader.new)
+        (R.spent_count reader.old) (R.spent_count reader.new) }
+    ensures write { IsErrOf result RunFault.Write
+        → HasFailedSince (W.failure_count writer.old) (W.failure_count writer.new) }
+    ensures steady { ¬ IsErrOf result RunFault.Write
+        → W.failure_count writer.new ≡ W.failure_count writer.old }
+{
+    run_judged(alloc, Some(number), plate, machine, reader, writer)
 }

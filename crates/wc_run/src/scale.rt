@@ -2,13 +2,15 @@ ghost use Rattle.std.specs.Prelude.{◌≡◌, ◌<◌, ◌^◌, ℕ, [], ◌∷
 ghost use Rattle.wc_model.specs.Instrument.Plates.{PlateData};
 ghost use Rattle.wc_model.specs.Run.Rows.{Past, Counts, Bytes, Inputs, Scan};
 ghost use Rattle.wc_record.specs.Views.{IsDataInRange, data_view, row_view};
-ghost use Rattle.wc_run.specs.Logics.{Logic, StandsAt, text_of_row};
+ghost use Rattle.wc_run.specs.Logics.{Logic, StandsAt, lines_of_row};
+ghost use Rattle.wc_run.specs.Outputs.{IsOutput};
 ghost use Rattle.wc_run.specs.Standing.{IsNotBehind, Stands};
-ghost use Rattle.wc_run.specs.Taking.{Prints, TakesRow};
+ghost use Rattle.wc_run.specs.Taking.{Gives, TakesRow};
 
-use crate::answers::answer_text;
+use crate::answers::answer_output;
 use crate::fault::RunFault;
-use crate::scans::scan_text;
+use crate::row_output::RowOutput;
+use crate::scans::scan_record;
 use std::alloc::Global;
 use wc_indicator::Indicator;
 use wc_machine::Machine;
@@ -51,8 +53,8 @@ impl<'a> Scale<'a> {
         }
     }
 
-    /// Does a row, and gives what is printed of it.
-    pub(crate) fn take(&mut self, alloc: Global, row: &Row) -> Result<Vec<u8>, RunFault>
+    /// Does a row, and gives what is to be printed of it.
+    pub(crate) fn take(&mut self, alloc: Global, row: &Row) -> Result<RowOutput, RunFault>
         requires in_range { IsDataInRange (data_view row.now.kind) }
         requires early { row.now.ms < 2 ^ 40 }
         requires in_order { IsNotBehind self.old row.now.ms }
@@ -60,24 +62,24 @@ impl<'a> Scale<'a> {
             ((plate : PlateData) (logic : Option Logic) (past : Past)
             → Stands self.old plate logic past
             → Stands self.new plate logic (row_view row.now ∷ past)) }
-        ensures text { IfOk result
-            (λ text. (plate : PlateData) (logic : Option Logic) (past : Past)
+        ensures output { IfOk result
+            (λ output. (plate : PlateData) (logic : Option Logic) (past : Past)
             → Stands self.old plate logic past
-            → text.items ≡ text_of_row plate logic past (row_view row.now)) }
+            → IsOutput output (lines_of_row plate logic past (row_view row.now))) }
         ensures in_order { OnOk result (IsNotBehind self.new row.now.ms) }
         ensures memory { IsOkUnless result RunFault.Memory }
     {
         match &row.kind {
             RowKind::Counts(counts) => {
                 self.take_sample(*counts);
-                Ok(Vec::new(alloc))
+                Ok(RowOutput::Nothing)
             }
             RowKind::Bytes(bytes) => self.take_bytes(alloc, row.ms, bytes),
             RowKind::Inputs(inputs) => {
                 self.take_inputs(*inputs);
-                Ok(Vec::new(alloc))
+                Ok(RowOutput::Nothing)
             }
-            RowKind::Scan => self.take_scan(alloc, row.ms),
+            RowKind::Scan => Ok(self.take_scan(row.ms)),
         }
     }
 
@@ -90,16 +92,16 @@ impl<'a> Scale<'a> {
         self.indicator.sample(counts);
     }
 
-    /// Takes bytes on the line, and gives the line of what was answered.
-    fn take_bytes(&mut self, alloc: Global, ms: u64, bytes: &[u8]) -> Result<Vec<u8>, RunFault>
+    /// Takes bytes on the line, and gives the line of what was answered, if anything was.
+    fn take_bytes(&mut self, alloc: Global, ms: u64, bytes: &[u8]) -> Result<RowOutput, RunFault>
         ensures stands { OnOk result (TakesRow self.old self.new ms (Bytes bytes.now)) }
-        ensures text { IfOk result (λ text. Prints self.old ms (Bytes bytes.now) text.items) }
+        ensures output { IfOk result (λ output. Gives self.old ms (Bytes bytes.now) output) }
         ensures machine { self.new.machine ≡ self.old.machine }
         ensures memory { IsOkUnless result RunFault.Memory }
     {
         let mut answers = Device::new(Vec::new(alloc));
         match self.line.feed(bytes, &mut self.indicator, &mut answers) {
-            Ok(()) => answer_text(alloc, ms, answers.get_ref()),
+            Ok(()) => answer_output(alloc, ms, answers.get_ref()),
             Err(_) => Err(RunFault::Memory),
         }
     }
@@ -112,21 +114,20 @@ impl<'a> Scale<'a> {
         self.inputs = inputs;
     }
 
-    /// Does a scan where there is a machine, and gives its line.
-    fn take_scan(&mut self, alloc: Global, ms: u64) -> Result<Vec<u8>, RunFault>
+    /// Does a scan where there is a machine, and gives its record. It takes no memory.
+    fn take_scan(&mut self, ms: u64) -> RowOutput
         requires early { ms < 2 ^ 40 }
         requires in_order { IsNotBehind self.old ms }
-        ensures stands { OnOk result (TakesRow self.old self.new ms Scan) }
-        ensures text { IfOk result (λ text. Prints self.old ms Scan text.items) }
-        ensures in_order { OnOk result (IsNotBehind self.new ms) }
-        ensures memory { IsOkUnless result RunFault.Memory }
+        ensures stands { TakesRow self.old self.new ms Scan }
+        ensures output { Gives self.old ms Scan result }
+        ensures in_order { IsNotBehind self.new ms }
     {
         match &mut self.machine {
             Some(machine) => {
                 let image = image(&self.indicator, self.inputs);
-                scan_text(alloc, ms, &image, machine)
+                RowOutput::Scan(scan_record(ms, &image, machine))
             }
-            None => Ok(Vec::new(alloc)),
+            None => RowOutput::Nothing,
         }
     }
 }

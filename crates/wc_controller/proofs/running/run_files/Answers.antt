@@ -9,5 +9,5 @@ returns-clause-ends g c =
     on_known (g.P.ByteIn.bytes_left c.args.plate.now) _ _
     (λ table told. on_known (g.T.ByteIn.bytes_left c.args.program.now) _ _
     (λ text more. on_known (g.L.ByteIn.bytes_left c.args.log.now) _ _
-    (λ log upto. ends (AnswersRun table text log) c.run_inputs-answer.result c.end.result (taken c.args.writer.now) (taken c.run_inputs-answer.new.writer) (taken c.end.new.writer)
+    (λ log upto. ends (AnswersRun c.args.last table text log) c.run_inputs-answer.result c.end.result (taken c.args.writer.now) (taken c.run_inputs-answer.new.writer) (taken c.end.new.writer)
     upto c.end.ensures.ends) more) told) c.run_inputs-answer.ensures.writes

@@ -2,9 +2,8 @@ use Rattle.std.proofs.Common.{◌≡◌, List, ℕ}
 use Rattle.wc_controller.proofs.Allowing.{on_each, on_known, plate_not_read, plate_read}
 use Rattle.wc_controller.proofs.running.run_inputs.Goals as goal
 use Rattle.wc_controller.specs.Endings.{met}
-use Rattle.wc_controller.specs.Files.{AnswersFile}
+use Rattle.wc_controller.specs.Files.{AnswersFile, AnswersText}
 use Rattle.wc_model.specs.Run.Log.{log_of}
-use Rattle.wc_model.specs.Say.Job.{AnswersProgram}
 use Rattle.wc_record.specs.Reading.{records_of}
 
 pub returns-in-Ok-clause-writes : goal.returns-in-Ok-clause-writes
@@ -13,7 +12,7 @@ returns-in-Ok-clause-writes g c =
     on_known (g.P.ByteIn.bytes_left c.args.plate.now) _ _
     (λ table is. on_known (g.T.ByteIn.bytes_left c.args.program.now) _ _
     (λ text told. on_known (g.L.ByteIn.bytes_left c.args.log.now) _ _
-    (λ log upto. plate_read table c.in-Ok.plate (λ read. AnswersFile text (AnswersProgram read text (log_of (records_of log)))) (met c.run_program.result)
+    (λ log upto. plate_read table c.in-Ok.plate (λ read. AnswersFile text (AnswersText c.args.last read text (log_of (records_of log)))) (met c.run_program.result)
     (taken c.args.writer.now) (taken c.run_program.new.writer) is upto) told) c.run_program.ensures.writes) c.in-Ok.ensures.plate
 
 pub returns-in-Err-clause-writes : goal.returns-in-Err-clause-writes
@@ -21,5 +20,5 @@ returns-in-Err-clause-writes g c =
     on_known (g.P.ByteIn.bytes_left c.args.plate.now) _ _
     (λ table is. on_each (g.T.ByteIn.bytes_left c.args.program.now) _
     (λ text. on_each (g.L.ByteIn.bytes_left c.args.log.now) _
-    (λ log. plate_not_read table (λ read. AnswersFile text (AnswersProgram read text (log_of (records_of log)))) c.in-Err.stopped.fault
+    (λ log. plate_not_read table (λ read. AnswersFile text (AnswersText c.args.last read text (log_of (records_of log)))) c.in-Err.stopped.fault
     (g.W.ByteOut.bytes_taken c.args.writer.now) is))) c.in-Err.ensures.plate

@@ -1,24 +1,21 @@
-use Rattle.std.proofs.Common.{◌≡◌}
-use Rattle.std.specs.Prelude.{Some}
+use Rattle.std.proofs.Common.{◌≡◌, sym, subst}
 use Rattle.wc_controller.proofs.Allowing.{on_known}
-use Rattle.wc_controller.proofs.Givings.{ran, ran_short}
 use Rattle.wc_controller.proofs.running.run_machine.Goals as goal
-use Rattle.wc_model.specs.Language.Scans.{initial_of}
+use Rattle.wc_controller.specs.Endings.{WritesUpTo, met}
+use Rattle.wc_controller.specs.Files.{answer_printing}
 use Rattle.wc_model.specs.Run.Log.{log_of}
 use Rattle.wc_record.specs.Reading.{records_of}
 
-pub returns-in-Ok-clause-writes : goal.returns-in-Ok-clause-writes
-returns-in-Ok-clause-writes g c =
+pub returns-in-None-clause-writes : goal.returns-in-None-clause-writes
+returns-in-None-clause-writes g c =
+    let taken = g.W.ByteOut.bytes_taken in
     on_known (g.L.ByteIn.bytes_left c.args.log.now) _ _
-    (λ bytes told text stands.
-    let logic = Some (record { text = text; store = initial_of text }) in
-    ran c.args.plate.now logic (log_of (records_of bytes)) (g.W.ByteOut.bytes_taken c.args.writer.now) (g.W.ByteOut.bytes_taken c.run.new.writer)
-    c.in-Ok.field-0 (told logic stands)) c.in-Ok.ensures.reports
+    (λ bytes told text stands. subst (λ last. WritesUpTo (λ answer. answer ≡ answer_printing last c.args.plate.now text (log_of (records_of bytes)))
+    (met c.run_every.result) (taken c.args.writer.now) (taken c.run_every.new.writer)) (sym c.in-None.is) (told text stands)) c.run_every.ensures.writes
 
-pub returns-in-Err-clause-writes : goal.returns-in-Err-clause-writes
-returns-in-Err-clause-writes g c =
+pub returns-in-Some-clause-writes : goal.returns-in-Some-clause-writes
+returns-in-Some-clause-writes g c =
+    let taken = g.W.ByteOut.bytes_taken in
     on_known (g.L.ByteIn.bytes_left c.args.log.now) _ _
-    (λ bytes told text stands.
-    let logic = Some (record { text = text; store = initial_of text }) in
-    ran_short c.args.plate.now logic (log_of (records_of bytes)) (g.W.ByteOut.bytes_taken c.args.writer.now) (g.W.ByteOut.bytes_taken c.run.new.writer)
-    c.in-Err.fault (told logic stands)) c.in-Err.ensures.reports
+    (λ bytes told text stands. subst (λ last. WritesUpTo (λ answer. answer ≡ answer_printing last c.args.plate.now text (log_of (records_of bytes)))
+    (met c.run_latest.result) (taken c.args.writer.now) (taken c.run_latest.new.writer)) (sym c.in-Some.is) (told text stands)) c.run_latest.ensures.writes

@@ -26,4 +26,4 @@ returns-in-Inputs-clause-stands c =
 
 pub returns-in-Scan-clause-stands : goal.returns-in-Scan-clause-stands
 returns-in-Scan-clause-stands c =
-    on_ok_of _ _ c.take_scan.result (takes_row c.args.self.now c.take_scan.new.self c.args.row.now Scan (ap data_view c.in-Scan.is)) c.take_scan.ensures.stands
+    takes_row c.args.self.now c.take_scan.new.self c.args.row.now Scan (ap data_view c.in-Scan.is) c.take_scan.ensures.stands

@@ -1,0 +1,47 @@
+use Rattle.std.proofs.Common.{Err, sym, subst, ◌∙◌, arith}
+use Rattle.wc_run.proofs.RunsOn.{at_end, at_fault, at_row, one_more}
+use Rattle.wc_run.specs.Doing.{RunsRows}
+use Rattle.wc_run.specs.Standing.{IsNotBehind}
+use Rattle.wc_run.proofs.Texts.{lines_so_far}
+use Rattle.wc_run.proofs.log_rows.run_rows.Goals as goal
+
+pub returns-in-Err-run_row-clause-reports : goal.returns-in-Err-run_row-clause-reports
+returns-in-Err-run_row-clause-reports g c = λ log has plate logic number stands holds.
+    let r = c.loop-given.invariant.running log has plate logic number stands holds in
+    let taken = g.W.ByteOut.bytes_taken in
+    at_row g.R.ByteIn.bytes_left c.loop-given.rows c.loop-given.scale c.loop-given.recorder plate logic number log c.loop-given.count
+    (taken c.args.writer.now) (taken c.loop-given.writer) r c.next.new.self c.run_row.new.recorder (taken c.run_row.new.writer) c.in-Some.row
+    (rw c.in-Some.is at (c.in-Ok.ensures.takes r.left r.has_left)) c.in-Err-run_row.fault
+    (c.in-Err-run_row.ensures.does plate logic r.past number (lines_so_far plate logic r.past) r.stands r.holds)
+
+pub loop-given-preserved : goal.loop-given-preserved
+loop-given-preserved g c =
+    let taken = g.W.ByteOut.bytes_taken in
+    let next = rw c.in-Some.is at c.in-Ok.ensures.row in
+    record {
+      running = λ log has plate logic number stands holds.
+          let r = c.loop-given.invariant.running log has plate logic number stands holds in
+          one_more g.R.ByteIn.bytes_left c.loop-given.rows c.loop-given.scale c.loop-given.recorder plate logic number log c.loop-given.count
+          (taken c.args.writer.now) (taken c.loop-given.writer) r c.next.new.self c.run_row.new.scale c.run_row.new.recorder (taken c.run_row.new.writer) c.in-Some.row {X = Unit {0}} tt
+          (rw c.in-Some.is at (c.in-Ok.ensures.takes r.left r.has_left))
+          (c.in-Ok-run_row.ensures.does plate logic r.past number (lines_so_far plate logic r.past) r.stands r.holds);
+      in_order = subst (λ ms. IsNotBehind c.run_row.new.scale ms) (sym next.kept) c.in-Ok-run_row.ensures.in_order;
+      numbered = omega (arith, c.loop-given.invariant.numbered, next.number_is, next.counted);
+      few = omega (arith, next.counted, next.few);
+      steady = c.in-Ok-run_row.ensures.steady (λ e. cc) ∙ c.loop-given.invariant.steady;
+    }
+
+pub returns-in-None-clause-reports : goal.returns-in-None-clause-reports
+returns-in-None-clause-reports g c = λ log has plate logic number stands holds.
+    let r = c.loop-given.invariant.running log has plate logic number stands holds in
+    let taken = g.W.ByteOut.bytes_taken in
+    at_end g.R.ByteIn.bytes_left c.loop-given.rows c.loop-given.scale c.loop-given.recorder plate logic number log c.loop-given.count
+    (taken c.args.writer.now) (taken c.loop-given.writer) r c.next.new.self (rw c.in-None.is at (c.in-Ok.ensures.takes r.left r.has_left))
+
+pub returns-in-Err-clause-reports : goal.returns-in-Err-clause-reports
+returns-in-Err-clause-reports g c = λ log has plate logic number stands holds.
+    let r = c.loop-given.invariant.running log has plate logic number stands holds in
+    let taken = g.W.ByteOut.bytes_taken in
+    subst (λ met. RunsRows number plate logic log c.loop-given.recorder (Err met) (taken c.args.writer.now) (taken c.loop-given.writer)) (sym c.answer_to.ensures)
+    (at_fault g.R.ByteIn.bytes_left c.loop-given.rows c.loop-given.scale c.loop-given.recorder plate logic number log c.loop-given.count
+    (taken c.args.writer.now) (taken c.loop-given.writer) r c.next.new.self c.in-Err.fault (c.in-Err.ensures.takes r.left r.has_left))

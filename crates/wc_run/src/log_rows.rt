@@ -1,0 +1,120 @@
+ghost use Rattle.std.specs.Prelude.{◌≡◌, ◌<◌, ◌^◌, ℕ, List, [], Option, IfSome, IsErrOf, OnOk};
+ghost use Rattle.wc_model.specs.Run.Log.{LogOf, log_of};
+ghost use Rattle.wc_model.specs.Instrument.Plates.{PlateData};
+ghost use Rattle.wc_model.specs.Run.Rows.{Past};
+ghost use Rattle.wc_model.specs.Run.Writing.{HasFailedSince};
+ghost use Rattle.wc_model.specs.Say.Report.{ReportLine};
+ghost use Rattle.wc_record.specs.Left.{HasLeft, last_ms, rows_read};
+ghost use Rattle.wc_record.specs.Reading.{records_of};
+ghost use Rattle.wc_record.specs.Views.{IsDataInRange, data_view, row_view};
+ghost use Rattle.wc_run.specs.Deferring.{HoldsScans};
+ghost use Rattle.wc_run.specs.Doing.{Does, RunsRows};
+ghost use Rattle.wc_run.specs.Doing as doing;
+ghost use Rattle.wc_run.specs.Logics.{Logic};
+ghost use Rattle.wc_run.specs.Standing.{IsNotBehind, Stands};
+
+use crate::fault::RunFault;
+use crate::printing::put;
+use crate::scale::Scale;
+use std::alloc::Global;
+use wc_model::{ByteIn, ByteOut};
+use wc_record::{LogFault, Recorder, Row, Rows};
+
+/// Does a row and puts what is printed of it.
+fn run_row<W: ByteOut>(
+    alloc: Global,
+    scale: &mut Scale<'_>,
+    row: Row,
+    recorder: &mut Option<Recorder>,
+    writer: &mut W,
+) -> Result<(), RunFault>
+    requires in_range { IsDataInRange (data_view row.kind) }
+    requires early { row.ms < 2 ^ 40 }
+    requires in_order { IsNotBehind scale.old row.ms }
+    ensures does { (plate : PlateData) (logic : Option Logic) (past : Past)
+        (number : Option ℕ) (before : List ReportLine)
+        → Stands scale.old plate logic past → HoldsScans recorder.old number before
+        → Does plate logic number before past (row_view row) scale.new recorder.new result
+        (W.bytes_taken writer.old) (W.bytes_taken writer.new) }
+    ensures in_order { OnOk result (IsNotBehind scale.new row.ms) }
+    ensures write { IsErrOf result RunFault.Write
+        → HasFailedSince (W.failure_count writer.old) (W.failure_count writer.new) }
+    ensures steady { ¬ IsErrOf result RunFault.Write
+        → W.failure_count writer.new ≡ W.failure_count writer.old }
+{
+    match scale.take(alloc, &row) {
+        Ok(output) => put(alloc, output, recorder, writer),
+        Err(fault) => Err(fault),
+    }
+}
+
+/// What the run answers where the log gives no further row.
+fn answer_to(fault: LogFault) -> RunFault
+    ensures { result ≡ doing.answer_to fault }
+{
+    match fault {
+        LogFault::Refused { number, place } => RunFault::Refused { number, place },
+        LogFault::Read => RunFault::Read,
+        LogFault::Memory => RunFault::Memory,
+    }
+}
+
+/// Runs the rows that are left: how many there were.
+fn run_rows<R: ByteIn, W: ByteOut>(
+    alloc: Global,
+    scale: &mut Scale<'_>,
+    rows: &mut Rows<'_, R>,
+    recorder: &mut Option<Recorder>,
+    writer: &mut W,
+) -> Result<u32, RunFault>
+    requires unread { rows_read rows.old ≡ 0 }
+    requires in_order { IsNotBehind scale.old (last_ms rows.old) }
+    ensures reports { (log : LogOf) → HasLeft R.bytes_left rows.old log
+        → (plate : PlateData) (logic : Option Logic) (number : Option ℕ)
+        → Stands scale.old plate logic [] → HoldsScans recorder.old number []
+        → RunsRows number plate logic log recorder.new result (W.bytes_taken writer.old)
+        (W.bytes_taken writer.new) }
+    ensures write { IsErrOf result RunFault.Write
+        → HasFailedSince (W.failure_count writer.old) (W.failure_count writer.new) }
+    ensures steady { ¬ IsErrOf result RunFault.Write
+        → W.failure_count writer.new ≡ W.failure_count writer.old }
+{
+    let mut count = 0;
+    loop {
+        match rows.next() {
+            Ok(given) => match given {
+                Some(row) => match run_row(alloc, scale, row, recorder, writer) {
+                    Ok(()) => count += 1,
+                    Err(fault) => return Err(fault),
+                },
+                None => return Ok(count),
+            },
+            Err(fault) => return Err(answer_to(fault)),
+        }
+    }
+}
+
+/// Runs the log that the reader has to give.
+pub(crate) fn run_log<R: ByteIn, W: ByteOut>(
+    alloc: Global,
+    scale: &mut Scale<'_>,
+    recorder: &mut Option<Recorder>,
+    reader: &mut R,
+    writer: &mut W,
+) -> Result<u32, RunFault>
+    requires { IsNotBehind scale.old 0 }
+    ensures reports { IfSome (R.bytes_left reader.old)
+        (λ bytes. (plate : PlateData) (logic : Option Logic) (number : Option ℕ)
+        → Stands scale.old plate logic [] → HoldsScans recorder.old number []
+        → RunsRows number plate logic (log_of (records_of bytes)) recorder.new result
+        (W.bytes_taken writer.old) (W.bytes_taken writer.new)) }
+    ensures write { IsErrOf result RunFault.Write
+        → HasFailedSince (W.failure_count writer.old) (W.failure_count writer.new) }
+    ensures steady { ¬ IsErrOf result RunFault.Write
+        → W.failure_count writer.new ≡ W.failure_count writer.old }
+{
+    let mut rows = Rows::new(alloc, reader);
+    let answer = run_rows(alloc, scale, &mut rows, recorder, writer);
+    drop(rows);
+    answer
+}

@@ -1,0 +1,114 @@
+ghost use Rattle.std.specs.Prelude.{◌≡◌, ◌∷◌, [], ℕ, List, Option, IsErrOf};
+ghost use Rattle.wc_model.specs.Run.Writing.{HasFailedSince};
+ghost use Rattle.wc_model.specs.Say.Report.{ReportLine, line_text, report_text};
+ghost use Rattle.wc_run.specs.Deferring.{HoldsScans, lines_at_end};
+ghost use Rattle.wc_run.specs.Doing.{Puts, Writes};
+ghost use Rattle.wc_run.specs.Outputs.{IsOutput, line_of_record};
+
+use crate::fault::RunFault;
+use crate::row_output::RowOutput;
+use crate::scans::{last_text, record_text};
+use std::alloc::Global;
+use wc_model::{ByteOut, write_whole};
+use wc_record::{Record, Recorder};
+
+/// Writes a text.
+fn write_text<W: ByteOut>(text: &[u8], writer: &mut W) -> Result<(), RunFault>
+    ensures writes { Writes text.now result (W.bytes_taken writer.old) (W.bytes_taken writer.new) }
+    ensures write { IsErrOf result RunFault.Write
+        → HasFailedSince (W.failure_count writer.old) (W.failure_count writer.new) }
+    ensures steady { ¬ IsErrOf result RunFault.Write
+        → W.failure_count writer.new ≡ W.failure_count writer.old }
+{
+    match write_whole(writer, text) {
+        Ok(()) => Ok(()),
+        Err(_) => Err(RunFault::Write),
+    }
+}
+
+/// Writes the line of a scan.
+fn write_scan<W: ByteOut>(alloc: Global, scan: &Record, writer: &mut W) -> Result<(), RunFault>
+    ensures writes { Writes (line_text (line_of_record scan.now)) result
+        (W.bytes_taken writer.old) (W.bytes_taken writer.new) }
+    ensures write { IsErrOf result RunFault.Write
+        → HasFailedSince (W.failure_count writer.old) (W.failure_count writer.new) }
+    ensures steady { ¬ IsErrOf result RunFault.Write
+        → W.failure_count writer.new ≡ W.failure_count writer.old }
+{
+    match record_text(alloc, scan) {
+        Ok(text) => write_text(&text, writer),
+        Err(fault) => Err(fault),
+    }
+}
+
+/// Keeps the record of a scan where there is a recorder; else writes its line.
+fn put_scan<W: ByteOut>(
+    alloc: Global,
+    scan: Record,
+    recorder: &mut Option<Recorder>,
+    writer: &mut W,
+) -> Result<(), RunFault>
+    ensures puts { (number : Option ℕ) (before lines : List ReportLine)
+        → lines ≡ line_of_record scan ∷ [] → HoldsScans recorder.old number before
+        → Puts number before lines recorder.new result (W.bytes_taken writer.old)
+        (W.bytes_taken writer.new) }
+    ensures write { IsErrOf result RunFault.Write
+        → HasFailedSince (W.failure_count writer.old) (W.failure_count writer.new) }
+    ensures steady { ¬ IsErrOf result RunFault.Write
+        → W.failure_count writer.new ≡ W.failure_count writer.old }
+{
+    match recorder {
+        Some(recorder) => {
+            recorder.keep(scan);
+            Ok(())
+        }
+        None => write_scan(alloc, &scan, writer),
+    }
+}
+
+/// Writes a line; of a scan only where there is no recorder that keeps its record.
+pub(crate) fn put<W: ByteOut>(
+    alloc: Global,
+    output: RowOutput,
+    recorder: &mut Option<Recorder>,
+    writer: &mut W,
+) -> Result<(), RunFault>
+    ensures puts { (number : Option ℕ) (before lines : List ReportLine)
+        → IsOutput output lines → HoldsScans recorder.old number before
+        → Puts number before lines recorder.new result (W.bytes_taken writer.old)
+        (W.bytes_taken writer.new) }
+    ensures write { IsErrOf result RunFault.Write
+        → HasFailedSince (W.failure_count writer.old) (W.failure_count writer.new) }
+    ensures steady { ¬ IsErrOf result RunFault.Write
+        → W.failure_count writer.new ≡ W.failure_count writer.old }
+{
+    match output {
+        RowOutput::Nothing => Ok(()),
+        RowOutput::Line(text) => write_text(&text, writer),
+        RowOutput::Scan(scan) => put_scan(alloc, scan, recorder, writer),
+    }
+}
+
+/// Writes the lines of the scans that are kept, where there is a recorder.
+pub(crate) fn write_last<W: ByteOut>(
+    alloc: Global,
+    recorder: &Option<Recorder>,
+    writer: &mut W,
+) -> Result<(), RunFault>
+    ensures writes { (number : Option ℕ) (lines : List ReportLine)
+        → HoldsScans recorder.now number lines
+        → Writes (report_text (lines_at_end number lines)) result (W.bytes_taken writer.old)
+        (W.bytes_taken writer.new) }
+    ensures write { IsErrOf result RunFault.Write
+        → HasFailedSince (W.failure_count writer.old) (W.failure_count writer.new) }
+    ensures steady { ¬ IsErrOf result RunFault.Write
+        → W.failure_count writer.new ≡ W.failure_count writer.old }
+{
+    match recorder {
+        Some(recorder) => match last_text(alloc, recorder) {
+            Ok(text) => write_text(&text, writer),
+            Err(fault) => Err(fault),
+        },
+        None => Ok(()),
+    }
+}
