@@ -1,8 +1,10 @@
+ghost use Rattle.std.specs.Prelude.{◌≤◌, IfSome};
+
 use crate::devices::{Noting, Opening};
 use crate::telling::{Met, Sources, end};
 use crate::words::ProgramFiles;
 use std::io::Stdout;
-use wc_controller::{Input, answer_job, check_file, line_files, run_files};
+use wc_controller::{answer_job, check_file, line_files, run_files};
 use wc_model::Device;
 
 /// What is written to standard output.
@@ -47,14 +49,22 @@ pub(crate) fn check_words(rt: &HostRuntime, program: &str, paths: bool) -> u8 {
     end(rt, &met, &Sources::Program { program })
 }
 
-/// Runs the log in a file with a program: the exit status.
-pub(crate) fn run_words(rt: &HostRuntime, plate: &str, files: ProgramFiles<'_>) -> u8 {
+/// Runs the log in a file with a program, and prints every scan or the last so many: the exit status.
+pub(crate) fn run_words(
+    rt: &HostRuntime,
+    last: Option<u16>,
+    plate: &str,
+    files: ProgramFiles<'_>,
+) -> u8
+    requires { IfSome last (λ n. (1 ≤ n) × (n ≤ 1000)) }
+{
     let mut plate_reader = source(rt, plate);
     let mut program_reader = source(rt, files.program);
     let mut log_reader = source(rt, files.log);
     let mut writer = output(rt);
     let ending = run_files(
         rt.alloc(),
+        last,
         &mut plate_reader,
         &mut program_reader,
         &mut log_reader,

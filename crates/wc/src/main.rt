@@ -5,7 +5,9 @@
 mod commands;
 mod devices;
 mod excerpts;
+mod explaining;
 mod hints;
+mod pages;
 mod printable;
 mod sentences;
 mod telling;
@@ -14,6 +16,7 @@ mod words;
 use clap::Error;
 use clap::error::ErrorKind;
 use commands::{check_words, line_words, run_job, run_words};
+use explaining::explain;
 use std::process::ExitCode;
 use std::{env, io};
 use words::{Wanted, read_words};
@@ -62,12 +65,31 @@ fn show(rt: &HostRuntime, error: &Error) -> u8 {
     }
 }
 
+/// Prints the page of a refusal: the exit status. A number that there is not is a wrong word.
+fn show_page(rt: &HostRuntime, number: u16) -> u8 {
+    match explain(rt, number) {
+        Ok(true) => 0,
+        Ok(false) => {
+            let _told = eprintln!(rt; "error: there is no refusal {number}");
+            WRONG_WORDS
+        }
+        Err(_) => {
+            let _told = rt.eprintln("device fault");
+            DEVICE_FAULT
+        }
+    }
+}
+
 /// Does what is wanted: the exit status.
 fn execute(rt: &HostRuntime, wanted: Wanted<'_>) -> u8 {
     match wanted {
         Wanted::Job => run_job(rt),
         Wanted::Check { program, paths } => check_words(rt, program, paths),
-        Wanted::Run { plate, files } => run_words(rt, plate, files),
+        Wanted::Run { plate, files, last } => match last {
+            Some(number) if number < 1 || number > 1000 => WRONG_WORDS,
+            last => run_words(rt, last, plate, files),
+        },
+        Wanted::Explain { number } => show_page(rt, number),
         Wanted::Line { plate, log } => line_words(rt, plate, log),
     }
 }

@@ -105,7 +105,7 @@ fn tell_refusal(
         None => tell_place(rt, section(input), input, place)?,
     }
     let help = hint(number);
-    eprintln!(rt; "help: {help}")
+    eprintln!(rt; "help: {help}; `wc explain {number}` says more")
 }
 
 /// Says which input could not be read, and why.

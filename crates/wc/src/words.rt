@@ -1,5 +1,25 @@
-use clap::{Arg, ArgAction, ArgMatches, Command, Error};
+use clap::{Arg, ArgAction, ArgMatches, Command, Error, value_parser};
 use std::alloc::{AllocError, Global};
+
+/// The product's version, and what it is proved with.
+const VERSION: &str = "0.1.0 (Narbeddo), proved with rattle-kit-13b, logic dac8208d650f15bf";
+
+/// What the program does, with an example of each word.
+const ABOUT: &str =
+    "A legal weighing indicator and, beside it, the customer's logic in Instruction List.
+
+  ./wc check --path program.il
+  ./wc run --plate plate.toml --program program.il --log log.csv --last 10
+  ./wc line --plate plate.toml --log log.csv
+  ./wc explain 403
+  ./wc < job.txt
+
+With no words it reads a job from standard input: a line @plate and the plate, a line
+@program and the program, a line @log and the log. A run prints for each scan
+`S <ms> <steps> <bits> <%QD0> <%QD1> <%QD2> <%QD3>`, and for each row of line bytes that
+was answered `L <ms> <hex>`; a refusal is the last line, `refused <number> <place>`.
+
+Exit status: 0 done, 1 refused, 2 wrong words, 3 a device failed, 4 no memory";
 
 /// The paths of a program and of the log that is run with it.
 #[derive(Clone, Copy, Debug)]
@@ -18,10 +38,15 @@ pub(crate) enum Wanted<'a> {
         program: &'a str,
         paths: bool,
     },
-    /// A run of a log with a program.
+    /// A run of a log with a program, which prints every scan or the last so many.
     Run {
         plate: &'a str,
         files: ProgramFiles<'a>,
+        last: Option<u16>,
+    },
+    /// The page of a refusal by its number.
+    Explain {
+        number: u16,
     },
     /// A run of a log with no program.
     Line {
@@ -77,11 +102,17 @@ fn check_command<'a>(alloc: Global) -> Result<Command<'a>, AllocError> {
 /// The word `run`.
 fn run_command<'a>(alloc: Global) -> Result<Command<'a>, AllocError> {
     let program = file_option(alloc, "program", "The program text (Instruction List)");
+    let last = Arg::new(alloc, "last")
+        .long("last")
+        .value_name("N")
+        .value_parser(value_parser!(u16).range(1..=1000))
+        .help("Print the last N scans alone, 1 to 1000, behind the answers of the line");
     let command = Command::new(alloc, "run")
         .about("Run a log with a program: print each scan, and each answer of the line")
         .arg(plate_option(alloc))?
         .arg(program)?
-        .arg(log_option(alloc))?;
+        .arg(log_option(alloc))?
+        .arg(last)?;
     Ok(command)
 }
 
@@ -94,16 +125,28 @@ fn line_command<'a>(alloc: Global) -> Result<Command<'a>, AllocError> {
     Ok(command)
 }
 
+/// The word `explain`.
+fn explain_command<'a>(alloc: Global) -> Result<Command<'a>, AllocError> {
+    let number = Arg::new(alloc, "number")
+        .value_name("NUMBER")
+        .required(true)
+        .value_parser(value_parser!(u16))
+        .help("The number of a refusal, as 403");
+    let command = Command::new(alloc, "explain")
+        .about("Say what a refusal means, where it is met, and how to mend it")
+        .arg(number)?;
+    Ok(command)
+}
+
 /// The whole command line.
 fn command<'a>(alloc: Global) -> Result<Command<'a>, AllocError> {
     let command = Command::new(alloc, "wc")
-        .version("0.1.0")
-        .about(
-            "A weighing indicator, and an Instruction List program beside it. With no words it reads a job from standard input: a line @plate and the plate, a line @program and the program, a line @log and the log.",
-        )
+        .version(VERSION)
+        .about(ABOUT)
         .subcommand(check_command(alloc)?)?
         .subcommand(run_command(alloc)?)?
-        .subcommand(line_command(alloc)?)?;
+        .subcommand(line_command(alloc)?)?
+        .subcommand(explain_command(alloc)?)?;
     Ok(command)
 }
 
@@ -125,6 +168,10 @@ fn wanted_by<'a>(word: &str, matches: &ArgMatches<'a>) -> Wanted<'a> {
                 program: file(matches, "program"),
                 log: file(matches, "log"),
             },
+            last: matches.get_one::<u16>("last"),
+        },
+        "explain" => Wanted::Explain {
+            number: matches.get_one::<u16>("number").unwrap_or(0),
         },
         _ => Wanted::Line {
             plate: file(matches, "plate"),
