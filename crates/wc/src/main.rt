@@ -51,7 +51,7 @@ fn execute(rt: &HostRuntime, wanted: Wanted<'_>) -> u8 {
     let answer = match wanted {
         Wanted::Job => return job(rt.alloc(), &mut Device::new(rt.stdin()), &mut writer),
         Wanted::Check { program, paths } => check_file(rt, program, paths, &mut writer),
-        Wanted::Run { plate, files } => run_files(rt, plate, files, &mut writer),
+        Wanted::Run { plate, files, last } => run_files(rt, plate, files, last, &mut writer),
         Wanted::Line { plate, log } => line_files(rt, plate, log, &mut writer),
     };
     end(rt, answer, &mut writer)

@@ -1,5 +1,8 @@
-use clap::{Arg, ArgAction, ArgMatches, Command, Error};
+use clap::{Arg, ArgAction, ArgMatches, Command, Error, value_parser};
 use std::alloc::{AllocError, Global};
+
+/// The most scans that can be asked for as the last.
+pub(crate) const MOST_LAST_SCANS: u16 = 1000;
 
 /// The paths of a program and of the log that is run with it.
 #[derive(Clone, Copy, Debug)]
@@ -18,10 +21,11 @@ pub(crate) enum Wanted<'a> {
         program: &'a str,
         paths: bool,
     },
-    /// A run of a log with a program.
+    /// A run of a log with a program, of whose scans the last so many are printed, or all.
     Run {
         plate: &'a str,
         files: ProgramFiles<'a>,
+        last: Option<u16>,
     },
     /// A run of a log with no program.
     Line {
@@ -74,6 +78,15 @@ fn check_command<'a>(alloc: Global) -> Result<Command<'a>, AllocError> {
     Ok(command)
 }
 
+/// The option of the last scans.
+fn last_option<'a>(alloc: Global) -> Arg<'a> {
+    Arg::new(alloc, "last")
+        .long("last")
+        .value_name("N")
+        .value_parser(value_parser!(u16).range(1..=i64::from(MOST_LAST_SCANS)))
+        .help("Print the last N scans alone, behind all answers of the line: 1 to 1000")
+}
+
 /// The word `run`.
 fn run_command<'a>(alloc: Global) -> Result<Command<'a>, AllocError> {
     let program = file_option(alloc, "program", "The program text (Instruction List)");
@@ -81,7 +94,8 @@ fn run_command<'a>(alloc: Global) -> Result<Command<'a>, AllocError> {
         .about("Run a log with a program: print each scan, and each answer of the line")
         .arg(plate_option(alloc))?
         .arg(program)?
-        .arg(log_option(alloc))?;
+        .arg(log_option(alloc))?
+        .arg(last_option(alloc))?;
     Ok(command)
 }
 
@@ -125,6 +139,7 @@ fn wanted_by<'a>(word: &str, matches: &ArgMatches<'a>) -> Wanted<'a> {
                 program: file(matches, "program"),
                 log: file(matches, "log"),
             },
+            last: matches.get_one("last"),
         },
         _ => Wanted::Line {
             plate: file(matches, "plate"),
