@@ -4,7 +4,7 @@ ghost use Rattle.wc_model.specs.Run.JobSections.{part_at, sections_in, sections_
 
 use crate::headings::{Heading, is_heading};
 use crate::lines::first_line;
-use crate::parts::{Parting, Sections};
+use crate::parts::{LONGEST_JOB, Parting, Sections};
 
 /// What stands before and behind the first line that is this heading.
 fn part_at<'a>(heading: Heading, text: &'a [u8]) -> Option<Parting<'a>>
@@ -61,7 +61,7 @@ fn sections_in<'a>(text: &'a [u8]) -> Option<Sections<'a>>
 pub fn sections<'a>(bytes: &'a [u8]) -> Result<Sections<'a>, u16>
     ensures { result_view result ≡ sections_of bytes.now }
 {
-    if bytes.len() > 1048576 {
+    if bytes.len() > LONGEST_JOB {
         return Err(702);
     }
     match sections_in(bytes) {

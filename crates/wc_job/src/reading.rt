@@ -3,6 +3,7 @@ ghost use Rattle.wc_job.specs.Reads.{Adds, IsOverTheLimit, IsWhole, ReadsInto, T
 ghost use Rattle.wc_model.specs.Run.Devices.{failures_after_read};
 ghost use Rattle.wc_model.specs.Run.JobSections.{longest_job};
 
+use crate::parts::LONGEST_JOB;
 use std::alloc::Global;
 use std::io;
 use wc_model::ByteIn;
@@ -38,7 +39,7 @@ fn read_more<R: ByteIn>(reader: &mut R, bytes: &mut Vec<u8>) -> Result<bool, Rea
         ≡ failures_after (R.failure_count reader.old) result }
 {
     let mut buffer = [0_u8; 4096];
-    let most = (1048577 - bytes.len()).min(4096);
+    let most = (LONGEST_JOB + 1 - bytes.len()).min(4096);
     match read_up_to(reader, &mut buffer, most) {
         Err(_) => Err(ReadFault::Read),
         Ok(0) => Ok(false),
@@ -60,7 +61,7 @@ pub fn read_whole<R: ByteIn>(alloc: Global, reader: &mut R) -> Result<Vec<u8>, R
         ≡ failures_after (R.failure_count reader.old) result }
 {
     let mut bytes = Vec::new(alloc);
-    while bytes.len() <= 1048576 {
+    while bytes.len() <= LONGEST_JOB {
         match read_more(reader, &mut bytes) {
             Ok(true) => {}
             Ok(false) => return Ok(bytes),

@@ -8,12 +8,15 @@ use std::io;
 use std::io::Read;
 use wc_model::ByteIn;
 
+/// The most bytes and calls that are spent on a log.
+const MOST_SPENT: u64 = 134217728;
+
 /// Whether as much of a log was read as may be: 134217728 bytes and calls since the start, or a count at its end. Both are
 /// counts of `ByteIn::spent`, the first of when the reader was lent.
 pub fn is_used_up(start: u64, spent: u64) -> bool
     ensures { result ≡ is_used_up start spent }
 {
-    spent == u64::MAX || spent.saturating_sub(start) >= 134217728
+    spent == u64::MAX || spent.saturating_sub(start) >= MOST_SPENT
 }
 
 /// Reads, unless as much was read as may be.

@@ -16,6 +16,9 @@ use csv::ByteRecord;
 use std::alloc::Global;
 use wc_model::ByteIn;
 
+/// The most rows that a log has, the first one too.
+const MOST_ROWS: u32 = 1000000;
+
 /// How a log ended.
 #[derive(Clone, Copy, Debug, PartialEq, Eq)]
 pub(crate) enum LogEnd {
@@ -160,7 +163,7 @@ impl<'r, R: ByteIn> Rows<'r, R> {
         ensures no_device { IfErr result (λ met. met ≡ LogFault.Read → ⊥) }
         ensures keeps { Keeps self.old self.new }
     {
-        if self.number >= 1000000 {
+        if self.number >= MOST_ROWS {
             return Err(LogFault::Refused {
                 number: 607,
                 place: self.number.saturating_add(1),

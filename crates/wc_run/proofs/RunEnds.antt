@@ -1,5 +1,5 @@
 -- The end of a run: what is deferred is written behind the rest, and a fault is judged.
-use Rattle.std.proofs.Common.{inl, inr, ◌≡◌, refl, ap, sym, subst, ◌∙◌, ℕ, List, [], ◌++◌, Option, Some, None, Ok, Err, Result, append-nil, true, false}
+use Rattle.std.proofs.Common.{inl, inr, ◌≡◌, ap, sym, subst, ◌∙◌, ℕ, List, [], ◌++◌, Option, Some, None, Ok, Err, Result, append-nil, true, false}
 use Rattle.std.proofs.KnownBytes.{Appends-kept, Appends-trans}
 use Rattle.std.proofs.lemmas.List.{append_assoc}
 use Rattle.std.specs.Io.KnownBytes.{Appends}

@@ -1,7 +1,7 @@
 -- The lines of rows, one after the other, and what is written of them at once and at the end.
-use Rattle.std.proofs.Common.{◌≡◌, refl, ap, sym, ◌∙◌, arith, ℕ, zero, suc, ◌+◌, ◌-◌, List, [], ◌∷◌, ◌++◌, length, drop, map, Option, Some, None, append-nil}
+use Rattle.std.proofs.Common.{◌≡◌, refl, ap, sym, ◌∙◌, arith, ℕ, zero, suc, ◌+◌, ◌-◌, List, [], ◌∷◌, ◌++◌, length, drop, Option, Some, None, append-nil}
 use Rattle.std.proofs.lemmas.Grind.{flat_map-append}
-use Rattle.std.proofs.lemmas.List.{append_assoc, length-map}
+use Rattle.std.proofs.lemmas.List.{append_assoc}
 use Rattle.std.proofs.lemmas.List.Elements.{filter-append}
 use Rattle.std.specs.Prelude.{filter}
 use Rattle.wc_instrument_laws.proofs.Independence.{is_free_of_programs}
@@ -9,7 +9,7 @@ use Rattle.wc_model.specs.Instrument.Plates.{PlateData}
 use Rattle.wc_model.specs.Say.ProgramReport.{scans_of}
 use Rattle.wc_model.specs.Say.Report.{ReportLine, answer_line, answer_lines, is_answer_line, is_scan_line, line_report, line_text, report_text}
 use Rattle.wc_model.specs.Run.Rows.{LogRow, Past, answer_of_row}
-use Rattle.wc_run.specs.Deferring.{lines_at_once, text_at_end, text_at_once, text_in_all}
+use Rattle.wc_run.specs.Deferring.{lines_at_once, text_at_once, text_in_all}
 use Rattle.wc_run.specs.Logics.{Logic, lines_of_row, lines_of_rows, run_report, run_report_last}
 
 -- rows with those before them, the newest of which stands first

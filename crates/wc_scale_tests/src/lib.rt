@@ -19,6 +19,8 @@ mod requests;
 #[cfg(test)]
 mod runs;
 #[cfg(test)]
+mod scans;
+#[cfg(test)]
 mod sections;
 #[cfg(test)]
 mod stores;

@@ -3,7 +3,7 @@ use std::alloc::Global;
 use std::test::Fail;
 use wc_model::{ByteIn, ByteOut, Device, FuseIn, FuseOut};
 use wc_plate::plate;
-use wc_run::{RunFault, run};
+use wc_run::{RunFault, run, run_last};
 
 /// The plate of 15 kg in steps of 5 g: 3000 intervals of 200 counts, and 4 samples in the window.
 const FIFTEEN_KILOGRAMS: &[u8] =
@@ -121,4 +121,24 @@ fn rows_that_print_nothing(rt: HostRuntime) {
             b"",
         )
     );
+}
+
+#[test]
+fn with_no_program_the_last_scans_are_none(rt: HostRuntime) {
+    let alloc = rt.alloc();
+    let mut out = Vec::new(alloc);
+    let mut writer = Device::new(&mut out);
+    let given = match plate(alloc, FIFTEEN_KILOGRAMS) {
+        Ok(plate) => run_last(
+            alloc,
+            3,
+            &plate,
+            None,
+            &mut Device::new(WEIGHT_LOG),
+            &mut writer,
+        ),
+        Err(_) => Err(RunFault::Memory),
+    };
+    assert!(rt; given == Ok(3));
+    assert_eq!(rt; out.as_slice(), WEIGHT_REPORT);
 }

@@ -12,6 +12,8 @@ mod jobs;
 #[cfg(test)]
 mod programs;
 #[cfg(test)]
+mod runs;
+#[cfg(test)]
 mod texts;
 #[cfg(test)]
 mod tokens;

@@ -14,7 +14,7 @@ returns-in-Ok-clause-gives g c =
     let counted = stands.number in (
       fields ∷ (first ∷ before),
       rest,
-      step_row (first ∷ before) rest fields c.args.self.now.number c.args.self.now.last (row_view c.in-Ok.row) stands.number c.if-self-ge1000000.false stands.last says,
+      step_row (first ∷ before) rest fields c.args.self.now.number c.args.self.now.last (row_view c.in-Ok.row) stands.number c.if-self-ge-MOST_ROWS.false stands.last says,
       record {
         has = stands.has;
         number = add-one c.args.self.now.number ∙ ap suc stands.number;
@@ -39,4 +39,4 @@ returns-in-Ok-clause-row g c =
 pub returns-in-Err-Refused-clause-gives : goal.returns-in-Err-Refused-clause-gives
 returns-in-Err-Refused-clause-gives g c =
     λ first before rest stands.
-    step_refused (first ∷ before) rest (fields_of c.args.self.now.row) c.args.self.now.number c.args.self.now.last c.in-Err-Refused.rule stands.number c.if-self-ge1000000.false stands.last (rw c.in-Err-Refused.field-0-is at c.in-Err-Refused.ensures.says)
+    step_refused (first ∷ before) rest (fields_of c.args.self.now.row) c.args.self.now.number c.args.self.now.last c.in-Err-Refused.rule stands.number c.if-self-ge-MOST_ROWS.false stands.last (rw c.in-Err-Refused.field-0-is at c.in-Err-Refused.ensures.says)
