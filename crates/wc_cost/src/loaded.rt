@@ -117,7 +117,8 @@ impl<'a> Loaded<'a> {
     pub fn initials(&self) -> &[i64]
         ensures numbers { result.now ≡ first_numbers (frame_of_text (text_view self.now.source)) }
         // Each is in the range of its slot's kind, and no timer has begun.
-        ensures first { AreFirst (slot_kinds (frame_of_text (text_view self.now.source))) result.now }
+        ensures first { AreFirst (slot_kinds (frame_of_text (text_view self.now.source)))
+            result.now }
     {
         self.initials.as_slice()
     }

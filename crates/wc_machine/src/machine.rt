@@ -71,6 +71,7 @@ impl<'a, S: Store> Machine<'a, S> {
     pub fn scan(&mut self, now: u64, image: &Image) -> Steps
         requires not_before { self.old.last ≤ now }
         requires in_range { now ≤ 1099511627775 }
+        // So each bit of the status has a place that the program can read. The proof does without.
         requires status { image.now.status < 64 }
         ensures means { (text : Text) (store : Contents) → StandsFor self.old text store
             → Leaves self.new text result.0 (scan_of text store image.now now) }
