@@ -105,7 +105,7 @@ as_line fault q _ line colon n j = j
 operator_no_closing : (symbol : Symbol) (operation : Operation) → operation_of symbol ≡ Some operation → symbol ≢ ClosingBracket
 operator_no_closing symbol operation e c = let k : operation_of ClosingBracket ≡ Some operation = subst (λ s. operation_of s ≡ Some operation) c e in cc
 
-name_no_closing : (symbol : Symbol) (name : Name) → name_in symbol ≡ Some name → symbol ≢ ClosingBracket
+pub name_no_closing : (symbol : Symbol) (name : Name) → name_in symbol ≡ Some name → symbol ≢ ClosingBracket
 name_no_closing symbol name e c = let k : name_in ClosingBracket ≡ Some name = subst (λ s. name_in s ≡ Some name) c e in cc
 
 -- a jump, a call or a return
