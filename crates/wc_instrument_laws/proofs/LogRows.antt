@@ -11,7 +11,7 @@ use Rattle.std.specs.Str.{bytes_eq}
 use Rattle.wc_instrument_laws.specs.Logs.{IsDataInRange, AreInOrder, RowsAreInOrder}
 use Rattle.wc_model.specs.Instrument.Plates.{least_sample, greatest_sample}
 use Rattle.wc_model.specs.Run.Hex.{byte_of_digits, bytes_of_hex, with_byte}
-use Rattle.wc_model.specs.Run.Log.{Record, brings_or, counts_of, first_row, has_fields, inputs_word_of, is_in_order, last_moment, line_piece_of, log_after, log_with, moment_of, number_within, row_at, row_data_of, row_from, row_of, row_of_fields, scan_of_data, where_passes, whole_of}
+use Rattle.wc_model.specs.Run.Log.{Record, brings_or, counts_of, first_row, greatest_moment, has_fields, inputs_word_of, is_in_order, last_moment, line_piece_of, log_after, log_with, longest_piece, moment_of, most_rows, number_within, row_at, row_data_of, row_from, row_of, row_of_fields, scan_of_data, where_passes, whole_of}
 use Rattle.wc_model.specs.Run.Rows.{RowData, Counts, Bytes, Inputs, Scan, LogRow}
 
 -- what passes a test
@@ -57,8 +57,8 @@ counts_in_range text counts e =
 -- bytes on the line
 piece_in_range : (text bytes : List ℕ) → line_piece_of text ≡ Some bytes → IsDataInRange (Bytes bytes)
 piece_in_range text bytes e =
-    let test = passes (λ bytes. nat_le (length bytes) 4096) (bytes_of_hex text) bytes e in
-    (leb-true (length bytes) 4096 test.1, bytes_below text bytes test.0)
+    let test = passes (λ bytes. nat_le (length bytes) longest_piece) (bytes_of_hex text) bytes e in
+    (leb-true (length bytes) longest_piece test.1, bytes_below text bytes test.0)
 
 -- inputs: two bytes
 word_in_range : (text : List ℕ) (inputs : ℕ) → inputs_word_of text ≡ Some inputs → IsDataInRange (Inputs inputs)
@@ -108,17 +108,17 @@ in_order (Some last) ms e = leb-true last ms e
 -- a row behind a last row
 pub record Follows (number : ℕ) (last moment : Option ℕ) (row : LogRow) : Type 0 where
   pub numbered : row.number ≡ number
-  pub small : number ≤ 1000000
+  pub small : number ≤ most_rows
   pub in_order : earliest_after last ≤ row.ms
-  pub below : row.ms < 2 ^ 40
+  pub below : row.ms ≤ greatest_moment
   pub in_range : IsDataInRange row.brings
   pub moment_is : moment ≡ Some row.ms
 
-moment_below : (text : List ℕ) (ms : ℕ) → moment_of text ≡ Some ms → ms < 2 ^ 40
-moment_below text ms e = let test = passes (λ ms. nat_le ms 1099511627775) (number_within 13 text) ms e in let le = leb-true ms 1099511627775 test.1 in omega (arith, le)
+moment_below : (text : List ℕ) (ms : ℕ) → moment_of text ≡ Some ms → ms ≤ greatest_moment
+moment_below text ms e = let test = passes (λ ms. nat_le ms greatest_moment) (number_within 13 text) ms e in leb-true ms greatest_moment test.1
 
 -- the row of a moment, a kind and data
-row_follows : (number : ℕ) (last : Option ℕ) (moment kind text : List ℕ) (row : LogRow) → number ≤ 1000000 → row_at number last (moment_of moment) kind text ≡ Ok row → Follows number last (moment_of moment) row
+row_follows : (number : ℕ) (last : Option ℕ) (moment kind text : List ℕ) (row : LogRow) → number ≤ most_rows → row_at number last (moment_of moment) kind text ≡ Ok row → Follows number last (moment_of moment) row
 row_follows number last moment kind text row small e = by_moment (moment_of moment) refl e
   where
     by_data : (ms : ℕ) → moment_of moment ≡ Some ms → is_in_order last ms ≡ true → (r : Result RowData ℕ) → row_data_of kind text ≡ r → row_from number ms r ≡ Ok row → Follows number last (Some ms) row
@@ -143,7 +143,7 @@ row_follows number last moment kind text row small e = by_moment (moment_of mome
     by_moment (Some ms) m f = by_order ms m (is_in_order last ms) refl f
 
 -- the row of any fields
-fields_follow : (before : List Record) (number : ℕ) (last : Option ℕ) (fields : Record) (row : LogRow) → number ≤ 1000000 → row_of_fields number last fields ≡ Ok row → Follows number last (last_moment (fields ∷ before)) row
+fields_follow : (before : List Record) (number : ℕ) (last : Option ℕ) (fields : Record) (row : LogRow) → number ≤ most_rows → row_of_fields number last fields ≡ Ok row → Follows number last (last_moment (fields ∷ before)) row
 fields_follow before number last [] row small e = absurd (cc)
 fields_follow before number last (a ∷ []) row small e = absurd (cc)
 fields_follow before number last (a ∷ b ∷ []) row small e = absurd (cc)
@@ -152,11 +152,11 @@ fields_follow before number last (a ∷ b ∷ c ∷ d ∷ more) row small e = ab
 
 -- a record's row, behind the records before it
 record_follows : (before : List Record) (fields : Record) (row : LogRow) → row_of before fields ≡ Ok row → Follows (suc (length before)) (last_moment before) (last_moment (fields ∷ before)) row
-record_follows before fields row e = by_count (nat_lt 1000000 (suc (length before))) refl e
+record_follows before fields row e = by_count (nat_lt most_rows (suc (length before))) refl e
   where
-    by_count : (b : Bool) → nat_lt 1000000 (suc (length before)) ≡ b → (if b then Err 607 else row_of_fields (suc (length before)) (last_moment before) fields) ≡ Ok row → Follows (suc (length before)) (last_moment before) (last_moment (fields ∷ before)) row
+    by_count : (b : Bool) → nat_lt most_rows (suc (length before)) ≡ b → (if b then Err 607 else row_of_fields (suc (length before)) (last_moment before) fields) ≡ Ok row → Follows (suc (length before)) (last_moment before) (last_moment (fields ∷ before)) row
     by_count true many f = absurd (cc)
-    by_count false many f = let small : suc (length before) ≤ 1000000 = grind (arith, nat_tests, many) in fields_follow before (suc (length before)) (last_moment before) fields row small f
+    by_count false many f = let small : suc (length before) ≤ most_rows = grind (arith, nat_tests, many) in fields_follow before (suc (length before)) (last_moment before) fields row small f
 
 -- the rows behind some records
 rows_follow : (before records : List Record) → AreInOrder (suc (length before)) (earliest_after (last_moment before)) (log_after before records).rows
