@@ -4,7 +4,8 @@ use Rattle.std.specs.Prelude.{option_map}
 use Rattle.wc_grammar_laws.proofs.WalkedLines.{walk_on}
 use Rattle.wc_grammar_laws.specs.LineMoves.{LineForm, LabelAlone, Instructs, Opens, LineState, Start, Ended, line_move}
 use Rattle.wc_grammar_laws.specs.Moves.{InDeclaration, Undeclared, BehindNames, BehindComma, BehindColon, BehindType, BehindAssign, BehindValue, State, Outside, Unnamed, Declaring, AtLine, OnLine, Closed, at_value, begun_line, behind_closing, behind_line, behind_unit, body_move, body_start, colon_next, declaration_move, has_content, move, section_begun, section_or_line, start_move, unit_with, walk}
-use Rattle.wc_grammar_laws.specs.Words.{found, literal_of, same, unit_kinds}
+use Rattle.wc_grammar_laws.specs.Words.{found, literal_of, unit_kinds}
+use Rattle.wc_model.specs.Language.Declarations.{same_name}
 use Rattle.wc_model.specs.Language.Names.{name_of}
 use Rattle.wc_model.specs.Language.Tree.{ProgramUnit, Word}
 use Rattle.wc_model.specs.Text.Grammar.{InBody, InParentheses}
@@ -43,7 +44,7 @@ first_rises us unit section word false = omega arith
 
 section_rises : (us : List ProgramUnit) (unit : ProgramUnit) (section : Section) (place : InDeclaration) (symbol : Symbol) (line : ℕ) → Rises (suc (2 * length us)) (declaration_move us unit section place symbol line)
 section_rises us unit section place LineEnd line = omega arith
-section_rises us unit section Undeclared (Identifier bytes) line = first_rises us unit section (record { line = line; name = name_of bytes }) (same (name_of bytes) end_var)
+section_rises us unit section Undeclared (Identifier bytes) line = first_rises us unit section (record { line = line; name = name_of bytes }) (same_name (name_of bytes) end_var)
 section_rises us unit section (BehindNames names) Comma line = omega arith
 section_rises us unit section (BehindNames names) Colon line = omega arith
 section_rises us unit section (BehindComma names) (Identifier bytes) line = omega arith
@@ -73,7 +74,7 @@ word_rises p bytes line true = let one = length-append p.before (unit_with p.uni
 word_rises p bytes line false = section_or_line_rises p bytes line (section_begun p.done (name_of bytes))
 
 body_rises : (p : Position) (symbol : Symbol) (line : ℕ) (colon : Bool) → Rises (suc (2 * length p.before)) (body_move p symbol line colon)
-body_rises p (Identifier bytes) line false = word_rises p bytes line (same (name_of bytes) (end_word p.unit.kind))
+body_rises p (Identifier bytes) line false = word_rises p bytes line (same_name (name_of bytes) (end_word p.unit.kind))
 body_rises p symbol line colon = begun_rises p (line_move InBody Start symbol line colon)
 
 closing_rises : (p : Position) (o : Opening) (outer : List Opening) (line : ℕ) (b : Bool) → Rises (suc (2 * length p.before)) (if b then Some (Closed (behind_closing p o outer line)) else None)

@@ -8,9 +8,10 @@ ghost use Rattle.wc_model.specs.Text.Shapes.{duration_shape, identifier_shape, l
 use crate::Shape;
 use crate::characters::{is_sign, starts_identifier};
 use crate::durations::duration;
-use crate::fronts::{cut_at, is_word};
+use crate::fronts::cut_at;
 use crate::marks::mark;
 use crate::numbers::{has_single_underscores, whole_number};
+use wc_model::is_word;
 
 /// An identifier has at most 32 characters and single underscores.
 fn identifier_shape(lexeme: &[u8]) -> Result<Shape, u16>

@@ -8,7 +8,7 @@ ghost use Rattle.wc_model.specs.Language.Views.{assignment_view, line_view, line
 ghost use Rattle.wc_reader.specs.LineViews.{form_view, step_view};
 ghost use Rattle.wc_reader.specs.TextViews.{IsCounted, position_view, opening_view, openings_view};
 
-use crate::line_place::{Begun, LineForm, Listed, Step};
+use crate::line_state::{Begun, LineForm, Listed, Step};
 use std::alloc::{AllocError, Global};
 use wc_model::{Instr, Line, Operand, Operator, Unit, Word};
 
@@ -294,7 +294,8 @@ fn closed<'a>(
 /// Whether a parenthesis holds something.
 pub(crate) fn has_content<'a>(opening: &Opening<'a>, done: &[Line<'a>]) -> bool
     requires { moves.are_no_lines (lines_view done.now) ≡ (length done.now == 0) }
-    ensures { result ≡ moves.has_content (opening_view opening.now).operand (lines_view done.now) }
+    ensures { result
+        ≡ moves.has_content (opening_view opening.now).operand (lines_view done.now) }
 {
     match opening.operand {
         Some(_) => true,
