@@ -55,13 +55,16 @@ fn sections_in<'a>(text: &'a [u8]) -> Option<Sections<'a>>
     }
 }
 
+/// The greatest length of a job, in bytes.
+pub(crate) const LONGEST_JOB: usize = 1048576;
+
 /// The sections of a job of at most 1048576 bytes: what stands between `@plate`, its first line, the first line `@program`
 /// behind it, the first line `@log` behind that one, and the end. A heading stands alone on its line and ends with LF or CRLF.
 /// 702 where the job is longer, 701 where a heading is missing. It takes no memory. (The form is the profile's own.)
 pub fn sections<'a>(bytes: &'a [u8]) -> Result<Sections<'a>, u16>
     ensures { result_view result ≡ sections_of bytes.now }
 {
-    if bytes.len() > 1048576 {
+    if bytes.len() > LONGEST_JOB {
         return Err(702);
     }
     match sections_in(bytes) {

@@ -3,6 +3,7 @@ ghost use Rattle.wc_job.specs.Reads.{Adds, IsOverTheLimit, IsWhole, ReadsInto, T
 ghost use Rattle.wc_model.specs.Run.Devices.{failures_after_read};
 ghost use Rattle.wc_model.specs.Run.JobSections.{longest_job};
 
+use crate::cutting::LONGEST_JOB;
 use std::alloc::Global;
 use std::io;
 use wc_model::ByteIn;
@@ -17,6 +18,9 @@ pub enum ReadFault {
     /// Memory is refused.
     Memory,
 }
+
+/// How many bytes are read at once.
+const PIECE: usize = 4096;
 
 /// Reads into the front of the buffer, at most so many bytes.
 fn read_up_to<R: ByteIn>(reader: &mut R, buffer: &mut [u8], most: usize) -> io::Result<usize>
@@ -37,8 +41,8 @@ fn read_more<R: ByteIn>(reader: &mut R, bytes: &mut Vec<u8>) -> Result<bool, Rea
     ensures failures { R.failure_count reader.new
         ≡ failures_after (R.failure_count reader.old) result }
 {
-    let mut buffer = [0_u8; 4096];
-    let most = (1048577 - bytes.len()).min(4096);
+    let mut buffer = [0_u8; PIECE];
+    let most = (LONGEST_JOB + 1 - bytes.len()).min(PIECE);
     match read_up_to(reader, &mut buffer, most) {
         Err(_) => Err(ReadFault::Read),
         Ok(0) => Ok(false),
@@ -60,7 +64,7 @@ pub fn read_whole<R: ByteIn>(alloc: Global, reader: &mut R) -> Result<Vec<u8>, R
         ≡ failures_after (R.failure_count reader.old) result }
 {
     let mut bytes = Vec::new(alloc);
-    while bytes.len() <= 1048576 {
+    while bytes.len() <= LONGEST_JOB {
         match read_more(reader, &mut bytes) {
             Ok(true) => {}
             Ok(false) => return Ok(bytes),

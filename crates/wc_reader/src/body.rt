@@ -1,6 +1,7 @@
 ghost use Rattle.std.specs.Prelude.{◌≡◌, ◌==◌, ◌+◌, ◌∷◌, [], length, min, IfOk, MatchOption, IfSome, List, Some, map, option_map};
 ghost use Rattle.wc_grammar_laws.specs.LineMoves as lines;
 ghost use Rattle.wc_grammar_laws.specs.Moves as moves;
+ghost use Rattle.wc_model.specs.Text.Limits.{most_lines};
 ghost use Rattle.wc_model.specs.Text.Positions as positions;
 ghost use Rattle.wc_model.specs.Language.Tree as tree;
 ghost use Rattle.wc_model.specs.Language.Tree.{Lines, ProgramUnit};
@@ -167,11 +168,18 @@ fn nested_line<'a>(
     }
 }
 
+/// The greatest number of lines in a unit.
+pub(crate) const MOST_LINES: usize = 1024;
+
 /// One line more, as far as lines are counted.
 fn one_more(count: usize) -> usize
-    ensures { result ≡ min (count + 1) 1024 }
+    ensures { result ≡ min (count + 1) most_lines }
 {
-    if count < 1024 { count + 1 } else { 1024 }
+    if count < MOST_LINES {
+        count + 1
+    } else {
+        MOST_LINES
+    }
 }
 
 /// The body behind a label alone.

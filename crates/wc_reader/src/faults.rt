@@ -47,6 +47,12 @@ pub(crate) fn has_program(units: &[Unit]) -> bool
     any_program(units)
 }
 
+/// The greatest number of units in a text.
+const MOST_UNITS: usize = 64;
+
+/// The greatest depth of parentheses.
+const MOST_DEPTH: usize = 8;
+
 /// What is wrong with a unit's first word: a program stands before it, or it is one too many.
 fn word_fault(units: &[Unit], line: u32) -> Option<Fault>
     ensures { result
@@ -61,7 +67,7 @@ fn word_fault(units: &[Unit], line: u32) -> Option<Fault>
             place: line,
         })
     } else {
-        refused_if(units.len() >= 64, 208, line)
+        refused_if(units.len() >= MOST_UNITS, 208, line)
     }
 }
 
@@ -99,7 +105,7 @@ fn depth_fault<'a>(openings: &[Opening<'a>], line: u32) -> Option<Fault>
         (moves.met_if
         (nat_le most_depth (length (openings_view [] openings.now))) faults.TooDeep line) }
 {
-    refused_if(openings.len() >= 8, 207, line)
+    refused_if(openings.len() >= MOST_DEPTH, 207, line)
 }
 
 /// What is wrong with a token behind a deferrable operator.

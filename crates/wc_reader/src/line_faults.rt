@@ -8,7 +8,7 @@ ghost use Rattle.wc_model.specs.Language.Tree.{ProgramUnit};
 ghost use Rattle.wc_reader.specs.TextViews.{IsCounted, fault_of, position_view, opening_view, openings_view};
 ghost use Rattle.wc_reader.specs.Words.{symbol_view};
 
-use crate::body::{Body, Opening, has_content, innermost};
+use crate::body::{Body, MOST_LINES, Opening, has_content, innermost};
 use crate::operators::{is_transfer, operation_of};
 use crate::words::ends_unit;
 use wc_lexer::{Shape, Token};
@@ -31,7 +31,7 @@ fn is_full(body: &Body) -> bool
     ensures { (units : List ProgramUnit)
         → result ≡ moves.is_full (position_view units body.now) }
 {
-    body.count >= 1024
+    body.count >= MOST_LINES
 }
 
 /// A line too many, where the unit has as many as it may.
