@@ -1,8 +1,9 @@
 -- A scan that is never stuck, and whose trace is a path, ends within the bound.
 use Rattle.std.proofs.Common.{◌≡◌, ℕ, List, [], ◌∷◌, Option, Some, None, length, refl, subst}
 use Rattle.wc_controller.specs.Headline.{EndsWithin, ShowsOutcome}
-use Rattle.wc_language_laws.proofs.Longest.{Found, WorstFrom, best_path, best_path_is_worst, computed_is_worst, longest_of_worst}
+use Rattle.wc_language_laws.proofs.Longest.{best_path, best_path_is_worst}
 use Rattle.wc_language_laws.proofs.TracesArePaths.{TraceIs, program_trace_is_path}
+use Rattle.wc_language_laws.proofs.UnitBounds.{path_of, longest_there}
 use Rattle.wc_model.specs.Language.Meaning.{Outcome, Done, Stuck, program_means}
 use Rattle.wc_model.specs.Language.Paths.{IsBoundOfLast, IsLongest, IsPath, Onward}
 use Rattle.wc_model.specs.Language.Traces.{Item}
@@ -34,20 +35,6 @@ pub shows_outcome : (first old : Store) (outcome : Outcome) → EndsWell (λ (re
 shows_outcome first old (Done result store trace) well = (refl, refl, refl)
 shows_outcome first old (Stuck reason) well = absurd well
 
--- a scan that ends has a path
-path_of : (scope : Scope) (first : Store) (outcome : Outcome) → TraceIs (IsPath scope) outcome → EndsWell (λ (result : Option Value). Unit {0}) first outcome → (path : List Item) × IsPath scope path
-path_of scope first (Done result store trace) path well = (trace, path)
-path_of scope first (Stuck reason) path well = absurd well
-
--- where no worst path is computed there is no path
-no_path : (scope : Scope) → best_path scope ≡ None → (path : List Item) → IsPath scope path → ⊥
-no_path scope e = subst (λ (found : Found). WorstFrom (λ way. IsPath scope) (λ way. IsWorstPath scope) Onward found) e (best_path_is_worst scope)
-
--- a unit that has a path has a longest one
-longest_there : (scope : Scope) (path : List Item) → IsPath scope path → (found : Found) → best_path scope ≡ found → (n : ℕ) × IsLongest scope n
-longest_there scope path is (Some best) e = (length best, longest_of_worst scope best (computed_is_worst scope best e))
-longest_there scope path is None e = absurd (no_path scope e path is)
-
 -- a program one of whose scans ends has a bound
 pub has_bound : (units : List ProgramUnit) (first store : Store) (now : ℕ)
     → EndsWell (λ (result : Option Value). Unit {0}) first (first_of_reversed units (λ before program. program_means before program now store))
@@ -56,4 +43,4 @@ has_bound [] first store now well = absurd well
 has_bound (program ∷ before) first store now well =
     let scope : Scope = record { before = before; unit = program } in
     let there = path_of scope first (program_means before program now store) (program_trace_is_path before program now store) well in
-    longest_there scope there.0 there.1 (best_path scope) refl
+    longest_there scope there.0 there.1 (best_path scope) (best_path_is_worst scope)

@@ -1,7 +1,6 @@
 pub mod Numbered
 pub mod StandsFor
 pub mod Keys
-pub mod Words
 pub mod Rows
 pub mod Slots
 pub mod Direct

@@ -16,8 +16,7 @@ use crate::address::variable_at;
 use crate::declared_type::DeclaredType;
 use crate::unit_table::UnitTable;
 use crate::variable::Variable;
-use crate::word::is_word;
-use wc_model::StandardBlock;
+use wc_model::{StandardBlock, is_word};
 
 /// The variable of that name of a unit.
 pub(crate) fn row<'a>(units: &[UnitTable<'a>], unit: usize, name: &[u8]) -> Option<Variable>
@@ -197,7 +196,8 @@ fn plain_at(names: &[&[u8]]) -> Option<u16>
 
 /// A number behind others.
 fn behind(first: u16, inner: Option<u16>) -> Option<u16>
-    ensures some { (n : ℕ) → inner ≡ Some n → first + n < 65536 → result ≡ Some (first + n) }
+    ensures some { (n : ℕ) → inner ≡ Some n → first + n < 65536
+        → result ≡ Some (first + n) }
     ensures none { inner ≡ None → result ≡ None }
 {
     match inner {

@@ -10,8 +10,7 @@ ghost use Rattle.wc_declare.specs.declared.unit_table.UnitTable.{UnitTable as Ta
 use crate::declared_type::DeclaredType;
 use crate::lookup::row;
 use crate::unit_table::UnitTable;
-use crate::word::is_word;
-use wc_model::{Kind, Section, StandardBlock};
+use wc_model::{Kind, Section, StandardBlock, is_word};
 
 /// A name that can stand behind an instance and a dot.
 #[derive(Clone, Copy, Debug)]

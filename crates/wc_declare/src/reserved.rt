@@ -1,9 +1,10 @@
-ghost use Rattle.std.specs.Prelude.{◌≡◌};
+ghost use Rattle.std.specs.Prelude.{◌≡◌, ◌++◌};
 ghost use Rattle.wc_model.specs.Language.DeclarationRules.{is_among, reserved_words};
 ghost use Rattle.wc_model.specs.Language.Names.{name_of};
-ghost use Rattle.wc_declare.specs.Words.{operator_words, leaving_words, unit_words, naming_words, kept_words};
+ghost use Rattle.wc_model.specs.Text.Keywords.{operator_words, other_words, unit_words, kind_words, truth_words, block_words, kept_words};
 
-use crate::word::is_word;
+use crate::type_names::{is_block_word, is_kind_word};
+use wc_model::is_word;
 
 /// The operators with an operand.
 fn is_operator(text: &[u8]) -> bool
@@ -34,9 +35,9 @@ fn is_operator(text: &[u8]) -> bool
         || is_word(text, b"lt")
 }
 
-/// NOT, returns, jumps and calls.
-fn is_leaving(text: &[u8]) -> bool
-    ensures { result ≡ is_among leaving_words (name_of text.now) }
+/// The other instructions: NOT, returns, jumps and calls.
+fn is_other(text: &[u8]) -> bool
+    ensures { result ≡ is_among other_words (name_of text.now) }
 {
     is_word(text, b"not")
         || is_word(text, b"ret")
@@ -64,22 +65,18 @@ fn is_unit_word(text: &[u8]) -> bool
         || is_word(text, b"end_var")
 }
 
+/// The values of BOOL.
+fn is_truth(text: &[u8]) -> bool
+    ensures { result ≡ is_among truth_words (name_of text.now) }
+{
+    is_word(text, b"true") || is_word(text, b"false")
+}
+
 /// The types, and the values of BOOL.
 fn is_naming(text: &[u8]) -> bool
-    ensures { result ≡ is_among naming_words (name_of text.now) }
+    ensures { result ≡ is_among (kind_words ++ truth_words ++ block_words) (name_of text.now) }
 {
-    is_word(text, b"bool")
-        || is_word(text, b"dint")
-        || is_word(text, b"time")
-        || is_word(text, b"true")
-        || is_word(text, b"false")
-        || is_word(text, b"ton")
-        || is_word(text, b"tof")
-        || is_word(text, b"tp")
-        || is_word(text, b"ctu")
-        || is_word(text, b"r_trig")
-        || is_word(text, b"sr")
-        || is_word(text, b"rs")
+    is_kind_word(text) || is_truth(text) || is_block_word(text)
 }
 
 /// Words that the standard keeps.
@@ -101,7 +98,7 @@ fn is_kept(text: &[u8]) -> bool
 pub(crate) fn is_reserved(text: &[u8]) -> bool
     ensures { result ≡ is_among reserved_words (name_of text.now) }
 {
-    let in_a_line = is_operator(text) | is_leaving(text);
+    let in_a_line = is_operator(text) | is_other(text);
     let round_lines = is_unit_word(text) | is_naming(text);
     in_a_line | round_lines | is_kept(text)
 }

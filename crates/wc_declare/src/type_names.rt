@@ -2,9 +2,9 @@ ghost use Rattle.std.specs.Prelude.{◌≡◌};
 ghost use Rattle.wc_model.specs.Language.DeclarationRules.{is_among, type_words};
 ghost use Rattle.wc_model.specs.Language.Declarations.{elementary_types, named_in, standard_blocks};
 ghost use Rattle.wc_model.specs.Language.Names.{name_of};
+ghost use Rattle.wc_model.specs.Text.Keywords.{block_words, kind_words};
 
-use crate::word::is_word;
-use wc_model::{Kind, StandardBlock};
+use wc_model::{Kind, StandardBlock, is_word};
 
 /// The elementary type of that name.
 pub(crate) fn elementary(text: &[u8]) -> Option<Kind>
@@ -44,18 +44,29 @@ pub(crate) fn standard(text: &[u8]) -> Option<StandardBlock>
     None
 }
 
-/// The names that are types in every text, TP and RS among them, which cannot be used yet.
-pub(crate) fn is_type_word(text: &[u8]) -> bool
-    ensures { result ≡ is_among type_words (name_of text.now) }
+/// The elementary types.
+pub(crate) fn is_kind_word(text: &[u8]) -> bool
+    ensures { result ≡ is_among kind_words (name_of text.now) }
 {
-    is_word(text, b"bool")
-        || is_word(text, b"dint")
-        || is_word(text, b"time")
-        || is_word(text, b"ton")
+    is_word(text, b"bool") || is_word(text, b"dint") || is_word(text, b"time")
+}
+
+/// The standard function blocks, TP and RS among them, which cannot be used yet.
+pub(crate) fn is_block_word(text: &[u8]) -> bool
+    ensures { result ≡ is_among block_words (name_of text.now) }
+{
+    is_word(text, b"ton")
         || is_word(text, b"tof")
         || is_word(text, b"tp")
         || is_word(text, b"ctu")
         || is_word(text, b"r_trig")
         || is_word(text, b"sr")
         || is_word(text, b"rs")
+}
+
+/// The names that are types in every text.
+pub(crate) fn is_type_word(text: &[u8]) -> bool
+    ensures { result ≡ is_among type_words (name_of text.now) }
+{
+    is_kind_word(text) || is_block_word(text)
 }

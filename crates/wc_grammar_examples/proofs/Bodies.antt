@@ -14,12 +14,12 @@ use Rattle.wc_model.specs.declared.source.UnitKind.{UnitKind}
 use Rattle.wc_grammar_laws.proofs.Languages.{next_is, passed, many_are, ungroup}
 use Rattle.wc_grammar_laws.proofs.LineStarts.{starting, lines_start}
 use Rattle.wc_grammar_laws.proofs.OperatorWords.{is_operator_word, operator_is_word, operator_of_is_word}
-use Rattle.wc_grammar_laws.specs.Words.{same}
+use Rattle.wc_model.specs.Language.Declarations.{same_name}
 use Rattle.wc_grammar_laws.proofs.Spelling.{differ}
 use Rattle.wc_grammar_examples.specs.Texts.{ident, end_of, program_p}
 
 -- two names that a test tells apart
-pub apart : (xs ys : List ℕ) → same xs ys ≡ false → Some xs ≡ Some ys → ⊥
+pub apart : (xs ys : List ℕ) → same_name xs ys ≡ false → Some xs ≡ Some ys → ⊥
 apart xs ys h e = differ {xs = xs} {ys = ys} h cc
 
 -- an identifier that is none of the operators' words begins no instruction

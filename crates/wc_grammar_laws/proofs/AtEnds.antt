@@ -11,7 +11,7 @@ use Rattle.wc_grammar_laws.proofs.LineRests.{line_of, rest_of}
 use Rattle.wc_grammar_laws.proofs.LineSound.{mark_on}
 use Rattle.wc_grammar_laws.specs.Moves.{State, Outside, Unnamed, Declaring, AtLine, OnLine, Closed, Met, at_end, at_first, has_program, open_in, open_on, walk}
 use Rattle.wc_grammar_laws.proofs.Orders.{IsOpen, Ordered, all_blocks, open_is}
-use Rattle.wc_grammar_laws.proofs.Stops.{opening_ends}
+use Rattle.wc_grammar_laws.proofs.Stops.{opening_ends, opening_line}
 use Rattle.wc_grammar_laws.proofs.Told.{BehindClosing, Exact, InLine, PartOpened, Told}
 use Rattle.wc_grammar_laws.proofs.WalkedLines.{not_complete}
 use Rattle.wc_grammar_laws.proofs.WalkedUnits.{units_walked}
@@ -77,15 +77,15 @@ opening_with p start operator state tokens form (first ∷ more) h k i r =
       refl,
     )
 
-abbrev told : Met → Result Text Met
+abbrev pub told : Met → Result Text Met
 told met = Err met
 
-abbrev met_in : Met → Result Text Met → Met
+abbrev pub met_in : Met → Result Text Met → Met
 met_in default (Ok text) = default
 met_in default (Err met) = met
 
 -- two faults that are told alike are the same
-same_met : (a b : Met) → told a ≡ told b → a ≡ b
+pub same_met : (a b : Met) → told a ≡ told b → a ≡ b
 same_met a b e = ap (met_in a) e
 
 opening_inside : (p : Position) (state : LineState) (tokens : List Mark) (form : LineForm) (more : List Mark) (line last_line : ℕ) → InLine p state tokens → IsOpening state → rest_of state form more → at_end (OnLine p state) last_line ≡ Err (record { fault = ParenthesisNotPaired; line = line }) → StopsOn tokens line
@@ -176,7 +176,7 @@ unit_met state tokens line last_line i w e s = (s.0, s.1, (λ k. no_parenthesis 
     no_parenthesis : (innermost : Opening) × StopsInParentheses innermost tokens → ⊥
     no_parenthesis k =
         let l = inside_is_told k.0 tokens state k.1 w last_line in
-        let m = ap (λ m. rank_of m.fault) (same_met (record { fault = UnitNotClosed; line = line }) (record { fault = ParenthesisNotPaired; line = l.0 }) (sym e ∙ l.1)) in
+        let m = ap (λ m. rank_of m.fault) (same_met (record { fault = UnitNotClosed; line = line }) (record { fault = ParenthesisNotPaired; line = k.0.line }) (sym e ∙ l)) in
         omega (arith, m)
 
 -- the line of a unit that is not closed
@@ -190,7 +190,7 @@ open_line p state line last_line i part x e = by_sort (completed state (λ s. su
     opening_fault : (p : Position) (state : LineState) → IsOpening state → at_end (OnLine p state) last_line ≡ told (record { fault = UnitNotClosed; line = line }) → ⊥
     opening_fault p state o e =
         let l = opening_ends p state o last_line in
-        let m = ap (λ m. rank_of m.fault) (same_met (record { fault = UnitNotClosed; line = line }) (record { fault = ParenthesisNotPaired; line = l.0 }) (sym e ∙ l.1)) in
+        let m = ap (λ m. rank_of m.fault) (same_met (record { fault = UnitNotClosed; line = line }) (record { fault = ParenthesisNotPaired; line = opening_line state }) (sym e ∙ l)) in
         omega (arith, m)
 
     by_sort : Completed state → p.unit.line ≡ line

@@ -7,7 +7,7 @@ use Rattle.wc_grammar_laws.proofs.WalkedDeclarations.{unit_and}
 use Rattle.wc_grammar_laws.proofs.WordLaws.{same_is, truth_found}
 use Rattle.wc_grammar_laws.specs.Words.{found, literal_of, truth_value, truths}
 use Rattle.wc_grammar_laws.proofs.Languages.{next, pass, regroup, after}
-use Rattle.wc_grammar_laws.specs.Words.{same}
+use Rattle.wc_model.specs.Language.Declarations.{same_name}
 use Rattle.wc_model.specs.Text.Grammar.{declared_names, identifier, initial_value, symbol, IsLiteral}
 use Rattle.wc_model.specs.Text.Keywords.{end_var}
 use Rattle.wc_model.specs.Text.Languages.{◌then◌, optional}
@@ -55,13 +55,13 @@ first_goes section bytes line n (d ∷ more) tokens h =
       goes_on = h.3.goes_on;
     }))
 
-first_allowed : (units : List ProgramUnit) (unit : ProgramUnit) (section : Section) (bytes : List ℕ) (line : ℕ) (b : Bool) → same (name_of bytes) end_var ≡ b
+first_allowed : (units : List ProgramUnit) (unit : ProgramUnit) (section : Section) (bytes : List ℕ) (line : ℕ) (b : Bool) → same_name (name_of bytes) end_var ≡ b
     → SectionAllows units unit section Undeclared (mark_on (Identifier bytes) line) (Some (if b then AtLine (body_start units unit) else Declaring units unit section (BehindNames (record { line = line; name = name_of bytes } ∷ []))))
 first_allowed units unit section bytes line true e = (refl, refl, ap (λ n. Some n) (same_is (name_of bytes) end_var e))
 first_allowed units unit section bytes line false e = (refl, refl, record { closed = []; unit_is = same_unit unit; goes = first_goes section bytes line (λ k. is_no_end k) })
   where
     is_no_end : name_of bytes ≡ end_var → ⊥
-    is_no_end k = let f : same end_var end_var ≡ false = subst (λ n. same n end_var ≡ false) k e in cc
+    is_no_end k = let f : same_name end_var end_var ≡ false = subst (λ n. same_name n end_var ≡ false) k e in cc
 
 -- a token behind which the same declaration goes on
 goes_on_allowed : (units : List ProgramUnit) (unit : ProgramUnit) (section : Section) (place place' : InDeclaration) (mark : Mark)
@@ -125,7 +125,7 @@ value_allowed units unit section names type_name symbol line (Some value) e =
 pub section_allowed : (units : List ProgramUnit) (unit : ProgramUnit) (section : Section) (place : InDeclaration) (symbol : Symbol) (line : ℕ) → symbol ≢ LineEnd
     → SectionAllows units unit section place (mark_on symbol line) (declaration_move units unit section place symbol line)
 section_allowed units unit section place LineEnd line n = absurd (n refl)
-section_allowed units unit section Undeclared (Identifier bytes) line n = first_allowed units unit section bytes line (same (name_of bytes) end_var) refl
+section_allowed units unit section Undeclared (Identifier bytes) line n = first_allowed units unit section bytes line (same_name (name_of bytes) end_var) refl
 section_allowed units unit section (BehindNames names) Comma line n = goes_on_allowed units unit section (BehindNames names) (BehindComma names) _ (comma_goes section names line)
 section_allowed units unit section (BehindNames names) Colon line n = goes_on_allowed units unit section (BehindNames names) (BehindColon names) _ (colon_goes section names line)
 section_allowed units unit section (BehindComma names) (Identifier bytes) line n = goes_on_allowed units unit section (BehindComma names) _ _ (name_goes section names bytes line)

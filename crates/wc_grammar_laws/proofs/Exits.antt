@@ -9,7 +9,7 @@ use Rattle.wc_grammar_laws.specs.Moves.{InDeclaration, Undeclared, BehindNames, 
 use Rattle.wc_grammar_laws.proofs.WalkedLines.{on_line_walked, walk_on, walk_then}
 use Rattle.wc_grammar_laws.specs.Words.{step_of}
 use Rattle.wc_grammar_laws.proofs.Languages.{next, pass}
-use Rattle.wc_grammar_laws.specs.Words.{same}
+use Rattle.wc_model.specs.Language.Declarations.{same_name}
 use Rattle.wc_model.specs.Text.Grammar.{IsProgramLast}
 use Rattle.wc_model.specs.Text.Keywords.{end_var, end_word, not_word, unit_word}
 use Rattle.wc_model.specs.Text.Marks.{Symbol, Identifier, Truth, Colon, Semicolon, Assign, LineEnd, ClosingBracket, Mark}
@@ -225,7 +225,7 @@ finishes_unit before unit FunctionBlock e h = finishes_blocks (before ++ unit �
 finishes_unit before unit Program e h = finishes_text (before ++ unit ∷ []) (program_last before unit h e)
 
 -- the word that ends a unit ends it
-ends_unit : (kind : UnitKind) → same (name_of (end_word kind)) (end_word kind) ≡ true
+ends_unit : (kind : UnitKind) → same_name (name_of (end_word kind)) (end_word kind) ≡ true
 ends_unit FunctionBlock = refl
 ends_unit Program = refl
 

@@ -1,7 +1,7 @@
 -- The laws of the grammar.
 use Rattle.std.proofs.Common.{◌≡◌, ℕ, true, false, List, [], ◌∷◌, ◌++◌, Some, refl, ap, subst, append_assoc, ◌∙◌, sym, inl, inr, arith, ◌⊎◌}
 use Rattle.std.specs.Prelude.{Ok, Err, Result}
-use Rattle.wc_grammar_laws.proofs.AtEnds.{at_end_met}
+use Rattle.wc_grammar_laws.proofs.AtEnds.{at_end_met, told}
 use Rattle.wc_grammar_laws.proofs.Orders.{Ordered}
 use Rattle.wc_grammar_laws.proofs.InParentheses.{inside_is_told}
 use Rattle.wc_grammar_laws.proofs.Judged.{Judged, judged, same_end}
@@ -63,7 +63,7 @@ no_end_fault state before last_line line text NotOneProgramLast w e t h =
     cc
 no_end_fault state before last_line line text ParenthesisNotPaired w e t h =
     let l = inside_is_told h.0 before state h.1 w last_line in
-    let k : Ok text ≡ Err (record { fault = ParenthesisNotPaired; line = l.0 }) = sym e ∙ l.1 in
+    let k : Ok text ≡ told (record { fault = ParenthesisNotPaired; line = h.0.line }) = sym e ∙ l in
     cc
 no_end_fault state before last_line line text _ w e t h = h
 

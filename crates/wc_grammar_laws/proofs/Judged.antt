@@ -13,7 +13,7 @@ use Rattle.wc_grammar_laws.proofs.WalkedUnits.{at_line_walked, plain, units_walk
 use Rattle.wc_grammar_laws.proofs.WordLaws.{is_same, operator_is, step_begins, operation_in}
 use Rattle.wc_grammar_laws.specs.Words.{Applies, Operation, Operates, found, is_transfer, operation_of, unit_kinds}
 use Rattle.wc_grammar_laws.proofs.Languages.{both_empty, next, next_is, pass}
-use Rattle.wc_grammar_laws.specs.Words.{same}
+use Rattle.wc_model.specs.Language.Declarations.{same_name}
 use Rattle.wc_model.specs.Text.Grammar.{HasContent, InBody, IsOn, IsOperator, IsTransfer, label_in, units}
 use Rattle.wc_model.specs.Text.Keywords.{end_word, unit_word}
 use Rattle.wc_model.specs.Text.Languages.{◌then◌, one}
@@ -105,7 +105,7 @@ as_line fault q _ line colon n j = j
 operator_no_closing : (symbol : Symbol) (operation : Operation) → operation_of symbol ≡ Some operation → symbol ≢ ClosingBracket
 operator_no_closing symbol operation e c = let k : operation_of ClosingBracket ≡ Some operation = subst (λ s. operation_of s ≡ Some operation) c e in cc
 
-name_no_closing : (symbol : Symbol) (name : Name) → name_in symbol ≡ Some name → symbol ≢ ClosingBracket
+pub name_no_closing : (symbol : Symbol) (name : Name) → name_in symbol ≡ Some name → symbol ≢ ClosingBracket
 name_no_closing symbol name e c = let k : name_in ClosingBracket ≡ Some name = subst (λ s. name_in s ≡ Some name) c e in cc
 
 -- a jump, a call or a return
@@ -163,7 +163,7 @@ end_judged q (o ∷ os) symbol line colon innermost outer e h =
     (met_here (has_name symbol (end_word q.unit.kind)) ParenthesisNotPaired o.line _ h))
 
 named_has : (symbol : Symbol) (name : Name) → name_in symbol ≡ Some name → has_name symbol name ≡ true
-named_has (Identifier bytes) name e = let n : name_of bytes ≡ name = cc in ap (λ m. same m name) n ∙ is_same name
+named_has (Identifier bytes) name e = let n : name_of bytes ≡ name = cc in ap (λ m. same_name m name) n ∙ is_same name
 named_has _ name e = absurd (cc)
 
 -- too many at a `)`

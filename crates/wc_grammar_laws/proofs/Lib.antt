@@ -33,3 +33,6 @@ pub mod WithinBack
 pub mod Readings
 pub mod FaultLaws
 pub mod Unique
+pub mod Ranks
+pub mod OneLine
+pub mod FirstFaults

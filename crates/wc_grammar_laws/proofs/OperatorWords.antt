@@ -11,7 +11,7 @@ use Rattle.wc_model.specs.declared.operator.Condition.TheVariants.{Always, IfTru
 use Rattle.wc_model.specs.declared.operator.Operator.{Operator}
 use Rattle.wc_model.specs.declared.operator.Operator.TheVariants.{And, Andn, Or, Orn, Xor, Xorn, Add, Sub, Mul, Div, Mod, Gt, Ge, Eq, Ne, Le, Lt}
 use Rattle.wc_model.specs.declared.operator.Storing.TheVariants.{Result, Negation, Set, Reset}
-use Rattle.wc_grammar_laws.specs.Words.{same}
+use Rattle.wc_model.specs.Language.Declarations.{same_name}
 
 -- the words of all operators
 abbrev pub operator_words : List Name
@@ -25,7 +25,7 @@ operator_words =
 
 -- whether a name is one of them
 abbrev pub is_operator_word : Name → Bool
-is_operator_word name = list_any (same name) operator_words
+is_operator_word name = list_any (same_name name) operator_words
 
 by_word : (name word : Name) → Some name ≡ Some word → is_operator_word word ≡ true → is_operator_word name ≡ true
 by_word name word e h = let k : name ≡ word = cc in rw k h

@@ -7,7 +7,7 @@ use Rattle.wc_grammar_laws.specs.Moves.{State, Outside, Unnamed, Declaring, AtLi
 use Rattle.wc_grammar_laws.proofs.Told.{Exact, Told}
 use Rattle.wc_grammar_laws.proofs.ToldOn.{told_behind}
 use Rattle.wc_grammar_laws.specs.Words.{found, literal_of, unit_kinds}
-use Rattle.wc_grammar_laws.specs.Words.{same}
+use Rattle.wc_model.specs.Language.Declarations.{same_name}
 use Rattle.wc_model.specs.Text.Grammar.{InBody, InParentheses, IsFront, IsProgramLast}
 use Rattle.wc_model.specs.Text.Keywords.{end_var, end_word}
 use Rattle.wc_model.specs.Text.Marks.{ClosingBracket, Identifier, LineEnd, Mark, Symbol, Comma, Colon, Semicolon, Assign}
@@ -72,7 +72,7 @@ first_ordered us unit section word false h = h
 
 section_ordered : (us : List ProgramUnit) (unit : ProgramUnit) (section : Section) (place : InDeclaration) (symbol : Symbol) (line : ℕ) → AreBlocks us → OrderedNext (declaration_move us unit section place symbol line)
 section_ordered us unit section place LineEnd line h = h
-section_ordered us unit section Undeclared (Identifier bytes) line h = first_ordered us unit section (record { line = line; name = name_of bytes }) (same (name_of bytes) end_var) h
+section_ordered us unit section Undeclared (Identifier bytes) line h = first_ordered us unit section (record { line = line; name = name_of bytes }) (same_name (name_of bytes) end_var) h
 section_ordered us unit section (BehindNames names) Comma line h = h
 section_ordered us unit section (BehindNames names) Colon line h = h
 section_ordered us unit section (BehindComma names) (Identifier bytes) line h = h
@@ -106,7 +106,7 @@ word_ordered p bytes line true h = unit_end_ordered p p.unit.kind refl h
 word_ordered p bytes line false h = section_or_line_ordered p bytes line (section_begun p.done (name_of bytes)) h
 
 body_ordered : (p : Position) (symbol : Symbol) (line : ℕ) (colon : Bool) → AreBlocks p.before → OrderedNext (body_move p symbol line colon)
-body_ordered p (Identifier bytes) line false h = word_ordered p bytes line (same (name_of bytes) (end_word p.unit.kind)) h
+body_ordered p (Identifier bytes) line false h = word_ordered p bytes line (same_name (name_of bytes) (end_word p.unit.kind)) h
 body_ordered p symbol line colon h = begun_ordered p (line_move InBody Start symbol line colon) h
 
 closing_ordered : (p : Position) (o : Opening) (outer : List Opening) (line : ℕ) (b : Bool) → AreBlocks p.before → OrderedNext (if b then Some (Closed (behind_closing p o outer line)) else None)

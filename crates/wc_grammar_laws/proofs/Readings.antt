@@ -15,7 +15,7 @@ use Rattle.wc_grammar_laws.proofs.WalkedLines.{next_of_both, walk_on, walk_then}
 use Rattle.wc_grammar_laws.proofs.WalkedUnits.{colon_is, units_walked}
 use Rattle.wc_grammar_laws.proofs.WithinBack.{Good, WasGood, no_program, was_good}
 use Rattle.wc_grammar_laws.proofs.WithinOn.{GoesWithin, HasBegun, RejectsColon, within_on}
-use Rattle.wc_grammar_laws.specs.Words.{same}
+use Rattle.wc_model.specs.Language.Declarations.{same_name}
 use Rattle.wc_model.specs.Text.Grammar.{IsFront, IsProgramLast, Setting, Spells, units}
 use Rattle.wc_model.specs.Text.Keywords.{end_word}
 use Rattle.wc_model.specs.Text.Limits.{IsWithinLimits}
@@ -63,7 +63,7 @@ not_none next h e = subst Taken e h
 
 body_either_way : (p : Position) (symbol : Symbol) (line : ℕ) (colon other : Bool) → body_move p symbol line colon ≡ None → body_move p symbol line other ≡ None
 body_either_way p (Identifier bytes) line true other e = absurd (cc)
-body_either_way p (Identifier bytes) line false other e = absurd (not_none _ (word_taken p bytes line (same (name_of bytes) (end_word p.unit.kind))) e)
+body_either_way p (Identifier bytes) line false other e = absurd (not_none _ (word_taken p bytes line (same_name (name_of bytes) (end_word p.unit.kind))) e)
 body_either_way p symbol line colon other e = e
 
 start_either_way : (p : Position) (openings : List Opening) (symbol : Symbol) (line : ℕ) (colon other : Bool) → start_move p openings symbol line colon ≡ None → start_move p openings symbol line other ≡ None

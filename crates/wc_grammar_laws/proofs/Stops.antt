@@ -1,9 +1,9 @@
 -- Where the text's end is met in a unit, or in parentheses.
 use Rattle.std.proofs.Common.{◌≡◌, ◌≢◌, ℕ, Bool, false, List, [], ◌∷◌, ◌++◌, Option, Some, None, refl, ap, subst, ◌∙◌, sym}
 use Rattle.std.specs.Prelude.{Err}
-use Rattle.wc_grammar_laws.proofs.Exits.{IsOpening}
+use Rattle.wc_grammar_laws.proofs.Exits.{IsOpening, NoOpens}
 use Rattle.wc_grammar_laws.proofs.LineComplete.{Leads, move_led}
-use Rattle.wc_grammar_laws.specs.LineMoves.{at_bracketed, at_field, at_operand, name_or_literal, LineForm, Begun, OfStep, OfOpening, OfArgument, LineState, Bracketed, Named, Pointed, BracketedWith, Ended, at_start_in, line_move}
+use Rattle.wc_grammar_laws.specs.LineMoves.{at_bracketed, at_field, at_operand, name_or_literal, LineForm, Opens, Begun, OfStep, OfOpening, OfArgument, LineState, Bracketed, Named, Pointed, BracketedWith, Ended, at_start_in, line_move}
 use Rattle.wc_grammar_laws.proofs.LineRests.{line_of, rest_of}
 use Rattle.wc_grammar_laws.proofs.LineStart.{start_led}
 use Rattle.wc_grammar_laws.specs.Moves.{State, AtLine, OnLine, begun_line, at_end, colon_next, move, on_line, open_in, start_move}
@@ -15,7 +15,7 @@ use Rattle.wc_model.specs.Text.Marks.{Direct, Duration, Identifier, LineEnd, Mar
 use Rattle.wc_model.specs.Language.Names.{Name, name_of}
 use Rattle.wc_model.specs.Text.Positions.{Opening, Position, setting_in}
 use Rattle.wc_model.specs.Text.ReadingFaults.{ParenthesisNotPaired}
-use Rattle.wc_model.specs.Language.Tree.{Term}
+use Rattle.wc_model.specs.Language.Tree.{Term, Word}
 use Rattle.wc_model.specs.declared.operator.Operator.{Operator}
 
 -- where a front of a line that has begun stays on it
@@ -68,27 +68,54 @@ inside_begins p o outer form mark marks colon e h =
     same_move LineEnd = refl
     same_move symbol = subst (λ os. start_move p os symbol mark.line colon ≡ start_move p os symbol mark.line (colon_next marks false)) (sym e) refl
 
--- where the text's end is met in parentheses
-abbrev pub EndsInParentheses : State → Type 0
-EndsInParentheses state = (last_line : ℕ) → (line : ℕ) × (at_end state last_line ≡ Err (record { fault = ParenthesisNotPaired; line = line }))
+-- where the text's end is met in parentheses, whose opening stands on this line
+abbrev pub EndsOn : State → ℕ → Type 0
+EndsOn state line = (last_line : ℕ) → at_end state last_line ≡ Err (record { fault = ParenthesisNotPaired; line = line })
 
-pub on_line_ends : (p : Position) (o : Opening) (outer : List Opening) (state : LineState) → p.openings ≡ o ∷ outer → EndsInParentheses (OnLine p state)
-on_line_ends p o outer (Bracketed begun operator) e last_line = (begun.line, refl)
-on_line_ends p o outer (BracketedWith begun operator x) e last_line = (begun.line, refl)
-on_line_ends p o outer (Named begun (OfOpening operator) name) e last_line = (begun.line, refl)
-on_line_ends p o outer (Pointed begun (OfOpening operator) name) e last_line = (begun.line, refl)
-on_line_ends p o outer state e last_line = (o.line, ap (λ os. Err (open_in p.unit os)) e)
+-- a line that opens nothing ends in the parentheses where it stands
+pub on_line_ends : (p : Position) (o : Opening) (outer : List Opening) (state : LineState) (form : LineForm) (left : List Mark) → p.openings ≡ o ∷ outer → NoOpens form → rest_of state form left → EndsOn (OnLine p state) o.line
+on_line_ends p o outer (Bracketed begun operator) form left e n r last_line = absurd (subst NoOpens r.1 n)
+on_line_ends p o outer (BracketedWith begun operator x) form left e n r last_line = absurd (subst NoOpens r.0 n)
+on_line_ends p o outer (Named begun (OfOpening operator) name) form left e n r last_line = absurd (subst NoOpens r.1 n)
+on_line_ends p o outer (Pointed begun (OfOpening operator) name) form left e n r last_line = absurd (subst NoOpens r.1 n)
+on_line_ends p o outer state form left e n r last_line = ap (λ os. Err (open_in p.unit os)) e
 
-pub opening_ends : (p : Position) (state : LineState) → IsOpening state → EndsInParentheses (OnLine p state)
-opening_ends p (Bracketed begun operator) h last_line = (begun.line, refl)
-opening_ends p (BracketedWith begun operator x) h last_line = (begun.line, refl)
-opening_ends p (Named begun (OfOpening operator) name) h last_line = (begun.line, refl)
-opening_ends p (Pointed begun (OfOpening operator) name) h last_line = (begun.line, refl)
+-- the line of an instruction that opens a parenthesis
+abbrev pub opening_line : LineState → ℕ
+opening_line (Bracketed begun operator) = begun.line
+opening_line (BracketedWith begun operator x) = begun.line
+opening_line (Named begun place name) = begun.line
+opening_line (Pointed begun place name) = begun.line
+opening_line state = 0
+
+-- an opening line ends in its own parentheses
+pub opening_ends : (p : Position) (state : LineState) → IsOpening state → EndsOn (OnLine p state) (opening_line state)
+opening_ends p (Bracketed begun operator) h last_line = refl
+opening_ends p (BracketedWith begun operator x) h last_line = refl
+opening_ends p (Named begun (OfOpening operator) name) h last_line = refl
+opening_ends p (Pointed begun (OfOpening operator) name) h last_line = refl
 opening_ends p (Named begun (OfStep operating) name) h last_line = absurd h
 opening_ends p (Named begun (OfArgument call input) name) h last_line = absurd h
 opening_ends p (Pointed begun (OfStep operating) name) h last_line = absurd h
 opening_ends p (Pointed begun (OfArgument call input) name) h last_line = absurd h
 opening_ends p state h last_line = absurd h
+
+-- the line of a form that opens a parenthesis
+abbrev line_in : LineForm → ℕ
+line_in (Opens label line operator x) = line
+line_in form = 0
+
+-- it is that of the form
+pub opening_line_is : (state : LineState) (label : Option Word) (line : ℕ) (operator : Operator) (x : Option Term) (left : List Mark) → IsOpening state → rest_of state (Opens label line operator x) left → opening_line state ≡ line
+opening_line_is (Bracketed begun own) label line operator x left h r = sym (ap line_in r.1)
+opening_line_is (BracketedWith begun own y) label line operator x left h r = sym (ap line_in r.0)
+opening_line_is (Named begun (OfOpening own) name) label line operator x left h r = sym (ap line_in r.1)
+opening_line_is (Pointed begun (OfOpening own) name) label line operator x left h r = sym (ap line_in r.1)
+opening_line_is (Named begun (OfStep operating) name) label line operator x left h r = absurd h
+opening_line_is (Named begun (OfArgument call input) name) label line operator x left h r = absurd h
+opening_line_is (Pointed begun (OfStep operating) name) label line operator x left h r = absurd h
+opening_line_is (Pointed begun (OfArgument call input) name) label line operator x left h r = absurd h
+opening_line_is state label line operator x left h r = absurd h
 
 -- an opening line goes on as one, or ends
 abbrev OpeningNext : Option LineState → Type 0
@@ -137,12 +164,12 @@ opening_next setting (Pointed begun (OfArgument call input) name) symbol line co
 opening_next setting state symbol line colon h = absurd h
 
 -- where an opening line stays on
-abbrev OpeningOn : Position → List Mark → Bool → Option State → Type 0
-OpeningOn p front colon from = (state : LineState) × (walk_on from front colon ≡ Some (OnLine p state)) × IsOpening state
+abbrev OpeningOn : Position → LineForm → List Mark → List Mark → Bool → Option State → Type 0
+OpeningOn p form left front colon from = (state : LineState) × (walk_on from front colon ≡ Some (OnLine p state)) × IsOpening state × rest_of state form left
 
 opening_on : (p : Position) (form : LineForm) (front : List Mark) (next : Mark) (more : List Mark) (colon : Bool)
-    → ((state : LineState) → IsOpening state → rest_of state form (front ++ next ∷ more) → OpeningOn p front colon (Some (OnLine p state)))
-    → (state : LineState) → OpeningNext (Some state) → rest_of state form (front ++ next ∷ more) → OpeningOn p front colon (Some (on_line p state))
+    → ((state : LineState) → IsOpening state → rest_of state form (front ++ next ∷ more) → OpeningOn p form (next ∷ more) front colon (Some (OnLine p state)))
+    → (state : LineState) → OpeningNext (Some state) → rest_of state form (front ++ next ∷ more) → OpeningOn p form (next ∷ more) front colon (Some (on_line p state))
 opening_on p form front next more colon f (Ended ended) o h = absurd (not_empty front next more h.1)
 opening_on p form front next more colon f (Bracketed begun operator) o h = f (Bracketed begun operator) o h
 opening_on p form front next more colon f (BracketedWith begun operator x) o h = f (BracketedWith begun operator x) o h
@@ -150,10 +177,10 @@ opening_on p form front next more colon f (Named begun place name) o h = f (Name
 opening_on p form front next more colon f (Pointed begun place name) o h = f (Pointed begun place name) o h
 opening_on p form front next more colon f state o h = absurd o
 
-pub opening_stays : (p : Position) (state : LineState) (form : LineForm) (front : List Mark) (next : Mark) (more : List Mark) (colon : Bool) → IsOpening state → rest_of state form (front ++ next ∷ more) → OpeningOn p front colon (Some (OnLine p state))
-opening_stays p state form [] next more colon o r = (state, refl, o)
+pub opening_stays : (p : Position) (state : LineState) (form : LineForm) (front : List Mark) (next : Mark) (more : List Mark) (colon : Bool) → IsOpening state → rest_of state form (front ++ next ∷ more) → OpeningOn p form (next ∷ more) front colon (Some (OnLine p state))
+opening_stays p state form [] next more colon o r = (state, refl, o, r)
 opening_stays p state form (mark ∷ front) next more colon o r =
-    elim (line_move (setting_in p.openings) state mark.symbol mark.line (colon_next front colon)) as (λ l. OpeningNext l → Leads l form (front ++ next ∷ more) → OpeningOn p front colon (begun_line p l)) [
+    elim (line_move (setting_in p.openings) state mark.symbol mark.line (colon_next front colon)) as (λ l. OpeningNext l → Leads l form (front ++ next ∷ more) → OpeningOn p form (next ∷ more) front colon (begun_line p l)) [
       | None ↦ λ q h. absurd h
       | Some state' ↦ λ q h. opening_on p form front next more colon (λ s o r. opening_stays p s form front next more colon o r) state' q h
     ] (opening_next (setting_in p.openings) state mark.symbol mark.line (colon_next front colon) o) (move_led (setting_in p.openings) state form mark.symbol mark.line (colon_next front colon) (front ++ next ∷ more) r)

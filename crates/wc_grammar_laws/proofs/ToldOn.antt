@@ -14,7 +14,7 @@ use Rattle.wc_grammar_laws.proofs.WalkedLines.{walk_on}
 use Rattle.wc_grammar_laws.proofs.WordLaws.{found_section, same_is}
 use Rattle.wc_grammar_laws.specs.Words.{found, unit_kinds}
 use Rattle.wc_grammar_laws.proofs.Languages.{joined, pass, passed, ungroup}
-use Rattle.wc_grammar_laws.specs.Words.{same}
+use Rattle.wc_model.specs.Language.Declarations.{same_name}
 use Rattle.wc_model.specs.Text.Grammar.{HasContent, InBody, InParentheses, Setting, identifier, line_ends, lines, unit_of, units}
 use Rattle.wc_model.specs.Text.Keywords.{end_word}
 use Rattle.wc_model.specs.Text.Languages.{◌then◌, each, skipping}
@@ -165,13 +165,13 @@ section_starts p (Alone label rest) tokens bytes line (Some section) e d s h = a
 section_starts p (Plain label n step rest) tokens bytes line (Some section) e d s h = absurd (cc)
 section_starts p (Nested label n operator x inside close rest) tokens bytes line (Some section) e d s h = absurd (cc)
 
-word_kept : (p : Position) (tokens : List Mark) (bytes : List ℕ) (line : ℕ) (b : Bool) → same (name_of bytes) (end_word p.unit.kind) ≡ b → p.openings ≡ [] → at_line p tokens
+word_kept : (p : Position) (tokens : List Mark) (bytes : List ℕ) (line : ℕ) (b : Bool) → same_name (name_of bytes) (end_word p.unit.kind) ≡ b → p.openings ≡ [] → at_line p tokens
     → Keeps tokens (mark_on (Identifier bytes) line) (if b then Some (behind_unit p) else section_or_line p bytes line (section_begun p.done (name_of bytes)))
 word_kept p tokens bytes line true s e h = unit_done p tokens (mark_on (Identifier bytes) line) e (ap (λ n. Some n) (same_is (name_of bytes) (end_word p.unit.kind) s)) h
 word_kept p tokens bytes line false s e h = section_starts p p.done tokens bytes line (section_begun p.done (name_of bytes)) e refl refl h
 
 body_kept : (p : Position) (tokens : List Mark) (symbol : Symbol) (line : ℕ) (colon : Bool) → p.openings ≡ [] → at_line p tokens → Keeps tokens (mark_on symbol line) (body_move p symbol line colon)
-body_kept p tokens (Identifier bytes) line false e h = word_kept p tokens bytes line (same (name_of bytes) (end_word p.unit.kind)) refl e h
+body_kept p tokens (Identifier bytes) line false e h = word_kept p tokens bytes line (same_name (name_of bytes) (end_word p.unit.kind)) refl e h
 body_kept p tokens symbol line colon e h = start_kept InBody p tokens symbol line colon (ap setting_in e) h
 
 -- parentheses hold something where the test says so

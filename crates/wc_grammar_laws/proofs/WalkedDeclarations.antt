@@ -9,7 +9,7 @@ use Rattle.wc_grammar_laws.proofs.WalkedLines.{walk_on}
 use Rattle.wc_grammar_laws.proofs.WordLaws.{told_apart, truth_is_found}
 use Rattle.wc_grammar_laws.specs.Words.{found, literal_of, truth_value, truths}
 use Rattle.wc_grammar_laws.proofs.Languages.{next_is, passed, both_empty, given_are, ungroup, after}
-use Rattle.wc_grammar_laws.specs.Words.{same}
+use Rattle.wc_model.specs.Language.Declarations.{same_name}
 use Rattle.wc_model.specs.Text.Grammar as grammar
 use Rattle.wc_model.specs.Text.Grammar.{declaration, declared_names, initial_value, IsLiteral, IsOn}
 use Rattle.wc_model.specs.Text.Keywords.{end_var, truth_word}
@@ -60,7 +60,7 @@ first_led units unit section d more (first ∷ others) symbol line tokens s e h 
       rest = (others, s, e, k.1);
     })
   where
-    ordinary : (bytes : List ℕ) (first : Word) → name_of bytes ≡ first.name → first.name ≢ end_var → same (name_of bytes) end_var ≡ false
+    ordinary : (bytes : List ℕ) (first : Word) → name_of bytes ≡ first.name → first.name ≢ end_var → same_name (name_of bytes) end_var ≡ false
     ordinary bytes first n o = told_apart (name_of bytes) end_var (λ e. o (sym n ∙ e))
 
 -- a declaration, and then others

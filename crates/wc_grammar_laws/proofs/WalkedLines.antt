@@ -8,7 +8,7 @@ use Rattle.wc_grammar_laws.specs.Moves.{State, AtLine, Closed, behind_line, behi
 use Rattle.wc_grammar_laws.proofs.WordLaws.{found_operation}
 use Rattle.wc_grammar_laws.specs.Words.{Loads, Stores, Applies, Operation, Operates, Negates, Jumps, Calls, Returns, found, operations, operation_word, section_words}
 use Rattle.wc_grammar_laws.proofs.Languages.{next_is, both_empty, regroup, after, given_first}
-use Rattle.wc_grammar_laws.specs.Words.{same}
+use Rattle.wc_model.specs.Language.Declarations.{same_name}
 use Rattle.wc_model.specs.Text.Grammar as grammar
 use Rattle.wc_model.specs.Text.Grammar.{IsOn, Setting, InBody, InParentheses, HasContent, lines, line_ends, label_in, opening, instruction}
 use Rattle.wc_model.specs.Text.Keywords.{end_word}
@@ -77,7 +77,7 @@ on_line_walked p state form (mark ∷ marks) colon r =
     ] (move_led (setting_in p.openings) state form mark.symbol mark.line (colon_next marks colon) marks r)
 
 -- no operator's word ends a unit or begins a section
-pub ends_no_unit : (kind : UnitKind) (operation : Operation) → (same (operation_word operation) (end_word kind) ≡ false) × (found section_words (operation_word operation) ≡ None)
+pub ends_no_unit : (kind : UnitKind) (operation : Operation) → (same_name (operation_word operation) (end_word kind) ≡ false) × (found section_words (operation_word operation) ≡ None)
 ends_no_unit FunctionBlock (Operates (Loads false)) = (refl, refl)
 ends_no_unit FunctionBlock (Operates (Loads true)) = (refl, refl)
 ends_no_unit FunctionBlock (Operates (Stores Result)) = (refl, refl)
@@ -158,7 +158,7 @@ operator_begins : (p : Position) (bytes : List ℕ) (line : ℕ) (operation : Op
 operator_begins p bytes line operation e =
     let n = found_operation (name_of bytes) operation e in
     let k = ends_no_unit p.unit.kind operation in
-    ap (λ b. if b then Some (behind_unit p) else section_or_line p bytes line (section_begun p.done (name_of bytes))) (ap (λ m. same m (end_word p.unit.kind)) n ∙ k.0)
+    ap (λ b. if b then Some (behind_unit p) else section_or_line p bytes line (section_begun p.done (name_of bytes))) (ap (λ m. same_name m (end_word p.unit.kind)) n ∙ k.0)
     ∙ ap (section_or_line p bytes line) (no_section p.done (name_of bytes) (ap (found section_words) n ∙ k.1))
 
 -- a label's word is taken as the start of a line only where a colon follows

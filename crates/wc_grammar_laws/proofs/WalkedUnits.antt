@@ -12,7 +12,7 @@ use Rattle.wc_grammar_laws.proofs.WalkedLines.{line_walked, line_ends_walked, li
 use Rattle.wc_grammar_laws.proofs.WordLaws.{is_same}
 use Rattle.wc_grammar_laws.specs.Words.{found, section_words, unit_kinds}
 use Rattle.wc_grammar_laws.proofs.Languages.{next_is, many_are, passed, both_empty, ungroup}
-use Rattle.wc_grammar_laws.specs.Words.{same}
+use Rattle.wc_model.specs.Language.Declarations.{same_name}
 use Rattle.wc_model.specs.Text.Grammar.{Group, InBody, IsNameOf, IsOn, head, identifier, label_in, line_ends, lines, opening, section_of, sections, unit_of, units}
 use Rattle.wc_model.specs.Text.Keywords.{end_var, end_word, section_word, unit_word}
 use Rattle.wc_model.specs.Text.Languages.{◌then◌, each, one, skipping}
@@ -52,7 +52,7 @@ section_no_colon section ds (mark ∷ marks) colon h = not_colon mark.symbol (λ
     ]
 
 -- a section's word ends no unit, and is found
-section_found : (kind : UnitKind) (section : Section) → (same (section_word section) (end_word kind) ≡ false) × (found section_words (section_word section) ≡ Some section)
+section_found : (kind : UnitKind) (section : Section) → (same_name (section_word section) (end_word kind) ≡ false) × (found section_words (section_word section) ≡ Some section)
 section_found FunctionBlock Input = (refl, refl)
 section_found FunctionBlock Output = (refl, refl)
 section_found FunctionBlock Own = (refl, refl)
@@ -69,7 +69,7 @@ section_begins units unit section (mark ∷ []) colon h n =
     named mark.symbol (section_word section) h (λ bytes y e.
     ap (λ c. walk_on (move (AtLine (body_start units unit)) mark.symbol mark.line c) [] colon) n
     ∙ ap (λ y. walk_on (move (AtLine (body_start units unit)) y mark.line false) [] colon) y
-    ∙ ap (λ b. walk_on (if b then Some (behind_unit (body_start units unit)) else section_or_line (body_start units unit) bytes mark.line (found section_words (name_of bytes))) [] colon) (ap (λ m. same m (end_word unit.kind)) e ∙ (section_found unit.kind section).0)
+    ∙ ap (λ b. walk_on (if b then Some (behind_unit (body_start units unit)) else section_or_line (body_start units unit) bytes mark.line (found section_words (name_of bytes))) [] colon) (ap (λ m. same_name m (end_word unit.kind)) e ∙ (section_found unit.kind section).0)
     ∙ ap (λ o. walk_on (section_or_line (body_start units unit) bytes mark.line o) [] colon) (ap (found section_words) e ∙ (section_found unit.kind section).1))
 
 -- END_VAR
@@ -175,7 +175,7 @@ unit_ends p (mark ∷ []) e h =
     named mark.symbol (end_word p.unit.kind) h (λ bytes y n.
     ap (λ y. walk_on (move (AtLine p) y mark.line false) [] false) y
     ∙ ap (λ os. walk_on (start_move p os (Identifier bytes) mark.line false) [] false) e
-    ∙ ap (λ b. walk_on (if b then Some (behind_unit p) else section_or_line p bytes mark.line (section_begun p.done (name_of bytes))) [] false) (ap (λ m. same m (end_word p.unit.kind)) n ∙ is_same (end_word p.unit.kind)))
+    ∙ ap (λ b. walk_on (if b then Some (behind_unit p) else section_or_line p bytes mark.line (section_begun p.done (name_of bytes))) [] false) (ap (λ m. same_name m (end_word p.unit.kind)) n ∙ is_same (end_word p.unit.kind)))
 
 -- a whole unit
 pub unit_walked : (us : List ProgramUnit) (unit : ProgramUnit) (tokens : List Mark) (colon : Bool) → colon ≡ false → unit_of unit tokens → walk (Outside us) tokens colon ≡ Some (Outside (us ++ unit ∷ []))

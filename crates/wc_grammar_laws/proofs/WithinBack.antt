@@ -15,7 +15,7 @@ use Rattle.wc_grammar_laws.proofs.WalkedLines.{ends_no_unit}
 use Rattle.wc_grammar_laws.proofs.WithinOn.{HasBegun, RejectsColon, simple_rejects}
 use Rattle.wc_grammar_laws.proofs.WordLaws.{found_operation, found_section, same_is}
 use Rattle.wc_grammar_laws.specs.Words.{Applies, Operating, Loads, Stores, Operation, found, is_transfer, literal_of, operation_of, operations, unit_kinds}
-use Rattle.wc_grammar_laws.specs.Words.{same}
+use Rattle.wc_model.specs.Language.Declarations.{same_name}
 use Rattle.wc_model.specs.Text.Grammar.{IsProgramLast}
 use Rattle.wc_model.specs.Text.Keywords.{end_var, end_word, section_word}
 use Rattle.wc_model.specs.Text.Limits.{IsBodyWithinLimits, depth, line_count, lines_before, lines_opened, most_depth, most_lines, most_units}
@@ -83,7 +83,7 @@ first_was_good us unit section word colon false = λ g. (g, inl refl)
 
 section_was_good : (us : List ProgramUnit) (unit : ProgramUnit) (section : Section) (place : InDeclaration) (symbol : Symbol) (line : ℕ) (colon : Bool) → WasGood (Declaring us unit section place) None colon (declaration_move us unit section place symbol line)
 section_was_good us unit section place LineEnd line colon = λ g. (g, inl refl)
-section_was_good us unit section Undeclared (Identifier bytes) line colon = first_was_good us unit section (record { line = line; name = name_of bytes }) colon (same (name_of bytes) end_var)
+section_was_good us unit section Undeclared (Identifier bytes) line colon = first_was_good us unit section (record { line = line; name = name_of bytes }) colon (same_name (name_of bytes) end_var)
 section_was_good us unit section (BehindNames names) Comma line colon = λ g. (g, inl refl)
 section_was_good us unit section (BehindNames names) Colon line colon = λ g. (g, inl refl)
 section_was_good us unit section (BehindComma names) (Identifier bytes) line colon = λ g. (g, inl refl)
@@ -203,7 +203,7 @@ section_start_was_good p (Alone label rest) bytes line (Some section) e d s = ab
 section_start_was_good p (Plain label n step rest) bytes line (Some section) e d s = absurd (cc)
 section_start_was_good p (Nested label n operator x inside close rest) bytes line (Some section) e d s = absurd (cc)
 
-word_was_good : (p : Position) (bytes : List ℕ) (line : ℕ) (b : Bool) → same (name_of bytes) (end_word p.unit.kind) ≡ b → p.openings ≡ []
+word_was_good : (p : Position) (bytes : List ℕ) (line : ℕ) (b : Bool) → same_name (name_of bytes) (end_word p.unit.kind) ≡ b → p.openings ≡ []
     → WasGood (AtLine p) (judge_operator p (Identifier bytes) line false) false (if b then Some (behind_unit p) else section_or_line p bytes line (section_begun p.done (name_of bytes)))
 word_was_good p bytes line true s e = λ g. (unit_end_was_good p e g, inl (no_operator_passes p (Identifier bytes) line false (ap (found operations) (same_is (name_of bytes) (end_word p.unit.kind) s) ∙ end_no_operator p.unit.kind)))
 word_was_good p bytes line false s e = section_start_was_good p p.done bytes line (section_begun p.done (name_of bytes)) e refl refl
@@ -215,7 +215,7 @@ operator_colon p symbol line (Some operation) =
     line_was_good p (AtLine p) (judge_operator p symbol line true) true 1 0 (Some (behind_operator None line operation)) (count_operator None line operation) (λ k b. (less_within p 1 0 k, b)) (λ state s k. inl (colon_passes p symbol line))
 
 body_was_good : (p : Position) (symbol : Symbol) (line : ℕ) (colon : Bool) → p.openings ≡ [] → WasGood (AtLine p) (judge_operator p symbol line colon) colon (body_move p symbol line colon)
-body_was_good p (Identifier bytes) line false e = word_was_good p bytes line (same (name_of bytes) (end_word p.unit.kind)) refl e
+body_was_good p (Identifier bytes) line false e = word_was_good p bytes line (same_name (name_of bytes) (end_word p.unit.kind)) refl e
 body_was_good p (Identifier bytes) line true e = λ g. ((less_within p 0 0 g.0, g.1), inl (colon_passes p (Identifier bytes) line))
 body_was_good p symbol line false e = start_was_good p symbol line (operation_of symbol) refl
 body_was_good p symbol line true e = operator_colon p symbol line (operation_of symbol)
@@ -229,7 +229,7 @@ content_true p o outer line colon true c e = λ g.
 
 -- an operator's name is no END word
 operator_no_end : (symbol : Symbol) (kind : UnitKind) (operation : Operation) → operation_of symbol ≡ Some operation → has_name symbol (end_word kind) ≡ false
-operator_no_end (Identifier bytes) kind operation e = ap (λ n. same n (end_word kind)) (found_operation (name_of bytes) operation e) ∙ (ends_no_unit kind operation).0
+operator_no_end (Identifier bytes) kind operation e = ap (λ n. same_name n (end_word kind)) (found_operation (name_of bytes) operation e) ∙ (ends_no_unit kind operation).0
 operator_no_end Ampersand kind operation e = refl
 operator_no_end AmpersandN kind operation e = refl
 operator_no_end _ kind operation e = refl

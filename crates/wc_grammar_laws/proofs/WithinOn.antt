@@ -9,7 +9,7 @@ use Rattle.wc_grammar_laws.proofs.LineBounds.{CountsOnce, Fits, IsSteady, Within
 use Rattle.wc_grammar_laws.specs.LineMoves.{Begun, LineState, Start, Worded, Labelled, Operated, at_labelled, at_operated, at_operator, at_start, behind_operator, line_move, simple_operator}
 use Rattle.wc_grammar_laws.specs.Moves.{InDeclaration, Undeclared, BehindNames, BehindComma, BehindColon, BehindType, BehindAssign, BehindValue, State, Outside, Unnamed, Declaring, AtLine, OnLine, Closed, Met, at_value, begins_transfer, begun_line, behind_closing, behind_unit, body_move, body_start, declaration_move, has_content, has_name, has_program, inside_move, is_full, is_identifier, judge, judge_closing, judge_line, judge_on_line, judge_operator, judge_unit, met_if, met_or, move, named_unit, section_begun, section_or_line, start_move, unit_with}
 use Rattle.wc_grammar_laws.specs.Words.{Applies, Operating, Loads, Stores, Operation, Operates, Negates, Jumps, Calls, Returns, found, is_transfer, literal_of, operation_of, unit_kinds}
-use Rattle.wc_grammar_laws.specs.Words.{same}
+use Rattle.wc_model.specs.Language.Declarations.{same_name}
 use Rattle.wc_model.specs.Text.Keywords.{end_var, end_word}
 use Rattle.wc_model.specs.Text.Limits.{IsBodyWithinLimits, lines_before, lines_opened, most_depth, most_lines, most_units}
 use Rattle.wc_model.specs.Text.Marks.{Symbol, Identifier, ClosingBracket, OpeningBracket, Colon, Comma, Semicolon, Assign, LineEnd}
@@ -63,7 +63,7 @@ first_within us unit section word false h = h
 
 section_within : (us : List ProgramUnit) (unit : ProgramUnit) (section : Section) (place : InDeclaration) (symbol : Symbol) (line : ℕ) → HasRoom us → WithinNext (declaration_move us unit section place symbol line)
 section_within us unit section place LineEnd line h = h
-section_within us unit section Undeclared (Identifier bytes) line h = first_within us unit section (record { line = line; name = name_of bytes }) (same (name_of bytes) end_var) h
+section_within us unit section Undeclared (Identifier bytes) line h = first_within us unit section (record { line = line; name = name_of bytes }) (same_name (name_of bytes) end_var) h
 section_within us unit section (BehindNames names) Comma line h = h
 section_within us unit section (BehindNames names) Colon line h = h
 section_within us unit section (BehindComma names) (Identifier bytes) line h = h
@@ -138,7 +138,7 @@ end_or_line_within p bytes line true o e h = unit_done_within p o h
 end_or_line_within p bytes line false o e h = section_or_line_within p bytes line (section_begun p.done (name_of bytes)) e h
 
 body_within : (p : Position) (symbol : Symbol) (line : ℕ) (colon : Bool) → p.openings ≡ [] → judge_operator p symbol line colon ≡ None → Within (AtLine p) → GoesWithin colon (body_move p symbol line colon)
-body_within p (Identifier bytes) line false o e h = inl (end_or_line_within p bytes line (same (name_of bytes) (end_word p.unit.kind)) o e h)
+body_within p (Identifier bytes) line false o e h = inl (end_or_line_within p bytes line (same_name (name_of bytes) (end_word p.unit.kind)) o e h)
 body_within p (Identifier bytes) line true o e h = inl (word_within p (record { line = line; name = name_of bytes }) h)
 body_within p symbol line false o e h = inl (once_within p symbol line (at_start symbol line false) (start_once symbol line) h (not_full p symbol line e))
 body_within p symbol line true o e h = inr (refl, at_operator_rejects p None line (operation_of symbol))

@@ -4,7 +4,7 @@ use Rattle.std.proofs.lemmas.Bool.Decides.{nat_tests}
 use Rattle.std.specs.Prelude.{◌≢◌, if◌then◌else◌, ◌&&◌, eqb}
 use Rattle.std.specs.List.{AllByRecursion}
 use Rattle.wc_grammar_laws.specs.Words.{found, Operating, Loads, Stores, Applies, Operation, Operates, Negates, Jumps, Calls, Returns, operation_word, all_operations, operations, worded, step_of, operation_of, unit_kinds, section_words, truths}
-use Rattle.wc_grammar_laws.specs.Words.{same}
+use Rattle.wc_model.specs.Language.Declarations.{same_name}
 use Rattle.wc_model.specs.Text.Keywords.{truth_word, unit_word, section_word}
 use Rattle.wc_model.specs.Text.Marks.{Symbol, Identifier, Ampersand, AmpersandN, Mark, name_in}
 use Rattle.wc_model.specs.Language.Names.{Name, name_of}
@@ -21,27 +21,27 @@ both : (x y : ℕ) (b : Bool) → (eqb x y && b) ≡ true → (x ≡ y) × (b �
 both x y b e = (grind (arith, nat_tests, e), grind (arith, nat_tests, e))
 
 -- names that the test takes for the same are the same
-pub same_is : (xs ys : List ℕ) → same xs ys ≡ true → xs ≡ ys
+pub same_is : (xs ys : List ℕ) → same_name xs ys ≡ true → xs ≡ ys
 same_is [] [] e = refl
 same_is [] (y ∷ ys) e = cc
 same_is (x ∷ xs) [] e = cc
-same_is (x ∷ xs) (y ∷ ys) e = let p = both x y (same xs ys) e in let q : xs ≡ ys = same_is xs ys p.1 in cc
+same_is (x ∷ xs) (y ∷ ys) e = let p = both x y (same_name xs ys) e in let q : xs ≡ ys = same_is xs ys p.1 in cc
 
 -- and the other way round
-pub is_same : (xs : List ℕ) → same xs xs ≡ true
+pub is_same : (xs : List ℕ) → same_name xs xs ≡ true
 is_same [] = refl
 is_same (x ∷ xs) = grind (arith, nat_tests, is_same xs)
 
 -- names that differ are told apart
-pub told_apart : (xs ys : List ℕ) → xs ≢ ys → same xs ys ≡ false
-told_apart xs ys n = elim (same xs ys) as (λ b. same xs ys ≡ b → b ≡ false) [ true ↦ λ e. absurd (n (same_is xs ys e)) | false ↦ λ e. refl ] refl
+pub told_apart : (xs ys : List ℕ) → xs ≢ ys → same_name xs ys ≡ false
+told_apart xs ys n = elim (same_name xs ys) as (λ b. same_name xs ys ≡ b → b ≡ false) [ true ↦ λ e. absurd (n (same_is xs ys e)) | false ↦ λ e. refl ] refl
 
 -- what is found stands in the table under that name
 pub found_is : {A : Type 0} (Good : Name → A → Type 0) (table : List (Name × A)) → AllByRecursion (λ entry. Good entry.0 entry.1) table
     → (name : Name) (value : A) → found table name ≡ Some value → Good name value
 found_is Good [] all name value e = cc
 found_is Good (entry ∷ entries) all name value e =
-    elim (same name entry.0) as (λ b. same name entry.0 ≡ b → (if b then Some entry.1 else found entries name) ≡ Some value → Good name value) [
+    elim (same_name name entry.0) as (λ b. same_name name entry.0 ≡ b → (if b then Some entry.1 else found entries name) ≡ Some value → Good name value) [
       | true ↦ λ h k. let n : name ≡ entry.0 = same_is name entry.0 h in let v : entry.1 ≡ value = cc in rw (n, ← v) all.0
       | false ↦ λ h k. found_is Good entries all.1 name value k
     ] refl e

@@ -17,3 +17,9 @@ TextOrFault = (tokens : List Mark) (last_line : ℕ) → ((text : Text) × Spell
 -- tokens that have a first fault spell no text within the limits
 abbrev pub FaultSpellsNothing : Type 0
 FaultSpellsNothing = (tokens : List Mark) (last_line line : ℕ) (fault : ReadingFault) (text : Text) → IsFirstReadingFault tokens last_line fault line → Spells tokens text → ¬ (IsWithinLimits text)
+
+-- two first faults of the same tokens are the same fault, on the same line: a reader that answers by them has no choice
+abbrev pub OneFirstFault : Type 0
+OneFirstFault =
+    (tokens : List Mark) (last_line line place : ℕ) (fault other : ReadingFault) → IsFirstReadingFault tokens last_line fault line
+    → IsFirstReadingFault tokens last_line other place → (fault ≡ other) × (line ≡ place)

@@ -3,7 +3,7 @@ use Rattle.std.specs.Prelude.{ℕ, nat_le, Bool, true, false, not, ◌&&◌, Lis
 use Rattle.std.specs.List.{list_any}
 use Rattle.wc_grammar_laws.specs.LineMoves.{LineForm, LabelAlone, Instructs, Opens, OfOpening, LineState, Start, Labelled, Operated, Bracketed, BracketedWith, Named, Pointed, Ended, line_move}
 use Rattle.wc_grammar_laws.specs.Words.{Applies, Operation, found, is_transfer, literal_of, operation_of, section_words, unit_kinds}
-use Rattle.wc_grammar_laws.specs.Words.{same}
+use Rattle.wc_model.specs.Language.Declarations.{same_name}
 use Rattle.wc_model.specs.Text.Grammar.{InBody, InParentheses}
 use Rattle.wc_model.specs.Text.Keywords.{end_var, end_word}
 use Rattle.wc_model.specs.Text.Limits.{most_depth, most_lines, most_units, lines_before}
@@ -99,7 +99,7 @@ with_declaration unit section names type_name initial =
 -- behind the first identifier of a declaration, or behind END_VAR
 abbrev pub at_first_name : List ProgramUnit → ProgramUnit → Section → Word → State
 at_first_name units unit section word =
-    if same word.name end_var then AtLine (body_start units unit) else Declaring units unit section (BehindNames (word ∷ []))
+    if same_name word.name end_var then AtLine (body_start units unit) else Declaring units unit section (BehindNames (word ∷ []))
 
 -- behind the literal of a declaration
 abbrev pub at_value : List ProgramUnit → ProgramUnit → Section → List Word → Word → ℕ → Option Value → Option State
@@ -144,7 +144,7 @@ section_or_line p bytes line (Some section) = Some (Declaring p.before p.unit se
 -- behind an identifier at the start of a line of a body, which no colon follows
 abbrev pub word_move : Position → List ℕ → ℕ → Option State
 word_move p bytes line =
-    if same (name_of bytes) (end_word p.unit.kind) then Some (behind_unit p)
+    if same_name (name_of bytes) (end_word p.unit.kind) then Some (behind_unit p)
     else section_or_line p bytes line (section_begun p.done (name_of bytes))
 
 -- behind the first token of a line of a body that is no line end
@@ -242,7 +242,7 @@ begins_transfer (Some operation) = is_transfer operation
 
 -- whether an identifier has this name
 abbrev pub has_name : Symbol → Name → Bool
-has_name (Identifier bytes) name = same (name_of bytes) name
+has_name (Identifier bytes) name = same_name (name_of bytes) name
 has_name _ name = false
 
 -- whether it is an identifier

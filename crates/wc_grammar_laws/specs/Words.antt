@@ -1,7 +1,8 @@
 -- What a word of the language stands for.
-use Rattle.std.specs.Prelude.{ℕ, eqb, ◌&&◌, Bool, true, false, List, [], ◌∷◌, map, Option, Some, None, if◌then◌else◌}
+use Rattle.std.specs.Prelude.{Bool, true, false, List, [], ◌∷◌, map, Option, Some, None, if◌then◌else◌}
 use Rattle.wc_model.specs.Text.Keywords.{unit_word, section_word, truth_word, load_word, store_word, operator_word, not_word, jump_word, call_word, return_word}
 use Rattle.wc_model.specs.Text.Marks.{Symbol, Identifier, Whole, Duration, Truth, Ampersand, AmpersandN}
+use Rattle.wc_model.specs.Language.Declarations.{same_name}
 use Rattle.wc_model.specs.Language.Names.{Name, name_of}
 use Rattle.wc_model.specs.Language.Tree.{Term, Step, Load, Store, Apply}
 use Rattle.wc_model.specs.declared.operator.Condition.{Condition}
@@ -17,16 +18,10 @@ use Rattle.wc_model.specs.declared.source.UnitKind.TheVariants.{FunctionBlock, P
 use Rattle.wc_model.specs.declared.value.Value.{Value}
 use Rattle.wc_model.specs.declared.value.Value.TheVariants.{Bool as BoolValue, Dint, Time}
 
--- whether two names are the same
-abbrev pub same : List ℕ → List ℕ → Bool
-same [] [] = true
-same (x ∷ xs) (y ∷ ys) = eqb x y && same xs ys
-same _ _ = false
-
 -- what stands under a name in a table of words
 abbrev pub found : {A : Type 0} → List (Name × A) → Name → Option A
 found [] name = None
-found (entry ∷ entries) name = if same name entry.0 then Some entry.1 else found entries name
+found (entry ∷ entries) name = if same_name name entry.0 then Some entry.1 else found entries name
 
 -- an operator that takes an operand
 pub data Operating : Type 0 where

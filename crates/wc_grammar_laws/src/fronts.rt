@@ -1,9 +1,10 @@
 //! Laws of fronts, and of the first fault that is met in tokens.
-ghost use Rattle.std.specs.Prelude.{◌≡◌, ℕ, List, ◌++◌};
+ghost use Rattle.std.specs.Prelude.{ℕ, List, ◌++◌};
+ghost use Rattle.wc_grammar_laws.specs.Laws.{OneFirstFault};
 ghost use Rattle.wc_model.specs.Language.Tree.{Text};
 ghost use Rattle.wc_model.specs.Text.Grammar.{IsFront, Spells};
 ghost use Rattle.wc_model.specs.Text.Marks.{Mark};
-ghost use Rattle.wc_model.specs.Text.ReadingFaults.{IsFaultFree, IsFirstReadingFault, KeepsLimits, ReadingFault, UnexpectedToken};
+ghost use Rattle.wc_model.specs.Text.ReadingFaults.{IsFaultFree, IsFirstReadingFault, KeepsLimits, UnexpectedToken};
 
 /// The tokens of a whole text are a front.
 pub fn a_text_is_a_front()
@@ -21,12 +22,9 @@ pub fn an_unexpected_token_spells_nothing()
         → IsFirstReadingFault tokens last_line UnexpectedToken line → ¬ (Spells tokens text) }
 {}
 
-/// Two first faults of the same tokens have the same number: a reader that answers by them has no choice of it.
+/// Two first faults of the same tokens have the same number and the same line: a reader that answers by them has no choice.
 pub fn one_first_fault()
-    ensures { (tokens : List Mark) (last_line line place : ℕ) (fault other : ReadingFault)
-        → IsFirstReadingFault tokens last_line fault line
-        → IsFirstReadingFault tokens last_line other place
-        → fault ≡ other }
+    ensures { OneFirstFault }
 {}
 
 /// Before a first fault no limit is exceeded.

@@ -30,8 +30,10 @@ pub fn headings()
 /// Without a heading, with one that has no line end, or with one that isn't the first line, a job is refused.
 pub fn headings_missing()
     ensures empty { sections_of [] ≡ Err 701 }
-    ensures no_log { sections_of (lines_text (codes "@plate" ∷ codes "@program" ∷ [])) ≡ Err 701 }
-    ensures no_line_end { sections_of (codes "@plate" ++ 10 ∷ codes "@program" ++ 10 ∷ codes "@log")
+    ensures no_log { sections_of (lines_text (codes "@plate" ∷ codes "@program" ∷ []))
+        ≡ Err 701 }
+    ensures no_line_end { sections_of
+        (codes "@plate" ++ 10 ∷ codes "@program" ++ 10 ∷ codes "@log")
         ≡ Err 701 }
     ensures not_first { sections_of
         (lines_text ([] ∷ codes "@plate" ∷ codes "@program" ∷ codes "@log" ∷ [])) ≡ Err 701 }

@@ -21,13 +21,17 @@ pub fn no_rows()
 /// A row of each kind.
 pub fn each_kind()
     ensures { log_with_rows
-        (three_fields (codes "0") (codes "C") (codes "-0042") ∷ three_fields (codes "007")
-        (codes "L") (codes "0a5A") ∷ three_fields (codes "7") (codes "I")
-        (codes "00fF") ∷ three_fields (codes "8") (codes "S") [] ∷ [])
+        (three_fields (codes "0") (codes "C") (codes "-0042")
+        ∷ three_fields (codes "007") (codes "L") (codes "0a5A")
+        ∷ three_fields (codes "7") (codes "I") (codes "00fF")
+        ∷ three_fields (codes "8") (codes "S") []
+        ∷ [])
         ≡ record {
           rows = record { number = 2; ms = 0; brings = Counts (negsuc 41) }
               ∷ record { number = 3; ms = 7; brings = Bytes (10 ∷ 90 ∷ []) }
-              ∷ record { number = 4; ms = 7; brings = Inputs 255 } ∷ scan_row 5 8 ∷ [];
+              ∷ record { number = 4; ms = 7; brings = Inputs 255 }
+              ∷ scan_row 5 8
+              ∷ [];
           refusal = None;
         } }
 {}
@@ -40,8 +44,10 @@ pub fn one_refused_row()
         ≡ refused_at 608 2 }
     ensures counts { log_with_rows (three_fields (codes "0") (codes "C") (codes "8388608") ∷ [])
         ≡ refused_at 605 2 }
-    ensures kind { log_with_rows (three_fields (codes "0") (codes "X") [] ∷ []) ≡ refused_at 604 2 }
-    ensures two_fields { log_with_rows ((codes "0" ∷ codes "S" ∷ []) ∷ []) ≡ refused_at 601 2 }
+    ensures kind { log_with_rows (three_fields (codes "0") (codes "X") [] ∷ [])
+        ≡ refused_at 604 2 }
+    ensures two_fields { log_with_rows ((codes "0" ∷ codes "S" ∷ []) ∷ [])
+        ≡ refused_at 601 2 }
     ensures moment { log_with_rows (three_fields (codes "1099511627776") (codes "S") [] ∷ [])
         ≡ refused_at 602 2 }
 {}
@@ -62,10 +68,14 @@ pub fn more_refused_rows()
 /// A moment before the last row's is refused at its row, and the row before it stands; equal moments are accepted.
 pub fn moments_in_order()
     ensures back { log_with_rows
-        (three_fields (codes "5") (codes "S") [] ∷ three_fields (codes "4") (codes "S") [] ∷ [])
+        (three_fields (codes "5") (codes "S") []
+        ∷ three_fields (codes "4") (codes "S") []
+        ∷ [])
         ≡ with_row (scan_row 2 5) (refused_at 603 3) }
     ensures equal { log_with_rows
-        (three_fields (codes "5") (codes "S") [] ∷ three_fields (codes "5") (codes "S") [] ∷ [])
+        (three_fields (codes "5") (codes "S") []
+        ∷ three_fields (codes "5") (codes "S") []
+        ∷ [])
         ≡ record { rows = scan_row 2 5 ∷ scan_row 3 5 ∷ []; refusal = None } }
 {}
 

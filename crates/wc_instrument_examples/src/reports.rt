@@ -15,7 +15,8 @@ pub fn scan_line()
 
 /// An answer's line: moment, bytes in hexadecimal.
 pub fn answer_line()
-    ensures { line_text (AnswerLine 0 (10 ∷ 63 ∷ 13 ∷ [])) ≡ codes "L 0 0a3f0d" ++ 10 ∷ [] }
+    ensures { line_text (AnswerLine 0 (10 ∷ 63 ∷ 13 ∷ []))
+        ≡ codes "L 0 0a3f0d" ++ 10 ∷ [] }
 {}
 
 /// One row of inputs and one scan: one line.

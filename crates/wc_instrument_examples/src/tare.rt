@@ -37,7 +37,8 @@ pub fn rounded_apart()
         ≡ Some (pos 5) }
     ensures net { net plate_of_15_kg (four_of (pos 10200) ++ SetTare ∷ four_of (pos 10100))
         ≡ Some (pos 5) }
-    ensures tare { tare_value plate_of_15_kg (four_of (pos 10200) ++ SetTare ∷ four_of (pos 10100))
+    ensures tare { tare_value plate_of_15_kg
+        (four_of (pos 10200) ++ SetTare ∷ four_of (pos 10100))
         ≡ pos 5 }
     ensures answers { replies plate_of_15_kg (four_rows (pos 10100) ++ asks (codes "T") ∷ []
         ++ four_rows (pos 10200) ++ asks (codes "W") ∷ asks (codes "M") ∷ [])

@@ -44,6 +44,7 @@ pub fn no_sample()
 
 /// A plate in grams with no decimals writes no point.
 pub fn whole_grams()
-    ensures { replies plate_of_2500_g (Counts (pos 4) ∷ Counts (pos 4) ∷ asks (codes "W") ∷ [])
+    ensures { replies plate_of_2500_g
+        (Counts (pos 4) ∷ Counts (pos 4) ∷ asks (codes "W") ∷ [])
         ≡ framed (codes " 1G           5g  ") }
 {}

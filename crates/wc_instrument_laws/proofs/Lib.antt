@@ -4,3 +4,5 @@ pub mod Independence
 pub mod Indication
 pub mod PlateTable
 pub mod Answers
+pub mod JobParts
+pub mod LogRows

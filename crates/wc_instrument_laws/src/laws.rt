@@ -2,6 +2,8 @@
 
 ghost use Rattle.std.specs.Prelude.{◌≡◌, ◌∷◌, ◌++◌, ℕ, ◌<◌, ℤ, List, length, Option, true, IsFalse};
 ghost use Rattle.std.specs.List.{list_all};
+ghost use Rattle.wc_instrument_laws.specs.Jobs.{JobIsItsSections};
+ghost use Rattle.wc_instrument_laws.specs.Logs.{RowsAreInOrder};
 ghost use Rattle.wc_model.specs.Instrument.Answers.{Asked, Mode, answer};
 ghost use Rattle.wc_model.specs.Instrument.Effects.{EffectsOf};
 ghost use Rattle.wc_model.specs.Instrument.WeighingHistories.{History, samples};
@@ -51,6 +53,16 @@ pub fn what_an_event_does()
 pub fn rows_above_a_million()
     ensures { (before : List Record) (fields : Record) → 999999 < length before
         → row_of before fields ≡ Err 607 }
+{}
+
+/// The rows of a log are numbered on, their moments don't fall, and what they bring is in its range.
+pub fn rows_are_in_order()
+    ensures { RowsAreInOrder }
+{}
+
+/// The sections of a job, with their headings, are its bytes again.
+pub fn a_job_is_its_sections()
+    ensures { JobIsItsSections }
 {}
 
 /// Every answer with a weight has twenty bytes: no weight that is shown takes more than ten.

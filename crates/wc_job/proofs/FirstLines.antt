@@ -49,18 +49,3 @@ begins_with_line [] line after e f = (e, f)
 begins_with_line (byte ∷ rest) line after e f =
     let long : length line ≡ min (line_length (byte ∷ rest)) (suc (length rest)) = ap length e ∙ length-take (line_length (byte ∷ rest)) (byte ∷ rest) in
     (first_of byte rest ∙ ap (λ l. l ∷ whole_lines (drop (line_length (byte ∷ rest)) (byte ∷ rest))) (sym e) ∙ ap (λ r. line ∷ whole_lines r) (sym f), omega (arith, long))
-
--- a byte before the first line stands before all
-onto_all : (byte : ℕ) (lines : List (List ℕ)) → concat (onto_first_line byte lines) ≡ byte ∷ concat lines
-onto_all byte [] = refl
-onto_all byte (line ∷ lines) = refl
-
--- the lines are the text
-pub lines_whole : (text : List ℕ) → concat (whole_lines text) ≡ text
-lines_whole [] = refl
-lines_whole (byte ∷ rest) =
-    let further = lines_whole rest in
-    elim (byte == 10) as (λ v. (byte == 10) ≡ v → concat (if v then (10 ∷ []) ∷ whole_lines rest else onto_first_line byte (whole_lines rest)) ≡ byte ∷ rest) [
-      | true ↦ λ e. ap (λ r. 10 ∷ r) further ∙ ap (λ b. b ∷ rest) (sym (eqb-true byte 10 e))
-      | false ↦ λ e. onto_all byte (whole_lines rest) ∙ ap (λ r. byte ∷ r) further
-    ] refl

@@ -1,6 +1,6 @@
 -- A text parted at a heading, as far as its lines are read.
 use Rattle.std.proofs.Common.{◌≡◌, ◌<◌, ◌++◌, ℕ, ◌+◌, false, codes, List, [], ◌∷◌, length, drop, take, Option, Some, None, if◌then◌else◌, refl, sym, ap, ◌∙◌, arith, append_assoc, length-append}
-use Rattle.wc_job.proofs.FirstLines.{lines_whole}
+use Rattle.wc_instrument_laws.proofs.JobParts.{lines_whole}
 use Rattle.wc_job.specs.Views.{BeginsWithLine}
 use Rattle.wc_model.specs.Run.JobSections.{Parted, is_heading, part_at, sections_with_log, sections_with_program, whole_lines, with_line}
 

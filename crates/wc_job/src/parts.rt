@@ -1,6 +1,3 @@
-/// The most bytes that a job has.
-pub(crate) const LONGEST_JOB: usize = 1048576;
-
 /// The three sections of a job, each with the line end before the next heading.
 #[derive(Clone, Copy)]
 pub struct Sections<'a> {

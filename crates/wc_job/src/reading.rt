@@ -3,7 +3,7 @@ ghost use Rattle.wc_job.specs.Reads.{Adds, IsOverTheLimit, IsWhole, ReadsInto, T
 ghost use Rattle.wc_model.specs.Run.Devices.{failures_after_read};
 ghost use Rattle.wc_model.specs.Run.JobSections.{longest_job};
 
-use crate::parts::LONGEST_JOB;
+use crate::cutting::LONGEST_JOB;
 use std::alloc::Global;
 use std::io;
 use wc_model::ByteIn;
@@ -18,6 +18,9 @@ pub enum ReadFault {
     /// Memory is refused.
     Memory,
 }
+
+/// How many bytes are read at once.
+const PIECE: usize = 4096;
 
 /// Reads into the front of the buffer, at most so many bytes.
 fn read_up_to<R: ByteIn>(reader: &mut R, buffer: &mut [u8], most: usize) -> io::Result<usize>
@@ -38,8 +41,8 @@ fn read_more<R: ByteIn>(reader: &mut R, bytes: &mut Vec<u8>) -> Result<bool, Rea
     ensures failures { R.failure_count reader.new
         ≡ failures_after (R.failure_count reader.old) result }
 {
-    let mut buffer = [0_u8; 4096];
-    let most = (LONGEST_JOB + 1 - bytes.len()).min(4096);
+    let mut buffer = [0_u8; PIECE];
+    let most = (LONGEST_JOB + 1 - bytes.len()).min(PIECE);
     match read_up_to(reader, &mut buffer, most) {
         Err(_) => Err(ReadFault::Read),
         Ok(0) => Ok(false),

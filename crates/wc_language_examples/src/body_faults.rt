@@ -68,7 +68,8 @@ pub fn fields_are_guarded()
         ≡ refused 404 4 }
     ensures hidden { body_fault (with_timer (ld 3 (dot "t" "run") End)) ≡ refused 401 3 }
     ensures whole_instance { body_fault (with_timer (ld 3 (var "t") End)) ≡ refused 402 3 }
-    ensures inner_instance { body_fault (with_counter (ld 14 (dot "a" "e") End)) ≡ refused 405 14 }
+    ensures inner_instance { body_fault (with_counter (ld 14 (dot "a" "e") End))
+        ≡ refused 405 14 }
     ensures block_output { body_fault (with_counter (ld 14 (num (pos 1)) (st 15 (dot "a" "n") End)))
         ≡ refused 404 15 }
 {}
@@ -77,7 +78,8 @@ pub fn fields_are_guarded()
 pub fn arguments_are_guarded()
     ensures no_input { body_fault (with_timer (call 3 "t" (arg "q" yes' ∷ []) End))
         ≡ refused 409 3 }
-    ensures twice { body_fault (with_timer (call 3 "t" (arg "in" yes' ∷ arg "in" yes' ∷ []) End))
+    ensures twice { body_fault
+        (with_timer (call 3 "t" (arg "in" yes' ∷ arg "in" yes' ∷ []) End))
         ≡ refused 410 3 }
     ensures no_instance { body_fault (with_number (call 3 "d" [] End)) ≡ refused 402 3 }
 {}

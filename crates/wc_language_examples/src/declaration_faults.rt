@@ -1,7 +1,8 @@
-ghost use Rattle.std.specs.Prelude.{◌≡◌, [], ◌∷◌, None};
+ghost use Rattle.std.specs.Prelude.{◌≡◌, [], ◌∷◌, map, codes, None};
 ghost use Rattle.wc_language_examples.specs.CountingBlock.{counting_block, two_counters};
 ghost use Rattle.wc_language_examples.specs.Refused.{refused, declaring, doing, starts_at_two};
 ghost use Rattle.wc_language_examples.specs.Writing.{at, ld, declares, labelled, yes'};
+ghost use Rattle.wc_model.specs.Language.DeclarationRules.{reserved_words, type_words};
 ghost use Rattle.wc_model.specs.Language.Faults.{declaration_fault};
 ghost use Rattle.wc_model.specs.Language.Tree.{End, Load};
 ghost use Rattle.wc_model.specs.declared.source.Section.TheVariants.{Own, Input};
@@ -15,6 +16,25 @@ pub fn names_are_refused()
         ≡ refused 307 2 }
     ensures reserved_label { declaration_fault (doing (labelled 2 "ld" (Load false yes') End))
         ≡ refused 307 2 }
+{}
+
+/// The words that name no unit, no variable and no label, and those of them that are types.
+pub fn words_are_kept()
+    ensures reserved { reserved_words
+        ≡ map codes
+        ("ld" ∷ "ldn" ∷ "st" ∷ "stn" ∷ "s" ∷ "r" ∷ "and" ∷ "andn" ∷ "or" ∷ "orn" ∷ "xor" ∷ "xorn"
+        ∷ "add" ∷ "sub" ∷ "mul" ∷ "div" ∷ "mod" ∷ "gt" ∷ "ge" ∷ "eq" ∷ "ne" ∷ "le" ∷ "lt"
+        ∷ "not" ∷ "ret" ∷ "retc" ∷ "retcn" ∷ "jmp" ∷ "jmpc" ∷ "jmpcn" ∷ "cal" ∷ "calc" ∷ "calcn"
+        ∷ "function_block" ∷ "end_function_block" ∷ "program" ∷ "end_program"
+        ∷ "var_input" ∷ "var_output" ∷ "var" ∷ "end_var"
+        ∷ "bool" ∷ "dint" ∷ "time" ∷ "true" ∷ "false"
+        ∷ "ton" ∷ "tof" ∷ "tp" ∷ "ctu" ∷ "r_trig" ∷ "sr" ∷ "rs"
+        ∷ "function" ∷ "end_function" ∷ "var_in_out" ∷ "var_global" ∷ "var_external" ∷ "var_temp"
+        ∷ "constant" ∷ "retain" ∷ "at" ∷ []) }
+    ensures types { type_words
+        ≡ map codes
+        ("bool" ∷ "dint" ∷ "time"
+        ∷ "ton" ∷ "tof" ∷ "tp" ∷ "ctu" ∷ "r_trig" ∷ "sr" ∷ "rs" ∷ []) }
 {}
 
 /// Types: one that there is not, an instance that is no own variable, a first value of another kind.

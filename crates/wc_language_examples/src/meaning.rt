@@ -26,7 +26,8 @@ pub fn conjunction_is_kept()
 
 /// DIV truncates toward zero, and MOD has the sign of the dividend.
 pub fn minus_seven_is_divided()
-    ensures { shown_by divides_minus_seven (scan 0 0 ∷ []) ≡ shows 6 0 (negsuc 2) (negsuc 0) ∷ [] }
+    ensures { shown_by divides_minus_seven (scan 0 0 ∷ [])
+        ≡ shows 6 0 (negsuc 2) (negsuc 0) ∷ [] }
 {}
 
 /// A sum above the greatest number wraps to the least, and so does the least divided by -1.
@@ -37,7 +38,8 @@ pub fn greatest_is_passed()
 
 /// A TIME wraps as a DINT does.
 pub fn longest_time_is_passed()
-    ensures { shown_by passes_the_longest_time (scan 0 0 ∷ []) ≡ shows 4 1 (pos 0) (pos 0) ∷ [] }
+    ensures { shown_by passes_the_longest_time (scan 0 0 ∷ [])
+        ≡ shows 4 1 (pos 0) (pos 0) ∷ [] }
 {}
 
 /// A deferred AND combines at its `)`: the opening line and the `)` count one each.
@@ -72,7 +74,8 @@ pub fn timer_delays()
 
 /// A counter counts edges to its preset value, and is reset.
 pub fn counter_counts()
-    ensures { shown_by counts_to_two (scan 0 1 ∷ scan 1 1 ∷ scan 2 0 ∷ scan 3 1 ∷ scan 4 3 ∷ [])
+    ensures { shown_by counts_to_two
+        (scan 0 1 ∷ scan 1 1 ∷ scan 2 0 ∷ scan 3 1 ∷ scan 4 3 ∷ [])
         ≡ shows 9 0 (pos 1) (pos 0) ∷ shows 9 0 (pos 1) (pos 0) ∷ shows 9 0 (pos 1) (pos 0)
         ∷ shows 9 1 (pos 2) (pos 0) ∷ shows 9 0 (pos 0) (pos 0) ∷ [] }
 {}

@@ -1,5 +1,5 @@
 -- What a text keeps where it takes its own place.
-use Rattle.std.proofs.Common.{◌≡◌, Bool, true, Option, Some, refl, subst, sym}
+use Rattle.std.proofs.Common.{◌≡◌, true, Option, Some, refl, subst, sym}
 use Rattle.wc_language_laws.specs.Laws.{ATextKeepsItsPlaces}
 use Rattle.wc_model.specs.Language.Carried.{Lead, ToPlace, ToField, same_lead}
 use Rattle.wc_model.specs.declared.block.StandardBlock.TheVariants.{RTrig, Sr, Ctu, Ton, Tof}

@@ -5,5 +5,6 @@ pub mod Delaying
 pub mod Refusing
 pub mod Longest
 pub mod TracesArePaths
+pub mod UnitBounds
 pub mod Returning
 pub mod Keeping

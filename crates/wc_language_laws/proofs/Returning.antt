@@ -1,7 +1,7 @@
 -- What stands behind a return.
-use Rattle.std.proofs.Common.{◌≡◌, [], Option, refl, ap, ◌∙◌}
+use Rattle.std.proofs.Common.{[], refl, ap}
 use Rattle.wc_language_laws.specs.Laws.{ReturnEndsTheBody}
-use Rattle.wc_model.specs.Language.Meaning.{Done, after}
+use Rattle.wc_model.specs.Language.Meaning.{after}
 use Rattle.wc_model.specs.Language.Tree.{End, Alone, Plain, Nested}
 
 -- each line is passed over

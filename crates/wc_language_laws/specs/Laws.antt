@@ -1,8 +1,10 @@
 -- Statements about the definitions of the language.
 use Rattle.std.specs.Prelude.{◌≡◌, ℕ, ◌≤◌, true, List, [], ◌∷◌, ◌↔◌, ◌⊎◌, length, Option, Some, None, ℤ}
 use Rattle.wc_model.specs.Language.Blocks.{RTrigFields, SrFields, CtuFields, TonFields, TofFields, r_trig_step, sr_step, ctu_step, ton_step, tof_step}
-use Rattle.wc_model.specs.Language.Checks.{Check, Refusal, IsFirstBroken, first_broken}
+use Rattle.wc_model.specs.Language.Checks.{Check, Refusal, Spot, IsFirstBroken, first_broken, spots_of}
+use Rattle.wc_model.specs.Language.Faults.{MOST_STEPS}
 use Rattle.wc_model.specs.Language.Histories.{SrCall, CtuCall, TimerCall, FitsRTrig, FitsSr, FitsCtu, FitsTon, FitsTof}
+use Rattle.wc_model.specs.Language.Loading.{IsLoaded}
 use Rattle.wc_model.specs.Language.Meaning.{Context, Outcome, Done, Stuck, Running, Seeking, Returned, ahead, means, program_means}
 use Rattle.wc_model.specs.Language.Carried.{Lead, keeps, lead_of}
 use Rattle.wc_model.specs.Language.Names.{Name}
@@ -15,7 +17,9 @@ use Rattle.wc_model.specs.Language.Values.{IsWrapped, wrap}
 use Rattle.wc_model.specs.Language.WorstPaths.{IsWorstPath}
 use Rattle.wc_model.specs.Language.Scans.{steps_of}
 use Rattle.wc_model.specs.Language.Scopes.{Scope}
+use Rattle.wc_model.specs.Say.UnitReport.{IsBoundOf}
 use Rattle.wc_model.specs.declared.value.Value.{Value}
+use Rattle.std.specs.List.{AllByRecursion}
 use Rattle.std.specs.Prelude.{Bool}
 
 -- `wrap n` is of 32 bits and of n's class, and no other number is
@@ -81,6 +85,14 @@ WorstPathIsLongest = (scope : Scope) (path : List Item) → IsWorstPath scope pa
 -- each unit has a worst path, or no path at all
 abbrev pub EachUnitHasAWorstPath : Type 0
 EachUnitHasAWorstPath = (scope : Scope) → ((path : List Item) × IsWorstPath scope path) ⊎ ((path : List Item) → IsPath scope path → ⊥)
+
+-- a unit has a longest path, which is within the limit
+abbrev pub HasABound : Spot ProgramUnit → Type 0
+HasABound spot = (bound : ℕ) × IsBoundOf spot bound × (bound ≤ MOST_STEPS)
+
+-- each unit of a text that is loaded has a bound, whether another calls it or none
+abbrev pub EachLoadedUnitHasABound : Type 0
+EachLoadedUnitHasABound = (bytes : List ℕ) (text : Text) → IsLoaded bytes text → AllByRecursion HasABound (spots_of text)
 
 -- no run of a program executes more items than its longest path has, whatever the store and the moment
 abbrev pub NoRunIsLongerThanThePaths : Type 0

@@ -1,7 +1,7 @@
 //! Laws about the definitions of the language. Each function has an empty body: its clause is the law.
 #![tactic(auto)]
 
-ghost use Rattle.wc_language_laws.specs.Laws.{WrapIsTheOnlyOne, JumpGoesOnAhead, ReturnEndsTheBody, ATextKeepsItsPlaces, RTrigKeepsItsHistory, SrKeepsItsHistory, CtuKeepsItsHistory, TonKeepsItsHistory, TofKeepsItsHistory, FirstFaultIsFirst, WorstPathIsLongest, EachUnitHasAWorstPath, NoRunIsLongerThanThePaths};
+ghost use Rattle.wc_language_laws.specs.Laws.{WrapIsTheOnlyOne, JumpGoesOnAhead, ReturnEndsTheBody, ATextKeepsItsPlaces, RTrigKeepsItsHistory, SrKeepsItsHistory, CtuKeepsItsHistory, TonKeepsItsHistory, TofKeepsItsHistory, FirstFaultIsFirst, WorstPathIsLongest, EachUnitHasAWorstPath, EachLoadedUnitHasABound, NoRunIsLongerThanThePaths};
 
 /// Arithmetic wraps to the one number of 32 bits that is equal modulo 2^32.
 pub fn wrap_is_the_only_one()
@@ -61,6 +61,11 @@ pub fn worst_path_is_longest()
 /// Each unit has a worst path, unless it has no path at all.
 pub fn each_unit_has_a_worst_path()
     ensures { EachUnitHasAWorstPath }
+{}
+
+/// Each unit of a text that is loaded from its bytes has a bound within the limit, also one that nobody calls.
+pub fn each_loaded_unit_has_a_bound()
+    ensures { EachLoadedUnitHasABound }
 {}
 
 /// No run of a program executes more items than its longest path has.

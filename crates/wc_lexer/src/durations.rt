@@ -9,10 +9,9 @@ ghost use Rattle.wc_model.specs.Text.Characters.{begins, is_empty, is_point, is_
 ghost use Rattle.wc_model.specs.Text.Digits.{are_digits, value_of_digits};
 ghost use Rattle.wc_model.specs.Text.Durations.{are_duration_parts, billionths, duration_of, duration_parts, milliseconds_of, parts_of, unit_named, without_separator};
 
-use crate::fronts::{
-    begins_with, behind_first, is_word, length_before, letterless_length, letters_length,
-};
+use crate::fronts::{begins_with, behind_first, length_before, letterless_length, letters_length};
 use crate::numbers::{are_digits, signed, value_of_digits};
+use wc_model::is_word;
 
 /// A unit of time.
 #[derive(Clone, Copy)]

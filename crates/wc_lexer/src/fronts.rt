@@ -1,8 +1,7 @@
-ghost use Rattle.std.specs.Prelude.{◌≡◌, ◌≤◌, ◌==◌, length, true, drop, false, not, MatchOption, bytes_eq};
+ghost use Rattle.std.specs.Prelude.{◌≡◌, ◌≤◌, ◌==◌, length, true, drop, false, not, MatchOption};
 ghost use Rattle.std.specs.Char.{is_ascii_alphabetic};
 ghost use Rattle.std.specs.List.{after_first, before_first, list_any, position_or_len, prefix_len};
 ghost use Rattle.wc_model.specs.Text.Characters.{begins, is_address_character, is_identifier_character, is_number_character};
-ghost use Rattle.wc_model.specs.Language.Names.{name_of};
 
 use crate::characters::{is_address_character, is_identifier_character, is_number_character};
 
@@ -97,13 +96,4 @@ pub(crate) fn behind_first(text: &[u8]) -> &[u8]
         [_, after @ ..] => after,
         [] => text,
     }
-}
-
-/// The text spells that name, in either letter case.
-pub(crate) fn is_word(text: &[u8], word: &[u8]) -> bool
-    requires { name_of word.now ≡ word.now }
-    ensures here { result ≡ bytes_eq (name_of text.now) word.now }
-    ensures there { result ≡ bytes_eq word.now (name_of text.now) }
-{
-    text.eq_ignore_ascii_case(word)
 }

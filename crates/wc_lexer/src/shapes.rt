@@ -8,15 +8,19 @@ ghost use Rattle.wc_model.specs.Text.Shapes.{duration_shape, identifier_shape, l
 use crate::Shape;
 use crate::characters::{is_sign, starts_identifier};
 use crate::durations::duration;
-use crate::fronts::{cut_at, is_word};
+use crate::fronts::cut_at;
 use crate::marks::mark;
 use crate::numbers::{has_single_underscores, whole_number};
+use wc_model::is_word;
 
-/// An identifier has at most 32 characters and single underscores.
+/// The greatest length of a name, in characters.
+const LONGEST_NAME: usize = 32;
+
+/// An identifier is no longer than a name, and has single underscores.
 fn identifier_shape(lexeme: &[u8]) -> Result<Shape, u16>
     ensures { judgement_view result ≡ identifier_shape lexeme.now }
 {
-    if lexeme.len() <= 32 && has_single_underscores(lexeme) {
+    if lexeme.len() <= LONGEST_NAME && has_single_underscores(lexeme) {
         Ok(Shape::Identifier)
     } else {
         Err(104)

@@ -9,13 +9,16 @@ use crate::spaces::line_feeds;
 use std::alloc::Global;
 use wc_model::Fault;
 
+/// The greatest length of a text, in bytes.
+const MOST_BYTES: usize = 65536;
+
 /// The tokens of a text, or its first fault.
 pub fn tokens<'a>(alloc: Global, text: &'a [u8]) -> Result<Vec<Token<'a>>, Fault>
     ensures cut { IfOk result
         (λ tokens. (length text.now ≤ most_bytes) × IsCut text.now (map token_view tokens.items)) }
     ensures refused { IfErr result (λ fault. Names text.now fault) }
 {
-    if text.len() > 65536 {
+    if text.len() > MOST_BYTES {
         return Err(Fault::Refused {
             number: 107,
             place: 0,

@@ -21,6 +21,7 @@ mod place;
 mod source;
 mod tree;
 mod value;
+mod words;
 mod writing;
 
 pub use block::StandardBlock;
@@ -39,4 +40,5 @@ pub use place::{Path, Place};
 pub use source::{Decl, Initial, Section, Source, Unit, UnitKind};
 pub use tree::{Argument, Instr, Line};
 pub use value::{Value, wrap32};
+pub use words::is_word;
 pub use writing::{WriteFault, write_whole};

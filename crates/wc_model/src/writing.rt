@@ -15,7 +15,8 @@ fn write_some<W: ByteOut>(writer: &mut W, piece: &[u8]) -> Result<usize, WriteFa
     ensures taken { IfOk result
         (λ n. Appends (W.bytes_taken writer.old) (W.bytes_taken writer.new) (take n piece.now)) }
     ensures steady { IfOk result (λ n. W.failure_count writer.new ≡ W.failure_count writer.old) }
-    ensures kept { IfErr result (λ e. Keeps (W.bytes_taken writer.old) (W.bytes_taken writer.new)) }
+    ensures kept { IfErr result
+        (λ e. Keeps (W.bytes_taken writer.old) (W.bytes_taken writer.new)) }
     ensures device { IfErr result
         (λ e. HasFailedSince (W.failure_count writer.old) (W.failure_count writer.new)) }
 {
@@ -30,7 +31,8 @@ fn write_some<W: ByteOut>(writer: &mut W, piece: &[u8]) -> Result<usize, WriteFa
 pub fn write_whole<W: ByteOut>(writer: &mut W, text: &[u8]) -> Result<(), WriteFault>
     ensures whole { IfOk result
         (λ done. Appends (W.bytes_taken writer.old) (W.bytes_taken writer.new) text.now) }
-    ensures steady { IfOk result (λ done. W.failure_count writer.new ≡ W.failure_count writer.old) }
+    ensures steady { IfOk result
+        (λ done. W.failure_count writer.new ≡ W.failure_count writer.old) }
     ensures front { IfErr result
         (λ e. TakesFront (W.bytes_taken writer.old) (W.bytes_taken writer.new) text.now) }
     ensures device { IfErr result

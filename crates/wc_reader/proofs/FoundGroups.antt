@@ -3,7 +3,7 @@ use Rattle.std.proofs.Common.{◌≡◌, true, false, List, [], ◌∷◌, ◌++
 use Rattle.std.specs.Option.{option_or}
 use Rattle.wc_grammar_laws.specs.Words as words
 use Rattle.wc_grammar_laws.specs.Words.{found, operations}
-use Rattle.wc_grammar_laws.specs.Words.{same}
+use Rattle.wc_model.specs.Language.Declarations.{same_name}
 use Rattle.wc_model.specs.Language.Names.{Name}
 use Rattle.wc_reader.specs.OperatorGroups.{loads_and_stores, logic, arithmetic, comparisons, negation_and_jumps, calls_and_returns}
 use Rattle.wc_reader.specs.Words.{operation_view}
@@ -13,7 +13,7 @@ use Rattle.wc_reader.specs.declared.operators.Operation.{Operation}
 pub found-append : {A : Type 0} (xs ys : List (Name × A)) (name : Name) → found (xs ++ ys) name ≡ option_or (found xs name) (found ys name)
 found-append [] ys name = refl
 found-append {A} (x ∷ xs) ys name =
-    elim (same name x.0) as (λ b. (if◌then◌else◌ {A = Option A} b (Some x.1) (found (xs ++ ys) name)) ≡ option_or (if◌then◌else◌ {A = Option A} b (Some x.1) (found xs name)) (found ys name)) [
+    elim (same_name name x.0) as (λ b. (if◌then◌else◌ {A = Option A} b (Some x.1) (found (xs ++ ys) name)) ≡ option_or (if◌then◌else◌ {A = Option A} b (Some x.1) (found xs name)) (found ys name)) [
       | true ↦ refl
       | false ↦ found-append xs ys name
     ]

@@ -7,5 +7,4 @@ mod MetIf
 mod Openings
 mod Outcomes
 mod ReadingSteps
-mod SameNames
 pub mod ReadTexts

@@ -1,21 +1,21 @@
--- What the reader's places on a line stand for.
+-- What the reader's states on a line stand for.
 use Rattle.std.specs.Prelude.{map, option_map}
 use Rattle.wc_grammar_laws.specs.LineMoves as lines
 use Rattle.wc_model.specs.Language.Tree as tree
 use Rattle.wc_model.specs.Language.Views.{assignment_view, name_view, term_view, word_view}
 use Rattle.wc_reader.specs.Words.{operating_view}
-use Rattle.wc_reader.specs.declared.line_place.Begun.{Begun}
-use Rattle.wc_reader.specs.declared.line_place.InList.{InList}
-use Rattle.wc_reader.specs.declared.line_place.InList.TheVariants.{AtFirst, AtNext, AtAssign, AtValue, AtEnd}
-use Rattle.wc_reader.specs.declared.line_place.LineForm.{LineForm}
-use Rattle.wc_reader.specs.declared.line_place.LineForm.TheVariants.{LabelAlone, Instructs, Opens}
-use Rattle.wc_reader.specs.declared.line_place.LinePlace.{LinePlace}
-use Rattle.wc_reader.specs.declared.line_place.LinePlace.TheVariants.{Worded, Labelled, Operated, Jumped, Called, Instanced, Listing, Bracketed, Named, Pointed, Stepped, BracketedWith, Ended}
-use Rattle.wc_reader.specs.declared.line_place.Listed.{Listed}
-use Rattle.wc_reader.specs.declared.line_place.OperandOf.{OperandOf}
-use Rattle.wc_reader.specs.declared.line_place.OperandOf.TheVariants.{OfStep, OfOpening, OfArgument}
-use Rattle.wc_reader.specs.declared.line_place.Step.{Step}
-use Rattle.wc_reader.specs.declared.line_place.Step.TheVariants.{Load, Store, Apply, Negate, Jump, Call, Return}
+use Rattle.wc_reader.specs.declared.line_state.Begun.{Begun}
+use Rattle.wc_reader.specs.declared.line_state.InList.{InList}
+use Rattle.wc_reader.specs.declared.line_state.InList.TheVariants.{AtFirst, AtNext, AtAssign, AtValue, AtEnd}
+use Rattle.wc_reader.specs.declared.line_state.LineForm.{LineForm}
+use Rattle.wc_reader.specs.declared.line_state.LineForm.TheVariants.{LabelAlone, Instructs, Opens}
+use Rattle.wc_reader.specs.declared.line_state.LineState.{LineState}
+use Rattle.wc_reader.specs.declared.line_state.LineState.TheVariants.{Worded, Labelled, Operated, Jumped, Called, Instanced, Listing, Bracketed, Named, Pointed, Stepped, BracketedWith, Ended}
+use Rattle.wc_reader.specs.declared.line_state.Listed.{Listed}
+use Rattle.wc_reader.specs.declared.line_state.OperandOf.{OperandOf}
+use Rattle.wc_reader.specs.declared.line_state.OperandOf.TheVariants.{OfStep, OfOpening, OfArgument}
+use Rattle.wc_reader.specs.declared.line_state.Step.{Step}
+use Rattle.wc_reader.specs.declared.line_state.Step.TheVariants.{Load, Store, Apply, Negate, Jump, Call, Return}
 
 -- an instruction that has begun
 abbrev pub begun_view : Begun → lines.Begun
@@ -56,7 +56,7 @@ form_view (Instructs begun step) = lines.Instructs (option_map word_view begun.l
 form_view (Opens begun operator operand) = lines.Opens (option_map word_view begun.label) begun.line operator (option_map term_view operand)
 
 -- how far a line has been read
-abbrev pub line_state_view : LinePlace → lines.LineState
+abbrev pub line_state_view : LineState → lines.LineState
 line_state_view (Worded label) = lines.Worded (word_view label)
 line_state_view (Labelled label) = lines.Labelled (word_view label)
 line_state_view (Operated begun operating) = lines.Operated (begun_view begun) (operating_view operating)

@@ -1,4 +1,4 @@
--- What the reader's places in a text stand for.
+-- What the reader's states in a text stand for.
 use Rattle.std.specs.Prelude.{◌≡◌, ◌==◌, min, List, [], ◌∷◌, length, map, Some, None, option_map}
 use Rattle.wc_grammar_laws.specs.Moves as moves
 use Rattle.wc_grammar_laws.specs.Moves.{Met, State, are_no_lines}
@@ -13,12 +13,12 @@ use Rattle.wc_model.specs.declared.fault.Fault.TheVariants.{Refused}
 use Rattle.wc_reader.specs.LineViews.{line_state_view}
 use Rattle.wc_reader.specs.declared.body.Body.{Body}
 use Rattle.wc_reader.specs.declared.body.Opening.{Opening}
-use Rattle.wc_reader.specs.declared.declarations.DeclarationPlace.{DeclarationPlace}
-use Rattle.wc_reader.specs.declared.declarations.DeclarationPlace.TheVariants.{Undeclared, BehindNames, BehindComma, BehindColon, BehindType, BehindAssign, BehindValue}
+use Rattle.wc_reader.specs.declared.declarations.DeclarationState.{DeclarationState}
+use Rattle.wc_reader.specs.declared.declarations.DeclarationState.TheVariants.{Undeclared, BehindNames, BehindComma, BehindColon, BehindType, BehindAssign, BehindValue}
 use Rattle.wc_reader.specs.declared.declarations.Declaring.{Declaring as SectionRead}
-use Rattle.wc_reader.specs.declared.place.Place.{Place}
-use Rattle.wc_reader.specs.declared.place.Place.TheVariants.{Outside, Unnamed, Declaring, AtLine, OnLine, Closed}
-use Rattle.wc_reader.specs.declared.place.Reading.{Reading}
+use Rattle.wc_reader.specs.declared.text_state.TextState.{TextState}
+use Rattle.wc_reader.specs.declared.text_state.TextState.TheVariants.{Outside, Unnamed, Declaring, AtLine, OnLine, Closed}
+use Rattle.wc_reader.specs.declared.text_state.Reading.{Reading}
 
 -- a fault as the library tells it
 abbrev pub fault_of : Met → Fault
@@ -54,7 +54,7 @@ pub record IsCounted (body : Body) : Type 0 where
   pub seen : are_no_lines (lines_view body.done.items) ≡ (length body.done.items == 0)
 
 -- how far a declaration has been read
-abbrev pub declaring_view : DeclarationPlace → moves.InDeclaration
+abbrev pub declaring_view : DeclarationState → moves.InDeclaration
 declaring_view Undeclared = moves.Undeclared
 declaring_view (BehindNames names) = moves.BehindNames (map word_view names.items)
 declaring_view (BehindComma names) = moves.BehindComma (map word_view names.items)
@@ -65,27 +65,27 @@ declaring_view (BehindValue names type_name initial) = moves.BehindValue (map wo
 
 -- how far a section has been read, or where the body starts behind it
 abbrev pub section_view : List ProgramUnit → SectionRead → State
-section_view units read = elim read.place [
-  | Some place ↦ moves.Declaring units (unit_view read.unit) read.section (declaring_view place)
+section_view units read = elim read.state [
+  | Some state ↦ moves.Declaring units (unit_view read.unit) read.section (declaring_view state)
   | None ↦ moves.AtLine (moves.body_start units (unit_view read.unit))
 ]
 
 -- how far a text has been read behind these units
-abbrev pub state_view : List ProgramUnit → Place → State
+abbrev pub state_view : List ProgramUnit → TextState → State
 state_view units Outside = moves.Outside units
 state_view units (Unnamed kind line) = moves.Unnamed units kind line
-state_view units (Declaring unit section place) = moves.Declaring units (unit_view unit) section (declaring_view place)
+state_view units (Declaring unit section state) = moves.Declaring units (unit_view unit) section (declaring_view state)
 state_view units (AtLine body) = moves.AtLine (position_view units body)
 state_view units (OnLine body line) = moves.OnLine (position_view units body) (line_state_view line)
 state_view units (Closed body) = moves.Closed (position_view units body)
 
 -- how far a text has been read
 abbrev pub reading_view : Reading → State
-reading_view reading = state_view (map unit_view reading.units.items) reading.place
+reading_view reading = state_view (map unit_view reading.units.items) reading.state
 
 -- the lines of the body that is read are counted
-abbrev pub IsPlaceCounted : Place → Type 0
-IsPlaceCounted (AtLine body) = IsCounted body
-IsPlaceCounted (OnLine body line) = IsCounted body
-IsPlaceCounted (Closed body) = IsCounted body
-IsPlaceCounted _ = Unit {0}
+abbrev pub IsStateCounted : TextState → Type 0
+IsStateCounted (AtLine body) = IsCounted body
+IsStateCounted (OnLine body line) = IsCounted body
+IsStateCounted (Closed body) = IsCounted body
+IsStateCounted _ = Unit {0}

@@ -1,6 +1,7 @@
 ghost use Rattle.std.specs.Prelude.{◌≡◌, ◌==◌, ◌+◌, ◌∷◌, [], length, min, IfOk, MatchOption, IfSome, List, Some, map, option_map};
 ghost use Rattle.wc_grammar_laws.specs.LineMoves as lines;
 ghost use Rattle.wc_grammar_laws.specs.Moves as moves;
+ghost use Rattle.wc_model.specs.Text.Limits.{most_lines};
 ghost use Rattle.wc_model.specs.Text.Positions as positions;
 ghost use Rattle.wc_model.specs.Language.Tree as tree;
 ghost use Rattle.wc_model.specs.Language.Tree.{Lines, ProgramUnit};
@@ -8,7 +9,7 @@ ghost use Rattle.wc_model.specs.Language.Views.{assignment_view, line_view, line
 ghost use Rattle.wc_reader.specs.LineViews.{form_view, step_view};
 ghost use Rattle.wc_reader.specs.TextViews.{IsCounted, position_view, opening_view, openings_view};
 
-use crate::line_place::{Begun, LineForm, Listed, Step};
+use crate::line_state::{Begun, LineForm, Listed, Step};
 use std::alloc::{AllocError, Global};
 use wc_model::{Instr, Line, Operand, Operator, Unit, Word};
 
@@ -167,11 +168,18 @@ fn nested_line<'a>(
     }
 }
 
+/// The greatest number of lines in a unit.
+pub(crate) const MOST_LINES: usize = 1024;
+
 /// One line more, as far as lines are counted.
 fn one_more(count: usize) -> usize
-    ensures { result ≡ min (count + 1) 1024 }
+    ensures { result ≡ min (count + 1) most_lines }
 {
-    if count < 1024 { count + 1 } else { 1024 }
+    if count < MOST_LINES {
+        count + 1
+    } else {
+        MOST_LINES
+    }
 }
 
 /// The body behind a label alone.
@@ -294,7 +302,8 @@ fn closed<'a>(
 /// Whether a parenthesis holds something.
 pub(crate) fn has_content<'a>(opening: &Opening<'a>, done: &[Line<'a>]) -> bool
     requires { moves.are_no_lines (lines_view done.now) ≡ (length done.now == 0) }
-    ensures { result ≡ moves.has_content (opening_view opening.now).operand (lines_view done.now) }
+    ensures { result
+        ≡ moves.has_content (opening_view opening.now).operand (lines_view done.now) }
 {
     match opening.operand {
         Some(_) => true,

@@ -6,38 +6,38 @@ ghost use Rattle.wc_model.specs.Text.Positions as positions;
 ghost use Rattle.wc_model.specs.Language.Tree.{ProgramUnit};
 ghost use Rattle.wc_model.specs.Language.Views.{lines_view, unit_view};
 ghost use Rattle.wc_reader.specs.LineViews.{line_state_view};
-ghost use Rattle.wc_reader.specs.TextViews.{IsCounted, IsPlaceCounted, position_view, state_view, reading_view};
+ghost use Rattle.wc_reader.specs.TextViews.{IsCounted, IsStateCounted, position_view, state_view, reading_view};
 ghost use Rattle.wc_reader.specs.Words.{symbol_view};
 
 use crate::body::{Body, behind_closing, behind_line};
-use crate::declarations::{DeclarationPlace, Declaring};
-use crate::line_place::LinePlace;
+use crate::declarations::{DeclarationState, Declaring};
+use crate::line_state::LineState;
 use crate::lines::{at_start, at_start_inside, line_move};
-use crate::place::{Place, Reading};
+use crate::text_state::{Reading, TextState};
 use crate::words::{ends_unit, section, word};
 use std::alloc::{AllocError, Global};
 use wc_lexer::{Shape, Token};
 use wc_model::{Line, Section, Unit};
 
 /// On a line, or behind its end.
-fn line_place<'a>(
+fn line_state<'a>(
     alloc: Global,
     body: Body<'a>,
-    line: LinePlace<'a>,
-) -> Result<Place<'a>, AllocError>
+    line: LineState<'a>,
+) -> Result<TextState<'a>, AllocError>
     requires { IsCounted body }
     ensures behind { IfOk result
         (λ next. (units : List ProgramUnit)
         → state_view units next
         ≡ moves.on_line (position_view units body.entry) (line_state_view line.entry)) }
-    ensures counted { IfOk result (λ next. IsPlaceCounted next) }
+    ensures counted { IfOk result (λ next. IsStateCounted next) }
 {
     match line {
-        LinePlace::Ended(form) => {
+        LineState::Ended(form) => {
             let body = behind_line(alloc, body, form)?;
-            Ok(Place::AtLine(body))
+            Ok(TextState::AtLine(body))
         }
-        line => Ok(Place::OnLine(body, line)),
+        line => Ok(TextState::OnLine(body, line)),
     }
 }
 
@@ -45,20 +45,20 @@ fn line_place<'a>(
 fn on_line<'a>(
     alloc: Global,
     body: Body<'a>,
-    line: Option<LinePlace<'a>>,
-) -> Result<Option<Place<'a>>, AllocError>
+    line: Option<LineState<'a>>,
+) -> Result<Option<TextState<'a>>, AllocError>
     requires { IsCounted body }
     ensures behind { IfOk result
         (λ next. (units : List ProgramUnit)
         → option_map (state_view units) next
         ≡ moves.begun_line (position_view units body.entry)
         (option_map line_state_view line.entry)) }
-    ensures counted { IfOk result (λ next. IfSome next (λ it. IsPlaceCounted it)) }
+    ensures counted { IfOk result (λ next. IfSome next (λ it. IsStateCounted it)) }
 {
     match line {
         Some(line) => {
-            let place = line_place(alloc, body, line)?;
-            Ok(Some(place))
+            let state = line_state(alloc, body, line)?;
+            Ok(Some(state))
         }
         None => Ok(None),
     }
@@ -78,7 +78,7 @@ fn at_word<'a>(
     alloc: Global,
     body: Body<'a>,
     token: Token<'a>,
-) -> Result<Option<Place<'a>>, AllocError>
+) -> Result<Option<TextState<'a>>, AllocError>
     requires counted { IsCounted body }
     requires identifier { symbol_view token ≡ marks.Identifier token.text.now }
     ensures behind { IfOk result
@@ -87,29 +87,29 @@ fn at_word<'a>(
         ≡ moves.section_or_line
         (position_view units body.entry) token.entry.text.now token.entry.line
         (moves.section_begun (lines_view body.entry.done.items) (name_of token.entry.text.now))) }
-    ensures counted { IfOk result (λ next. IfSome next (λ it. IsPlaceCounted it)) }
+    ensures counted { IfOk result (λ next. IfSome next (λ it. IsStateCounted it)) }
 {
     match section_begun(&body.done, token.text) {
-        Some(section) => Ok(Some(Place::Declaring(
+        Some(section) => Ok(Some(TextState::Declaring(
             body.unit,
             section,
-            DeclarationPlace::Undeclared,
+            DeclarationState::Undeclared,
         ))),
         None => on_line(alloc, body, at_start(token, false)),
     }
 }
 
 /// Behind the token after a `)`: the line's end.
-pub(crate) fn at_closed<'a>(body: Body<'a>, token: Token<'a>) -> Option<Place<'a>>
+pub(crate) fn at_closed<'a>(body: Body<'a>, token: Token<'a>) -> Option<TextState<'a>>
     requires { IsCounted body }
     ensures behind { (units : List ProgramUnit) (line : ℕ) (colon : Bool)
         → option_map (state_view units) result
         ≡ moves.move (moves.Closed (position_view units body.entry))
         (symbol_view token.entry) line colon }
-    ensures counted { IfSome result (λ it. IsPlaceCounted it) }
+    ensures counted { IfSome result (λ it. IsStateCounted it) }
 {
     match token.shape {
-        Shape::LineEnd => Some(Place::AtLine(body)),
+        Shape::LineEnd => Some(TextState::AtLine(body)),
         _ => None,
     }
 }
@@ -120,7 +120,7 @@ fn behind_unit<'a>(units: Vec<Unit<'a>, Global>, body: Body<'a>) -> Result<Readi
         (λ next.
         reading_view next
         ≡ moves.behind_unit (position_view (map unit_view units.entry.items) body.entry)) }
-    ensures counted { IfOk result (λ next. IsPlaceCounted next.place) }
+    ensures counted { IfOk result (λ next. IsStateCounted next.state) }
 {
     let mut units = units;
     let Body { unit, done, .. } = body;
@@ -140,22 +140,22 @@ fn behind_unit<'a>(units: Vec<Unit<'a>, Global>, body: Body<'a>) -> Result<Readi
     })?;
     Ok(Reading {
         units,
-        place: Place::Outside,
+        state: TextState::Outside,
     })
 }
 
 /// The units, where the token is inside the text that they begin.
 pub(crate) fn with_units<'a>(
     units: Vec<Unit<'a>, Global>,
-    place: Option<Place<'a>>,
+    state: Option<TextState<'a>>,
 ) -> Option<Reading<'a>>
-    requires { IfSome place (λ it. IsPlaceCounted it) }
+    requires { IfSome state (λ it. IsStateCounted it) }
     ensures behind { option_map reading_view result
-        ≡ option_map (state_view (map unit_view units.entry.items)) place.entry }
-    ensures counted { IfSome result (λ it. IsPlaceCounted it.place) }
+        ≡ option_map (state_view (map unit_view units.entry.items)) state.entry }
+    ensures counted { IfSome result (λ it. IsStateCounted it.state) }
 {
-    match place {
-        Some(place) => Some(Reading { units, place }),
+    match state {
+        Some(state) => Some(Reading { units, state }),
         None => None,
     }
 }
@@ -175,14 +175,14 @@ fn at_body_word<'a>(
         ≡ moves.word_move
         (position_view (map unit_view units.entry.items) body.entry)
         token.entry.text.now token.entry.line) }
-    ensures counted { IfOk result (λ next. IfSome next (λ it. IsPlaceCounted it.place)) }
+    ensures counted { IfOk result (λ next. IfSome next (λ it. IsStateCounted it.state)) }
 {
     if ends_unit(token.text, body.unit.kind) {
         let reading = behind_unit(units, body)?;
         Ok(Some(reading))
     } else {
-        let place = at_word(alloc, body, token)?;
-        Ok(with_units(units, place))
+        let state = at_word(alloc, body, token)?;
+        Ok(with_units(units, state))
     }
 }
 
@@ -201,11 +201,11 @@ fn at_body_identifier<'a>(
         option_map reading_view next
         ≡ moves.body_move (position_view (map unit_view units.entry.items) body.entry)
         (marks.Identifier token.entry.text.now) token.entry.line colon) }
-    ensures counted { IfOk result (λ next. IfSome next (λ it. IsPlaceCounted it.place)) }
+    ensures counted { IfOk result (λ next. IfSome next (λ it. IsStateCounted it.state)) }
 {
     if colon {
-        let place = on_line(alloc, body, at_start(token, true))?;
-        Ok(with_units(units, place))
+        let state = on_line(alloc, body, at_start(token, true))?;
+        Ok(with_units(units, state))
     } else {
         at_body_word(alloc, units, body, token)
     }
@@ -225,19 +225,19 @@ fn at_body_line<'a>(
         option_map reading_view next
         ≡ moves.body_move (position_view (map unit_view units.entry.items) body.entry)
         (symbol_view token.entry) token.entry.line colon) }
-    ensures counted { IfOk result (λ next. IfSome next (λ it. IsPlaceCounted it.place)) }
+    ensures counted { IfOk result (λ next. IfSome next (λ it. IsStateCounted it.state)) }
 {
     match token.shape {
         Shape::Identifier => at_body_identifier(alloc, units, body, token, colon),
         _ => {
-            let place = on_line(alloc, body, at_start(token, colon))?;
-            Ok(with_units(units, place))
+            let state = on_line(alloc, body, at_start(token, colon))?;
+            Ok(with_units(units, state))
         }
     }
 }
 
 /// Behind a `)` at the start of a line.
-fn at_closing<'a>(body: Body<'a>, line: u32) -> Result<Option<Place<'a>>, AllocError>
+fn at_closing<'a>(body: Body<'a>, line: u32) -> Result<Option<TextState<'a>>, AllocError>
     requires { IsCounted body }
     ensures behind { IfOk result
         (λ next.
@@ -245,10 +245,10 @@ fn at_closing<'a>(body: Body<'a>, line: u32) -> Result<Option<Place<'a>>, AllocE
         → (position_view units body.entry).openings ≡ innermost ∷ outer
         → option_map (state_view units) next
         ≡ moves.closing_move (position_view units body.entry) innermost outer line) }
-    ensures counted { IfOk result (λ next. IfSome next (λ it. IsPlaceCounted it)) }
+    ensures counted { IfOk result (λ next. IfSome next (λ it. IsStateCounted it)) }
 {
     match behind_closing(body, line)? {
-        Some(body) => Ok(Some(Place::Closed(body))),
+        Some(body) => Ok(Some(TextState::Closed(body))),
         None => Ok(None),
     }
 }
@@ -258,7 +258,7 @@ fn at_inside_line<'a>(
     alloc: Global,
     body: Body<'a>,
     token: Token<'a>,
-) -> Result<Option<Place<'a>>, AllocError>
+) -> Result<Option<TextState<'a>>, AllocError>
     requires { IsCounted body }
     ensures behind { IfOk result
         (λ next.
@@ -267,7 +267,7 @@ fn at_inside_line<'a>(
         → option_map (state_view units) next
         ≡ moves.inside_move (position_view units body.entry) innermost outer
         (symbol_view token.entry) token.entry.line) }
-    ensures counted { IfOk result (λ next. IfSome next (λ it. IsPlaceCounted it)) }
+    ensures counted { IfOk result (λ next. IfSome next (λ it. IsStateCounted it)) }
 {
     match token.shape {
         Shape::Closing => at_closing(body, token.line),
@@ -289,13 +289,13 @@ fn at_line_start<'a>(
         option_map reading_view next
         ≡ moves.start_move (position_view (map unit_view units.entry.items) body.entry)
         (position_view [] body.entry).openings (symbol_view token.entry) token.entry.line colon) }
-    ensures counted { IfOk result (λ next. IfSome next (λ it. IsPlaceCounted it.place)) }
+    ensures counted { IfOk result (λ next. IfSome next (λ it. IsStateCounted it.state)) }
 {
     if body.openings.is_empty() {
         at_body_line(alloc, units, body, token, colon)
     } else {
-        let place = at_inside_line(alloc, body, token)?;
-        Ok(with_units(units, place))
+        let state = at_inside_line(alloc, body, token)?;
+        Ok(with_units(units, state))
     }
 }
 
@@ -313,12 +313,12 @@ pub(crate) fn at_line<'a>(
         option_map reading_view next
         ≡ moves.move (moves.AtLine (position_view (map unit_view units.entry.items) body.entry))
         (symbol_view token.entry) token.entry.line colon) }
-    ensures counted { IfOk result (λ next. IfSome next (λ it. IsPlaceCounted it.place)) }
+    ensures counted { IfOk result (λ next. IfSome next (λ it. IsStateCounted it.state)) }
 {
     match token.shape {
         Shape::LineEnd => Ok(Some(Reading {
             units,
-            place: Place::AtLine(body),
+            state: TextState::AtLine(body),
         })),
         _ => at_line_start(alloc, units, body, token, colon),
     }
@@ -328,16 +328,16 @@ pub(crate) fn at_line<'a>(
 pub(crate) fn along_line<'a>(
     alloc: Global,
     body: Body<'a>,
-    line: LinePlace<'a>,
+    line: LineState<'a>,
     token: Token<'a>,
-) -> Result<Option<Place<'a>>, AllocError>
+) -> Result<Option<TextState<'a>>, AllocError>
     requires { IsCounted body }
     ensures behind { IfOk result
         (λ next. (units : List ProgramUnit) (colon : Bool)
         → option_map (state_view units) next
         ≡ moves.move (moves.OnLine (position_view units body.entry) (line_state_view line.entry))
         (symbol_view token.entry) token.entry.line colon) }
-    ensures counted { IfOk result (λ next. IfSome next (λ it. IsPlaceCounted it)) }
+    ensures counted { IfOk result (λ next. IfSome next (λ it. IsStateCounted it)) }
 {
     let line = line_move(alloc, line, token)?;
     on_line(alloc, body, line)

@@ -5,7 +5,7 @@ ghost use Rattle.wc_model.specs.Language.Views.{name_view};
 ghost use Rattle.wc_reader.specs.LineViews.{begun_view, item_view, line_state_view, listed_view};
 ghost use Rattle.wc_reader.specs.Words.{symbol_view};
 
-use crate::line_place::{Begun, InList, LineForm, LinePlace, Listed, OperandOf, Step};
+use crate::line_state::{Begun, InList, LineForm, LineState, Listed, OperandOf, Step};
 use crate::operands::at_operand;
 use crate::words::word;
 use std::alloc::{AllocError, Global};
@@ -19,7 +19,7 @@ pub(crate) fn at_instance<'a>(
     condition: Condition,
     instance: Word<'a>,
     token: Token<'a>,
-) -> Option<LinePlace<'a>>
+) -> Option<LineState<'a>>
     ensures { (setting : Setting) (line : ℕ) (colon : Bool)
         → option_map line_state_view result
         ≡ lines.line_move setting
@@ -32,37 +32,37 @@ pub(crate) fn at_instance<'a>(
         arguments: Vec::new(alloc),
     };
     match token.shape {
-        Shape::LineEnd => Some(LinePlace::Ended(LineForm::Instructs(begun, Step::Call(call)))),
-        Shape::Opening => Some(LinePlace::Listing(begun, call, InList::AtFirst)),
+        Shape::LineEnd => Some(LineState::Ended(LineForm::Instructs(begun, Step::Call(call)))),
+        Shape::Opening => Some(LineState::Listing(begun, call, InList::AtFirst)),
         _ => None,
     }
 }
 
 /// Behind the token after the list's bracket: an input, or the list's end.
-fn at_first<'a>(begun: Begun<'a>, call: Listed<'a>, token: Token<'a>) -> Option<LinePlace<'a>>
+fn at_first<'a>(begun: Begun<'a>, call: Listed<'a>, token: Token<'a>) -> Option<LineState<'a>>
     ensures { (line : ℕ)
         → option_map line_state_view result
         ≡ lines.at_list (begun_view begun.entry) (listed_view call.entry) lines.AtFirst
         (symbol_view token.entry) line }
 {
     match token.shape {
-        Shape::LineEnd => Some(LinePlace::Listing(begun, call, InList::AtFirst)),
-        Shape::Identifier => Some(LinePlace::Listing(begun, call, InList::AtAssign(word(token)))),
-        Shape::Closing => Some(LinePlace::Stepped(begun, Step::Call(call))),
+        Shape::LineEnd => Some(LineState::Listing(begun, call, InList::AtFirst)),
+        Shape::Identifier => Some(LineState::Listing(begun, call, InList::AtAssign(word(token)))),
+        Shape::Closing => Some(LineState::Stepped(begun, Step::Call(call))),
         _ => None,
     }
 }
 
 /// Behind the token after a comma: an input.
-fn at_next<'a>(begun: Begun<'a>, call: Listed<'a>, token: Token<'a>) -> Option<LinePlace<'a>>
+fn at_next<'a>(begun: Begun<'a>, call: Listed<'a>, token: Token<'a>) -> Option<LineState<'a>>
     ensures { (line : ℕ)
         → option_map line_state_view result
         ≡ lines.at_list (begun_view begun.entry) (listed_view call.entry) lines.AtNext
         (symbol_view token.entry) line }
 {
     match token.shape {
-        Shape::LineEnd => Some(LinePlace::Listing(begun, call, InList::AtNext)),
-        Shape::Identifier => Some(LinePlace::Listing(begun, call, InList::AtAssign(word(token)))),
+        Shape::LineEnd => Some(LineState::Listing(begun, call, InList::AtNext)),
+        Shape::Identifier => Some(LineState::Listing(begun, call, InList::AtAssign(word(token)))),
         _ => None,
     }
 }
@@ -73,15 +73,15 @@ fn at_assign<'a>(
     call: Listed<'a>,
     input: Word<'a>,
     token: Token<'a>,
-) -> Option<LinePlace<'a>>
+) -> Option<LineState<'a>>
     ensures { (line : ℕ)
         → option_map line_state_view result
         ≡ lines.at_list (begun_view begun.entry) (listed_view call.entry)
         (lines.AtAssign (name_view input.entry)) (symbol_view token.entry) line }
 {
     match token.shape {
-        Shape::LineEnd => Some(LinePlace::Listing(begun, call, InList::AtAssign(input))),
-        Shape::Assign => Some(LinePlace::Listing(begun, call, InList::AtValue(input))),
+        Shape::LineEnd => Some(LineState::Listing(begun, call, InList::AtAssign(input))),
+        Shape::Assign => Some(LineState::Listing(begun, call, InList::AtValue(input))),
         _ => None,
     }
 }
@@ -92,7 +92,7 @@ fn at_value<'a>(
     call: Listed<'a>,
     input: Word<'a>,
     token: Token<'a>,
-) -> Result<Option<LinePlace<'a>>, AllocError>
+) -> Result<Option<LineState<'a>>, AllocError>
     ensures { IfOk result
         (λ next.
         option_map line_state_view next
@@ -100,22 +100,22 @@ fn at_value<'a>(
         (lines.AtValue (name_view input.entry)) (symbol_view token.entry) token.entry.line) }
 {
     match token.shape {
-        Shape::LineEnd => Ok(Some(LinePlace::Listing(begun, call, InList::AtValue(input)))),
+        Shape::LineEnd => Ok(Some(LineState::Listing(begun, call, InList::AtValue(input)))),
         _ => at_operand(begun, OperandOf::OfArgument(call, input), token),
     }
 }
 
 /// Behind the token after a whole argument: a comma, or the list's end.
-fn at_end<'a>(begun: Begun<'a>, call: Listed<'a>, token: Token<'a>) -> Option<LinePlace<'a>>
+fn at_end<'a>(begun: Begun<'a>, call: Listed<'a>, token: Token<'a>) -> Option<LineState<'a>>
     ensures { (line : ℕ)
         → option_map line_state_view result
         ≡ lines.at_list (begun_view begun.entry) (listed_view call.entry) lines.AtEnd
         (symbol_view token.entry) line }
 {
     match token.shape {
-        Shape::LineEnd => Some(LinePlace::Listing(begun, call, InList::AtEnd)),
-        Shape::Comma => Some(LinePlace::Listing(begun, call, InList::AtNext)),
-        Shape::Closing => Some(LinePlace::Stepped(begun, Step::Call(call))),
+        Shape::LineEnd => Some(LineState::Listing(begun, call, InList::AtEnd)),
+        Shape::Comma => Some(LineState::Listing(begun, call, InList::AtNext)),
+        Shape::Closing => Some(LineState::Stepped(begun, Step::Call(call))),
         _ => None,
     }
 }
@@ -126,7 +126,7 @@ pub(crate) fn at_list<'a>(
     call: Listed<'a>,
     item: InList<'a>,
     token: Token<'a>,
-) -> Result<Option<LinePlace<'a>>, AllocError>
+) -> Result<Option<LineState<'a>>, AllocError>
     ensures { IfOk result
         (λ next.
         option_map line_state_view next

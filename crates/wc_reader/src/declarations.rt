@@ -7,14 +7,14 @@ ghost use Rattle.wc_model.specs.declared.source.Section.{Section};
 ghost use Rattle.wc_reader.specs.TextViews.{declaring_view, section_view};
 ghost use Rattle.wc_reader.specs.Words.{symbol_view};
 
-use crate::words::{is_word, literal, word};
+use crate::words::{literal, word};
 use std::alloc::{AllocError, Global};
 use wc_lexer::{Shape, Token};
-use wc_model::{Decl, Initial, Section, Unit, Word};
+use wc_model::{Decl, Initial, Section, Unit, Word, is_word};
 
 /// How far a section of declarations has been read.
 #[derive(Debug, Drop)]
-pub(crate) enum DeclarationPlace<'a> {
+pub(crate) enum DeclarationState<'a> {
     /// Before a declaration.
     Undeclared,
     /// Behind a name.
@@ -37,7 +37,7 @@ pub(crate) struct Declaring<'a> {
     pub unit: Unit<'a>,
     pub section: Section,
     /// None behind END_VAR.
-    pub place: Option<DeclarationPlace<'a>>,
+    pub state: Option<DeclarationState<'a>>,
 }
 
 /// The unit with one more declaration.
@@ -79,7 +79,7 @@ fn declared<'a>(
     Ok(Declaring {
         unit,
         section,
-        place: Some(DeclarationPlace::Undeclared),
+        state: Some(DeclarationState::Undeclared),
     })
 }
 
@@ -87,15 +87,15 @@ fn declared<'a>(
 fn with_name<'a>(
     names: Vec<Word<'a>, Global>,
     name: Word<'a>,
-) -> Result<DeclarationPlace<'a>, AllocError>
+) -> Result<DeclarationState<'a>, AllocError>
     ensures { IfOk result
-        (λ place.
-        declaring_view place
+        (λ state.
+        declaring_view state
         ≡ moves.BehindNames (map word_view names.entry.items ++ word_view name.entry ∷ [])) }
 {
     let mut names = names;
     names.push(name)?;
-    Ok(DeclarationPlace::BehindNames(names))
+    Ok(DeclarationState::BehindNames(names))
 }
 
 /// Behind the identifier that begins a declaration or ends the section.
@@ -114,14 +114,14 @@ fn at_first_name<'a>(
         Ok(Declaring {
             unit,
             section,
-            place: None,
+            state: None,
         })
     } else {
-        let place = with_name(Vec::new(alloc), name)?;
+        let state = with_name(Vec::new(alloc), name)?;
         Ok(Declaring {
             unit,
             section,
-            place: Some(place),
+            state: Some(state),
         })
     }
 }
@@ -143,7 +143,7 @@ fn at_undeclared<'a>(
         Shape::LineEnd => Ok(Some(Declaring {
             unit,
             section,
-            place: Some(DeclarationPlace::Undeclared),
+            state: Some(DeclarationState::Undeclared),
         })),
         Shape::Identifier => {
             let next = at_first_name(alloc, unit, section, word(token))?;
@@ -154,16 +154,16 @@ fn at_undeclared<'a>(
 }
 
 /// Behind the token after a name: a comma or the colon.
-fn at_names<'a>(names: Vec<Word<'a>, Global>, token: Token<'a>) -> Option<DeclarationPlace<'a>>
+fn at_names<'a>(names: Vec<Word<'a>, Global>, token: Token<'a>) -> Option<DeclarationState<'a>>
     ensures { (units : List ProgramUnit) (unit : ProgramUnit) (section : Section) (line : ℕ)
-        → option_map (λ place. moves.Declaring units unit section (declaring_view place)) result
+        → option_map (λ state. moves.Declaring units unit section (declaring_view state)) result
         ≡ moves.declaration_move units unit section
         (moves.BehindNames (map word_view names.entry.items)) (symbol_view token.entry) line }
 {
     match token.shape {
-        Shape::LineEnd => Some(DeclarationPlace::BehindNames(names)),
-        Shape::Comma => Some(DeclarationPlace::BehindComma(names)),
-        Shape::Colon => Some(DeclarationPlace::BehindColon(names)),
+        Shape::LineEnd => Some(DeclarationState::BehindNames(names)),
+        Shape::Comma => Some(DeclarationState::BehindComma(names)),
+        Shape::Colon => Some(DeclarationState::BehindColon(names)),
         _ => None,
     }
 }
@@ -172,16 +172,16 @@ fn at_names<'a>(names: Vec<Word<'a>, Global>, token: Token<'a>) -> Option<Declar
 fn at_next_name<'a>(
     names: Vec<Word<'a>, Global>,
     token: Token<'a>,
-) -> Result<Option<DeclarationPlace<'a>>, AllocError>
+) -> Result<Option<DeclarationState<'a>>, AllocError>
     ensures { IfOk result
         (λ next. (units : List ProgramUnit) (unit : ProgramUnit) (section : Section)
-        → option_map (λ place. moves.Declaring units unit section (declaring_view place)) next
+        → option_map (λ state. moves.Declaring units unit section (declaring_view state)) next
         ≡ moves.declaration_move units unit section
         (moves.BehindComma (map word_view names.entry.items))
         (symbol_view token.entry) token.entry.line) }
 {
     match token.shape {
-        Shape::LineEnd => Ok(Some(DeclarationPlace::BehindComma(names))),
+        Shape::LineEnd => Ok(Some(DeclarationState::BehindComma(names))),
         Shape::Identifier => {
             let next = with_name(names, word(token))?;
             Ok(Some(next))
@@ -191,16 +191,16 @@ fn at_next_name<'a>(
 }
 
 /// Behind the token after the colon: the type.
-fn at_type<'a>(names: Vec<Word<'a>, Global>, token: Token<'a>) -> Option<DeclarationPlace<'a>>
+fn at_type<'a>(names: Vec<Word<'a>, Global>, token: Token<'a>) -> Option<DeclarationState<'a>>
     ensures { (units : List ProgramUnit) (unit : ProgramUnit) (section : Section)
-        → option_map (λ place. moves.Declaring units unit section (declaring_view place)) result
+        → option_map (λ state. moves.Declaring units unit section (declaring_view state)) result
         ≡ moves.declaration_move units unit section
         (moves.BehindColon (map word_view names.entry.items))
         (symbol_view token.entry) token.entry.line }
 {
     match token.shape {
-        Shape::LineEnd => Some(DeclarationPlace::BehindColon(names)),
-        Shape::Identifier => Some(DeclarationPlace::BehindType(names, word(token))),
+        Shape::LineEnd => Some(DeclarationState::BehindColon(names)),
+        Shape::Identifier => Some(DeclarationState::BehindType(names, word(token))),
         _ => None,
     }
 }
@@ -210,15 +210,15 @@ fn behind_literal<'a>(
     names: Vec<Word<'a>, Global>,
     type_name: Word<'a>,
     token: Token<'a>,
-) -> Option<DeclarationPlace<'a>>
+) -> Option<DeclarationState<'a>>
     ensures { (units : List ProgramUnit) (unit : ProgramUnit) (section : Section)
-        → option_map (λ place. moves.Declaring units unit section (declaring_view place)) result
+        → option_map (λ state. moves.Declaring units unit section (declaring_view state)) result
         ≡ moves.at_value units unit section (map word_view names.entry.items)
         (word_view type_name.entry) token.entry.line (literal_of (symbol_view token.entry)) }
 {
     let line = token.line;
     match literal(token) {
-        Some(value) => Some(DeclarationPlace::BehindValue(
+        Some(value) => Some(DeclarationState::BehindValue(
             names,
             type_name,
             Initial { value, line },
@@ -232,15 +232,15 @@ fn at_value<'a>(
     names: Vec<Word<'a>, Global>,
     type_name: Word<'a>,
     token: Token<'a>,
-) -> Option<DeclarationPlace<'a>>
+) -> Option<DeclarationState<'a>>
     ensures { (units : List ProgramUnit) (unit : ProgramUnit) (section : Section)
-        → option_map (λ place. moves.Declaring units unit section (declaring_view place)) result
+        → option_map (λ state. moves.Declaring units unit section (declaring_view state)) result
         ≡ moves.declaration_move units unit section
         (moves.BehindAssign (map word_view names.entry.items) (word_view type_name.entry))
         (symbol_view token.entry) token.entry.line }
 {
     match token.shape {
-        Shape::LineEnd => Some(DeclarationPlace::BehindAssign(names, type_name)),
+        Shape::LineEnd => Some(DeclarationState::BehindAssign(names, type_name)),
         _ => behind_literal(names, type_name, token),
     }
 }
@@ -264,12 +264,12 @@ fn behind_type<'a>(
         Shape::LineEnd => Ok(Some(Declaring {
             unit,
             section,
-            place: Some(DeclarationPlace::BehindType(names, type_name)),
+            state: Some(DeclarationState::BehindType(names, type_name)),
         })),
         Shape::Assign => Ok(Some(Declaring {
             unit,
             section,
-            place: Some(DeclarationPlace::BehindAssign(names, type_name)),
+            state: Some(DeclarationState::BehindAssign(names, type_name)),
         })),
         Shape::Semicolon => {
             let next = declared(unit, section, names, type_name, None)?;
@@ -299,7 +299,7 @@ fn behind_value<'a>(
         Shape::LineEnd => Ok(Some(Declaring {
             unit,
             section,
-            place: Some(DeclarationPlace::BehindValue(names, type_name, initial)),
+            state: Some(DeclarationState::BehindValue(names, type_name, initial)),
         })),
         Shape::Semicolon => {
             let next = declared(unit, section, names, type_name, Some(initial))?;
@@ -309,23 +309,23 @@ fn behind_value<'a>(
     }
 }
 
-/// The unit and section at a place, where there is one.
+/// The unit and section at a state, where there is one.
 fn placed<'a>(
     unit: Unit<'a>,
     section: Section,
-    place: Option<DeclarationPlace<'a>>,
+    state: Option<DeclarationState<'a>>,
 ) -> Option<Declaring<'a>>
     ensures { (units : List ProgramUnit)
         → option_map (section_view units) result
         ≡ option_map
         (λ it. moves.Declaring units (unit_view unit.entry) section (declaring_view it))
-        place.entry }
+        state.entry }
 {
-    match place {
-        Some(place) => Some(Declaring {
+    match state {
+        Some(state) => Some(Declaring {
             unit,
             section,
-            place: Some(place),
+            state: Some(state),
         }),
         None => None,
     }
@@ -336,32 +336,32 @@ pub(crate) fn declaration_move<'a>(
     alloc: Global,
     unit: Unit<'a>,
     section: Section,
-    place: DeclarationPlace<'a>,
+    state: DeclarationState<'a>,
     token: Token<'a>,
 ) -> Result<Option<Declaring<'a>>, AllocError>
     ensures { IfOk result
         (λ next. (units : List ProgramUnit)
         → option_map (section_view units) next
-        ≡ moves.declaration_move units (unit_view unit.entry) section (declaring_view place.entry)
+        ≡ moves.declaration_move units (unit_view unit.entry) section (declaring_view state.entry)
         (symbol_view token.entry) token.entry.line) }
 {
-    match place {
-        DeclarationPlace::Undeclared => at_undeclared(alloc, unit, section, token),
-        DeclarationPlace::BehindNames(names) => Ok(placed(unit, section, at_names(names, token))),
-        DeclarationPlace::BehindComma(names) => {
-            let place = at_next_name(names, token)?;
-            Ok(placed(unit, section, place))
+    match state {
+        DeclarationState::Undeclared => at_undeclared(alloc, unit, section, token),
+        DeclarationState::BehindNames(names) => Ok(placed(unit, section, at_names(names, token))),
+        DeclarationState::BehindComma(names) => {
+            let state = at_next_name(names, token)?;
+            Ok(placed(unit, section, state))
         }
-        DeclarationPlace::BehindColon(names) => Ok(placed(unit, section, at_type(names, token))),
-        DeclarationPlace::BehindType(names, type_name) => behind_type(
+        DeclarationState::BehindColon(names) => Ok(placed(unit, section, at_type(names, token))),
+        DeclarationState::BehindType(names, type_name) => behind_type(
             unit, section, names, type_name, token,
         ),
-        DeclarationPlace::BehindAssign(names, type_name) => Ok(placed(
+        DeclarationState::BehindAssign(names, type_name) => Ok(placed(
             unit,
             section,
             at_value(names, type_name, token),
         )),
-        DeclarationPlace::BehindValue(names, type_name, initial) => behind_value(
+        DeclarationState::BehindValue(names, type_name, initial) => behind_value(
             unit, section, names, type_name, initial, token,
         ),
     }

@@ -10,8 +10,8 @@ ghost use Rattle.wc_reader.specs.Told.{TellsReading};
 
 use crate::body::{Body, innermost};
 use crate::faults::has_program;
-use crate::line_place::{Begun, LinePlace, OperandOf};
-use crate::place::{Place, Reading};
+use crate::line_state::{Begun, LineState, OperandOf};
+use crate::text_state::{Reading, TextState};
 use std::alloc::Global;
 use wc_model::{Fault, Source, Unit};
 
@@ -60,16 +60,16 @@ fn open_behind_name<'a>(body: &Body<'a>, begun: &Begun<'a>, owner: &OperandOf<'a
 }
 
 /// On a line at the text's end: it may open a parenthesis.
-fn open_on<'a>(body: &Body<'a>, line: &LinePlace<'a>) -> Fault
+fn open_on<'a>(body: &Body<'a>, line: &LineState<'a>) -> Fault
     ensures { (units : List ProgramUnit)
         → result
         ≡ fault_of (moves.open_on (position_view units body.now) (line_state_view line.now)) }
 {
     match line {
-        LinePlace::Bracketed(begun, _) => open_since(begun.line),
-        LinePlace::BracketedWith(begun, _, _) => open_since(begun.line),
-        LinePlace::Named(begun, owner, _) => open_behind_name(body, begun, owner),
-        LinePlace::Pointed(begun, owner, _) => open_behind_name(body, begun, owner),
+        LineState::Bracketed(begun, _) => open_since(begun.line),
+        LineState::BracketedWith(begun, _, _) => open_since(begun.line),
+        LineState::Named(begun, owner, _) => open_behind_name(body, begun, owner),
+        LineState::Pointed(begun, owner, _) => open_behind_name(body, begun, owner),
         _ => open_in(body),
     }
 }
@@ -93,19 +93,19 @@ fn whole_text<'a>(units: Vec<Unit<'a>, Global>, last_line: u32) -> Result<Source
 pub(crate) fn at_text_end<'a>(reading: Reading<'a>, last_line: u32) -> Result<Source<'a>, Fault>
     ensures { TellsReading (moves.at_end (reading_view reading.entry) last_line) result }
 {
-    let Reading { units, place } = reading;
-    match place {
-        Place::Outside => whole_text(units, last_line),
-        Place::Unnamed(_kind, line) => Err(Fault::Refused {
+    let Reading { units, state } = reading;
+    match state {
+        TextState::Outside => whole_text(units, last_line),
+        TextState::Unnamed(_kind, line) => Err(Fault::Refused {
             number: 202,
             place: line,
         }),
-        Place::Declaring(unit, _section, _place) => Err(Fault::Refused {
+        TextState::Declaring(unit, _section, _state) => Err(Fault::Refused {
             number: 202,
             place: unit.line,
         }),
-        Place::AtLine(body) => Err(open_in(&body)),
-        Place::OnLine(body, line) => Err(open_on(&body, &line)),
-        Place::Closed(body) => Err(open_in(&body)),
+        TextState::AtLine(body) => Err(open_in(&body)),
+        TextState::OnLine(body, line) => Err(open_on(&body, &line)),
+        TextState::Closed(body) => Err(open_in(&body)),
     }
 }

@@ -11,14 +11,14 @@ ghost use Rattle.wc_model.specs.Language.Views.{unit_view};
 ghost use Rattle.wc_model.specs.declared.operator.Operator.{Operator};
 ghost use Rattle.wc_reader.specs.Programs.{is_program};
 ghost use Rattle.wc_reader.specs.LineViews.{begun_view, line_state_view};
-ghost use Rattle.wc_reader.specs.TextViews.{IsCounted, IsPlaceCounted, fault_of, position_view, openings_view, reading_view};
+ghost use Rattle.wc_reader.specs.TextViews.{IsCounted, IsStateCounted, fault_of, position_view, openings_view, reading_view};
 ghost use Rattle.wc_reader.specs.Words.{operating_view, symbol_view};
 
 use crate::body::{Body, Opening};
 use crate::line_faults::{labelled_fault, refused_if, start_fault};
-use crate::line_place::{Begun, LinePlace};
+use crate::line_state::{Begun, LineState};
 use crate::operators::Operating;
-use crate::place::{Place, Reading};
+use crate::text_state::{Reading, TextState};
 use crate::words::unit_kind;
 use wc_lexer::{Shape, Token};
 use wc_model::{Fault, Unit, UnitKind};
@@ -47,6 +47,12 @@ pub(crate) fn has_program(units: &[Unit]) -> bool
     any_program(units)
 }
 
+/// The greatest number of units in a text.
+const MOST_UNITS: usize = 64;
+
+/// The greatest depth of parentheses.
+const MOST_DEPTH: usize = 8;
+
 /// What is wrong with a unit's first word: a program stands before it, or it is one too many.
 fn word_fault(units: &[Unit], line: u32) -> Option<Fault>
     ensures { result
@@ -61,7 +67,7 @@ fn word_fault(units: &[Unit], line: u32) -> Option<Fault>
             place: line,
         })
     } else {
-        refused_if(units.len() >= 64, 208, line)
+        refused_if(units.len() >= MOST_UNITS, 208, line)
     }
 }
 
@@ -99,7 +105,7 @@ fn depth_fault<'a>(openings: &[Opening<'a>], line: u32) -> Option<Fault>
         (moves.met_if
         (nat_le most_depth (length (openings_view [] openings.now))) faults.TooDeep line) }
 {
-    refused_if(openings.len() >= 8, 207, line)
+    refused_if(openings.len() >= MOST_DEPTH, 207, line)
 }
 
 /// What is wrong with a token behind a deferrable operator.
@@ -138,7 +144,7 @@ fn operated_fault<'a>(
 }
 
 /// What is wrong with a token of a line that has begun: an operator behind a label, or a bracket behind an operator.
-fn place_fault<'a>(body: &Body<'a>, line: &LinePlace<'a>, token: Token<'a>) -> Option<Fault>
+fn state_fault<'a>(body: &Body<'a>, line: &LineState<'a>, token: Token<'a>) -> Option<Fault>
     requires { IsCounted body.now }
     ensures { (units : List ProgramUnit)
         → result
@@ -147,23 +153,23 @@ fn place_fault<'a>(body: &Body<'a>, line: &LinePlace<'a>, token: Token<'a>) -> O
         (symbol_view token.entry) token.entry.line) }
 {
     match line {
-        LinePlace::Labelled(_) => labelled_fault(body, token),
-        LinePlace::Operated(begun, operating) => operated_fault(body, begun, *operating, token),
+        LineState::Labelled(_) => labelled_fault(body, token),
+        LineState::Operated(begun, operating) => operated_fault(body, begun, *operating, token),
         _ => None,
     }
 }
 
 /// What is wrong with a token, other than that it is unexpected. `colon` says whether a colon follows it.
 pub(crate) fn fault_at<'a>(reading: &Reading<'a>, token: Token<'a>, colon: bool) -> Option<Fault>
-    requires { IsPlaceCounted reading.now.place }
+    requires { IsStateCounted reading.now.state }
     ensures { result
         ≡ option_map fault_of
         (moves.judge (reading_view reading.now) (symbol_view token.entry) token.entry.line colon) }
 {
-    match &reading.place {
-        Place::Outside => outside_fault(&reading.units, token),
-        Place::AtLine(body) => start_fault(body, token, colon),
-        Place::OnLine(body, line) => place_fault(body, line, token),
+    match &reading.state {
+        TextState::Outside => outside_fault(&reading.units, token),
+        TextState::AtLine(body) => start_fault(body, token, colon),
+        TextState::OnLine(body, line) => state_fault(body, line, token),
         _ => None,
     }
 }

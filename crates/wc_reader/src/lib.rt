@@ -9,13 +9,13 @@ mod declarations;
 mod ends;
 mod faults;
 mod line_faults;
-mod line_place;
+mod line_state;
 mod lines;
 mod moves;
 mod operands;
 mod operators;
-mod place;
 mod text;
+mod text_state;
 mod words;
 
 pub use text::read;

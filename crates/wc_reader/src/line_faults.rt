@@ -8,7 +8,7 @@ ghost use Rattle.wc_model.specs.Language.Tree.{ProgramUnit};
 ghost use Rattle.wc_reader.specs.TextViews.{IsCounted, fault_of, position_view, opening_view, openings_view};
 ghost use Rattle.wc_reader.specs.Words.{symbol_view};
 
-use crate::body::{Body, Opening, has_content, innermost};
+use crate::body::{Body, MOST_LINES, Opening, has_content, innermost};
 use crate::operators::{is_transfer, operation_of};
 use crate::words::ends_unit;
 use wc_lexer::{Shape, Token};
@@ -28,9 +28,10 @@ pub(crate) fn refused_if(test: bool, number: u16, place: u32) -> Option<Fault>
 /// Whether the unit has as many lines as it may.
 fn is_full(body: &Body) -> bool
     requires { IsCounted body.now }
-    ensures { (units : List ProgramUnit) → result ≡ moves.is_full (position_view units body.now) }
+    ensures { (units : List ProgramUnit)
+        → result ≡ moves.is_full (position_view units body.now) }
 {
-    body.count >= 1024
+    body.count >= MOST_LINES
 }
 
 /// A line too many, where the unit has as many as it may.

@@ -8,7 +8,7 @@ ghost use Rattle.wc_reader.specs.LineViews.{begun_view, line_state_view, step_vi
 ghost use Rattle.wc_reader.specs.Words.{operating_view, operation_view, symbol_view};
 
 use crate::calls::{at_instance, at_list};
-use crate::line_place::{Begun, LineForm, LinePlace, OperandOf, Step};
+use crate::line_state::{Begun, LineForm, LineState, OperandOf, Step};
 use crate::operands::{at_field, at_named, at_operand};
 use crate::operators::{Operating, Operation, is_transfer, operation_named, operation_of};
 use crate::words::word;
@@ -17,22 +17,22 @@ use wc_lexer::{Shape, Token};
 use wc_model::{Condition, Operand, Operator, Word};
 
 /// Behind an operator.
-fn behind_operator<'a>(label: Option<Word<'a>>, line: u32, operation: Operation) -> LinePlace<'a>
+fn behind_operator<'a>(label: Option<Word<'a>>, line: u32, operation: Operation) -> LineState<'a>
     ensures { line_state_view result
         ≡ lines.behind_operator (option_map word_view label.entry) line (operation_view operation) }
 {
     let begun = Begun { label, line };
     match operation {
-        Operation::Operates(operating) => LinePlace::Operated(begun, operating),
-        Operation::Negates => LinePlace::Stepped(begun, Step::Negate),
-        Operation::Jumps(condition) => LinePlace::Jumped(begun, condition),
-        Operation::Calls(condition) => LinePlace::Called(begun, condition),
-        Operation::Returns(condition) => LinePlace::Stepped(begun, Step::Return(condition)),
+        Operation::Operates(operating) => LineState::Operated(begun, operating),
+        Operation::Negates => LineState::Stepped(begun, Step::Negate),
+        Operation::Jumps(condition) => LineState::Jumped(begun, condition),
+        Operation::Calls(condition) => LineState::Called(begun, condition),
+        Operation::Returns(condition) => LineState::Stepped(begun, Step::Return(condition)),
     }
 }
 
 /// Behind a token that has to be an operator.
-fn at_operator<'a>(label: Option<Word<'a>>, token: Token<'a>) -> Option<LinePlace<'a>>
+fn at_operator<'a>(label: Option<Word<'a>>, token: Token<'a>) -> Option<LineState<'a>>
     ensures { option_map line_state_view result
         ≡ lines.at_operator (option_map word_view label.entry) token.entry.line
         (words.operation_of (symbol_view token.entry)) }
@@ -45,7 +45,7 @@ fn at_operator<'a>(label: Option<Word<'a>>, token: Token<'a>) -> Option<LinePlac
 
 /// Behind a line's first identifier that no colon follows. One that is no operator may still be a label: what is wrong
 /// is the token behind it.
-fn operator_or_label<'a>(token: Token<'a>) -> LinePlace<'a>
+fn operator_or_label<'a>(token: Token<'a>) -> LineState<'a>
     ensures { line_state_view result
         ≡ lines.operator_or_label
         (record { line = token.entry.line; name = name_of token.entry.text.now })
@@ -53,24 +53,24 @@ fn operator_or_label<'a>(token: Token<'a>) -> LinePlace<'a>
 {
     match operation_named(token.text) {
         Some(operation) => behind_operator(None, token.line, operation),
-        None => LinePlace::Worded(word(token)),
+        None => LineState::Worded(word(token)),
     }
 }
 
 /// Behind the first token of a line of a body; `colon` says whether a colon follows it.
-pub(crate) fn at_start<'a>(token: Token<'a>, colon: bool) -> Option<LinePlace<'a>>
+pub(crate) fn at_start<'a>(token: Token<'a>, colon: bool) -> Option<LineState<'a>>
     ensures { option_map line_state_view result
         ≡ lines.line_move InBody lines.Start (symbol_view token.entry) token.entry.line colon }
 {
     match token.shape {
-        Shape::Identifier if colon => Some(LinePlace::Worded(word(token))),
+        Shape::Identifier if colon => Some(LineState::Worded(word(token))),
         Shape::Identifier => Some(operator_or_label(token)),
         _ => at_operator(None, token),
     }
 }
 
 /// Behind the first token of a line in parentheses, where no label, jump, call or return stands.
-pub(crate) fn at_start_inside<'a>(token: Token<'a>) -> Option<LinePlace<'a>>
+pub(crate) fn at_start_inside<'a>(token: Token<'a>) -> Option<LineState<'a>>
     ensures { (colon : Bool)
         → option_map line_state_view result
         ≡ lines.line_move InParentheses lines.Start
@@ -89,12 +89,12 @@ pub(crate) fn at_start_inside<'a>(token: Token<'a>) -> Option<LinePlace<'a>>
 }
 
 /// Behind the token after a label's colon.
-fn at_labelled<'a>(label: Word<'a>, token: Token<'a>) -> Option<LinePlace<'a>>
+fn at_labelled<'a>(label: Word<'a>, token: Token<'a>) -> Option<LineState<'a>>
     ensures { option_map line_state_view result
         ≡ lines.at_labelled (word_view label.entry) (symbol_view token.entry) token.entry.line }
 {
     match token.shape {
-        Shape::LineEnd => Some(LinePlace::Ended(LineForm::LabelAlone(label))),
+        Shape::LineEnd => Some(LineState::Ended(LineForm::LabelAlone(label))),
         _ => at_operator(Some(label), token),
     }
 }
@@ -104,7 +104,7 @@ fn at_applied<'a>(
     begun: Begun<'a>,
     operator: Operator,
     token: Token<'a>,
-) -> Result<Option<LinePlace<'a>>, AllocError>
+) -> Result<Option<LineState<'a>>, AllocError>
     ensures { IfOk result
         (λ next.
         option_map line_state_view next
@@ -112,7 +112,7 @@ fn at_applied<'a>(
         (symbol_view token.entry) token.entry.line) }
 {
     match token.shape {
-        Shape::Opening => Ok(Some(LinePlace::Bracketed(begun, operator))),
+        Shape::Opening => Ok(Some(LineState::Bracketed(begun, operator))),
         _ => at_operand(
             begun,
             OperandOf::OfStep(Operating::Applies(operator)),
@@ -126,7 +126,7 @@ fn at_operated<'a>(
     begun: Begun<'a>,
     operating: Operating,
     token: Token<'a>,
-) -> Result<Option<LinePlace<'a>>, AllocError>
+) -> Result<Option<LineState<'a>>, AllocError>
     ensures { IfOk result
         (λ next.
         option_map line_state_view next
@@ -148,7 +148,7 @@ fn at_bracketed<'a>(
     begun: Begun<'a>,
     operator: Operator,
     token: Token<'a>,
-) -> Result<Option<LinePlace<'a>>, AllocError>
+) -> Result<Option<LineState<'a>>, AllocError>
     ensures { IfOk result
         (λ next.
         option_map line_state_view next
@@ -156,46 +156,46 @@ fn at_bracketed<'a>(
         (symbol_view token.entry) token.entry.line) }
 {
     match token.shape {
-        Shape::LineEnd => Ok(Some(LinePlace::Ended(LineForm::Opens(begun, operator, None)))),
+        Shape::LineEnd => Ok(Some(LineState::Ended(LineForm::Opens(begun, operator, None)))),
         _ => at_operand(begun, OperandOf::OfOpening(operator), token),
     }
 }
 
 /// Behind the token after a jump's operator: its label.
-fn at_target<'a>(begun: Begun<'a>, condition: Condition, token: Token<'a>) -> Option<LinePlace<'a>>
+fn at_target<'a>(begun: Begun<'a>, condition: Condition, token: Token<'a>) -> Option<LineState<'a>>
     ensures { (setting : Setting) (line : ℕ) (colon : Bool)
         → option_map line_state_view result
         ≡ lines.line_move setting (lines.Jumped (begun_view begun.entry) condition)
         (symbol_view token.entry) line colon }
 {
     match token.shape {
-        Shape::Identifier => Some(LinePlace::Stepped(begun, Step::Jump(condition, word(token)))),
+        Shape::Identifier => Some(LineState::Stepped(begun, Step::Jump(condition, word(token)))),
         _ => None,
     }
 }
 
 /// Behind the token after a call's operator: its instance.
-fn at_called<'a>(begun: Begun<'a>, condition: Condition, token: Token<'a>) -> Option<LinePlace<'a>>
+fn at_called<'a>(begun: Begun<'a>, condition: Condition, token: Token<'a>) -> Option<LineState<'a>>
     ensures { (setting : Setting) (line : ℕ) (colon : Bool)
         → option_map line_state_view result
         ≡ lines.line_move setting (lines.Called (begun_view begun.entry) condition)
         (symbol_view token.entry) line colon }
 {
     match token.shape {
-        Shape::Identifier => Some(LinePlace::Instanced(begun, condition, word(token))),
+        Shape::Identifier => Some(LineState::Instanced(begun, condition, word(token))),
         _ => None,
     }
 }
 
 /// Behind the token after a whole instruction: the line's end.
-fn at_step_end<'a>(begun: Begun<'a>, step: Step<'a>, token: Token<'a>) -> Option<LinePlace<'a>>
+fn at_step_end<'a>(begun: Begun<'a>, step: Step<'a>, token: Token<'a>) -> Option<LineState<'a>>
     ensures { (setting : Setting) (line : ℕ) (colon : Bool)
         → option_map line_state_view result
         ≡ lines.line_move setting (lines.Stepped (begun_view begun.entry) (step_view step.entry))
         (symbol_view token.entry) line colon }
 {
     match token.shape {
-        Shape::LineEnd => Some(LinePlace::Ended(LineForm::Instructs(begun, step))),
+        Shape::LineEnd => Some(LineState::Ended(LineForm::Instructs(begun, step))),
         _ => None,
     }
 }
@@ -206,7 +206,7 @@ fn at_opening_end<'a>(
     operator: Operator,
     operand: Operand<'a>,
     token: Token<'a>,
-) -> Option<LinePlace<'a>>
+) -> Option<LineState<'a>>
     ensures { (setting : Setting) (line : ℕ) (colon : Bool)
         → option_map line_state_view result
         ≡ lines.line_move setting
@@ -214,20 +214,20 @@ fn at_opening_end<'a>(
         (symbol_view token.entry) line colon }
 {
     match token.shape {
-        Shape::LineEnd => Some(LinePlace::Ended(LineForm::Opens(begun, operator, Some(operand)))),
+        Shape::LineEnd => Some(LineState::Ended(LineForm::Opens(begun, operator, Some(operand)))),
         _ => None,
     }
 }
 
 /// Behind the token after a label: its colon.
-fn at_colon<'a>(label: Word<'a>, token: Token<'a>) -> Option<LinePlace<'a>>
+fn at_colon<'a>(label: Word<'a>, token: Token<'a>) -> Option<LineState<'a>>
     ensures { (setting : Setting) (line : ℕ) (colon : Bool)
         → option_map line_state_view result
         ≡ lines.line_move setting (lines.Worded (word_view label.entry))
         (symbol_view token.entry) line colon }
 {
     match token.shape {
-        Shape::Colon => Some(LinePlace::Labelled(label)),
+        Shape::Colon => Some(LineState::Labelled(label)),
         _ => None,
     }
 }
@@ -235,32 +235,32 @@ fn at_colon<'a>(label: Word<'a>, token: Token<'a>) -> Option<LinePlace<'a>>
 /// Behind one more token of a line that has begun; none where no line goes on so.
 pub(crate) fn line_move<'a>(
     alloc: Global,
-    place: LinePlace<'a>,
+    state: LineState<'a>,
     token: Token<'a>,
-) -> Result<Option<LinePlace<'a>>, AllocError>
+) -> Result<Option<LineState<'a>>, AllocError>
     ensures { IfOk result
         (λ next. (setting : Setting) (colon : Bool)
         → option_map line_state_view next
-        ≡ lines.line_move setting (line_state_view place.entry)
+        ≡ lines.line_move setting (line_state_view state.entry)
         (symbol_view token.entry) token.entry.line colon) }
 {
-    match place {
-        LinePlace::Worded(label) => Ok(at_colon(label, token)),
-        LinePlace::Labelled(label) => Ok(at_labelled(label, token)),
-        LinePlace::Operated(begun, operating) => at_operated(begun, operating, token),
-        LinePlace::Jumped(begun, condition) => Ok(at_target(begun, condition, token)),
-        LinePlace::Called(begun, condition) => Ok(at_called(begun, condition, token)),
-        LinePlace::Instanced(begun, condition, instance) => Ok(at_instance(
+    match state {
+        LineState::Worded(label) => Ok(at_colon(label, token)),
+        LineState::Labelled(label) => Ok(at_labelled(label, token)),
+        LineState::Operated(begun, operating) => at_operated(begun, operating, token),
+        LineState::Jumped(begun, condition) => Ok(at_target(begun, condition, token)),
+        LineState::Called(begun, condition) => Ok(at_called(begun, condition, token)),
+        LineState::Instanced(begun, condition, instance) => Ok(at_instance(
             alloc, begun, condition, instance, token,
         )),
-        LinePlace::Listing(begun, call, item) => at_list(begun, call, item, token),
-        LinePlace::Bracketed(begun, operator) => at_bracketed(begun, operator, token),
-        LinePlace::Named(begun, owner, name) => at_named(begun, owner, name, token),
-        LinePlace::Pointed(begun, owner, instance) => at_field(begun, owner, instance, token),
-        LinePlace::Stepped(begun, step) => Ok(at_step_end(begun, step, token)),
-        LinePlace::BracketedWith(begun, operator, operand) => Ok(at_opening_end(
+        LineState::Listing(begun, call, item) => at_list(begun, call, item, token),
+        LineState::Bracketed(begun, operator) => at_bracketed(begun, operator, token),
+        LineState::Named(begun, owner, name) => at_named(begun, owner, name, token),
+        LineState::Pointed(begun, owner, instance) => at_field(begun, owner, instance, token),
+        LineState::Stepped(begun, step) => Ok(at_step_end(begun, step, token)),
+        LineState::BracketedWith(begun, operator, operand) => Ok(at_opening_end(
             begun, operator, operand, token,
         )),
-        LinePlace::Ended(_form) => Ok(None),
+        LineState::Ended(_form) => Ok(None),
     }
 }

@@ -4,53 +4,53 @@ ghost use Rattle.wc_grammar_laws.specs.Words.{found, unit_kinds};
 ghost use Rattle.wc_model.specs.Language.Names.{name_of};
 ghost use Rattle.wc_model.specs.Language.Tree.{ProgramUnit};
 ghost use Rattle.wc_model.specs.Language.Views.{unit_view};
-ghost use Rattle.wc_reader.specs.TextViews.{IsPlaceCounted, declaring_view, state_view, reading_view, section_view};
+ghost use Rattle.wc_reader.specs.TextViews.{IsStateCounted, declaring_view, state_view, reading_view, section_view};
 ghost use Rattle.wc_reader.specs.Words.{symbol_view};
 
 use crate::body::body_start;
 use crate::body_moves::{along_line, at_closed, at_line, with_units};
-use crate::declarations::{DeclarationPlace, Declaring, declaration_move};
-use crate::place::{Place, Reading};
+use crate::declarations::{DeclarationState, Declaring, declaration_move};
+use crate::text_state::{Reading, TextState};
 use crate::words::{section, unit_kind, word};
 use std::alloc::{AllocError, Global};
 use wc_lexer::{Shape, Token};
 use wc_model::{Section, Unit, UnitKind};
 
 /// Behind a unit's first word, where the token is one.
-fn at_first_word<'a>(token: Token<'a>) -> Option<Place<'a>>
+fn at_first_word<'a>(token: Token<'a>) -> Option<TextState<'a>>
     ensures behind { (units : List ProgramUnit)
         → option_map (state_view units) result
         ≡ option_map (λ kind. moves.Unnamed units kind token.entry.line)
         (found unit_kinds (name_of token.entry.text.now)) }
-    ensures counted { IfSome result (λ it. IsPlaceCounted it) }
+    ensures counted { IfSome result (λ it. IsStateCounted it) }
 {
     match unit_kind(token.text) {
-        Some(kind) => Some(Place::Unnamed(kind, token.line)),
+        Some(kind) => Some(TextState::Unnamed(kind, token.line)),
         None => None,
     }
 }
 
 /// Behind a token between units.
-fn outside<'a>(token: Token<'a>) -> Option<Place<'a>>
+fn outside<'a>(token: Token<'a>) -> Option<TextState<'a>>
     ensures behind { (units : List ProgramUnit) (colon : Bool)
         → option_map (state_view units) result
         ≡ moves.move (moves.Outside units) (symbol_view token.entry) token.entry.line colon }
-    ensures counted { IfSome result (λ it. IsPlaceCounted it) }
+    ensures counted { IfSome result (λ it. IsStateCounted it) }
 {
     match token.shape {
-        Shape::LineEnd => Some(Place::Outside),
+        Shape::LineEnd => Some(TextState::Outside),
         Shape::Identifier => at_first_word(token),
         _ => None,
     }
 }
 
 /// Behind the token after a unit's first word: its name.
-fn at_name<'a>(alloc: Global, kind: UnitKind, line: u32, token: Token<'a>) -> Option<Place<'a>>
+fn at_name<'a>(alloc: Global, kind: UnitKind, line: u32, token: Token<'a>) -> Option<TextState<'a>>
     ensures behind { (units : List ProgramUnit) (colon : Bool)
         → option_map (state_view units) result
         ≡ moves.move (moves.Unnamed units kind line)
         (symbol_view token.entry) token.entry.line colon }
-    ensures counted { IfSome result (λ it. IsPlaceCounted it) }
+    ensures counted { IfSome result (λ it. IsStateCounted it) }
 {
     match token.shape {
         Shape::Identifier => {
@@ -61,26 +61,26 @@ fn at_name<'a>(alloc: Global, kind: UnitKind, line: u32, token: Token<'a>) -> Op
                 declarations: Vec::new(alloc),
                 body: Vec::new(alloc),
             };
-            Some(Place::AtLine(body_start(alloc, unit)))
+            Some(TextState::AtLine(body_start(alloc, unit)))
         }
         _ => None,
     }
 }
 
 /// In a section, or at the start of the body behind it.
-fn section_place<'a>(alloc: Global, declaring: Declaring<'a>) -> Place<'a>
+fn section_state<'a>(alloc: Global, declaring: Declaring<'a>) -> TextState<'a>
     ensures behind { (units : List ProgramUnit)
         → state_view units result ≡ section_view units declaring.entry }
-    ensures counted { IsPlaceCounted result }
+    ensures counted { IsStateCounted result }
 {
     let Declaring {
         unit,
         section,
-        place,
+        state,
     } = declaring;
-    match place {
-        Some(place) => Place::Declaring(unit, section, place),
-        None => Place::AtLine(body_start(alloc, unit)),
+    match state {
+        Some(state) => TextState::Declaring(unit, section, state),
+        None => TextState::AtLine(body_start(alloc, unit)),
     }
 }
 
@@ -89,18 +89,18 @@ fn in_section<'a>(
     alloc: Global,
     unit: Unit<'a>,
     section: Section,
-    place: DeclarationPlace<'a>,
+    state: DeclarationState<'a>,
     token: Token<'a>,
-) -> Result<Option<Place<'a>>, AllocError>
+) -> Result<Option<TextState<'a>>, AllocError>
     ensures behind { IfOk result
         (λ next. (units : List ProgramUnit)
         → option_map (state_view units) next
-        ≡ moves.declaration_move units (unit_view unit.entry) section (declaring_view place.entry)
+        ≡ moves.declaration_move units (unit_view unit.entry) section (declaring_view state.entry)
         (symbol_view token.entry) token.entry.line) }
-    ensures counted { IfOk result (λ next. IfSome next (λ it. IsPlaceCounted it)) }
+    ensures counted { IfOk result (λ next. IfSome next (λ it. IsStateCounted it)) }
 {
-    match declaration_move(alloc, unit, section, place, token)? {
-        Some(declaring) => Ok(Some(section_place(alloc, declaring))),
+    match declaration_move(alloc, unit, section, state, token)? {
+        Some(declaring) => Ok(Some(section_state(alloc, declaring))),
         None => Ok(None),
     }
 }
@@ -112,27 +112,27 @@ pub(crate) fn text_move<'a>(
     token: Token<'a>,
     colon: bool,
 ) -> Result<Option<Reading<'a>>, AllocError>
-    requires { IsPlaceCounted reading.place }
+    requires { IsStateCounted reading.state }
     ensures behind { IfOk result
         (λ next.
         option_map reading_view next
         ≡ moves.move (reading_view reading.entry)
         (symbol_view token.entry) token.entry.line colon) }
-    ensures counted { IfOk result (λ next. IfSome next (λ it. IsPlaceCounted it.place)) }
+    ensures counted { IfOk result (λ next. IfSome next (λ it. IsStateCounted it.state)) }
 {
-    let Reading { units, place } = reading;
-    match place {
-        Place::Outside => Ok(with_units(units, outside(token))),
-        Place::Unnamed(kind, line) => Ok(with_units(units, at_name(alloc, kind, line, token))),
-        Place::Declaring(unit, section, place) => {
-            let place = in_section(alloc, unit, section, place, token)?;
-            Ok(with_units(units, place))
+    let Reading { units, state } = reading;
+    match state {
+        TextState::Outside => Ok(with_units(units, outside(token))),
+        TextState::Unnamed(kind, line) => Ok(with_units(units, at_name(alloc, kind, line, token))),
+        TextState::Declaring(unit, section, state) => {
+            let state = in_section(alloc, unit, section, state, token)?;
+            Ok(with_units(units, state))
         }
-        Place::AtLine(body) => at_line(alloc, units, body, token, colon),
-        Place::OnLine(body, line) => {
-            let place = along_line(alloc, body, line, token)?;
-            Ok(with_units(units, place))
+        TextState::AtLine(body) => at_line(alloc, units, body, token, colon),
+        TextState::OnLine(body, line) => {
+            let state = along_line(alloc, body, line, token)?;
+            Ok(with_units(units, state))
         }
-        Place::Closed(body) => Ok(with_units(units, at_closed(body, token))),
+        TextState::Closed(body) => Ok(with_units(units, at_closed(body, token))),
     }
 }

@@ -8,7 +8,7 @@ ghost use Rattle.wc_model.specs.Language.Views.{name_view, term_view};
 ghost use Rattle.wc_reader.specs.LineViews.{begun_view, line_state_view, listed_view, owner_view, step_view};
 ghost use Rattle.wc_reader.specs.Words.{operating_view, symbol_view};
 
-use crate::line_place::{Begun, InList, LineForm, LinePlace, Listed, OperandOf, Step};
+use crate::line_state::{Begun, InList, LineForm, LineState, Listed, OperandOf, Step};
 use crate::operators::Operating;
 use crate::words::{truth, word};
 use std::alloc::AllocError;
@@ -52,7 +52,7 @@ fn behind_operand<'a>(
     begun: Begun<'a>,
     owner: OperandOf<'a>,
     operand: Operand<'a>,
-) -> Result<LinePlace<'a>, AllocError>
+) -> Result<LineState<'a>, AllocError>
     ensures { IfOk result
         (λ next.
         line_state_view next
@@ -60,11 +60,11 @@ fn behind_operand<'a>(
         (term_view operand.entry)) }
 {
     match owner {
-        OperandOf::OfStep(operating) => Ok(LinePlace::Stepped(begun, step_of(operating, operand))),
-        OperandOf::OfOpening(operator) => Ok(LinePlace::BracketedWith(begun, operator, operand)),
+        OperandOf::OfStep(operating) => Ok(LineState::Stepped(begun, step_of(operating, operand))),
+        OperandOf::OfOpening(operator) => Ok(LineState::BracketedWith(begun, operator, operand)),
         OperandOf::OfArgument(call, input) => {
             let call = with_argument(call, input, operand)?;
-            Ok(LinePlace::Listing(begun, call, InList::AtEnd))
+            Ok(LineState::Listing(begun, call, InList::AtEnd))
         }
     }
 }
@@ -74,7 +74,7 @@ fn behind_literal<'a>(
     begun: Begun<'a>,
     owner: OperandOf<'a>,
     value: Value,
-) -> Result<Option<LinePlace<'a>>, AllocError>
+) -> Result<Option<LineState<'a>>, AllocError>
     ensures { IfOk result
         (λ next.
         option_map line_state_view next
@@ -91,7 +91,7 @@ pub(crate) fn at_operand<'a>(
     begun: Begun<'a>,
     owner: OperandOf<'a>,
     token: Token<'a>,
-) -> Result<Option<LinePlace<'a>>, AllocError>
+) -> Result<Option<LineState<'a>>, AllocError>
     ensures { IfOk result
         (λ next.
         option_map line_state_view next
@@ -101,7 +101,7 @@ pub(crate) fn at_operand<'a>(
     match token.shape {
         Shape::Identifier => match truth(token.text) {
             Some(value) => behind_literal(begun, owner, Value::Bool(value)),
-            None => Ok(Some(LinePlace::Named(begun, owner, word(token)))),
+            None => Ok(Some(LineState::Named(begun, owner, word(token)))),
         },
         Shape::Whole(number) => behind_literal(begun, owner, Value::Dint(number)),
         Shape::Duration(milliseconds) => behind_literal(begun, owner, Value::Time(milliseconds)),
@@ -121,7 +121,7 @@ fn behind_value<'a>(
     input: Word<'a>,
     name: Word<'a>,
     token: Token<'a>,
-) -> Result<Option<LinePlace<'a>>, AllocError>
+) -> Result<Option<LineState<'a>>, AllocError>
     ensures { IfOk result
         (λ next.
         option_map line_state_view next
@@ -130,18 +130,18 @@ fn behind_value<'a>(
         (symbol_view token.entry)) }
 {
     match token.shape {
-        Shape::LineEnd => Ok(Some(LinePlace::Named(
+        Shape::LineEnd => Ok(Some(LineState::Named(
             begun,
             OperandOf::OfArgument(call, input),
             name,
         ))),
         Shape::Comma => {
             let call = with_argument(call, input, Operand::Name(name.text))?;
-            Ok(Some(LinePlace::Listing(begun, call, InList::AtNext)))
+            Ok(Some(LineState::Listing(begun, call, InList::AtNext)))
         }
         Shape::Closing => {
             let call = with_argument(call, input, Operand::Name(name.text))?;
-            Ok(Some(LinePlace::Stepped(begun, Step::Call(call))))
+            Ok(Some(LineState::Stepped(begun, Step::Call(call))))
         }
         _ => Ok(None),
     }
@@ -153,7 +153,7 @@ fn behind_step_name<'a>(
     operating: Operating,
     name: Word<'a>,
     token: Token<'a>,
-) -> Option<LinePlace<'a>>
+) -> Option<LineState<'a>>
     ensures { option_map line_state_view result
         ≡ lines.behind_name (begun_view begun.entry) (lines.OfStep (operating_view operating))
         (name_view name.entry) (symbol_view token.entry) }
@@ -161,7 +161,7 @@ fn behind_step_name<'a>(
     match token.shape {
         Shape::LineEnd => {
             let step = step_of(operating, Operand::Name(name.text));
-            Some(LinePlace::Ended(LineForm::Instructs(begun, step)))
+            Some(LineState::Ended(LineForm::Instructs(begun, step)))
         }
         _ => None,
     }
@@ -173,13 +173,13 @@ fn behind_opening_name<'a>(
     operator: Operator,
     name: Word<'a>,
     token: Token<'a>,
-) -> Option<LinePlace<'a>>
+) -> Option<LineState<'a>>
     ensures { option_map line_state_view result
         ≡ lines.behind_name (begun_view begun.entry) (lines.OfOpening operator)
         (name_view name.entry) (symbol_view token.entry) }
 {
     match token.shape {
-        Shape::LineEnd => Some(LinePlace::Ended(LineForm::Opens(
+        Shape::LineEnd => Some(LineState::Ended(LineForm::Opens(
             begun,
             operator,
             Some(Operand::Name(name.text)),
@@ -194,7 +194,7 @@ fn behind_name<'a>(
     owner: OperandOf<'a>,
     name: Word<'a>,
     token: Token<'a>,
-) -> Result<Option<LinePlace<'a>>, AllocError>
+) -> Result<Option<LineState<'a>>, AllocError>
     ensures { IfOk result
         (λ next.
         option_map line_state_view next
@@ -214,7 +214,7 @@ pub(crate) fn at_named<'a>(
     owner: OperandOf<'a>,
     name: Word<'a>,
     token: Token<'a>,
-) -> Result<Option<LinePlace<'a>>, AllocError>
+) -> Result<Option<LineState<'a>>, AllocError>
     ensures { IfOk result
         (λ next. (setting : Setting) (line : ℕ) (colon : Bool)
         → option_map line_state_view next
@@ -223,7 +223,7 @@ pub(crate) fn at_named<'a>(
         (symbol_view token.entry) line colon) }
 {
     match token.shape {
-        Shape::Point => Ok(Some(LinePlace::Pointed(begun, owner, name))),
+        Shape::Point => Ok(Some(LineState::Pointed(begun, owner, name))),
         _ => behind_name(begun, owner, name, token),
     }
 }
@@ -233,13 +233,13 @@ fn behind_point<'a>(
     begun: Begun<'a>,
     owner: OperandOf<'a>,
     instance: Word<'a>,
-) -> Option<LinePlace<'a>>
+) -> Option<LineState<'a>>
     ensures { option_map line_state_view result
         ≡ lines.at_field (begun_view begun.entry) (owner_view owner.entry)
         (name_view instance.entry) marks.LineEnd }
 {
     match owner {
-        OperandOf::OfArgument(call, input) => Some(LinePlace::Pointed(
+        OperandOf::OfArgument(call, input) => Some(LineState::Pointed(
             begun,
             OperandOf::OfArgument(call, input),
             instance,
@@ -254,7 +254,7 @@ pub(crate) fn at_field<'a>(
     owner: OperandOf<'a>,
     instance: Word<'a>,
     token: Token<'a>,
-) -> Result<Option<LinePlace<'a>>, AllocError>
+) -> Result<Option<LineState<'a>>, AllocError>
     ensures { IfOk result
         (λ next.
         option_map line_state_view next

@@ -4,9 +4,8 @@ ghost use Rattle.wc_model.specs.Language.Names.{name_of};
 ghost use Rattle.wc_reader.specs.OperatorGroups.{loads_and_stores, logic, arithmetic, comparisons, negation_and_jumps, calls_and_returns};
 ghost use Rattle.wc_reader.specs.Words.{operation_view, symbol_view};
 
-use crate::words::is_word;
 use wc_lexer::{Shape, Token};
-use wc_model::{Condition, Operator, Storing};
+use wc_model::{Condition, Operator, Storing, is_word};
 
 /// An operator that takes an operand.
 #[derive(Clone, Copy, Debug, PartialEq, Eq)]
@@ -118,7 +117,8 @@ fn comparison(text: &[u8]) -> Option<Operation>
 
 /// NOT, JMP, JMPC, JMPCN.
 fn negation_or_jump(text: &[u8]) -> Option<Operation>
-    ensures { option_map operation_view result ≡ words.found negation_and_jumps (name_of text.now) }
+    ensures { option_map operation_view result
+        ≡ words.found negation_and_jumps (name_of text.now) }
 {
     if is_word(text, b"not") {
         Some(Operation::Negates)
@@ -135,7 +135,8 @@ fn negation_or_jump(text: &[u8]) -> Option<Operation>
 
 /// CAL, CALC, CALCN, RET, RETC, RETCN.
 fn call_or_return(text: &[u8]) -> Option<Operation>
-    ensures { option_map operation_view result ≡ words.found calls_and_returns (name_of text.now) }
+    ensures { option_map operation_view result
+        ≡ words.found calls_and_returns (name_of text.now) }
 {
     if is_word(text, b"cal") {
         Some(Operation::Calls(Condition::Always))

@@ -7,14 +7,14 @@ ghost use Rattle.wc_model.specs.Text.Tokens.{most_bytes};
 ghost use Rattle.wc_model.specs.Language.Views.{text_view};
 ghost use Rattle.wc_lexer.specs.Views.{token_view};
 ghost use Rattle.wc_reader.specs.ReadTexts.{IsRefusedAs};
-ghost use Rattle.wc_reader.specs.TextViews.{IsPlaceCounted, reading_view};
+ghost use Rattle.wc_reader.specs.TextViews.{IsStateCounted, reading_view};
 ghost use Rattle.wc_reader.specs.Told.{IsUnexpected, TellsReading, TellsFault};
 ghost use Rattle.wc_reader.specs.Words.{marks_of, symbol_view};
 
 use crate::ends::at_text_end;
 use crate::faults::fault_at;
 use crate::moves::text_move;
-use crate::place::{Place, Reading};
+use crate::text_state::{Reading, TextState};
 use std::alloc::Global;
 use wc_lexer::{Shape, Token, tokens};
 use wc_model::{Fault, Source};
@@ -51,7 +51,7 @@ fn moved<'a>(
     token: Token<'a>,
     colon: bool,
 ) -> Result<Reading<'a>, Fault>
-    requires { IsPlaceCounted reading.place }
+    requires { IsStateCounted reading.state }
     ensures goes_on { IfOk result
         (λ next.
         Some (reading_view next)
@@ -62,7 +62,7 @@ fn moved<'a>(
         IsUnexpected
         (moves.move (reading_view reading.entry) (symbol_view token.entry) token.entry.line colon)
         token.entry.line fault) }
-    ensures counted { IfOk result (λ next. IsPlaceCounted next.place) }
+    ensures counted { IfOk result (λ next. IsStateCounted next.state) }
 {
     match text_move(alloc, reading, token, colon) {
         Ok(next) => or_unexpected(next, token.line),
@@ -77,7 +77,7 @@ fn next_reading<'a>(
     token: Token<'a>,
     colon: bool,
 ) -> Result<Reading<'a>, Fault>
-    requires { IsPlaceCounted reading.place }
+    requires { IsStateCounted reading.state }
     ensures goes_on { IfOk result
         (λ next. (behind : List Mark) (last : ℕ) → colon_next behind false ≡ colon
         → moves.reading (reading_view reading.entry)
@@ -88,7 +88,7 @@ fn next_reading<'a>(
         → TellsFault
         (moves.reading (reading_view reading.entry)
         (mark_of_token (token_view token.entry) ∷ behind) last) fault) }
-    ensures counted { IfOk result (λ next. IsPlaceCounted next.place) }
+    ensures counted { IfOk result (λ next. IsStateCounted next.state) }
 {
     match fault_at(&reading, token, colon) {
         Some(fault) => Err(fault),
@@ -103,7 +103,7 @@ fn read_at<'a>(
     tokens: &[Token<'a>],
     index: usize,
 ) -> Result<Reading<'a>, Fault>
-    requires counted { IsPlaceCounted reading.place }
+    requires counted { IsStateCounted reading.state }
     requires within { index < length tokens.now }
     ensures goes_on { IfOk result
         (λ next. (last : ℕ)
@@ -114,7 +114,7 @@ fn read_at<'a>(
         → TellsFault
         (moves.reading (reading_view reading.entry) (marks_of (drop index tokens.now)) last)
         fault) }
-    ensures counted { IfOk result (λ next. IsPlaceCounted next.place) }
+    ensures counted { IfOk result (λ next. IsStateCounted next.state) }
 {
     let (_, left) = tokens.split_at(index);
     match left.split_first() {
@@ -129,7 +129,7 @@ fn read_tokens<'a>(alloc: Global, tokens: &[Token<'a>], last_line: u32) -> Resul
 {
     let mut reading = Reading {
         units: Vec::new(alloc),
-        place: Place::Outside,
+        state: TextState::Outside,
     };
     for index in 0..tokens.len() {
         reading = match read_at(alloc, reading, tokens, index) {

@@ -1,19 +1,12 @@
 ghost use Rattle.std.specs.Prelude.{◌≡◌};
 ghost use Rattle.wc_grammar_laws.specs.Words as words;
-ghost use Rattle.wc_grammar_laws.specs.Words.{same};
+ghost use Rattle.wc_model.specs.Language.Declarations.{same_name};
 ghost use Rattle.wc_model.specs.Text.Keywords.{end_word};
 ghost use Rattle.wc_model.specs.Language.Names.{name_of};
 ghost use Rattle.wc_reader.specs.Words.{symbol_view};
 
 use wc_lexer::{Shape, Token};
-use wc_model::{Section, UnitKind, Value, Word};
-
-/// Whether the text is the word, in any letter case.
-pub(crate) fn is_word(text: &[u8], word: &[u8]) -> bool
-    ensures { result ≡ same (name_of text.now) (name_of word.now) }
-{
-    text.eq_ignore_ascii_case(word)
-}
+use wc_model::{Section, UnitKind, Value, Word, is_word};
 
 /// TRUE and FALSE.
 pub(crate) fn truth(text: &[u8]) -> Option<bool>
@@ -43,7 +36,7 @@ pub(crate) fn unit_kind(text: &[u8]) -> Option<UnitKind>
 
 /// Whether the word ends a unit of that kind.
 pub(crate) fn ends_unit(text: &[u8], kind: UnitKind) -> bool
-    ensures { result ≡ same (name_of text.now) (end_word kind) }
+    ensures { result ≡ same_name (name_of text.now) (end_word kind) }
 {
     match kind {
         UnitKind::FunctionBlock => is_word(text, b"end_function_block"),

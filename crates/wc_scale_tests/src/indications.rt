@@ -127,6 +127,36 @@ fn other_plates(rt: HostRuntime) {
     }
 }
 
+#[test]
+fn a_window_has_sixteen_samples(rt: HostRuntime) {
+    let alloc = rt.alloc();
+    let sixteen =
+        b"unit = \"kg\"\ndecimals = 3\nmax = 15000\ne = 5\nzero_counts = 10000\nspan_counts = 600000\nwindow = 16\n";
+    for (samples, stable) in [
+        ([10000; 15].as_slice(), false),
+        ([10000; 16].as_slice(), true),
+        ([10000; 40].as_slice(), true),
+    ] {
+        match after(alloc, sixteen.as_slice(), samples) {
+            Ok(indicator) => assert_eq!(rt; indicator.stable(), stable),
+            Err(_) => assert!(rt; false),
+        }
+    }
+    for (counts, stable) in [(10101, false), (10100, true)] {
+        match after(alloc, sixteen.as_slice(), &[counts]) {
+            Ok(mut indicator) => {
+                for _ in 0..15 {
+                    indicator.sample(10000);
+                }
+                assert_eq!(rt; indicator.stable(), stable);
+                indicator.sample(10000);
+                assert!(rt; indicator.stable());
+            }
+            Err(_) => assert!(rt; false),
+        }
+    }
+}
+
 /// Puts this load on the scale, at rest.
 fn rest(indicator: &mut Indicator, counts: i32) {
     for _ in 0..4 {

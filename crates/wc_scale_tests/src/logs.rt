@@ -1,5 +1,5 @@
 //! The rows of logs, and what a scan sees.
-use std::alloc::Global;
+use std::alloc::{AllocError, Global};
 use std::io;
 use std::io::Read;
 use std::test::Fail;
@@ -169,15 +169,50 @@ fn a_reader_that_fails(rt: HostRuntime) {
 }
 
 #[test]
-fn a_million_rows_and_one(rt: HostRuntime) {
+fn a_million_rows(rt: HostRuntime) {
     let alloc = rt.alloc();
-    let mut device = FuseIn::new(b"ms,kind,data\n", b"0,S,\n", u32::MAX, false);
+    for (times, fault) in [(999999, None), (u32::MAX, refused(607, 1000001))] {
+        let mut device = FuseIn::new(b"ms,kind,data\n", b"0,S,\n", times, false);
+        let mut rows = Rows::new(alloc, &mut device);
+        let first = rows_left(&mut rows, 2000000);
+        let again = rows_left(&mut rows, 2000000);
+        drop(rows);
+        assert_eq!(rt; first, (999999, fault));
+        assert_eq!(rt; again, (0, fault));
+    }
+}
+
+/// A log of one row that brings so many bytes to the line.
+fn row_of_bytes(alloc: Global, count: usize) -> Result<Vec<u8, Global>, AllocError> {
+    let mut text = Vec::new(alloc);
+    text.extend_from_slice(b"ms,kind,data\n0,L,")?;
+    for _ in 0..count {
+        text.extend_from_slice(b"0a")?;
+    }
+    Ok(text)
+}
+
+#[test]
+fn a_row_brings_4096_bytes(rt: HostRuntime) -> Result<(), Fail> {
+    let alloc = rt.alloc();
+    let full = row_of_bytes(alloc, 4096)?;
+    let mut device = Device::new(full.as_slice());
     let mut rows = Rows::new(alloc, &mut device);
-    let first = rows_left(&mut rows, 2000000);
-    let again = rows_left(&mut rows, 2000000);
+    match rows.next() {
+        Ok(
+            Some(
+                Row {
+                    kind: RowKind::Bytes(bytes),
+                    ..
+                },
+            ),
+        ) => assert_eq!(rt; bytes.len(), 4096),
+        _ => assert!(rt; false),
+    }
     drop(rows);
-    assert_eq!(rt; first, (999999, refused(607, 1000001)));
-    assert_eq!(rt; again, (0, refused(607, 1000001)));
+    let long = row_of_bytes(alloc, 4097)?;
+    assert_eq!(rt; ending(alloc, &long), (0, refused(606, 2)));
+    Ok(())
 }
 
 /// A reader of blank lines whose count may start anywhere.

@@ -1,5 +1,5 @@
 //! Texts loaded and checked, and jobs answered.
-use std::alloc::Global;
+use std::alloc::{AllocError, Global};
 use std::test::Fail;
 use wc_controller::{RunFault, check, job, load, refuse};
 use wc_machine::Machine;
@@ -90,6 +90,29 @@ fn first_job_succeeds(rt: HostRuntime) {
             b"S 0 2 0000 0 0 0 0\nS 100 2 0001 0 0 0 0\nS 200 2 0001 0 0 0 0\nS 300 2 0000 0 0 0 0\n"
         )
     );
+}
+
+/// The first job with blank lines behind it, up to so many bytes.
+fn padded(alloc: Global, length: usize) -> Result<Vec<u8, Global>, AllocError> {
+    let mut text = FIRST_JOB.to_vec(alloc)?;
+    text.resize(length, b'\n')?;
+    Ok(text)
+}
+
+#[test]
+fn a_job_has_1048576_bytes(rt: HostRuntime) -> Result<(), Fail> {
+    let full = padded(rt.alloc(), 1048576)?;
+    assert!(rt;
+        is_answered(
+            rt.alloc(),
+            &full,
+            0,
+            b"S 0 2 0000 0 0 0 0\nS 100 2 0001 0 0 0 0\nS 200 2 0001 0 0 0 0\nS 300 2 0000 0 0 0 0\n"
+        )
+    );
+    let long = padded(rt.alloc(), 1048577)?;
+    assert!(rt; is_answered(rt.alloc(), &long, 1, b"refused 702 0\n"));
+    Ok(())
 }
 
 #[test]

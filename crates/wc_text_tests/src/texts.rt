@@ -163,6 +163,14 @@ fn depth_and_lines_are_limited(rt: HostRuntime) {
 }
 
 #[test]
+fn a_text_has_65536_bytes(rt: HostRuntime) {
+    let full = repeated(rt.alloc(), b"PROGRAM P\n", b"\n", 65515, b"END_PROGRAM");
+    assert!(rt; is_judged(rt, full, 1, 0, 0));
+    let long = repeated(rt.alloc(), b"PROGRAM P\n", b"\n", 65516, b"END_PROGRAM");
+    assert!(rt; is_judged(rt, long, 0, 107, 0));
+}
+
+#[test]
 fn units_are_limited(rt: HostRuntime) {
     let block = b"FUNCTION_BLOCK A END_FUNCTION_BLOCK\n";
     let full = repeated(rt.alloc(), b"", block, 63, b"PROGRAM P END_PROGRAM");

@@ -1,6 +1,6 @@
 //! The tokens of texts.
 use wc_lexer::{Shape, Token, tokens};
-use wc_model::Fault;
+use wc_model::{Fault, is_word};
 
 /// The shapes of a text's tokens are these.
 fn has_shapes(rt: HostRuntime, text: &[u8], wanted: &[Shape]) -> bool {
@@ -96,6 +96,15 @@ fn literals_have_values(rt: HostRuntime) {
     );
     assert!(rt; has_shapes(rt, b"T#-24d20h31m23s648ms", &[Shape::Duration(-2147483648)]));
     assert!(rt; has_shapes(rt, b"bool#1", &[Shape::Truth(true)]));
+}
+
+#[test]
+fn words_have_no_letter_case(rt: HostRuntime) {
+    assert!(rt; is_word(b"End_Var", b"END_VAR"));
+    assert!(rt; is_word(b"", b""));
+    assert!(rt; !is_word(b"END_VA", b"END_VAR"));
+    assert!(rt; !is_word(b"END-VAR", b"END_VAR"));
+    assert!(rt; !is_word(b"@", b"`"));
 }
 
 #[test]

@@ -9,7 +9,7 @@ use Rattle.std.proofs.lemmas.List.Folds.{length-prefix_len}
 use Rattle.wc_token_laws.specs.Reaches.{hash_reach, is_mark_before, is_pair_mark, mark_reach, reach, value_reach, word_reach}
 use Rattle.wc_token_laws.proofs.Reach.{longest_at, reach_digit, reach_mark, reach_sign, reach_word, starts_mark}
 use Rattle.wc_model.specs.Text.Characters.{begins, is_address_character, is_hash, is_identifier_character, is_minus, is_number_character, is_percent, is_sign, is_underscore, starts_identifier}
-use Rattle.wc_model.specs.Text.Lexemes.{Lexeme, Run, Typed, Unsigned, Signed, Sign, Place, Marked, IsLongestLexeme, is_literal_value, may_stand_before}
+use Rattle.wc_model.specs.Text.Lexemes.{Lexeme, Run, Typed, Unsigned, Signed, Sign, Addressed, Marked, IsLongestLexeme, is_literal_value, may_stand_before}
 use Rattle.wc_model.specs.Text.Shapes.{Shape, mark_of}
 
 -- a lexeme as long as the look ahead
@@ -154,7 +154,7 @@ place_attained rest = record {
   piece = 37 ∷ take (prefix_len is_address_character rest) rest;
   after = drop (prefix_len is_address_character rest) rest;
   whole = ap (λ l. 37 ∷ l) (take-append-drop (prefix_len is_address_character rest) rest);
-  lexeme = Place (take (prefix_len is_address_character rest) rest) refl (front_passes is_address_character rest);
+  lexeme = Addressed (take (prefix_len is_address_character rest) rest) refl (front_passes is_address_character rest);
   full = one-add _ ∙ ap (λ n. suc n) (sym (length-prefix_len is_address_character rest));
 }
 

@@ -6,7 +6,7 @@ use Rattle.std.specs.Option.{option_map_or}
 use Rattle.std.proofs.lemmas.Bool.{and_parts, or_cases, or_parts, or_from, and_left, eqb-true, leb-true, lt-leb, ne_eqb, not-true, cond-true, cond-false}
 use Rattle.std.specs.Cmp.Lexicographic.{bytes_decides}
 use Rattle.wc_model.specs.Text.Characters.{begins, is_address_character, is_identifier_character, is_minus, is_number_character, is_percent, is_sign, starts_identifier}
-use Rattle.wc_model.specs.Text.Lexemes.{Lexeme, Run, Typed, Unsigned, Signed, Sign, Place, Marked, is_run, is_literal_value, is_unsigned_run, may_stand_before, IsLongestLexeme}
+use Rattle.wc_model.specs.Text.Lexemes.{Lexeme, Run, Typed, Unsigned, Signed, Sign, Addressed, Marked, is_run, is_literal_value, is_unsigned_run, may_stand_before, IsLongestLexeme}
 use Rattle.wc_model.specs.Text.Shapes.{Shape, Mark, marks, mark_of}
 use Rattle.wc_token_laws.specs.Reaches.{value_reach, hash_reach, word_reach, signed_reach, is_mark_before, is_pair_mark, mark_reach, reach}
 
@@ -170,8 +170,8 @@ within_reach piece after (Typed type value e h k) = subst (λ p. length p ≤ re
 within_reach piece after (Unsigned h) = unsigned_within piece after h
 within_reach piece after (Signed sign number e h k) = subst (λ p. length p ≤ reach (p ++ after)) (sym e) (signed_within sign number after h k)
 within_reach piece after (Sign sign e h) = subst (λ p. length p ≤ reach (p ++ after)) (sym e) (sign_within sign after h)
-within_reach piece after (Place place e h) =
-    subst (λ p. length p ≤ reach (p ++ after)) (sym e) (omega (arith, prefix_all is_address_character place after h))
+within_reach piece after (Addressed address e h) =
+    subst (λ p. length p ≤ reach (p ++ after)) (sym e) (omega (arith, prefix_all is_address_character address after h))
 within_reach piece after (Marked shape found may) = mark_within piece after shape found may (mark_is_short piece shape found)
 
 -- a lexeme that is so long is the longest

@@ -4,7 +4,7 @@ use Rattle.std.proofs.lemmas.List.{append_cancel_left, append_cancel_right}
 use Rattle.wc_token_laws.specs.Reaches.{reach}
 use Rattle.wc_token_laws.proofs.Reach.{within_reach, mark_is_short}
 use Rattle.wc_model.specs.Text.Blanks.{Blank, Space, Tab, Return, Comment, comment_opening, comment_closing, from_bracket, starts_with_bracket}
-use Rattle.wc_model.specs.Text.Lexemes.{Lexeme, Run, Typed, Unsigned, Signed, Sign, Place, Marked, IsLongestLexeme}
+use Rattle.wc_model.specs.Text.Lexemes.{Lexeme, Run, Typed, Unsigned, Signed, Sign, Addressed, Marked, IsLongestLexeme}
 use Rattle.wc_model.specs.Text.Shapes.{Shape, shape_of}
 use Rattle.wc_model.specs.Text.Tokens.{FaultAt, Foreign, Unclosed, Nested, Malformed}
 
@@ -61,7 +61,7 @@ lexeme_is_filled [] after (Typed (b ∷ type) value e h k) = absurd (cc)
 lexeme_is_filled [] after (Unsigned h) = absurd (cc)
 lexeme_is_filled [] after (Signed sign number e h k) = absurd (cc)
 lexeme_is_filled [] after (Sign sign e h) = absurd (cc)
-lexeme_is_filled [] after (Place place e h) = absurd (cc)
+lexeme_is_filled [] after (Addressed address e h) = absurd (cc)
 lexeme_is_filled [] after (Marked shape found may) = let short = mark_is_short [] shape found in absurd (cc)
 lexeme_is_filled (b ∷ piece) after lexeme = omega arith
 

@@ -1,6 +1,6 @@
 -- The rules on names, types, initial values, frames and addresses, 301 to 308, in text order (IEC 61131-3:2003, 2.1.2,
 -- 2.4 and 2.5; limits and reserved words are the profile's own).
-use Rattle.std.specs.Prelude.{ℕ, ◌+◌, ◌*◌, nat_le, Bool, true, false, not, ◌&&◌, ◌||◌, List, [], ◌∷◌, ◌++◌, map, length, Option, Some, None, is_some, if◌then◌else◌, codes, ℤ, pos, negsuc}
+use Rattle.std.specs.Prelude.{ℕ, ◌+◌, ◌*◌, nat_le, Bool, true, false, not, ◌&&◌, ◌||◌, List, [], ◌∷◌, ◌++◌, map, length, Option, Some, None, is_some, if◌then◌else◌, ℤ, pos, negsuc}
 use Rattle.std.specs.List.{flat_map, list_any}
 use Rattle.wc_model.specs.Language.Checks.{Check, asks, spots_of}
 use Rattle.wc_model.specs.Language.Declarations.{VariableType, Elementary, Standard, Block, same_name, is_block, block_named, type_named}
@@ -8,6 +8,7 @@ use Rattle.wc_model.specs.Language.DirectVariables.{variable_at, direct_variable
 use Rattle.wc_model.specs.Language.Names.{Name}
 use Rattle.wc_model.specs.Language.Store.{block_places, variable_places}
 use Rattle.wc_model.specs.Language.Tree.{Word, Term, Constant, Address, Variable as NameOf, Field, Step, Load, Store, Apply, Negate, Jump, Call, Return, Lines, End, Alone, Plain, Nested, Declaration, ProgramUnit, Text}
+use Rattle.wc_model.specs.Text.Keywords.{block_words, kept_words, kind_words, operator_words, other_words, truth_words, unit_words}
 use Rattle.wc_model.specs.declared.kind.Kind.{Kind}
 use Rattle.wc_model.specs.declared.kind.Kind.TheVariants.{Bool as KindBool, Dint as KindDint, Time as KindTime}
 use Rattle.wc_model.specs.declared.source.Section.{Section}
@@ -15,14 +16,9 @@ use Rattle.wc_model.specs.declared.source.Section.TheVariants.{Input, Output, Ow
 use Rattle.wc_model.specs.declared.value.Value.{Value}
 use Rattle.wc_model.specs.declared.value.Value.TheVariants.{Bool as Truth, Dint, Time}
 
--- operators, keywords, types, standard blocks, and words that the standard keeps
+-- instructions, keywords, types with the values of BOOL, and words that the standard keeps
 abbrev pub reserved_words : List Name
-reserved_words =
-    map codes ("ld" ∷ "ldn" ∷ "st" ∷ "stn" ∷ "s" ∷ "r" ∷ "and" ∷ "andn" ∷ "or" ∷ "orn" ∷ "xor" ∷ "xorn" ∷ "add" ∷ "sub" ∷ "mul" ∷ "div" ∷ "mod" ∷ "gt" ∷ "ge" ∷ "eq" ∷ "ne" ∷ "le" ∷ "lt" ∷ [])
-    ++ map codes ("not" ∷ "ret" ∷ "retc" ∷ "retcn" ∷ "jmp" ∷ "jmpc" ∷ "jmpcn" ∷ "cal" ∷ "calc" ∷ "calcn" ∷ [])
-    ++ map codes ("function_block" ∷ "end_function_block" ∷ "program" ∷ "end_program" ∷ "var_input" ∷ "var_output" ∷ "var" ∷ "end_var" ∷ [])
-    ++ map codes ("bool" ∷ "dint" ∷ "time" ∷ "true" ∷ "false" ∷ "ton" ∷ "tof" ∷ "tp" ∷ "ctu" ∷ "r_trig" ∷ "sr" ∷ "rs" ∷ [])
-    ++ map codes ("function" ∷ "end_function" ∷ "var_in_out" ∷ "var_global" ∷ "var_external" ∷ "var_temp" ∷ "constant" ∷ "retain" ∷ "at" ∷ [])
+reserved_words = operator_words ++ other_words ++ unit_words ++ (kind_words ++ truth_words ++ block_words) ++ kept_words
 
 -- a name is among others
 abbrev pub is_among : List Name → Name → Bool
@@ -51,7 +47,7 @@ is_own Own = true
 
 -- the names that are types in every text, TP and RS among them, which cannot be used yet
 abbrev pub type_words : List Name
-type_words = map codes ("bool" ∷ "dint" ∷ "time" ∷ "ton" ∷ "tof" ∷ "tp" ∷ "ctu" ∷ "r_trig" ∷ "sr" ∷ "rs" ∷ [])
+type_words = kind_words ++ block_words
 
 -- the name of a function block of the whole text
 abbrev pub names_block_of : Text → Name → Bool
@@ -99,7 +95,14 @@ suits_type (Some (Block name)) value = false
 abbrev pub initial_checks : List ProgramUnit → Declaration → List Check
 initial_checks before d = elim d.initial [ Some initial ↦ asks 303 initial.line (suits_type (type_named before d.type_name.name) initial.value) ∷ [] | None ↦ [] ]
 
--- 306: at most 256 variables in a unit and 4096 places in a frame, counted with each name; `taken` are the variables and the
+-- the greatest number of variables in a unit, and of places in a frame
+abbrev pub most_variables : ℕ
+most_variables = 256
+
+abbrev pub most_places : ℕ
+most_places = 4096
+
+-- 306: not too many variables in a unit, nor places in a frame, counted with each name; `taken` are the variables and the
 -- places that are taken before
 pub record Taken : Type 0 where
   pub variables : ℕ
@@ -109,7 +112,7 @@ abbrev pub places_of_type : List ProgramUnit → Name → ℕ
 places_of_type before type_name = length (variable_places (block_places before) (type_named before type_name) None)
 
 abbrev pub has_room : Taken → Bool
-has_room taken = nat_le taken.variables 256 && nat_le taken.places 4096
+has_room taken = nat_le taken.variables most_variables && nat_le taken.places most_places
 
 -- what is taken once a number of names of a type is declared
 abbrev pub and_more : Taken → ℕ → ℕ → Taken

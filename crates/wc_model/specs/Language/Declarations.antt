@@ -4,6 +4,7 @@ use Rattle.std.specs.List.{flat_map}
 use Rattle.std.specs.Str.{bytes_eq}
 use Rattle.wc_model.specs.Language.Names.{Name}
 use Rattle.wc_model.specs.Language.Tree.{Declaration, ProgramUnit}
+use Rattle.wc_model.specs.Text.Keywords.{block_word, kind_word}
 use Rattle.wc_model.specs.declared.block.StandardBlock.{StandardBlock}
 use Rattle.wc_model.specs.declared.block.StandardBlock.TheVariants.{RTrig, Sr, Ctu, Ton, Tof}
 use Rattle.wc_model.specs.declared.kind.Kind.{Kind}
@@ -41,11 +42,12 @@ variables_of unit = flat_map declared_by unit.declarations
 
 -- the elementary types, by name
 abbrev pub elementary_types : List (Name × Kind)
-elementary_types = (codes "bool", KindBool) ∷ (codes "dint", KindDint) ∷ (codes "time", KindTime) ∷ []
+elementary_types = (kind_word KindBool, KindBool) ∷ (kind_word KindDint, KindDint) ∷ (kind_word KindTime, KindTime) ∷ []
 
 -- the standard blocks, by name
 abbrev pub standard_blocks : List (Name × StandardBlock)
-standard_blocks = (codes "r_trig", RTrig) ∷ (codes "sr", Sr) ∷ (codes "ctu", Ctu) ∷ (codes "ton", Ton) ∷ (codes "tof", Tof) ∷ []
+standard_blocks =
+    (block_word RTrig, RTrig) ∷ (block_word Sr, Sr) ∷ (block_word Ctu, Ctu) ∷ (block_word Ton, Ton) ∷ (block_word Tof, Tof) ∷ []
 
 -- what stands beside a name
 abbrev pub named_in : {X : Type 0} → List (Name × X) → Name → Option X

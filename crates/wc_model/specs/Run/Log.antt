@@ -35,9 +35,21 @@ abbrev pub where_passes : {A : Type 0} → (A → Bool) → Option A → Option 
 where_passes test None = None
 where_passes test (Some value) = if test value then Some value else None
 
--- a moment: 1 to 13 digits, below 2^40
+-- the greatest moment, of 40 bits
+abbrev pub greatest_moment : ℕ
+greatest_moment = 1099511627775
+
+-- the greatest number of bytes that a row brings to the line
+abbrev pub longest_piece : ℕ
+longest_piece = 4096
+
+-- the greatest number of a row
+abbrev pub most_rows : ℕ
+most_rows = 1000000
+
+-- a moment: 1 to 13 digits, of at most 40 bits
 abbrev pub moment_of : List ℕ → Option ℕ
-moment_of text = where_passes (λ ms. nat_le ms 1099511627775) (number_within 13 text)
+moment_of text = where_passes (λ ms. nat_le ms greatest_moment) (number_within 13 text)
 
 -- a whole number: 1 to 10 digits, and `-` before them where it is negative
 abbrev pub whole_of : List ℕ → Option ℤ
@@ -50,9 +62,9 @@ whole_of (first ∷ rest) =
 abbrev pub counts_of : List ℕ → Option ℤ
 counts_of text = where_passes (λ counts. int_le least_sample counts && int_le counts greatest_sample) (whole_of text)
 
--- line bytes: hexadecimal digits of at most 4096 bytes
+-- line bytes: hexadecimal digits of no more bytes than a row may bring
 abbrev pub line_piece_of : List ℕ → Option (List ℕ)
-line_piece_of text = where_passes (λ bytes. nat_le (length bytes) 4096) (bytes_of_hex text)
+line_piece_of text = where_passes (λ bytes. nat_le (length bytes) longest_piece) (bytes_of_hex text)
 
 -- inputs: four hexadecimal digits
 abbrev pub inputs_word_of : List ℕ → Option ℕ
@@ -111,7 +123,7 @@ last_moment ((moment ∷ fields) ∷ earlier) = moment_of moment
 -- the row that a record writes after the records before it (newest first), or the number of its refusal
 abbrev pub row_of : List Record → Record → Result LogRow ℕ
 row_of before fields =
-    if nat_lt 1000000 (suc (length before)) then Err 607
+    if nat_lt most_rows (suc (length before)) then Err 607
     else row_of_fields (suc (length before)) (last_moment before) fields
 
 -- a refusal: its number, and the row at which it stands

@@ -1,6 +1,11 @@
--- The words of the language, in small letters (IEC 61131-3:2003, tables 51, 52 and C.2). Letter case is not significant.
-use Rattle.std.specs.Prelude.{Bool, true, false, codes}
+-- The words of the language, in small letters (IEC 61131-3:2003, tables 10, 51, 52 and C.2), and the groups of those that are
+-- reserved. Letter case is not significant.
+use Rattle.std.specs.Prelude.{Bool, true, false, List, [], ◌∷◌, ◌++◌, map, codes}
 use Rattle.wc_model.specs.Language.Names.{Name}
+use Rattle.wc_model.specs.declared.block.StandardBlock.{StandardBlock}
+use Rattle.wc_model.specs.declared.block.StandardBlock.TheVariants.{RTrig, Sr, Ctu, Ton, Tof}
+use Rattle.wc_model.specs.declared.kind.Kind.{Kind}
+use Rattle.wc_model.specs.declared.kind.Kind.TheVariants.{Bool as KindBool, Dint as KindDint, Time as KindTime}
 use Rattle.wc_model.specs.declared.operator.Condition.{Condition}
 use Rattle.wc_model.specs.declared.operator.Condition.TheVariants.{Always, IfTrue, IfFalse}
 use Rattle.wc_model.specs.declared.operator.Operator.{Operator}
@@ -90,3 +95,52 @@ abbrev pub return_word : Condition → Name
 return_word Always = codes "ret"
 return_word IfTrue = codes "retc"
 return_word IfFalse = codes "retcn"
+
+-- the elementary types
+abbrev pub kind_word : Kind → Name
+kind_word KindBool = codes "bool"
+kind_word KindDint = codes "dint"
+kind_word KindTime = codes "time"
+
+-- the standard function blocks
+abbrev pub block_word : StandardBlock → Name
+block_word RTrig = codes "r_trig"
+block_word Sr = codes "sr"
+block_word Ctu = codes "ctu"
+block_word Ton = codes "ton"
+block_word Tof = codes "tof"
+
+-- the operators with an operand
+abbrev pub operator_words : List Name
+operator_words =
+    load_word false ∷ load_word true ∷ store_word Result ∷ store_word Negation ∷ store_word Set ∷ store_word Reset
+    ∷ map operator_word (And ∷ Andn ∷ Or ∷ Orn ∷ Xor ∷ Xorn ∷ Add ∷ Sub ∷ Mul ∷ Div ∷ Mod ∷ Gt ∷ Ge ∷ Eq ∷ Ne ∷ Le ∷ Lt ∷ [])
+
+-- the other instructions: NOT, returns, jumps and calls
+abbrev pub other_words : List Name
+other_words =
+    not_word ∷ map return_word (Always ∷ IfTrue ∷ IfFalse ∷ []) ++ map jump_word (Always ∷ IfTrue ∷ IfFalse ∷ [])
+    ++ map call_word (Always ∷ IfTrue ∷ IfFalse ∷ [])
+
+-- the words round units and sections
+abbrev pub unit_words : List Name
+unit_words =
+    unit_word FunctionBlock ∷ end_word FunctionBlock ∷ unit_word Program ∷ end_word Program
+    ∷ section_word Input ∷ section_word Output ∷ section_word Own ∷ end_var ∷ []
+
+-- the elementary types
+abbrev pub kind_words : List Name
+kind_words = map kind_word (KindBool ∷ KindDint ∷ KindTime ∷ [])
+
+-- the values of BOOL
+abbrev pub truth_words : List Name
+truth_words = truth_word true ∷ truth_word false ∷ []
+
+-- the standard function blocks, TP and RS among them, which cannot be used yet
+abbrev pub block_words : List Name
+block_words = block_word Ton ∷ block_word Tof ∷ codes "tp" ∷ block_word Ctu ∷ block_word RTrig ∷ block_word Sr ∷ codes "rs" ∷ []
+
+-- words that the standard keeps for what this language leaves out
+abbrev pub kept_words : List Name
+kept_words =
+    map codes ("function" ∷ "end_function" ∷ "var_in_out" ∷ "var_global" ∷ "var_external" ∷ "var_temp" ∷ "constant" ∷ "retain" ∷ "at" ∷ [])

@@ -31,7 +31,7 @@ pub data Lexeme (piece after : List ℕ) : Type 0 where
   Unsigned : IsTrue (is_unsigned_run piece) → Lexeme piece after
   Signed : (sign : ℕ) (number : List ℕ) → piece ≡ sign ∷ number → IsTrue (is_sign sign) → IsTrue (is_unsigned_run number) → Lexeme piece after
   Sign : (sign : ℕ) → piece ≡ sign ∷ [] → IsTrue (is_sign sign) → Lexeme piece after
-  Place : (place : List ℕ) → piece ≡ byte "%" ∷ place → IsTrue (list_all is_address_character place) → Lexeme piece after
+  Addressed : (address : List ℕ) → piece ≡ byte "%" ∷ address → IsTrue (list_all is_address_character address) → Lexeme piece after
   Marked : (shape : Shape) → mark_of piece ≡ Some shape → IsTrue (may_stand_before shape after) → Lexeme piece after
 
 -- the piece is the longest lexeme where it stands

@@ -7,7 +7,9 @@ use Rattle.wc_model.specs.Text.Characters.{begins, starts_identifier, is_hash, i
 use Rattle.wc_model.specs.Text.Digits.{has_single_underscores}
 use Rattle.wc_model.specs.Text.Durations.{duration_of}
 use Rattle.wc_model.specs.Language.Names.{Name, name_of}
+use Rattle.wc_model.specs.Text.Keywords.{kind_word}
 use Rattle.wc_model.specs.Text.WholeNumbers.{whole_number_of}
+use Rattle.wc_model.specs.declared.kind.Kind.TheVariants.{Bool as KindBool, Time as KindTime}
 
 -- what a token is: an identifier, a literal with its value, an address, `&`, `&N`, a mark, or a line end
 pub data Shape : Type 0 where
@@ -54,9 +56,13 @@ marks =
 abbrev pub mark_of : List ℕ → Option Shape
 mark_of spelling = option_map (λ mark. mark.shape) (find (λ mark. bytes_eq spelling mark.spelling) marks)
 
--- an identifier has at most 32 characters and single underscores, none of them at its end
+-- the greatest length of a name
+abbrev pub longest_name : ℕ
+longest_name = 32
+
+-- an identifier is no longer than a name, and has single underscores, none of them at its end
 abbrev pub identifier_shape : List ℕ → Result Shape ℕ
-identifier_shape lexeme = if nat_le (length lexeme) 32 && has_single_underscores lexeme then Ok Identifier else Err 104
+identifier_shape lexeme = if nat_le (length lexeme) longest_name && has_single_underscores lexeme then Ok Identifier else Err 104
 
 -- a number has one of the forms of whole-number literals
 abbrev pub number_shape : List ℕ → Result Shape ℕ
@@ -75,8 +81,8 @@ duration_shape value = ok_or (option_map Duration (duration_of value)) 106
 -- a literal by its type's name and what stands behind the `#`
 abbrev pub typed_shape : Name → List ℕ → Result Shape ℕ
 typed_shape type value =
-    if bytes_eq type (codes "bool") then truth_shape value
-    else (if bytes_eq type (codes "t") || bytes_eq type (codes "time") then duration_shape value else Err 105)
+    if bytes_eq type (kind_word KindBool) then truth_shape value
+    else (if bytes_eq type (codes "t") || bytes_eq type (kind_word KindTime) then duration_shape value else Err 105)
 
 -- a literal whose type is named before its `#`
 abbrev pub literal_shape : List ℕ → Result Shape ℕ

@@ -8,8 +8,8 @@ use Rattle.wc_lexer.specs.declared.shape.Token.{Token}
 use Rattle.wc_lexer.specs.Views.{shape_view, token_view}
 use Rattle.wc_model.specs.Text.Tokens.{TooLong}
 
-pub returns-then-text-gt65536-clause-refused : goal.returns-then-text-gt65536-clause-refused
-returns-then-text-gt65536-clause-refused c = TooLong c.if-text-gt65536.true
+pub returns-then-text-gt-MOST_BYTES-clause-refused : goal.returns-then-text-gt-MOST_BYTES-clause-refused
+returns-then-text-gt-MOST_BYTES-clause-refused c = TooLong c.if-text-gt-MOST_BYTES.true
 
 pub returns-in-Fault-clause-refused : goal.returns-in-Fault-clause-refused
 returns-in-Fault-clause-refused c =

@@ -6,8 +6,8 @@ use Rattle.wc_model.specs.Language.Views.{unit_view}
 use Rattle.wc_reader.specs.TextViews.{position_view}
 use Rattle.wc_reader.proofs.body_moves.at_body_identifier.Goals as goal
 
-pub returns-in_ok-place-clause-behind : goal.returns-in_ok-place-clause-behind
-returns-in_ok-place-clause-behind c =
+pub returns-in_ok-state-clause-behind : goal.returns-in_ok-state-clause-behind
+returns-in_ok-state-clause-behind c =
     let units = map unit_view c.args.units.items in
-    rw c.if-colon.true (c.with_units.ensures.behind ∙ (c.in_ok-place.ensures.behind units
+    rw c.if-colon.true (c.with_units.ensures.behind ∙ (c.in_ok-state.ensures.behind units
     ∙ ap (begun_line (position_view units c.args.body)) (c.at_start.ensures ∙ ap (λ s. line_move InBody Start s c.args.token.line true) c.requires.identifier)))

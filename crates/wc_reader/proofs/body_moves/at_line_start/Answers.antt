@@ -7,10 +7,10 @@ use Rattle.wc_reader.specs.TextViews.{position_view}
 use Rattle.wc_reader.specs.Words.{symbol_view}
 use Rattle.wc_reader.proofs.body_moves.at_line_start.Goals as goal
 
-pub returns-in_ok-place-clause-behind : goal.returns-in_ok-place-clause-behind
-returns-in_ok-place-clause-behind c =
+pub returns-in_ok-state-clause-behind : goal.returns-in_ok-state-clause-behind
+returns-in_ok-state-clause-behind c =
     let units = map unit_view c.args.units.items in
     let more : (length c.args.body.openings.items == 0) ≡ false = grind (arith, nat_tests, c.args.body.openings.ok.0) in
     let some = innermost_of c.args.body.openings.items more in
-    c.with_units.ensures.behind ∙ (c.in_ok-place.ensures.behind units some.innermost some.outer some.same
+    c.with_units.ensures.behind ∙ (c.in_ok-state.ensures.behind units some.innermost some.outer some.same
     ∙ sym (ap (λ os. start_move (position_view units c.args.body) os (symbol_view c.args.token) c.args.token.line c.args.colon) some.same))

@@ -68,7 +68,7 @@ pub(crate) enum LineForm<'a> {
 
 /// How far a line of a body has been read.
 #[derive(Debug, Drop)]
-pub(crate) enum LinePlace<'a> {
+pub(crate) enum LineState<'a> {
     /// Behind an identifier that is a label if anything is.
     Worded(Word<'a>),
     /// Behind a label's colon.

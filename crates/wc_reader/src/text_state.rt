@@ -1,22 +1,22 @@
 use crate::body::Body;
-use crate::declarations::DeclarationPlace;
-use crate::line_place::LinePlace;
+use crate::declarations::DeclarationState;
+use crate::line_state::LineState;
 use std::alloc::Global;
 use wc_model::{Section, Unit, UnitKind};
 
 /// How far a text has been read, behind its whole units.
 #[derive(Debug, Drop)]
-pub(crate) enum Place<'a> {
+pub(crate) enum TextState<'a> {
     /// In no unit.
     Outside,
     /// Behind a unit's first word, of that line.
     Unnamed(UnitKind, u32),
     /// In a section of declarations.
-    Declaring(Unit<'a>, Section, DeclarationPlace<'a>),
+    Declaring(Unit<'a>, Section, DeclarationState<'a>),
     /// At the start of a line of a body.
     AtLine(Body<'a>),
     /// On a line that has begun.
-    OnLine(Body<'a>, LinePlace<'a>),
+    OnLine(Body<'a>, LineState<'a>),
     /// Behind a `)`, which the body counts as done.
     Closed(Body<'a>),
 }
@@ -25,5 +25,5 @@ pub(crate) enum Place<'a> {
 #[derive(Debug, Drop)]
 pub(crate) struct Reading<'a> {
     pub units: Vec<Unit<'a>, Global>,
-    pub place: Place<'a>,
+    pub state: TextState<'a>,
 }
