@@ -41,14 +41,7 @@ fn units(rt: HostRuntime, text: &[u8]) -> usize {
 }
 
 /// A unit has this name and this cost, and its worst path these lines.
-fn costs(
-    rt: HostRuntime,
-    text: &[u8],
-    unit: usize,
-    name: &str,
-    steps: u32,
-    lines: &[u32],
-) -> bool {
+fn costs(rt: HostRuntime, text: &[u8], unit: usize, name: &str, steps: u32, lines: &[u32]) -> bool {
     let Ok(loaded) = loaded(rt.alloc(), text) else {
         return false;
     };
