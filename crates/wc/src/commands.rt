@@ -1,52 +1,78 @@
 ghost use Rattle.std.specs.Prelude.{◌≤◌, IfSome};
 
 use crate::devices::{Noting, Opening};
-use crate::telling::{Met, Sources, end};
+use crate::output::{Emptying, Gathered, Gathering};
+use crate::telling::{Met, Sources, end, without_memory};
 use crate::words::ProgramFiles;
-use std::io::Stdout;
-use wc_controller::{answer_job, check_file, line_files, run_files};
+use std::cell::RefCell;
+use std::io;
+use std::io::Stdin;
+use wc_controller::{Ending, answer_job, check_file, line_files, run_files};
 use wc_model::Device;
 
-/// What is written to standard output.
-type Output = Device<Noting<Stdout>>;
-
-/// A file that is read.
-type Source<'a> = Device<Noting<Opening<'a>>>;
-
-/// Standard output.
-fn output(rt: &HostRuntime) -> Output {
-    Device::new(Noting::new(rt.stdout()))
-}
+/// A file that is read, and before each read the output is emptied.
+type Source<'a> = Device<Emptying<'a, Noting<Opening<'a>>>>;
 
 /// A file, which is opened when it is first read.
-fn source<'a>(rt: &'a HostRuntime, path: &'a str) -> Source<'a> {
-    Device::new(Noting::new(Opening::new(rt, path)))
+fn source<'a>(rt: &'a HostRuntime, path: &'a str, gathered: &'a RefCell<Gathered>) -> Source<'a> {
+    Device::new(Emptying::new(gathered, Noting::new(Opening::new(rt, path))))
+}
+
+/// Why a file could not be read, if the system said so.
+fn cause(source: &Source<'_>) -> Option<io::Error> {
+    source.get_ref().get_ref().cause()
+}
+
+/// Writes what is still gathered, and tells how the command ended: the exit status.
+fn finish(
+    rt: &HostRuntime,
+    ending: Ending,
+    reading: Option<io::Error>,
+    gathered: &RefCell<Gathered>,
+    sources: &Sources<'_>,
+) -> u8 {
+    let (written, writing) = match gathered.try_borrow_mut() {
+        Ok(mut gathered) => (gathered.empty(), gathered.cause()),
+        Err(_) => (false, None),
+    };
+    let met = Met {
+        ending: if written { ending } else { Ending::WriteFault },
+        reading,
+        writing,
+    };
+    end(rt, &met, sources)
 }
 
 /// Answers a job on standard input: the exit status.
 pub(crate) fn run_job(rt: &HostRuntime) -> u8 {
-    let mut reader = Device::new(Noting::new(rt.stdin()));
-    let mut writer = output(rt);
-    let ending = answer_job(rt.alloc(), &mut reader, &mut writer);
-    let met = Met {
-        ending,
-        reading: reader.get_ref().cause(),
-        writing: writer.get_ref().cause(),
+    let gathered = match Gathered::new(rt) {
+        Ok(gathered) => RefCell::new(gathered),
+        Err(_) => return without_memory(rt),
     };
-    end(rt, &met, &Sources::Job)
+    let input: Noting<Stdin> = Noting::new(rt.stdin());
+    let mut reader = Device::new(Emptying::new(&gathered, input));
+    let mut writer = Device::new(Gathering::new(&gathered));
+    let ending = answer_job(rt.alloc(), &mut reader, &mut writer);
+    let reading = reader.get_ref().get_ref().cause();
+    finish(rt, ending, reading, &gathered, &Sources::Job)
 }
 
 /// Checks the program in a file: the exit status.
 pub(crate) fn check_words(rt: &HostRuntime, program: &str, paths: bool) -> u8 {
-    let mut reader = source(rt, program);
-    let mut writer = output(rt);
-    let ending = check_file(rt.alloc(), paths, &mut reader, &mut writer);
-    let met = Met {
-        ending,
-        reading: reader.get_ref().cause(),
-        writing: writer.get_ref().cause(),
+    let gathered = match Gathered::new(rt) {
+        Ok(gathered) => RefCell::new(gathered),
+        Err(_) => return without_memory(rt),
     };
-    end(rt, &met, &Sources::Program { program })
+    let mut reader = source(rt, program, &gathered);
+    let mut writer = Device::new(Gathering::new(&gathered));
+    let ending = check_file(rt.alloc(), paths, &mut reader, &mut writer);
+    finish(
+        rt,
+        ending,
+        cause(&reader),
+        &gathered,
+        &Sources::Program { program },
+    )
 }
 
 /// Runs the log in a file with a program, and prints every scan or the last so many: the exit status.
@@ -58,10 +84,14 @@ pub(crate) fn run_words(
 ) -> u8
     requires { IfSome last (λ n. (1 ≤ n) × (n ≤ 1000)) }
 {
-    let mut plate_reader = source(rt, plate);
-    let mut program_reader = source(rt, files.program);
-    let mut log_reader = source(rt, files.log);
-    let mut writer = output(rt);
+    let gathered = match Gathered::new(rt) {
+        Ok(gathered) => RefCell::new(gathered),
+        Err(_) => return without_memory(rt),
+    };
+    let mut plate_reader = source(rt, plate, &gathered);
+    let mut program_reader = source(rt, files.program, &gathered);
+    let mut log_reader = source(rt, files.log, &gathered);
+    let mut writer = Device::new(Gathering::new(&gathered));
     let ending = run_files(
         rt.alloc(),
         last,
@@ -70,33 +100,34 @@ pub(crate) fn run_words(
         &mut log_reader,
         &mut writer,
     );
-    let reading = plate_reader
-        .get_ref()
-        .cause()
-        .or(program_reader.get_ref().cause())
-        .or(log_reader.get_ref().cause());
-    let met = Met {
+    let reading = cause(&plate_reader)
+        .or(cause(&program_reader))
+        .or(cause(&log_reader));
+    finish(
+        rt,
         ending,
         reading,
-        writing: writer.get_ref().cause(),
-    };
-    end(rt, &met, &Sources::Files { plate, files })
+        &gathered,
+        &Sources::Files { plate, files },
+    )
 }
 
 /// Runs the log in a file with no program: the exit status.
 pub(crate) fn line_words(rt: &HostRuntime, plate: &str, log: &str) -> u8 {
-    let mut plate_reader = source(rt, plate);
-    let mut log_reader = source(rt, log);
-    let mut writer = output(rt);
+    let gathered = match Gathered::new(rt) {
+        Ok(gathered) => RefCell::new(gathered),
+        Err(_) => return without_memory(rt),
+    };
+    let mut plate_reader = source(rt, plate, &gathered);
+    let mut log_reader = source(rt, log, &gathered);
+    let mut writer = Device::new(Gathering::new(&gathered));
     let ending = line_files(rt.alloc(), &mut plate_reader, &mut log_reader, &mut writer);
-    let reading = plate_reader
-        .get_ref()
-        .cause()
-        .or(log_reader.get_ref().cause());
-    let met = Met {
+    let reading = cause(&plate_reader).or(cause(&log_reader));
+    finish(
+        rt,
         ending,
         reading,
-        writing: writer.get_ref().cause(),
-    };
-    end(rt, &met, &Sources::Line { plate, log })
+        &gathered,
+        &Sources::Line { plate, log },
+    )
 }

@@ -7,6 +7,7 @@ mod devices;
 mod excerpts;
 mod explaining;
 mod hints;
+mod output;
 mod pages;
 mod printable;
 mod sentences;
@@ -19,6 +20,7 @@ use commands::{check_words, line_words, run_job, run_words};
 use explaining::explain;
 use std::process::ExitCode;
 use std::{env, io};
+use telling::without_memory;
 use words::{Wanted, read_words};
 
 /// The exit status where the words are wrong.
@@ -27,19 +29,10 @@ const WRONG_WORDS: u8 = 2;
 /// The exit status where a device failed.
 const DEVICE_FAULT: u8 = 3;
 
-/// The exit status of want of memory.
-const NO_MEMORY: u8 = 4;
-
 /// The words of the command line, the first of which is the program's own name.
 fn words_given(rt: &HostRuntime) -> io::Result<Vec<String>> {
     let words = env::args(rt)?.collect(rt.alloc())?;
     Ok(words)
-}
-
-/// The exit status where memory was refused to the words, which is told.
-fn without_memory(rt: &HostRuntime) -> u8 {
-    let _told = rt.eprintln("memory");
-    NO_MEMORY
 }
 
 /// The exit status where the words could not be had.

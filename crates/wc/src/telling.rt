@@ -150,6 +150,12 @@ fn tell(rt: &HostRuntime, met: &Met, sources: &Sources<'_>) -> io::Result<()> {
     }
 }
 
+/// Says that memory was refused: the exit status.
+pub(crate) fn without_memory(rt: &HostRuntime) -> u8 {
+    let _told = rt.eprintln("memory");
+    Ending::NoMemory.status()
+}
+
 /// The ending, where memory was refused to the system's own calls too.
 fn with_memory(met: &Met) -> Ending {
     match (met.ending, met.reading) {

@@ -7,7 +7,7 @@ use Rattle.std.specs.List.{list_all}
 use Rattle.std.specs.Prelude.{slice_index}
 use Rattle.std.specs.Str.{IsAscii}
 use Rattle.wc_model.specs.Text.Characters.{begins, is_address_character, is_identifier_character, is_minus, is_number_character, is_sign, starts_identifier}
-use Rattle.wc_model.specs.Text.Lexemes.{Lexeme, Run, Typed, Unsigned, Signed, Sign, Place, Marked, is_run, is_literal_value, is_unsigned_run}
+use Rattle.wc_model.specs.Text.Lexemes.{Lexeme, Run, Typed, Unsigned, Signed, Sign, Addressed, Marked, is_run, is_literal_value, is_unsigned_run}
 use Rattle.wc_model.specs.Text.Marks as marks
 use Rattle.wc_model.specs.Text.Reading.{mark_of_token, symbol_of}
 use Rattle.wc_model.specs.Text.Shapes.{Shape, Identifier, Whole, Duration, Truth, Address, And, AndNot, Opening, Closing, Comma, Colon, Semicolon, Point, Assign, Arrow, LineEnd}
@@ -73,7 +73,7 @@ lexeme_ascii piece after (Typed type value e t v) =
 lexeme_ascii piece after (Unsigned h) = unsigned_ascii piece h
 lexeme_ascii piece after (Signed sign number e s n) = subst IsAscii (sym e) (one_more sign number (sign_small sign s) (unsigned_ascii number n))
 lexeme_ascii piece after (Sign sign e s) = subst IsAscii (sym e) (one_more sign [] (sign_small sign s) IsAscii-nil)
-lexeme_ascii piece after (Place place e a) = subst IsAscii (sym e) (one_more 37 place (omega arith) (all_small is_address_character address_small place a))
+lexeme_ascii piece after (Addressed address e a) = subst IsAscii (sym e) (one_more 37 address (omega arith) (all_small is_address_character address_small address a))
 lexeme_ascii piece after (Marked shape found may) =
     all_small (λ b. nat_le b 127) (λ b h. omega (arith, leb-true b 127 h)) piece (mark_passes (λ p s. list_all (λ b. nat_le b 127) p) piece shape Rattle.std.proofs.Common.refl found)
 
