@@ -18,8 +18,7 @@ const DELAYING: &[u8] =
     b"PROGRAM P\nVAR t : TON; p : TIME := T#500ms; END_VAR\nLD %IX0.1\nJMPCN L\nLD T#1s\nST p\nL: CAL t(IN := %IX0.0, PT := p)\nLD t.Q\nST %QX0.0\nEND_PROGRAM\n";
 
 /// Scans of a delay.
-const DELAY_LOG: &[u8] =
-    b"ms,kind,data\n0,I,0001\n0,S,\n499,S,\n500,S,\n600,I,0003\n600,S,\n";
+const DELAY_LOG: &[u8] = b"ms,kind,data\n0,I,0001\n0,S,\n499,S,\n500,S,\n600,I,0003\n600,S,\n";
 
 /// A request over two rows, with a scan between.
 const ZERO_LOG: &[u8] =
@@ -78,7 +77,8 @@ fn the_last_scans_are_printed_in_order(rt: HostRuntime) {
     let alloc = rt.alloc();
     let two = b"S 500 8 0001 0 0 0 0\nS 600 10 0000 0 0 0 0\n";
     assert!(rt; gives(alloc, DELAYING, DELAY_LOG, Some(2), Ok(6), two));
-    let all = b"S 0 8 0000 0 0 0 0\nS 499 8 0000 0 0 0 0\nS 500 8 0001 0 0 0 0\nS 600 10 0000 0 0 0 0\n";
+    let all =
+        b"S 0 8 0000 0 0 0 0\nS 499 8 0000 0 0 0 0\nS 500 8 0001 0 0 0 0\nS 600 10 0000 0 0 0 0\n";
     assert!(rt; gives(alloc, DELAYING, DELAY_LOG, None, Ok(6), all));
     assert!(rt; gives(alloc, DELAYING, DELAY_LOG, Some(4), Ok(6), all));
     assert!(rt; gives(alloc, DELAYING, DELAY_LOG, Some(1000), Ok(6), all));
@@ -134,7 +134,10 @@ fn a_write_fault_cuts_the_last_scans(rt: HostRuntime) -> Result<(), Fail> {
         &mut narrow,
     );
     assert!(rt; given == Err(RunFault::Write));
-    assert_eq!(rt; narrow.written(), b"L 420 0a5a314720202020202020302e3030306b67200d\nS 410".as_slice());
+    assert_eq!(rt;
+        narrow.written(),
+        b"L 420 0a5a314720202020202020302e3030306b67200d\nS 410".as_slice()
+    );
     Ok(())
 }
 
