@@ -1,7 +1,7 @@
 //! Texts loaded and checked, and jobs answered.
 use std::alloc::{AllocError, Global};
 use std::test::Fail;
-use wc_controller::{RunFault, check, job, load, refuse};
+use wc_controller::{RunFault, check, job, load};
 use wc_machine::Machine;
 use wc_model::{ByteOut, Device, Fault, FuseIn, FuseOut, Image};
 use wc_store::SlotStore;
@@ -141,86 +141,5 @@ fn a_front_is_written_where_the_writer_fails(rt: HostRuntime) -> Result<(), Fail
     assert_eq!(rt; job(rt.alloc(), &mut reader, &mut writer), 3);
     assert_eq!(rt; writer.failures(), 1);
     assert_eq!(rt; writer.written(), b"S 0 2".as_slice());
-    Ok(())
-}
-
-#[test]
-fn a_refusal_is_written_in_part(rt: HostRuntime) -> Result<(), Fail> {
-    let mut reader = Device::new(b"".as_slice());
-    let mut writer = FuseOut::new(rt.alloc(), 1, 5)?;
-    assert_eq!(rt; job(rt.alloc(), &mut reader, &mut writer), 3);
-    assert_eq!(rt; writer.failures(), 1);
-    assert_eq!(rt; writer.written(), b"refus".as_slice());
-    Ok(())
-}
-
-#[test]
-fn a_writer_that_takes_nothing(rt: HostRuntime) -> Result<(), Fail> {
-    for text in [FIRST_JOB, b"".as_slice()] {
-        let mut reader = Device::new(text);
-        let mut writer = FuseOut::new(rt.alloc(), 0, 100)?;
-        assert_eq!(rt; job(rt.alloc(), &mut reader, &mut writer), 3);
-        assert_eq!(rt; writer.failures(), 1);
-    }
-    Ok(())
-}
-
-#[test]
-fn a_reader_that_fails(rt: HostRuntime) -> Result<(), Fail> {
-    let mut out = Vec::new(rt.alloc());
-    let mut reader = FuseIn::new(b"", b"", 0, true);
-    let mut writer = Device::new(&mut out);
-    assert_eq!(rt; job(rt.alloc(), &mut reader, &mut writer), 3);
-    assert_eq!(rt; out.len(), 0);
-    Ok(())
-}
-
-#[test]
-fn units_are_checked(rt: HostRuntime) -> Result<(), Fail> {
-    let mut out = Vec::new(rt.alloc());
-    let mut writer = Device::new(&mut out);
-    assert!(rt; check(rt.alloc(), b"PROGRAM P\nEND_PROGRAM\n", false, &mut writer) == Ok(()));
-    assert_eq!(rt; out.as_slice(), b"unit P cost 0\n".as_slice());
-    let mut two = Vec::new(rt.alloc());
-    let mut lines = Device::new(&mut two);
-    let text = b"PROGRAM P\nLD %IX0.0\nST %QX0.0\nEND_PROGRAM\n";
-    assert!(rt; check(rt.alloc(), text, true, &mut lines) == Ok(()));
-    assert_eq!(rt; two.as_slice(), b"unit P cost 2\npath 2 3\n".as_slice());
-    let mut full = FuseOut::new(rt.alloc(), 0, 100)?;
-    assert!(rt;
-        check(rt.alloc(), b"PROGRAM P\nEND_PROGRAM\n", false, &mut full) == Err(RunFault::Write)
-    );
-    Ok(())
-}
-
-#[test]
-fn a_refused_text_prints_nothing(rt: HostRuntime) -> Result<(), Fail> {
-    let mut out = Vec::new(rt.alloc());
-    let mut writer = Device::new(&mut out);
-    let answer = check(
-        rt.alloc(),
-        b"PROGRAM P\nLD x\nEND_PROGRAM\n",
-        true,
-        &mut writer,
-    );
-    assert!(rt;
-        answer
-            == Err(RunFault::Refused {
-                number: 401,
-                place: 2
-            })
-    );
-    assert_eq!(rt; out.len(), 0);
-    Ok(())
-}
-
-#[test]
-fn a_refusal_is_written(rt: HostRuntime) -> Result<(), Fail> {
-    let alloc = rt.alloc();
-    let mut out = Vec::new(alloc);
-    let mut writer = Device::new(&mut out);
-    assert_eq!(rt; refuse(alloc, 702, 0, &mut writer), 1);
-    assert_eq!(rt; out.as_slice(), b"refused 702 0\n".as_slice());
-    assert_eq!(rt; refuse(alloc, 702, 0, &mut FuseOut::new(alloc, 0, 100)?), 3);
     Ok(())
 }

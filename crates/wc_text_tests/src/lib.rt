@@ -8,6 +8,8 @@ mod costs;
 #[cfg(test)]
 mod declarations;
 #[cfg(test)]
+mod inputs;
+#[cfg(test)]
 mod jobs;
 #[cfg(test)]
 mod programs;
