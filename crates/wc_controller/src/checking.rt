@@ -1,6 +1,6 @@
-ghost use Rattle.std.specs.Prelude.{◌≡◌, IfSome, IsErrOf};
+ghost use Rattle.std.specs.Prelude.{◌≡◌, IfErr, IfSome, IsErrOf};
 ghost use Rattle.wc_controller.specs.Checking.{Checks, WritesReport};
-ghost use Rattle.wc_controller.specs.Endings.{EndsAs, IsReadFaultAt, TellsFailures, TellsReadEndings, TellsReadFaults, TellsWriteFaults, WritesUpTo, met};
+ghost use Rattle.wc_controller.specs.Endings.{EndsAs, IsAt, IsReadFaultAt, TellsFailures, TellsReadEndings, TellsReadFaults, TellsWriteFaults, WritesUpTo, met};
 ghost use Rattle.wc_controller.specs.Files.{AnswersCheck, AnswersCheckFile};
 ghost use Rattle.wc_model.specs.Language.Views.{text_view};
 ghost use Rattle.wc_model.specs.Run.Writing.{HasFailedSince};
@@ -75,6 +75,7 @@ fn check_text<W: ByteOut>(
     ensures writes { WritesUpTo (AnswersCheck paths text.now) (met result)
         (W.bytes_taken writer.old) (W.bytes_taken writer.new) }
     ensures held { ¬ IsReadFaultAt Input.Program result }
+    ensures own { IfErr result (λ stopped. stopped.input ≡ Input.Program) }
     ensures failures { TellsWriteFaults (met result) (W.failure_count writer.old)
         (W.failure_count writer.new) }
 {
@@ -97,6 +98,7 @@ fn check_input<T: ByteIn, W: ByteOut>(
     ensures writes { IfSome (T.bytes_left program.old)
         (λ bytes. WritesUpTo (AnswersCheckFile paths bytes) (met result)
         (W.bytes_taken writer.old) (W.bytes_taken writer.new)) }
+    ensures own { IfErr result (λ stopped. stopped.input ≡ Input.Program) }
     ensures program { TellsReadFaults Input.Program result (T.failure_count program.old)
         (T.failure_count program.new) }
     ensures failures { TellsWriteFaults (met result) (W.failure_count writer.old)
@@ -119,6 +121,10 @@ pub fn check_file<T: ByteIn, W: ByteOut>(
     ensures ends { IfSome (T.bytes_left program.old)
         (λ bytes. EndsAs (AnswersCheckFile paths bytes) result
         (W.bytes_taken writer.old) (W.bytes_taken writer.new)) }
+    // It has one input, which is what it names.
+    ensures own { ¬ IsAt Input.Job result }
+    ensures no_plate { ¬ IsAt Input.Plate result }
+    ensures no_log { ¬ IsAt Input.Log result }
     ensures program { TellsReadEndings Input.Program result (T.failure_count program.old)
         (T.failure_count program.new) }
     ensures failures { TellsFailures result (W.failure_count writer.old)

@@ -49,6 +49,8 @@ fn line_inputs<P: ByteIn, L: ByteIn, W: ByteOut>(
     ensures writes { IfSome (P.bytes_left plate.old) (λ table. IfSome (L.bytes_left log.old)
         (λ bytes. WritesUpTo (AnswersLine table bytes) (met result)
         (W.bytes_taken writer.old) (W.bytes_taken writer.new))) }
+    ensures own { ¬ StopsAt Input.Job result }
+    ensures no_program { ¬ StopsAt Input.Program result }
     ensures unread { StopsAt Input.Plate result
         → L.spent_count log.new ≡ L.spent_count log.old }
     ensures plate { TellsReadFaults Input.Plate result (P.failure_count plate.old)
@@ -76,6 +78,9 @@ pub fn line_files<P: ByteIn, L: ByteIn, W: ByteOut>(
     ensures ends { IfSome (P.bytes_left plate.old) (λ table. IfSome (L.bytes_left log.old)
         (λ bytes. EndsAs (AnswersLine table bytes) result
         (W.bytes_taken writer.old) (W.bytes_taken writer.new))) }
+    // It has neither a job nor a program: what it names is its plate or its log.
+    ensures own { ¬ IsAt Input.Job result }
+    ensures no_program { ¬ IsAt Input.Program result }
     ensures unread { IsAt Input.Plate result
         → L.spent_count log.new ≡ L.spent_count log.old }
     ensures plate { TellsReadEndings Input.Plate result (P.failure_count plate.old)

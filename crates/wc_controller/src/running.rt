@@ -163,6 +163,7 @@ pub(crate) fn run_text<L: ByteIn, W: ByteOut>(
     ensures unread { StopsAt Input.Program result
         → L.spent_count log.new ≡ L.spent_count log.old }
     ensures later { ¬ StopsAt Input.Plate result }
+    ensures own { ¬ StopsAt Input.Job result }
     ensures held { ¬ IsReadFaultAt Input.Program result }
     ensures read { IsReadFaultAt Input.Log result
         → HasCause (L.failure_count log.old) (L.failure_count log.new)
@@ -196,6 +197,7 @@ fn run_program<T: ByteIn, L: ByteIn, W: ByteOut>(
     ensures unread { StopsAt Input.Program result
         → L.spent_count log.new ≡ L.spent_count log.old }
     ensures later { ¬ StopsAt Input.Plate result }
+    ensures own { ¬ StopsAt Input.Job result }
     ensures program { TellsReadFaults Input.Program result (T.failure_count program.old)
         (T.failure_count program.new) }
     ensures log { IsReadFaultAt Input.Log result
@@ -224,6 +226,7 @@ fn run_inputs<P: ByteIn, T: ByteIn, L: ByteIn, W: ByteOut>(
         (λ text. IfSome (L.bytes_left log.old)
         (λ bytes. WritesUpTo (AnswersRun last table text bytes) (met result)
         (W.bytes_taken writer.old) (W.bytes_taken writer.new)))) }
+    ensures own { ¬ StopsAt Input.Job result }
     ensures unread { StopsAt Input.Program result
         → L.spent_count log.new ≡ L.spent_count log.old }
     ensures unread_behind_plate { StopsAt Input.Plate result
@@ -263,6 +266,8 @@ pub fn run_files<P: ByteIn, T: ByteIn, L: ByteIn, W: ByteOut>(
         (λ text. IfSome (L.bytes_left log.old)
         (λ bytes. EndsAs (AnswersRun last table text bytes) result
         (W.bytes_taken writer.old) (W.bytes_taken writer.new)))) }
+    // A run has no job: what it names is one of its three inputs.
+    ensures own { ¬ IsAt Input.Job result }
     ensures unread { IsAt Input.Program result
         → L.spent_count log.new ≡ L.spent_count log.old }
     ensures unread_behind_plate { IsAt Input.Plate result
