@@ -36,7 +36,7 @@ pub broken : (number line : ℕ) (holds : Bool) (checks : List Check) → holds 
 broken number line holds checks e = rw e refl
 
 -- the pieces of a declaration's rules, one behind the other
-regrouped : (a b c d e : List Check) → (((a ++ b) ++ c) ++ d) ++ e ≡ a ++ (b ++ (c ++ (d ++ e)))
+pub regrouped : (a b c d e : List Check) → (((a ++ b) ++ c) ++ d) ++ e ≡ a ++ (b ++ (c ++ (d ++ e)))
 regrouped a b c d e = simp append_assoc
 
 pub pieces : (text : Text) (before : List ProgramUnit) (names : List Name) (t : Taken) (d : Declaration) (rest : List Check) →

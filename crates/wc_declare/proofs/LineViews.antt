@@ -15,24 +15,25 @@ use Rattle.wc_model.specs.declared.tree.Instr.{Instr, fold_out-Instr}
 use Rattle.wc_model.specs.declared.tree.Instr.TheOpen.{Instr-F}
 use Rattle.wc_model.specs.declared.tree.Instr.TheVariants as instrs
 use Rattle.wc_model.specs.declared.tree.Line.{Line, fold_out-Line, the_lemmas}
+use Rattle.wc_declare.proofs.Judging.{regrouped}
 
 -- the pieces of a line's rules, one behind the other
 three : (a b c d : List Check) → ((a ++ b) ++ c) ++ d ≡ a ++ (b ++ (c ++ d))
 three a b c d = simp append_assoc
 
-four : (a b c d e : List Check) → (((a ++ b) ++ c) ++ d) ++ e ≡ a ++ (b ++ (c ++ (d ++ e)))
-four a b c d e = simp append_assoc
-
+-- a plain line
 pub plain_found : (unit : ProgramUnit) (label : Option Word) (line : ℕ) (step : Step) (others : Lines) (rest : List Check) →
     first_broken (body_name_checks unit (Plain label line step others) ++ rest) ≡ first_broken (label_checks label ++ (step_checks unit step ++ (body_name_checks unit others ++ rest)))
 plain_found unit label line step others rest = ap first_broken (three (label_checks label) (step_checks unit step) (body_name_checks unit others) rest)
 
+-- a line with a parenthesis
 pub nested_found : (unit : ProgramUnit) (label : Option Word) (line : ℕ) (operator : Operator) (operand : Option Term) (inside : Lines) (close : ℕ) (others : Lines) (rest : List Check) →
     first_broken (body_name_checks unit (Nested label line operator operand inside close others) ++ rest)
     ≡ first_broken (label_checks label ++ (operand_checks unit operand ++ (body_name_checks unit inside ++ (body_name_checks unit others ++ rest))))
 nested_found unit label line operator operand inside close others rest =
-    ap first_broken (four (label_checks label) (operand_checks unit operand) (body_name_checks unit inside) (body_name_checks unit others) rest)
+    ap first_broken (regrouped (label_checks label) (operand_checks unit operand) (body_name_checks unit inside) (body_name_checks unit others) rest)
 
+-- a line with no instruction
 pub bare_found : (unit : ProgramUnit) (label : Option Word) (others : Lines) (rest : List Check) →
     first_broken (body_name_checks unit (label_view label others) ++ rest) ≡ first_broken (label_checks label ++ (body_name_checks unit others ++ rest))
 bare_found unit None others rest = refl

@@ -12,7 +12,7 @@ use Rattle.wc_declare.specs.Keys.{same_name_laws}
 use Rattle.wc_declare.specs.Rows.{SameNames}
 use Rattle.wc_declare.specs.StandsFor.{AreDifferent}
 
-or_last : (a b : Bool) → (a || (b || false)) ≡ (b || a)
+pub or_last : (a b : Bool) → (a || (b || false)) ≡ (b || a)
 or_last true true = refl
 or_last true false = refl
 or_last false true = refl
@@ -23,7 +23,7 @@ pub one_more : (own known : List Name) (new : Name) → SameNames own known → 
 one_more own known new same = λ name.
     list_any-append (same_name name) own (new ∷ []) ∙ or_last (is_among own name) (same_name name new) ∙ ap (λ b. same_name name new || b) (same name)
 
-neither : (a b : Bool) → (a || b) ≡ false → (a ≡ false) × (b ≡ false)
+pub neither : (a b : Bool) → (a || b) ≡ false → (a ≡ false) × (b ≡ false)
 neither true b e = cc
 neither false b e = (refl, e)
 

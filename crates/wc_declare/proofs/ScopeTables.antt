@@ -29,6 +29,10 @@ peel (x ∷ xs) b ts h =
     let g = r.1 in
     (g.0, g.4, λ k t e. r.2 k t (ap (λ zs. slice_get zs k) g.2 ∙ get_more g.0 (g.1 ∷ []) k t e))
 
+-- counted from 0, a number is what is behind
+pub from_0 : {n m : ℕ} → 0 + n ≡ m → n ≡ m
+from_0 {n} {m} e = omega (arith, e)
+
 -- a unit by its number
 pub at_unit : (xs : Text) (b : List ProgramUnit) (ts : List UnitTable) (n : ℕ) (scope : Scope) → AreUnits (onto xs b) ts → slice_get (map scope_of_spot (spots_behind b xs)) n ≡ Some scope →
     Stands ts scope.before scope.unit × (length b + n ≡ length scope.before)

@@ -13,17 +13,12 @@ use Rattle.wc_declare.specs.StandsFor.{AreUnitsOf, IsTableOf, number_named, onto
 use Rattle.wc_declare.specs.declared.unit_table.UnitTable.{UnitTable}
 use Rattle.wc_declare.specs.declared.units.Units.{Units}
 use Rattle.std.proofs.lemmas.Slice.Eq.{bytes_eq-Decides}
+use Rattle.wc_declare.proofs.NamesSoFar.{neither, or_last}
 use Rattle.wc_declare.proofs.Positions.{or_else}
 
 -- a name is among the units' names where a unit has it
-or_turned : (a b : Bool) → (a || (b || false)) ≡ (b || a)
-or_turned true true = refl
-or_turned true false = refl
-or_turned false true = refl
-or_turned false false = refl
-
 pub among_more : (names : List Name) (new name : Name) → is_among (names ++ new ∷ []) name ≡ (same_name name new || is_among names name)
-among_more names new name = list_any-append (same_name name) names (new ∷ []) ∙ or_turned (is_among names name) (same_name name new)
+among_more names new name = list_any-append (same_name name) names (new ∷ []) ∙ or_last (is_among names name) (same_name name new)
 
 -- the number of one more name: that of the others, or how many there are
 numbered_last : (p : Name → Bool) (i : ℕ) (xs : List Name) (x : Name) → position_from p i (xs ++ x ∷ []) ≡ or_else (position_from p i xs) (cond (p x) (Some (i + length xs)) None)
@@ -35,14 +30,11 @@ numbered_last p i (y ∷ xs) x = step (p y) (position_from p (i + 1) xs) (positi
     step true own more e = refl
     step false own more e = e ∙ ap (λ n. or_else own (cond (p x) (Some n) None)) (let l : i + 1 + length xs ≡ i + length (y ∷ xs) = omega arith in l)
 
-either : (a b : Bool) → (a || b) ≡ false → (a ≡ false) × (b ≡ false)
-either true b e = cc
-either false b e = (refl, e)
-
+-- a name that is not among others has no number
 none_numbered : (i : ℕ) (xs : List Name) (name : Name) → is_among xs name ≡ false → position_from (λ n. same_name n name) i xs ≡ None
 none_numbered i [] name e = refl
 none_numbered i (x ∷ xs) name e =
-    let parts = either (same_name name x) (is_among xs name) e in
+    let parts = neither (same_name name x) (is_among xs name) e in
     ap (λ b. cond b (Some i) (position_from (λ n. same_name n name) (i + 1) xs)) (same_name_laws.symm x name ∙ parts.0) ∙ none_numbered (i + 1) xs name parts.1
 
 number_of_new : (names : List Name) (new name : Name) (before : List ProgramUnit) → is_among names new ≡ false → length names ≡ length before → position_from (λ n. same_name n name) 0 names ≡ number_named before name →

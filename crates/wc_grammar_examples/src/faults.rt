@@ -82,7 +82,7 @@ pub fn nine_parentheses()
 
 /// `PROGRAM P / JMPNC L / END_PROGRAM`: JMPNC is no operator, though it could be a label. So the first
 /// fault is the unexpected token behind it, on line 2.
-pub fn an_unknown_operator()
+pub fn first_fault_is_an_unknown_operator()
     ensures { IsFirstReadingFault (jmpnc_before ++ jmpnc_left) 3 UnexpectedToken 2 }
 {}
 

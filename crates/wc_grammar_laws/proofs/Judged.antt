@@ -6,7 +6,7 @@ use Rattle.std.specs.Prelude.{◌⊎◌, ◌&&◌, Any, nat_le, is_some}
 use Rattle.wc_grammar_laws.proofs.LineComplete.{Leads, labelled_operator, named, word_is}
 use Rattle.wc_grammar_laws.specs.LineMoves.{Opens, Labelled, Operated, Worded}
 use Rattle.wc_grammar_laws.proofs.LineSound.{mark_on}
-use Rattle.wc_grammar_laws.proofs.LineStart.{taken}
+use Rattle.wc_grammar_laws.proofs.LineStart.{no_colon_name, taken}
 use Rattle.wc_grammar_laws.specs.Moves.{State, Outside, AtLine, OnLine, at_first, begins_transfer, begun_line, colon_next, has_content, has_name, has_program, is_colon, is_full, is_identifier, is_program, judge, judge_closing, judge_line, judge_operator, judge_unit, Met, met_if, met_or, move, start_move, walk}
 use Rattle.wc_grammar_laws.proofs.WalkedLines.{begins, walk_on, walk_then}
 use Rattle.wc_grammar_laws.proofs.WalkedUnits.{at_line_walked, plain, units_walked, unit_found}
@@ -61,15 +61,12 @@ pub at_most : (a b : ℕ) → a ≤ b → nat_le a b ≡ true
 at_most a b h = grind (arith, nat_tests, h)
 
 -- an identifier is no colon
-unit_word_no_colon : (symbol : Symbol) (name : Name) → name_in symbol ≡ Some name → is_colon symbol ≡ false
-unit_word_no_colon Colon name e = absurd (cc)
-unit_word_no_colon _ name e = refl
 
 -- a unit's first word behind whole units
 unit_judged : (fault : ReadingFault) (before : List Mark) (symbol : Symbol) (line : ℕ) (colon : Bool) (state : State) (whole : List ProgramUnit) (kind : UnitKind) → walk at_first before (is_colon symbol) ≡ Some state → units whole before → name_in symbol ≡ Some (unit_word kind)
     → Judged (judge_unit whole line (Some kind)) fault → Judged (judge state symbol line colon) fault
 unit_judged fault before symbol line colon state whole kind w h e j =
-    let n = unit_word_no_colon symbol (unit_word kind) e in
+    let n = no_colon_name symbol (unit_word kind) e in
     let s : state ≡ Outside whole = same_end before false state (Outside whole) (subst (λ c. walk at_first before c ≡ Some state) n w) (units_walked whole before false refl h) in
     named symbol (unit_word kind) e (λ bytes y m.
     subst (λ s. Judged (judge s symbol line colon) fault) (sym s)

@@ -1,4 +1,4 @@
--- What tokens complete a line that has begun: for each place of the walk on a line, the token lists that go on from there to a form.
+-- What tokens complete a line that has begun: for each state of the walk on a line, the token lists that go on from there to a form.
 use Rattle.std.specs.Prelude.{◌≡◌, List, [], ◌∷◌, ◌++◌, Option, Some, ◌⊎◌}
 use Rattle.wc_grammar_laws.specs.LineMoves.{LineForm, LabelAlone, Instructs, Opens, Begun, Listed, OperandOf, OfStep, OfOpening, OfArgument, InList, AtFirst, AtNext, AtAssign, AtValue, AtEnd, LineState, Start, Worded, Labelled, Operated, Jumped, Called, Instanced, Listing, Bracketed, Named, Pointed, Stepped, BracketedWith, Ended}
 use Rattle.wc_grammar_laws.specs.Words.{Applies, step_of}

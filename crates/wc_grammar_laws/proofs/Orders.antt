@@ -1,4 +1,4 @@
--- A program stands last; so the tokens up to each place of the walk are a front of a text.
+-- A program stands last; so the tokens up to each state of the walk are a front of a text.
 use Rattle.std.proofs.Common.{◌≡◌, ◌≢◌, ℕ, Bool, true, false, List, [], ◌∷◌, length, Option, Some, None, refl, subst, if◌then◌else◌, inl, inr}
 use Rattle.std.specs.Prelude.{◌⊎◌, option_map, ◌||◌, nat_le}
 use Rattle.wc_grammar_laws.proofs.Exits.{AreBlocks, Finishing, blocks_and, exits_closed, exits_line, exits_on, exits_unnamed, finishes_blocks, finishes_text, finishing_exit, program_last, section_exits}
@@ -134,7 +134,7 @@ ordered_on _ symbol line colon h e = tt
 pub open_is : (line : LineState) → IsOpen line → (form : LineForm) → line ≢ Ended form
 open_is line h form e = subst IsOpen e h
 
--- from each place of the walk a text is finished
+-- from each state of the walk a text is finished
 pub finishing : (state : State) (tokens : List Mark) → Told state tokens → Ordered state → Finishing state
 finishing (Outside us) tokens h (inl o) = let f = finishes_blocks us o in record { more = f.more; text = f.text; leads = f.leads; order = f.order }
 finishing (Outside us) tokens h (inr o) = let f = finishes_text us o in record { more = f.more; text = f.text; leads = f.leads; order = f.order }

@@ -1,6 +1,5 @@
 -- How a text of tokens is shown to spell a tree.
-use Rattle.std.proofs.Common.{◌≡◌, ℕ, Bool, true, false, List, [], ◌∷◌, refl, arith}
-use Rattle.std.proofs.lemmas.Bool.Decides.{nat_tests}
+use Rattle.std.proofs.Common.{◌≡◌, ℕ, Bool, true, false, List, [], ◌∷◌, refl}
 use Rattle.std.specs.Prelude.{◌≢◌, flat_map, Option, Some}
 use Rattle.wc_model.specs.Language.Names.{Name}
 use Rattle.wc_model.specs.Text.Marks.{Mark, LineEnd, ClosingBracket, IsNamed, IsSymbol}
@@ -9,6 +8,7 @@ use Rattle.wc_model.specs.Text.Languages.{◌then◌, each, empty, one}
 use Rattle.wc_model.specs.Text.Keywords.{truth_word, unit_word, end_word}
 use Rattle.wc_model.specs.Text.Grammar.{Group, Setting, InBody, InParentheses, MayStand, HasContent, IsOn, IsNameOf, symbol, identifier, line_ends, label_in, instruction, opening, lines, sections, section_of, units}
 use Rattle.wc_model.specs.declared.operator.Operator.{Operator}
+use Rattle.wc_grammar_laws.proofs.WordLaws.{is_same}
 use Rattle.wc_grammar_laws.proofs.Languages.{pass, given_first, regroup, ungroup, before, after, parts}
 use Rattle.wc_model.specs.Language.Declarations.{same_name}
 
@@ -22,15 +22,11 @@ pub sections_by : {second : List Mark → Type 0} {tokens : List Mark} {declarat
     → (each (λ group. line_ends then section_of group) groups then second) tokens → (sections declarations then second) tokens
 sections_by groups same h = record { front = h.front; rest = h.rest; whole = h.whole; begins = (groups, same, h.begins); goes_on = h.goes_on }
 
-same-refl : (xs : List ℕ) → same_name xs xs ≡ true
-same-refl [] = refl
-same-refl (x ∷ xs) = grind (arith, nat_tests, same-refl xs)
-
 -- two names that the test tells apart
 pub differ : {xs ys : List ℕ} → same_name xs ys ≡ false → xs ≢ ys
 differ {xs = xs} h e =
     let k : same_name xs xs ≡ false = rw (← e) at h in
-    let t : same_name xs xs ≡ true = same-refl xs in cc
+    let t : same_name xs xs ≡ true = is_same xs in cc
 
 -- a name that is neither TRUE nor FALSE
 pub ordinary : {name : Name} → name ≢ truth_word true → name ≢ truth_word false → (value : Bool) → name ≢ truth_word value

@@ -20,7 +20,7 @@ pub fn first_job()
 {}
 
 /// A heading may end in CRLF; a later heading of the same word is a line of its section; empty sections are sections.
-pub fn headings()
+pub fn job_sections()
     ensures crlf { sections_of
         (codes "@plate" ++ 13 ∷ 10 ∷ codes "@program" ++ 10 ∷ codes "@plate" ++ 10 ∷ codes "@log"
         ++ 10 ∷ codes "x")
@@ -28,7 +28,7 @@ pub fn headings()
 {}
 
 /// Without a heading, with one that has no line end, or with one that isn't the first line, a job is refused.
-pub fn headings_missing()
+pub fn job_sections_missing()
     ensures empty { sections_of [] ≡ Err 701 }
     ensures no_log { sections_of (lines_text (codes "@plate" ∷ codes "@program" ∷ []))
         ≡ Err 701 }

@@ -66,7 +66,7 @@ pub fn more_refused_rows()
 {}
 
 /// A moment before the last row's is refused at its row, and the row before it stands; equal moments are accepted.
-pub fn moments_in_order()
+pub fn row_order()
     ensures back { log_with_rows
         (three_fields (codes "5") (codes "S") []
         ∷ three_fields (codes "4") (codes "S") []

@@ -15,7 +15,7 @@ pub fn texts_of_streams()
 {}
 
 /// A request belongs to the piece that has its CR.
-pub fn cut_request()
+pub fn request_cut()
     ensures first { requests_in [] (10 ∷ 90 ∷ []) ≡ [] }
     ensures second { requests_in (10 ∷ 90 ∷ []) (13 ∷ []) ≡ codes "Z" ∷ [] }
 {}
@@ -29,7 +29,7 @@ pub fn unknown_texts()
 {}
 
 /// A zero command cut over two rows with a scan between acts at its CR.
-pub fn cut_over_a_scan()
+pub fn request_cut_over_a_scan()
     ensures { replies plate_of_15_kg
         (four_rows (pos 10100) ++ Bytes (10 ∷ 90 ∷ []) ∷ Scan ∷ Bytes (13 ∷ []) ∷ [])
         ≡ framed (codes "Z1G       0.000kg ") }

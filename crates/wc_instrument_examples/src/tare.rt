@@ -1,6 +1,6 @@
 //! Tare commands, and what they leave.
 
-ghost use Rattle.std.specs.Prelude.{◌≡◌, ◌++◌, pos, [], ◌∷◌, codes};
+ghost use Rattle.std.specs.Prelude.{◌≡◌, ◌++◌, pos, [], ◌∷◌, codes, drop};
 ghost use Rattle.wc_model.specs.Instrument.WeighingHistories.{SetTare};
 ghost use Rattle.wc_model.specs.Instrument.Indication.{gross, net, tare_value};
 ghost use Rattle.wc_instrument_examples.specs.Worked.{plate_of_15_kg, four_of, four_rows, asks, replies, framed};
@@ -14,6 +14,13 @@ pub fn tare_of_max()
         ≡ framed (codes "T1G       0.000kg ") ++ framed (codes " 1N       0.000kg ")
         ++ framed (codes " 1N       0.000kg ")
         ++ framed (codes " 1T      15.000kg ") }
+{}
+
+/// A tare in motion is refused, of a load that a scale at rest would take: here the window is not full.
+pub fn tare_in_motion()
+    ensures { replies plate_of_15_kg
+        (drop 1 (four_rows (pos 210000)) ++ asks (codes "T") ∷ asks (codes "C") ∷ [])
+        ≡ framed (codes "T1GM      5.000kg ") ++ framed (codes " 1GM      5.000kg ") }
 {}
 
 /// A tare at 5 kg shows 2.500 kg net under 7.5 kg; a zero command there is refused; a second tare takes the place of the

@@ -11,7 +11,7 @@ ghost use Rattle.wc_model.specs.declared.operator.Storing.TheVariants.{Result};
 ghost use Rattle.std.specs.Prelude.{codes};
 
 /// A label that one way in reaches with a BOOL and another with a DINT has no result.
-pub fn ways_in_must_agree()
+pub fn label_kinds_must_agree()
     ensures { body_fault two_kinds_at_a_label ≡ refused 403 6 }
 {}
 

@@ -66,7 +66,7 @@ pub fn jump_passes_over()
 {}
 
 /// A timer is TRUE from 500 ms on, until its preset time is raised to 1 s.
-pub fn timer_delays()
+pub fn ton_delays()
     ensures { shown_by on_delay (scan 0 1 ∷ scan 499 1 ∷ scan 500 1 ∷ scan 600 3 ∷ [])
         ≡ shows 8 0 (pos 0) (pos 0) ∷ shows 8 0 (pos 0) (pos 0) ∷ shows 8 1 (pos 0) (pos 0)
         ∷ shows 10 0 (pos 0) (pos 0) ∷ [] }

@@ -10,7 +10,7 @@ pub fn timer_path()
 {}
 
 /// Where two ways are equally long, the worst path takes the next line.
-pub fn next_line_is_taken()
+pub fn worst_path_takes_the_next_line()
     ensures longest { IsLongest ways_scope 5 }
     ensures lines { AreWorstLines ways_scope (2 ∷ 3 ∷ 4 ∷ 7 ∷ 8 ∷ []) }
 {}

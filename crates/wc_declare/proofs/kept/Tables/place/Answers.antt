@@ -1,25 +1,22 @@
-use Rattle.std.proofs.Common.{◌≡◌, ℕ, ◌+◌, arith, [], map, ap, sym, subst, ◌∙◌}
+use Rattle.std.proofs.Common.{◌≡◌, [], map, ap, sym, subst, ◌∙◌}
 use Rattle.wc_model.specs.Language.Frames.{number_of_path}
 use Rattle.wc_model.specs.Language.Names.{name_of}
 use Rattle.wc_declare.specs.StandsFor.{Stands}
 use Rattle.wc_declare.proofs.OwnNumbers.{own_number}
-use Rattle.wc_declare.proofs.ScopeTables.{at_unit, frame_path}
+use Rattle.wc_declare.proofs.ScopeTables.{at_unit, from_0, frame_path}
 use Rattle.wc_declare.proofs.kept.Tables.place.Goals as goal
-
-at : {n m : ℕ} → 0 + n ≡ m → n ≡ m
-at {n} {m} e = omega (arith, e)
 
 pub returns-in-Address-clause-number : goal.returns-in-Address-clause-number
 returns-in-Address-clause-number c = λ text scope are is.
     let r = at_unit text [] c.args.self.now.units.items c.args.unit scope are is in
     let h = subst (λ ts. Stands ts scope.before scope.unit) (sym c.deref.ensures.value) r.0 in
-    c.place_at.ensures.number ∙ c.address.ensures scope h (at r.1) ∙ sym (ap (number_of_path scope) c.in-Address.is)
+    c.place_at.ensures.number ∙ c.address.ensures scope h (from_0 r.1) ∙ sym (ap (number_of_path scope) c.in-Address.is)
 
 pub returns-in-Names-clause-number : goal.returns-in-Names-clause-number
 returns-in-Names-clause-number c = λ text scope are is.
     let r = at_unit text [] c.args.self.now.units.items c.args.unit scope are is in
     let h = subst (λ ts. Stands ts scope.before scope.unit) (sym c.deref-in-Names.ensures.value) r.0 in
-    c.place_at-in-Names.ensures.number ∙ c.number.ensures scope.before scope.unit h (at r.1) ∙ sym (frame_path scope (map (λ n. name_of n.now) c.in-Names.names.now)) ∙ sym (ap (number_of_path scope) c.in-Names.is)
+    c.place_at-in-Names.ensures.number ∙ c.number.ensures scope.before scope.unit h (from_0 r.1) ∙ sym (frame_path scope (map (λ n. name_of n.now) c.in-Names.names.now)) ∙ sym (ap (number_of_path scope) c.in-Names.is)
 
 pub returns-in-Address-clause-own : goal.returns-in-Address-clause-own
 returns-in-Address-clause-own c = λ text scope other are is. own_number scope c.args.path.now other c.place_at.result (returns-in-Address-clause-number c text scope are is)

@@ -1,4 +1,4 @@
-use Rattle.std.proofs.Common.{◌≡◌, ℕ, ◌+◌, arith, [], ◌∷◌, is_some, option_map, ap, sym, subst, ◌∙◌}
+use Rattle.std.proofs.Common.{◌≡◌, ◌+◌, [], ◌∷◌, is_some, option_map, ap, sym, subst, ◌∙◌}
 use Rattle.std.specs.Prelude.{option_and_then, slice_get}
 use Rattle.std.specs.List.{position_from}
 use Rattle.wc_model.specs.Language.Names.{name_of}
@@ -8,18 +8,15 @@ use Rattle.wc_declare.specs.Numbered.{numbered_type}
 use Rattle.wc_declare.specs.StandsFor.{Stands}
 use Rattle.wc_declare.specs.declared.variable.Variable.{Variable as Row}
 use Rattle.wc_declare.proofs.Lookups.{first_found, from_row, named_rows, none_named, same_within, there_is, type_at_found, type_not_found}
-use Rattle.wc_declare.proofs.ScopeTables.{at_unit, frame_path}
+use Rattle.wc_declare.proofs.ScopeTables.{at_unit, from_0, frame_path}
 use Rattle.wc_declare.proofs.kept.Tables.variable.Goals as goal
-
-at : {n m : ℕ} → 0 + n ≡ m → n ≡ m
-at {n} {m} e = omega (arith, e)
 
 pub returns-in-Some-clause-known : goal.returns-in-Some-clause-known
 returns-in-Some-clause-known c = λ text scope are is.
     let r = at_unit text [] c.args.self.now.units.items c.args.unit scope are is in
     let h = subst (λ ts. Stands ts scope.before scope.unit) (sym c.deref.ensures.value) r.0 in
     let name = name_of c.args.name.now in
-    let there = ap (slice_get c.deref.result.now) (at r.1) ∙ h.there in
+    let there = ap (slice_get c.deref.result.now) (from_0 r.1) ∙ h.there in
     let f = from_row c.deref.result.now scope.before scope.unit h name [] c.in-Some.row (sym (c.row.ensures h.table there (named_rows c.deref.result.now scope.before scope.unit h)) ∙ c.in-Some.is) in
     there_is scope.before (type_of scope name) c.in-Some.row.declared (ap (option_and_then (numbered_type scope.before)) (type_at_found scope name f.v f.named) ∙ f.declared)
 
@@ -28,7 +25,7 @@ returns-in-Some-clause-declared c = λ text scope are is.
     let r = at_unit text [] c.args.self.now.units.items c.args.unit scope are is in
     let h = subst (λ ts. Stands ts scope.before scope.unit) (sym c.deref.ensures.value) r.0 in
     let name = name_of c.args.name.now in
-    let there = ap (slice_get c.deref.result.now) (at r.1) ∙ h.there in
+    let there = ap (slice_get c.deref.result.now) (from_0 r.1) ∙ h.there in
     let f = from_row c.deref.result.now scope.before scope.unit h name [] c.in-Some.row (sym (c.row.ensures h.table there (named_rows c.deref.result.now scope.before scope.unit h)) ∙ c.in-Some.is) in
     sym (ap (option_and_then (numbered_type scope.before)) (type_at_found scope name f.v f.named) ∙ f.declared)
 
@@ -37,7 +34,7 @@ returns-in-Some-clause-stands c = λ text scope type are is typed names.
     let r = at_unit text [] c.args.self.now.units.items c.args.unit scope are is in
     let h = subst (λ ts. Stands ts scope.before scope.unit) (sym c.deref.ensures.value) r.0 in
     let name = name_of c.args.name.now in
-    let there = ap (slice_get c.deref.result.now) (at r.1) ∙ h.there in
+    let there = ap (slice_get c.deref.result.now) (from_0 r.1) ∙ h.there in
     let f = from_row c.deref.result.now scope.before scope.unit h name names c.in-Some.row (sym (c.row.ensures h.table there (named_rows c.deref.result.now scope.before scope.unit h)) ∙ c.in-Some.is) in
     let known = sym (type_at_found scope name f.v f.named) ∙ typed in
     frame_path scope (name ∷ names) ∙ f.at_is
@@ -49,7 +46,7 @@ returns-in-None-clause-known c = λ text scope are is.
     let r = at_unit text [] c.args.self.now.units.items c.args.unit scope are is in
     let h = subst (λ ts. Stands ts scope.before scope.unit) (sym c.deref.ensures.value) r.0 in
     let name = name_of c.args.name.now in
-    let there = ap (slice_get c.deref.result.now) (at r.1) ∙ h.there in
+    let there = ap (slice_get c.deref.result.now) (from_0 r.1) ∙ h.there in
     sym (ap is_some (type_not_found scope name (none_named c.deref.result.now scope.before scope.unit h name (sym (c.row.ensures h.table there (named_rows c.deref.result.now scope.before scope.unit h)) ∙ c.in-None.is))))
 
 pub returns-in-None-clause-declared : goal.returns-in-None-clause-declared
@@ -57,14 +54,14 @@ returns-in-None-clause-declared c = λ text scope are is.
     let r = at_unit text [] c.args.self.now.units.items c.args.unit scope are is in
     let h = subst (λ ts. Stands ts scope.before scope.unit) (sym c.deref.ensures.value) r.0 in
     let name = name_of c.args.name.now in
-    let there = ap (slice_get c.deref.result.now) (at r.1) ∙ h.there in
+    let there = ap (slice_get c.deref.result.now) (from_0 r.1) ∙ h.there in
     sym (ap (option_and_then (numbered_type scope.before)) (type_not_found scope name (none_named c.deref.result.now scope.before scope.unit h name (sym (c.row.ensures h.table there (named_rows c.deref.result.now scope.before scope.unit h)) ∙ c.in-None.is))))
 
 pub returns-in-Some-clause-begins : goal.returns-in-Some-clause-begins
 returns-in-Some-clause-begins c = λ text scope are is.
     let r = at_unit text [] c.args.self.now.units.items c.args.unit scope are is in
     let h = subst (λ ts. Stands ts scope.before scope.unit) (sym c.deref.ensures.value) r.0 in
-    let there = ap (slice_get c.deref.result.now) (at r.1) ∙ h.there in
+    let there = ap (slice_get c.deref.result.now) (from_0 r.1) ∙ h.there in
     ap (option_map (λ (row : Row). row.first)) (sym c.in-Some.is ∙ c.row.ensures h.table there (named_rows c.deref.result.now scope.before scope.unit h))
     ∙ first_found c.deref.result.now scope h (name_of c.args.name.now)
 
@@ -72,6 +69,6 @@ pub returns-in-None-clause-begins : goal.returns-in-None-clause-begins
 returns-in-None-clause-begins c = λ text scope are is.
     let r = at_unit text [] c.args.self.now.units.items c.args.unit scope are is in
     let h = subst (λ ts. Stands ts scope.before scope.unit) (sym c.deref.ensures.value) r.0 in
-    let there = ap (slice_get c.deref.result.now) (at r.1) ∙ h.there in
+    let there = ap (slice_get c.deref.result.now) (from_0 r.1) ∙ h.there in
     ap (option_map (λ (row : Row). row.first)) (sym c.in-None.is ∙ c.row.ensures h.table there (named_rows c.deref.result.now scope.before scope.unit h))
     ∙ first_found c.deref.result.now scope h (name_of c.args.name.now)

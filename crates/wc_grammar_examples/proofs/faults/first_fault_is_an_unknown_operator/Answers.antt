@@ -14,7 +14,7 @@ use Rattle.wc_grammar_examples.specs.Texts.{mark, ident, end_of, word, program_o
 use Rattle.wc_grammar_examples.specs.Faulty.{jmpnc_before, jmpnc_left}
 use Rattle.wc_grammar_examples.proofs.Bodies.{apart, no_operator_of, no_operator_of_at_end}
 use Rattle.wc_grammar_examples.proofs.Jmpnc.{jmpnc_is_no_front}
-use Rattle.wc_grammar_examples.proofs.faults.an_unknown_operator.Goals as goal
+use Rattle.wc_grammar_examples.proofs.faults.first_fault_is_an_unknown_operator.Goals as goal
 
 -- JMPNC could be a label
 is_front : IsFront jmpnc_before

@@ -1,6 +1,6 @@
 -- The worst path is computed, and is the worst by the law.
 use Rattle.std.proofs.Common.{refl}
-use Rattle.wc_language_examples.proofs.paths.next_line_is_taken.Goals as goal
+use Rattle.wc_language_examples.proofs.paths.worst_path_takes_the_next_line.Goals as goal
 use Rattle.wc_language_examples.specs.PathScopes.{ways_scope}
 use Rattle.wc_language_laws.proofs.Longest.{computed_is_worst, computed_lines, longest_of_worst}
 
