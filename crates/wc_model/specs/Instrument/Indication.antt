@@ -80,8 +80,8 @@ gross_intervals p history = intervals_of p (from_zero p history)
 abbrev pub can_be_tared : PlateData → History → Bool
 can_be_tared p history = int_le (pos 1) (gross_intervals p history) && int_le (gross_intervals p history) (pos p.n)
 
--- why a tare command would be refused now: it works in stable equilibrium alone, and neither at or below zero nor
--- above Max (OIML R 76-1:2006, 4.6.4 and 4.6.8)
+-- why a tare command would be refused now: a tare in motion is, since it works in stable equilibrium alone, and so is one
+-- at or below zero or above Max (OIML R 76-1:2006, 4.6.4 and 4.6.8)
 abbrev pub tare_refusal : PlateData → History → Option CommandRefusal
 tare_refusal p history = refused_unless (is_stable p history) (can_be_tared p history)
 
@@ -130,7 +130,7 @@ in_units p intervals = intervals *ℤ pos p.e
 abbrev pub tare_value : PlateData → History → ℤ
 tare_value p history = in_units p (intervals_of p (tare_counts p history))
 
--- above Max by more than 9 e there is no indication (OIML R 76-1:2006, 4.2.3)
+-- over, the overload of a scale: above Max by more than 9 e there is no indication (OIML R 76-1:2006, 4.2.3)
 abbrev pub is_over : PlateData → History → Bool
 is_over p history = has_sample history && int_lt (pos (p.n + 9)) (gross_intervals p history)
 

@@ -35,7 +35,7 @@ abbrev pub requests : List ℕ → List (List ℕ)
 requests [] = []
 requests (byte ∷ rest) = cons_option (request_at byte rest) (requests rest)
 
--- the texts of the requests that a piece completes, after the bytes before it
+-- the texts of the requests that a piece completes, after the bytes before it, which may have left a request cut short
 abbrev pub requests_in : List ℕ → List ℕ → List (List ℕ)
 requests_in before piece = drop (length (requests before)) (requests (before ++ piece))
 

@@ -139,7 +139,8 @@ abbrev pub known_kinds : Scope → List BodyLine → List Known
 known_kinds scope [] = []
 known_kinds scope (line ∷ before) = with_line scope line (known_kinds scope before)
 
--- the kind of the result at a line behind these lines, newest first
+-- the kind of the result at a line behind these lines, newest first: of a label, the kind on which all ways in agree (label
+-- kinds)
 abbrev pub kind_at : Scope → List BodyLine → BodyLine → Option Kind
 kind_at scope before line = agreed (ways_in scope (known_kinds scope before) line)
 

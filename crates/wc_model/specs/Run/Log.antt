@@ -95,7 +95,7 @@ abbrev pub row_from : ℕ → ℕ → Result RowData ℕ → Result LogRow ℕ
 row_from number ms (Ok brings) = Ok (record { number = number; ms = ms; brings = brings })
 row_from number ms (Err refusal) = Err refusal
 
--- whether a moment is not before the last row's
+-- row order: whether a moment is not before the last row's
 abbrev pub is_in_order : Option ℕ → ℕ → Bool
 is_in_order None ms = true
 is_in_order (Some last) ms = nat_le last ms
