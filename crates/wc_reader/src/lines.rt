@@ -17,6 +17,7 @@ use wc_lexer::{Shape, Token};
 use wc_model::{Condition, Operand, Operator, Word};
 
 /// Behind an operator.
+#[inline(always)]
 fn behind_operator<'a>(label: Option<Word<'a>>, line: u32, operation: Operation) -> LineState<'a>
     ensures { line_state_view result
         ≡ lines.behind_operator (option_map word_view label.entry) line (operation_view operation) }
@@ -32,6 +33,7 @@ fn behind_operator<'a>(label: Option<Word<'a>>, line: u32, operation: Operation)
 }
 
 /// Behind a token that has to be an operator.
+#[inline(always)]
 fn at_operator<'a>(label: Option<Word<'a>>, token: Token<'a>) -> Option<LineState<'a>>
     ensures { option_map line_state_view result
         ≡ lines.at_operator (option_map word_view label.entry) token.entry.line
@@ -45,6 +47,7 @@ fn at_operator<'a>(label: Option<Word<'a>>, token: Token<'a>) -> Option<LineStat
 
 /// Behind a line's first identifier that no colon follows. One that is no operator may still be a label: what is wrong
 /// is the token behind it.
+#[inline(always)]
 fn operator_or_label<'a>(token: Token<'a>) -> LineState<'a>
     ensures { line_state_view result
         ≡ lines.operator_or_label
@@ -58,6 +61,7 @@ fn operator_or_label<'a>(token: Token<'a>) -> LineState<'a>
 }
 
 /// Behind the first token of a line of a body; `colon` says whether a colon follows it.
+#[inline(always)]
 pub(crate) fn at_start<'a>(token: Token<'a>, colon: bool) -> Option<LineState<'a>>
     ensures { option_map line_state_view result
         ≡ lines.line_move InBody lines.Start (symbol_view token.entry) token.entry.line colon }
@@ -70,6 +74,7 @@ pub(crate) fn at_start<'a>(token: Token<'a>, colon: bool) -> Option<LineState<'a
 }
 
 /// Behind the first token of a line in parentheses, where no label, jump, call or return stands.
+#[inline(always)]
 pub(crate) fn at_start_inside<'a>(token: Token<'a>) -> Option<LineState<'a>>
     ensures { (colon : Bool)
         → option_map line_state_view result
@@ -89,6 +94,7 @@ pub(crate) fn at_start_inside<'a>(token: Token<'a>) -> Option<LineState<'a>>
 }
 
 /// Behind the token after a label's colon.
+#[inline(always)]
 fn at_labelled<'a>(label: Word<'a>, token: Token<'a>) -> Option<LineState<'a>>
     ensures { option_map line_state_view result
         ≡ lines.at_labelled (word_view label.entry) (symbol_view token.entry) token.entry.line }
@@ -100,6 +106,7 @@ fn at_labelled<'a>(label: Word<'a>, token: Token<'a>) -> Option<LineState<'a>>
 }
 
 /// Behind the token after a deferrable operator, which may open a parenthesis.
+#[inline(always)]
 fn at_applied<'a>(
     begun: Begun<'a>,
     operator: Operator,
@@ -122,6 +129,7 @@ fn at_applied<'a>(
 }
 
 /// Behind the token after an operator that takes an operand.
+#[inline(always)]
 fn at_operated<'a>(
     begun: Begun<'a>,
     operating: Operating,
@@ -144,6 +152,7 @@ fn at_operated<'a>(
 }
 
 /// Behind the token after an operator's bracket.
+#[inline(always)]
 fn at_bracketed<'a>(
     begun: Begun<'a>,
     operator: Operator,
@@ -162,6 +171,7 @@ fn at_bracketed<'a>(
 }
 
 /// Behind the token after a jump's operator: its label.
+#[inline(always)]
 fn at_target<'a>(begun: Begun<'a>, condition: Condition, token: Token<'a>) -> Option<LineState<'a>>
     ensures { (setting : Setting) (line : ℕ) (colon : Bool)
         → option_map line_state_view result
@@ -175,6 +185,7 @@ fn at_target<'a>(begun: Begun<'a>, condition: Condition, token: Token<'a>) -> Op
 }
 
 /// Behind the token after a call's operator: its instance.
+#[inline(always)]
 fn at_called<'a>(begun: Begun<'a>, condition: Condition, token: Token<'a>) -> Option<LineState<'a>>
     ensures { (setting : Setting) (line : ℕ) (colon : Bool)
         → option_map line_state_view result
@@ -188,6 +199,7 @@ fn at_called<'a>(begun: Begun<'a>, condition: Condition, token: Token<'a>) -> Op
 }
 
 /// Behind the token after a whole instruction: the line's end.
+#[inline(always)]
 fn at_step_end<'a>(begun: Begun<'a>, step: Step<'a>, token: Token<'a>) -> Option<LineState<'a>>
     ensures { (setting : Setting) (line : ℕ) (colon : Bool)
         → option_map line_state_view result
@@ -201,6 +213,7 @@ fn at_step_end<'a>(begun: Begun<'a>, step: Step<'a>, token: Token<'a>) -> Option
 }
 
 /// Behind the token after the operand of an opening line: the line's end.
+#[inline(always)]
 fn at_opening_end<'a>(
     begun: Begun<'a>,
     operator: Operator,
@@ -220,6 +233,7 @@ fn at_opening_end<'a>(
 }
 
 /// Behind the token after a label: its colon.
+#[inline(always)]
 fn at_colon<'a>(label: Word<'a>, token: Token<'a>) -> Option<LineState<'a>>
     ensures { (setting : Setting) (line : ℕ) (colon : Bool)
         → option_map line_state_view result
@@ -233,6 +247,7 @@ fn at_colon<'a>(label: Word<'a>, token: Token<'a>) -> Option<LineState<'a>>
 }
 
 /// Behind one more token of a line that has begun; none where no line goes on so.
+#[inline(always)]
 pub(crate) fn line_move<'a>(
     alloc: Global,
     state: LineState<'a>,

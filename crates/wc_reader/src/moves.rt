@@ -68,6 +68,7 @@ fn at_name<'a>(alloc: Global, kind: UnitKind, line: u32, token: Token<'a>) -> Op
 }
 
 /// In a section, or at the start of the body behind it.
+#[inline(always)]
 fn section_state<'a>(alloc: Global, declaring: Declaring<'a>) -> TextState<'a>
     ensures behind { (units : List ProgramUnit)
         → state_view units result ≡ section_view units declaring.entry }
@@ -85,6 +86,7 @@ fn section_state<'a>(alloc: Global, declaring: Declaring<'a>) -> TextState<'a>
 }
 
 /// Behind one more token of a section.
+#[inline(always)]
 fn in_section<'a>(
     alloc: Global,
     unit: Unit<'a>,
@@ -106,6 +108,7 @@ fn in_section<'a>(
 }
 
 /// Behind one more token; none where no text goes on so. `colon` says whether a colon follows it.
+#[inline(always)]
 pub(crate) fn text_move<'a>(
     alloc: Global,
     reading: Reading<'a>,
