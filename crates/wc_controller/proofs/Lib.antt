@@ -4,3 +4,4 @@ pub mod Refusals
 pub mod UnitReports
 pub mod Givings
 pub mod Allowing
+pub mod Blaming

@@ -5,3 +5,4 @@ pub mod Checking
 pub mod Jobs
 pub mod Files
 pub mod Endings
+pub mod Blames

@@ -1,5 +1,6 @@
 ghost use Rattle.std.specs.Prelude.{◌≡◌, IfErr, IfSome, None};
-ghost use Rattle.wc_controller.specs.Endings.{EndsAs, IsAt, IsReadFaultAt, StopsAt, TellsFailures, TellsReadEndings, TellsReadFaults, TellsWriteFaults, WritesUpTo, met};
+ghost use Rattle.wc_controller.specs.Blames.{Blames, RefusesLog, StopsFor};
+ghost use Rattle.wc_controller.specs.Endings.{EndsAs, IsAt, IsReadFaultAt, RefusesPlate, StopsAt, TellsFailures, TellsReadEndings, TellsReadFaults, TellsWriteFaults, WritesUpTo, met};
 ghost use Rattle.wc_controller.specs.Files.{AnswersLine, line_answer};
 ghost use Rattle.wc_model.specs.Run.Log.{log_of};
 ghost use Rattle.wc_record.specs.Left.{HasCause};
@@ -23,6 +24,8 @@ fn line_plate<L: ByteIn, W: ByteOut>(
     ensures writes { IfSome (L.bytes_left log.old)
         (λ bytes. WritesUpTo (λ answer. answer ≡ line_answer plate.now (log_of (records_of bytes)))
         (met result) (W.bytes_taken writer.old) (W.bytes_taken writer.new)) }
+    ensures blames { IfSome (L.bytes_left log.old)
+        (λ bytes. IfErr result (λ stopped. RefusesLog bytes stopped.fault)) }
     ensures input { IfErr result (λ stopped. stopped.input ≡ Input.Log) }
     ensures read { IsReadFaultAt Input.Log result
         → HasCause (L.failure_count log.old) (L.failure_count log.new)
@@ -49,6 +52,8 @@ fn line_inputs<P: ByteIn, L: ByteIn, W: ByteOut>(
     ensures writes { IfSome (P.bytes_left plate.old) (λ table. IfSome (L.bytes_left log.old)
         (λ bytes. WritesUpTo (AnswersLine table bytes) (met result)
         (W.bytes_taken writer.old) (W.bytes_taken writer.new))) }
+    ensures blames_plate { StopsFor Input.Plate RefusesPlate (P.bytes_left plate.old) result }
+    ensures blames_log { StopsFor Input.Log RefusesLog (L.bytes_left log.old) result }
     ensures own { ¬ StopsAt Input.Job result }
     ensures no_program { ¬ StopsAt Input.Program result }
     ensures unread { StopsAt Input.Plate result
@@ -78,6 +83,9 @@ pub fn line_files<P: ByteIn, L: ByteIn, W: ByteOut>(
     ensures ends { IfSome (P.bytes_left plate.old) (λ table. IfSome (L.bytes_left log.old)
         (λ bytes. EndsAs (AnswersLine table bytes) result
         (W.bytes_taken writer.old) (W.bytes_taken writer.new))) }
+    // The input that a refusal names is the one that breaks the rule.
+    ensures blames_plate { Blames Input.Plate RefusesPlate (P.bytes_left plate.old) result }
+    ensures blames_log { Blames Input.Log RefusesLog (L.bytes_left log.old) result }
     // It has neither a job nor a program: what it names is its plate or its log.
     ensures own { ¬ IsAt Input.Job result }
     ensures no_program { ¬ IsAt Input.Program result }

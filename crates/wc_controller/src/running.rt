@@ -1,5 +1,6 @@
 ghost use Rattle.std.specs.Prelude.{◌≡◌, ◌≤◌, Some, None, IfErr, IfSome};
-ghost use Rattle.wc_controller.specs.Endings.{EndsAs, IsAt, IsReadFaultAt, StopsAt, TellsFailures, TellsReadEndings, TellsReadFaults, TellsWriteFaults, WritesUpTo, met};
+ghost use Rattle.wc_controller.specs.Blames.{Blames, RefusesLog, RefusesProgram, RefusesText, StopsFor};
+ghost use Rattle.wc_controller.specs.Endings.{EndsAs, IsAt, IsReadFaultAt, RefusesPlate, StopsAt, TellsFailures, TellsReadEndings, TellsReadFaults, TellsWriteFaults, WritesUpTo, met};
 ghost use Rattle.wc_controller.specs.Files.{AnswersFile, AnswersRun, AnswersText, answer_printing};
 ghost use Rattle.wc_machine.specs.Machines.{StandsFor};
 ghost use Rattle.wc_model.specs.Language.Scans.{initial_of};
@@ -36,6 +37,9 @@ fn run_every<L: ByteIn, W: ByteOut>(
         → WritesUpTo
         (λ answer. answer ≡ answer_printing None plate.now text (log_of (records_of bytes)))
         (met result) (W.bytes_taken writer.old) (W.bytes_taken writer.new)) }
+    ensures blames { IfSome (L.bytes_left log.old)
+        (λ bytes. (text : Text) → StandsFor machine.entry text (initial_of text)
+        → IfErr result (λ stopped. RefusesLog bytes stopped.fault)) }
     ensures input { IfErr result (λ stopped. stopped.input ≡ Input.Log) }
     ensures read { IsReadFaultAt Input.Log result
         → HasCause (L.failure_count log.old) (L.failure_count log.new)
@@ -69,6 +73,9 @@ fn run_latest<L: ByteIn, W: ByteOut>(
         → WritesUpTo
         (λ answer. answer ≡ answer_printing (Some number) plate.now text (log_of (records_of bytes)))
         (met result) (W.bytes_taken writer.old) (W.bytes_taken writer.new)) }
+    ensures blames { IfSome (L.bytes_left log.old)
+        (λ bytes. (text : Text) → StandsFor machine.entry text (initial_of text)
+        → IfErr result (λ stopped. RefusesLog bytes stopped.fault)) }
     ensures input { IfErr result (λ stopped. stopped.input ≡ Input.Log) }
     ensures read { IsReadFaultAt Input.Log result
         → HasCause (L.failure_count log.old) (L.failure_count log.new)
@@ -101,6 +108,9 @@ fn run_machine<L: ByteIn, W: ByteOut>(
         → WritesUpTo
         (λ answer. answer ≡ answer_printing last plate.now text (log_of (records_of bytes)))
         (met result) (W.bytes_taken writer.old) (W.bytes_taken writer.new)) }
+    ensures blames { IfSome (L.bytes_left log.old)
+        (λ bytes. (text : Text) → StandsFor machine.entry text (initial_of text)
+        → IfErr result (λ stopped. RefusesLog bytes stopped.fault)) }
     ensures input { IfErr result (λ stopped. stopped.input ≡ Input.Log) }
     ensures read { IsReadFaultAt Input.Log result
         → HasCause (L.failure_count log.old) (L.failure_count log.new)
@@ -130,6 +140,8 @@ fn run_loaded<L: ByteIn, W: ByteOut>(
         answer ≡ answer_printing last plate.now (text_view loaded.entry.source)
         (log_of (records_of bytes)))
         (met result) (W.bytes_taken writer.old) (W.bytes_taken writer.new)) }
+    ensures blames { IfSome (L.bytes_left log.old)
+        (λ bytes. IfErr result (λ stopped. RefusesLog bytes stopped.fault)) }
     ensures input { IfErr result (λ stopped. stopped.input ≡ Input.Log) }
     ensures read { IsReadFaultAt Input.Log result
         → HasCause (L.failure_count log.old) (L.failure_count log.new)
@@ -160,6 +172,9 @@ pub(crate) fn run_text<L: ByteIn, W: ByteOut>(
         (λ bytes. WritesUpTo
         (AnswersText last plate.now text.now (log_of (records_of bytes)))
         (met result) (W.bytes_taken writer.old) (W.bytes_taken writer.new)) }
+    ensures blames_program { IfErr result
+        (λ stopped. stopped.input ≡ Input.Program → RefusesText text.now stopped.fault) }
+    ensures blames_log { StopsFor Input.Log RefusesLog (L.bytes_left log.old) result }
     ensures unread { StopsAt Input.Program result
         → L.spent_count log.new ≡ L.spent_count log.old }
     ensures later { ¬ StopsAt Input.Plate result }
@@ -194,6 +209,9 @@ fn run_program<T: ByteIn, L: ByteIn, W: ByteOut>(
         (λ bytes. WritesUpTo
         (AnswersFile text (AnswersText last plate.now text (log_of (records_of bytes))))
         (met result) (W.bytes_taken writer.old) (W.bytes_taken writer.new))) }
+    ensures blames_program { StopsFor Input.Program RefusesProgram
+        (T.bytes_left program.old) result }
+    ensures blames_log { StopsFor Input.Log RefusesLog (L.bytes_left log.old) result }
     ensures unread { StopsAt Input.Program result
         → L.spent_count log.new ≡ L.spent_count log.old }
     ensures later { ¬ StopsAt Input.Plate result }
@@ -226,6 +244,10 @@ fn run_inputs<P: ByteIn, T: ByteIn, L: ByteIn, W: ByteOut>(
         (λ text. IfSome (L.bytes_left log.old)
         (λ bytes. WritesUpTo (AnswersRun last table text bytes) (met result)
         (W.bytes_taken writer.old) (W.bytes_taken writer.new)))) }
+    ensures blames_plate { StopsFor Input.Plate RefusesPlate (P.bytes_left plate.old) result }
+    ensures blames_program { StopsFor Input.Program RefusesProgram
+        (T.bytes_left program.old) result }
+    ensures blames_log { StopsFor Input.Log RefusesLog (L.bytes_left log.old) result }
     ensures own { ¬ StopsAt Input.Job result }
     ensures unread { StopsAt Input.Program result
         → L.spent_count log.new ≡ L.spent_count log.old }
@@ -266,6 +288,11 @@ pub fn run_files<P: ByteIn, T: ByteIn, L: ByteIn, W: ByteOut>(
         (λ text. IfSome (L.bytes_left log.old)
         (λ bytes. EndsAs (AnswersRun last table text bytes) result
         (W.bytes_taken writer.old) (W.bytes_taken writer.new)))) }
+    // The input that a refusal names is the one that breaks the rule.
+    ensures blames_plate { Blames Input.Plate RefusesPlate (P.bytes_left plate.old) result }
+    ensures blames_program { Blames Input.Program RefusesProgram
+        (T.bytes_left program.old) result }
+    ensures blames_log { Blames Input.Log RefusesLog (L.bytes_left log.old) result }
     // A run has no job: what it names is one of its three inputs.
     ensures own { ¬ IsAt Input.Job result }
     ensures unread { IsAt Input.Program result

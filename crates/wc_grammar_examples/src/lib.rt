@@ -10,8 +10,8 @@ pub use faults::{
     a_bracket_with_none_open, a_label_in_parentheses, a_label_named_as_an_operator,
     a_load_of_nothing, a_return_in_parentheses, a_second_program, an_empty_text,
     an_open_parenthesis_at_the_texts_end, an_open_parenthesis_at_the_units_end, an_open_unit,
-    first_fault_is_an_unknown_operator, empty_parentheses, nine_parentheses, one_line_too_many, one_unit_too_many,
-    the_texts_end_behind_a_bracket, the_texts_end_behind_a_units_first_word,
+    empty_parentheses, first_fault_is_an_unknown_operator, nine_parentheses, one_line_too_many,
+    one_unit_too_many, the_texts_end_behind_a_bracket, the_texts_end_behind_a_units_first_word,
     the_texts_end_behind_an_operator,
 };
 pub use limits::{as_many_lines_as_may_be, lines_and_depth};

@@ -5,6 +5,7 @@ use Rattle.wc_controller.proofs.lining.line_plate.Goals as goal
 use Rattle.wc_model.specs.Run.Log.{log_of}
 use Rattle.wc_model.specs.Say.Report.{line_report}
 use Rattle.wc_record.specs.Reading.{records_of}
+use Rattle.wc_controller.proofs.Blaming.{log_refused}
 
 pub returns-in-Ok-clause-writes : goal.returns-in-Ok-clause-writes
 returns-in-Ok-clause-writes g c =
@@ -17,3 +18,9 @@ returns-in-Err-clause-writes g c =
     on_known (g.L.ByteIn.bytes_left c.args.log.now) _ _
     (λ bytes told. ran_short (line_report c.args.plate.now) (line_report c.args.plate.now) (log_of (records_of bytes)) (g.W.ByteOut.bytes_taken c.args.writer.now) (g.W.ByteOut.bytes_taken c.run.new.writer)
     (report_first c.args.plate.now None) c.in-Err.fault (told None tt)) c.in-Err.ensures.reports
+
+pub returns-in-Err-clause-blames : goal.returns-in-Err-clause-blames
+returns-in-Err-clause-blames g c =
+    on_known (g.L.ByteIn.bytes_left c.args.log.now) _ _
+    (λ bytes told. log_refused (line_report c.args.plate.now) (line_report c.args.plate.now) bytes c.in-Err.fault (g.W.ByteOut.bytes_taken c.args.writer.now) (g.W.ByteOut.bytes_taken c.run.new.writer)
+    (told None tt)) c.in-Err.ensures.reports

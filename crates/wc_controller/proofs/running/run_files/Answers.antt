@@ -2,6 +2,9 @@ use Rattle.wc_controller.proofs.Allowing.{on_known}
 use Rattle.wc_controller.proofs.Givings.{ends}
 use Rattle.wc_controller.proofs.running.run_files.Goals as goal
 use Rattle.wc_controller.specs.Files.{AnswersRun}
+use Rattle.wc_controller.proofs.Blaming.{blamed}
+use Rattle.wc_controller.specs.Blames.{RefusesProgram}
+use Rattle.wc_controller.specs.declared.input.Input.TheVariants as input
 
 pub returns-clause-ends : goal.returns-clause-ends
 returns-clause-ends g c =
@@ -11,3 +14,8 @@ returns-clause-ends g c =
     (λ text more. on_known (g.L.ByteIn.bytes_left c.args.log.now) _ _
     (λ log upto. ends (AnswersRun c.args.last table text log) c.run_inputs-answer.result c.end.result (taken c.args.writer.now) (taken c.run_inputs-answer.new.writer) (taken c.end.new.writer)
     upto c.end.ensures.ends) more) told) c.run_inputs-answer.ensures.writes
+
+pub returns-clause-blames_program : goal.returns-clause-blames_program
+returns-clause-blames_program g c =
+    blamed input.Program RefusesProgram (g.T.ByteIn.bytes_left c.args.program.now) c.run_inputs-answer.result c.end.result
+    (g.W.ByteOut.bytes_taken c.run_inputs-answer.new.writer) (g.W.ByteOut.bytes_taken c.end.new.writer) c.end.ensures.ends c.run_inputs-answer.ensures.blames_program

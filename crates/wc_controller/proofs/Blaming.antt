@@ -1,0 +1,65 @@
+-- A refusal names the input that breaks the rule.
+use Rattle.std.proofs.Common.{◌≡◌, ℕ, ◌<◌, ◌≤◌, List, length, Result, Ok, Err, refl, sym, ◌∙◌, subst, inl, inr}
+use Rattle.std.specs.Prelude.{Option, Some, None, IfErr, IfSome}
+use Rattle.wc_controller.specs.Blames.{Blames, RefusesLog, RefusesProgram, RefusesText, StopsFor}
+use Rattle.wc_controller.specs.Endings.{EndsBehind, EndsBehindFault, EndsRefused}
+use Rattle.wc_controller.specs.declared.ending.Ending.{Ending}
+use Rattle.wc_controller.specs.declared.ending.Ending.TheVariants as ended
+use Rattle.wc_controller.specs.declared.input.Input.{Input}
+use Rattle.wc_controller.specs.declared.input.Input.TheVariants as input
+use Rattle.wc_controller.specs.declared.input.Stopped.{Stopped}
+use Rattle.wc_job.specs.Reads.{IsWhole}
+use Rattle.wc_model.specs.Run.JobSections.{longest_job}
+use Rattle.wc_model.specs.Run.Log.{log_of}
+use Rattle.wc_model.specs.Run.Rows.{LogRow}
+use Rattle.wc_record.specs.Reading.{records_of}
+use Rattle.wc_run.specs.Runs.{ReportsBy}
+use Rattle.wc_run.specs.declared.fault.RunFault.{RunFault}
+use Rattle.wc_run.specs.declared.fault.RunFault.TheVariants.{Refused, Read, Write, Memory}
+
+-- a run that is refused tells the log's refusal
+pub log_refused : (whole coming : List LogRow → List ℕ) (bytes : List ℕ) (why : RunFault) (old new : Option (List ℕ))
+    → ReportsBy whole coming (log_of (records_of bytes)) (Err why) old new → RefusesLog bytes why
+log_refused whole coming bytes (Refused number place) old new told = told.0
+log_refused whole coming bytes Read old new told = tt
+log_refused whole coming bytes Write old new told = tt
+log_refused whole coming bytes Memory old new told = tt
+
+-- a text's fault is that of its file
+text_in_file : (bytes : List ℕ) (why : RunFault) → length bytes ≤ longest_job → RefusesText bytes why → RefusesProgram bytes why
+text_in_file bytes (Refused number place) short h = inr (short, h)
+text_in_file bytes Read short h = tt
+text_in_file bytes Write short h = tt
+text_in_file bytes Memory short h = tt
+
+-- a program that was read whole
+pub program_read : {X : Type 0} (result : Result X Stopped) (known : Option (List ℕ)) (bytes : List ℕ) → IsWhole known bytes
+    → IfErr result (λ stopped. stopped.input ≡ input.Program → RefusesText bytes stopped.fault) → StopsFor input.Program RefusesProgram known result
+program_read (Ok done) known bytes is h = tt
+program_read (Err stopped) None bytes is h = λ e. tt
+program_read (Err stopped) (Some all) bytes is h = λ e. subst (λ those. RefusesProgram those stopped.fault) is.1 (text_in_file bytes stopped.fault is.0 (h e))
+
+-- an ending of a refusal
+of_refusal : (input at : Input) (number place : ℕ) (refuses : List ℕ → RunFault → Type 0) (known : Option (List ℕ)) (ending : Ending) (old new : Option (List ℕ))
+    → EndsRefused at number place ending old new → (at ≡ input → IfSome known (λ bytes. refuses bytes (Refused number place))) → Blames input refuses known ending
+of_refusal input at number place refuses known ended.Done old new k h = tt
+of_refusal input at number place refuses known (ended.Refused one other line) old new k h = λ e.
+    subst (λ n. IfSome known (λ bytes. refuses bytes (Refused n line))) (sym k.1)
+    (subst (λ l. IfSome known (λ bytes. refuses bytes (Refused number l))) (sym k.2) (h (sym k.0 ∙ e)))
+of_refusal input at number place refuses known (ended.ReadFault one) old new k h = tt
+of_refusal input at number place refuses known ended.WriteFault old new k h = tt
+of_refusal input at number place refuses known ended.NoMemory old new k h = tt
+
+-- an ending of whatever fault
+of_fault : (input at : Input) (why : RunFault) (refuses : List ℕ → RunFault → Type 0) (known : Option (List ℕ)) (ending : Ending) (old new : Option (List ℕ))
+    → EndsBehindFault at why ending old new → (at ≡ input → IfSome known (λ bytes. refuses bytes why)) → Blames input refuses known ending
+of_fault input at (Refused number place) refuses known ending old new k h = of_refusal input at number place refuses known ending old new k h
+of_fault input at Read refuses known ending old new k h = subst (λ e. Blames input refuses known e) (sym k.0) tt
+of_fault input at Write refuses known ending old new k h = subst (λ e. Blames input refuses known e) (sym k.0) tt
+of_fault input at Memory refuses known ending old new k h = subst (λ e. Blames input refuses known e) (sym k.0) tt
+
+-- an ending says of an input what stopped there
+pub blamed : {X : Type 0} (input : Input) (refuses : List ℕ → RunFault → Type 0) (known : Option (List ℕ)) (result : Result X Stopped) (ending : Ending) (old new : Option (List ℕ))
+    → EndsBehind result ending old new → StopsFor input refuses known result → Blames input refuses known ending
+blamed input refuses known (Ok done) ending old new k h = subst (λ e. Blames input refuses known e) (sym k.0) tt
+blamed input refuses known (Err stopped) ending old new k h = of_fault input stopped.input stopped.fault refuses known ending old new k h

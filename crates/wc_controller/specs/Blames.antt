@@ -1,0 +1,47 @@
+-- What a refusal says of the input that it names. (The profile's own.)
+use Rattle.std.specs.Prelude.{◌≡◌, ⊤, ℕ, ◌<◌, ◌≤◌, ◌⊎◌, List, length, Option, Some, IfSome, Result, Ok, Err}
+use Rattle.wc_controller.specs.declared.ending.Ending.{Ending}
+use Rattle.wc_controller.specs.declared.ending.Ending.TheVariants as ended
+use Rattle.wc_controller.specs.declared.input.Input.{Input}
+use Rattle.wc_controller.specs.declared.input.Stopped.{Stopped}
+use Rattle.wc_model.specs.Language.Loading.{IsRefused}
+use Rattle.wc_model.specs.Run.JobSections.{longest_job}
+use Rattle.wc_model.specs.Run.Log.{log_of}
+use Rattle.wc_record.specs.Reading.{records_of}
+use Rattle.wc_run.specs.declared.fault.RunFault.{RunFault}
+use Rattle.wc_run.specs.declared.fault.RunFault.TheVariants.{Refused, Read, Write, Memory}
+
+-- a text is refused for its first fault
+abbrev pub RefusesText : List ℕ → RunFault → Type 0
+RefusesText bytes (Refused number place) = IsRefused bytes number place
+RefusesText bytes Read = ⊤
+RefusesText bytes Write = ⊤
+RefusesText bytes Memory = ⊤
+
+-- a program's file is refused because it is too long, else for the first fault of its text
+abbrev pub RefusesProgram : List ℕ → RunFault → Type 0
+RefusesProgram bytes (Refused number place) =
+    ((number ≡ 702) × (place ≡ 0) × (longest_job < length bytes)) ⊎ ((length bytes ≤ longest_job) × IsRefused bytes number place)
+RefusesProgram bytes Read = ⊤
+RefusesProgram bytes Write = ⊤
+RefusesProgram bytes Memory = ⊤
+
+-- a log is refused at its first row that breaks a rule
+abbrev pub RefusesLog : List ℕ → RunFault → Type 0
+RefusesLog bytes (Refused number place) = (log_of (records_of bytes)).refusal ≡ Some (record { number = number; row = place })
+RefusesLog bytes Read = ⊤
+RefusesLog bytes Write = ⊤
+RefusesLog bytes Memory = ⊤
+
+-- what stopped at this input is a refusal of its bytes, where it is one
+abbrev pub StopsFor : {X : Type 0} → Input → (List ℕ → RunFault → Type 0) → Option (List ℕ) → Result X Stopped → Type 0
+StopsFor input refuses known (Ok done) = ⊤
+StopsFor input refuses known (Err stopped) = stopped.input ≡ input → IfSome known (λ bytes. refuses bytes stopped.fault)
+
+-- an ending that names this input with a refusal says what its bytes break
+abbrev pub Blames : Input → (List ℕ → RunFault → Type 0) → Option (List ℕ) → Ending → Type 0
+Blames input refuses known ended.Done = ⊤
+Blames input refuses known (ended.Refused at number place) = at ≡ input → IfSome known (λ bytes. refuses bytes (Refused number place))
+Blames input refuses known (ended.ReadFault at) = ⊤
+Blames input refuses known ended.WriteFault = ⊤
+Blames input refuses known ended.NoMemory = ⊤
