@@ -1,3 +1,4 @@
 mod Made
+mod Placed
 mod SpacedNumbers
 mod WrittenDigits

@@ -33,3 +33,11 @@ one_line_more lines n other within =
     let next : n + 1 ≡ suc n = omega arith in
     rw next (ap spaced_lines (take-suc lines n other within) ∙ lines_behind (take n lines) (get_or lines n other ∷ [])
     ∙ ap (λ text. spaced_lines (take n lines) ++ 32 ∷ text) (append-nil (decimal (get_or lines n other))))
+
+-- one number more, behind a text
+pub put_one_more : (before text next : List ℕ) (numbers : List ℤ) (n : ℕ) (other : ℤ) → n < length numbers → text ≡ before ++ spaced_numbers (take n numbers)
+    → next ≡ text ++ 32 ∷ signed_decimal (get_or numbers n other) → next ≡ before ++ spaced_numbers (take (n + 1) numbers)
+put_one_more before text next numbers n other within is put =
+    put ∙ ap (λ t. t ++ 32 ∷ signed_decimal (get_or numbers n other)) is
+    ∙ append_assoc before (spaced_numbers (take n numbers)) (32 ∷ signed_decimal (get_or numbers n other))
+    ∙ ap (λ t. before ++ t) (sym (one_more numbers n other within))

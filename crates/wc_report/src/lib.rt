@@ -6,4 +6,6 @@ mod lines;
 mod memory;
 mod numbers;
 
-pub use lines::{answer_line, path_line, refused_line, scan_line, unit_line};
+pub use lines::{
+    answer_line, path_line, put_answer_line, put_scan_line, refused_line, scan_line, unit_line,
+};
