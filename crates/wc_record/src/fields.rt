@@ -50,6 +50,7 @@ pub(crate) fn is_first_row(row: &ByteRecord) -> bool
 /// The row of that number that a record writes, where the last row's moment was `last`, 0 before any.
 pub(crate) fn row_in(
     alloc: Global,
+    room: &mut Vec<u8>,
     row: &ByteRecord,
     number: u32,
     last: u64,
@@ -66,7 +67,7 @@ pub(crate) fn row_in(
     if ms < last {
         return Err(RowFault::Refused(603));
     }
-    match row_data(alloc, fields.kind, fields.text) {
+    match row_data(alloc, room, fields.kind, fields.text) {
         Ok(kind) => Ok(Row { number, ms, kind }),
         Err(fault) => Err(fault),
     }

@@ -1,7 +1,7 @@
 ghost use Rattle.std.specs.Prelude.{◌≡◌, ◌⊎◌, ◌∷◌, [], suc, max, ℕ, List, Some, None, true, false, IfOk, IfErr, IfSome, OnOk, IsErrOf};
 ghost use Rattle.csv.specs.Records.{fields_of};
 ghost use Rattle.wc_model.specs.Run.Log.{Record, LogOf, log_of, log_after};
-ghost use Rattle.wc_record.specs.Left.{HasCauseIn, HasLeft, IsNext, StandsBehind, Takes, bounded_from, count_in, ended, last_ms, log_behind, rows_read, started_at};
+ghost use Rattle.wc_record.specs.Left.{HasCauseIn, HasLeft, IsNext, KeepsAll, StandsBehind, Takes, bounded_from, count_in, ended, last_ms, log_behind, rows_read, started_at};
 ghost use Rattle.wc_record.specs.Left as left;
 ghost use Rattle.wc_record.specs.Reading.{TakesFirst, records_of};
 ghost use Rattle.wc_record.specs.Source.{SourceHas};
@@ -10,7 +10,7 @@ ghost use Rattle.wc_record.specs.Steps.{GivesRecord, IsBehindFirst, Keeps, Keeps
 use crate::bounded::{Bounded, is_used_up};
 use crate::fields::{is_first_row, row_in};
 use crate::row_data::RowFault;
-use crate::row_kind::{LogFault, Row};
+use crate::row_kind::{LogFault, Row, RowKind};
 use crate::source::Source;
 use csv::ByteRecord;
 use std::alloc::Global;
@@ -56,6 +56,7 @@ pub struct Rows<'r, R> {
     alloc: Global,
     source: Source<'r, R>,
     row: ByteRecord,
+    room: Vec<u8>,
     start: u64,
     number: u32,
     last: u64,
@@ -79,6 +80,7 @@ impl<'r, R: ByteIn> Rows<'r, R> {
             alloc,
             source: Source::new(alloc, Bounded { reader, start }),
             row: ByteRecord::new(alloc),
+            room: Vec::new(alloc),
             start,
             number: 0,
             last: 0,
@@ -170,7 +172,7 @@ impl<'r, R: ByteIn> Rows<'r, R> {
             });
         }
         let number = self.number + 1;
-        match row_in(self.alloc, &self.row, number, self.last) {
+        match row_in(self.alloc, &mut self.room, &self.row, number, self.last) {
             Ok(row) => {
                 self.number = number;
                 self.last = row.ms;
@@ -281,6 +283,18 @@ impl<'r, R: ByteIn> Rows<'r, R> {
                 self.end = end_behind(&answer);
                 answer
             }
+        }
+    }
+
+    /// Takes a row that is done: the room of its bytes serves the next row that brings bytes. What is left to be read, and
+    /// what was counted, stay as they were.
+    pub fn recycle(&mut self, row: Row)
+        ensures left { (log : LogOf) → HasLeft R.bytes_left self.old log
+            → HasLeft R.bytes_left self.new log }
+        ensures same { KeepsAll self.old self.new }
+    {
+        if let RowKind::Bytes(bytes) = row.kind {
+            self.room = bytes;
         }
     }
 }

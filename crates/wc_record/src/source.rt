@@ -35,7 +35,10 @@ impl<'r, R: ByteIn> Source<'r, R> {
         }
     }
 
-    /// Makes the reader of records, where it is not made yet.
+    /// Makes the reader of records, where it is not made yet. It stands apart since the reader is large: a function pays at
+    /// its entry for the size of its locals.
+    #[cold]
+    #[inline(never)]
     fn open(&mut self)
         ensures records { (left : List Record) → SourceHas R.bytes_left self.old left
             → SourceHas R.bytes_left self.new left }
@@ -55,7 +58,9 @@ impl<'r, R: ByteIn> Source<'r, R> {
             TakesFirst (SourceHas R.bytes_left self.old) (SourceHas R.bytes_left self.new) found
             (fields_of row.new)) }
     {
-        self.open();
+        if self.opened.is_none() {
+            self.open();
+        }
         match &mut self.opened {
             Some(records) => records.read(row),
             None => Err(Unread),
