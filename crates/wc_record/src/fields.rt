@@ -18,6 +18,7 @@ struct RowFields<'f> {
 }
 
 /// The fields of a record of three.
+#[inline(always)]
 fn three_fields(row: &ByteRecord) -> Option<RowFields<'_>>
     ensures { option_map fields_view result ≡ three_of (fields_of row.now) }
 {
@@ -48,6 +49,7 @@ pub(crate) fn is_first_row(row: &ByteRecord) -> bool
 }
 
 /// The row of that number that a record writes, where the last row's moment was `last`, 0 before any.
+#[inline(always)]
 pub(crate) fn row_in(
     alloc: Global,
     room: &mut Vec<u8>,

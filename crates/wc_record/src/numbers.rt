@@ -6,6 +6,7 @@ ghost use Rattle.wc_model.specs.Instrument.Plates.{least_sample, greatest_sample
 ghost use Rattle.wc_model.specs.Run.Log.{number_within, moment_of, whole_of, counts_of};
 
 /// The number that at most thirteen digits write, and none where a byte is no digit.
+#[inline(always)]
 fn value_of_digits(text: &[u8]) -> Option<u64>
     requires { length text.now ≤ 13 }
     ensures value { result
@@ -27,6 +28,7 @@ fn value_of_digits(text: &[u8]) -> Option<u64>
 
 /// The number that 1 to so many digits write.
 #[tactic(auto, using(crate::proofs::DigitValues::ten_rises))]
+#[inline(always)]
 fn number_within(most: usize, text: &[u8]) -> Option<u64>
     requires { most ≤ 13 }
     ensures value { result ≡ number_within most text.now }
@@ -39,6 +41,7 @@ fn number_within(most: usize, text: &[u8]) -> Option<u64>
 }
 
 /// The moment of a row: 1 to 13 digits, below 2^40.
+#[inline(always)]
 pub(crate) fn moment(text: &[u8]) -> Option<u64>
     ensures { result ≡ moment_of text.now }
 {
@@ -49,6 +52,7 @@ pub(crate) fn moment(text: &[u8]) -> Option<u64>
 }
 
 /// A whole number: 1 to 10 digits, with `-` before them where it is negative.
+#[inline(always)]
 fn whole(text: &[u8]) -> Option<i64>
     ensures { result ≡ whole_of text.now }
 {
@@ -69,6 +73,7 @@ fn whole(text: &[u8]) -> Option<i64>
 }
 
 /// Counts: a whole number in the range of a sample.
+#[inline(always)]
 pub(crate) fn counts(text: &[u8]) -> Option<i32>
     ensures value { result ≡ counts_of text.now }
     ensures range { IfSome result

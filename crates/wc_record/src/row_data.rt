@@ -19,6 +19,7 @@ pub(crate) enum RowFault {
 }
 
 /// A sample.
+#[inline(always)]
 fn sample(text: &[u8]) -> Result<RowKind, RowFault>
     ensures says { SaysData result (log.brings_or 605 rows.Counts (log.counts_of text.now)) }
     ensures range { IfOk result (λ kind. IsDataInRange (data_view kind)) }
@@ -42,6 +43,7 @@ fn line_bytes(alloc: Global, room: &mut Vec<u8>, text: &[u8]) -> Result<RowKind,
 }
 
 /// Inputs.
+#[inline(always)]
 fn inputs(text: &[u8]) -> Result<RowKind, RowFault>
     ensures says { SaysData result (log.brings_or 606 rows.Inputs (log.inputs_word_of text.now)) }
     ensures range { IfOk result (λ kind. IsDataInRange (data_view kind)) }
@@ -53,6 +55,7 @@ fn inputs(text: &[u8]) -> Result<RowKind, RowFault>
 }
 
 /// A scan, which has no data.
+#[inline(always)]
 fn scan(text: &[u8]) -> Result<RowKind, RowFault>
     ensures says { SaysData result (log.scan_of_data text.now) }
     ensures range { IfOk result (λ kind. IsDataInRange (data_view kind)) }
@@ -65,6 +68,7 @@ fn scan(text: &[u8]) -> Result<RowKind, RowFault>
 }
 
 /// What a kind and its data bring; bytes come in the room, where there is one.
+#[inline(always)]
 pub(crate) fn row_data(
     alloc: Global,
     room: &mut Vec<u8>,

@@ -52,6 +52,7 @@ impl<'r, R: ByteIn> Source<'r, R> {
     }
 
     /// Reads the next record into `row`, where there is one.
+    #[inline(always)]
     pub(crate) fn read(&mut self, row: &mut ByteRecord) -> Result<bool, Unread>
         ensures { IfOk result
             (λ found.
@@ -68,6 +69,7 @@ impl<'r, R: ByteIn> Source<'r, R> {
     }
 
     /// How many calls of the reader failed.
+    #[inline(always)]
     pub(crate) fn failures(&self) -> u64
         ensures { result ≡ counted_in R.failure_count self.now }
     {
@@ -81,6 +83,7 @@ impl<'r, R: ByteIn> Source<'r, R> {
     }
 
     /// What the reader has given, and its calls.
+    #[inline(always)]
     pub(crate) fn spent(&self) -> u64
         ensures { result ≡ counted_in R.spent_count self.now }
     {

@@ -1,4 +1,6 @@
+mod Lengths
 mod Made
 mod Placed
+mod ScanText
 mod SpacedNumbers
 mod WrittenDigits

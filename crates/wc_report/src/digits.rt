@@ -1,5 +1,5 @@
 ghost use Rattle.std.specs.Prelude.{◌≡◌, ◌++◌, IsOkUnless, OnOk};
-ghost use Rattle.wc_model.specs.Run.Hex.{hex_of_bytes, hex_of_word};
+ghost use Rattle.wc_model.specs.Run.Hex.{hex_of_bytes};
 
 use crate::memory::or_memory;
 use wc_model::Fault;
@@ -16,12 +16,4 @@ pub(crate) fn put_digits(text: &mut Vec<u8>, bytes: &[u8]) -> Result<(), Fault>
         Ok(()) => Ok(()),
         Err(_) => Err(Fault::Memory),
     }
-}
-
-/// Puts the four hexadecimal digits of a word, its high byte first, behind a text. `Memory` is the only fault.
-pub(crate) fn put_word_digits(text: &mut Vec<u8>, word: u16) -> Result<(), Fault>
-    ensures digits { OnOk result (text.new.items ≡ text.old.items ++ hex_of_word word) }
-    ensures memory { IsOkUnless result Fault.Memory }
-{
-    put_digits(text, &word.to_be_bytes())
 }

@@ -1,6 +1,7 @@
 //! The texts that a run, a check and a refusal print, line by line.
 #![tactic(auto)]
 
+mod backward;
 mod digits;
 mod lines;
 mod memory;

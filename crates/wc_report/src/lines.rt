@@ -1,11 +1,12 @@
-ghost use Rattle.std.specs.Prelude.{◌≡◌, ◌++◌, IfOk, IsOkUnless, OnOk};
+ghost use Rattle.std.specs.Prelude.{◌≡◌, ◌≤◌, ◌++◌, drop, IfOk, IsOkUnless, OnOk};
 ghost use Rattle.wc_model.specs.Say.Job.{refused_text};
 ghost use Rattle.wc_model.specs.Say.Report.{AnswerLine, ScanLine, line_text};
 ghost use Rattle.wc_model.specs.Say.UnitReport.{path_line, unit_line};
 
-use crate::digits::{put_digits, put_word_digits};
+use crate::backward;
+use crate::digits::put_digits;
 use crate::memory::or_memory;
-use crate::numbers::{put_bytes, put_number, put_spaced, spaced_lines};
+use crate::numbers::{put_bytes, put_number, spaced_lines};
 use std::alloc::Global;
 use wc_model::{Fault, Outputs, Steps};
 
@@ -33,14 +34,29 @@ pub fn put_scan_line(
         (text.new.items ≡ text.old.items ++ line_text (ScanLine ms steps.0 outputs.now)) }
     ensures memory { IsOkUnless result Fault.Memory }
 {
-    put_bytes(text, b"S ")?;
-    put_number(text, ms)?;
-    put_bytes(text, b" ")?;
-    put_number(text, u64::from(steps.0))?;
-    put_bytes(text, b" ")?;
-    put_word_digits(text, outputs.bits)?;
-    put_spaced(text, &outputs.words)?;
-    put_bytes(text, b"\n")
+    let mut room = [0; SCAN_ROOM];
+    let start = scan_backward(ms, steps, outputs, &mut room);
+    put_bytes(text, &room[start..])
+}
+
+/// Room that each line of a scan has in.
+const SCAN_ROOM: usize = 144;
+
+/// Writes the line of a scan at the end of its room: where it starts.
+fn scan_backward(ms: u64, steps: Steps, outputs: &Outputs, room: &mut [u8; SCAN_ROOM]) -> usize
+    ensures within { result ≤ 144 }
+    ensures text { drop result room.new ≡ line_text (ScanLine ms steps.0 outputs.now) }
+{
+    let [first, second, third, fourth] = &outputs.words;
+    let at = backward::put_byte(b'\n', room, SCAN_ROOM);
+    let at = backward::put_signed(fourth, room, at);
+    let at = backward::put_signed(third, room, at);
+    let at = backward::put_signed(second, room, at);
+    let at = backward::put_signed(first, room, at);
+    let at = backward::put_word(outputs.bits, room, at);
+    let at = backward::put_number(u64::from(steps.0), room, at);
+    let at = backward::put_number(ms, room, at);
+    backward::put_byte(b'S', room, at)
 }
 
 /// The line of an answer: `L`, the moment of its row in milliseconds, and its bytes, two hexadecimal digits for each, with

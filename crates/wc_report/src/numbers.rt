@@ -1,7 +1,5 @@
-ghost use Rattle.std.specs.Prelude.{◌≡◌, ◌∷◌, ◌++◌, decimal, IfOk, IsOkUnless, OnOk};
-ghost use Rattle.std.specs.Fmt.{signed_decimal};
+ghost use Rattle.std.specs.Prelude.{◌≡◌, ◌++◌, decimal, IfOk, IsOkUnless, OnOk};
 ghost use Rattle.std.specs.String.{string_bytes};
-ghost use Rattle.wc_model.specs.Say.Report.{spaced_numbers};
 ghost use Rattle.wc_model.specs.Say.UnitReport.{spaced_lines};
 
 use crate::memory::or_memory;
@@ -24,27 +22,6 @@ pub(crate) fn put_number(text: &mut Vec<u8>, number: u64) -> Result<(), Fault>
 {
     let mut buffer = Buffer::new();
     put_bytes(text, buffer.format(number).as_bytes())
-}
-
-/// Puts a space and a number in decimal digits behind a text. `Memory` is the only fault.
-fn put_after_space(text: &mut Vec<u8>, number: &i32) -> Result<(), Fault>
-    ensures digits { OnOk result (text.new.items ≡ text.old.items ++ 32 ∷ signed_decimal number.now) }
-    ensures memory { IsOkUnless result Fault.Memory }
-{
-    let mut buffer = Buffer::new();
-    put_bytes(text, b" ")?;
-    put_bytes(text, buffer.format(*number).as_bytes())
-}
-
-/// Puts numbers in decimal digits, each after a space, behind a text. `Memory` is the only fault.
-pub(crate) fn put_spaced(text: &mut Vec<u8>, numbers: &[i32]) -> Result<(), Fault>
-    ensures numbers { OnOk result (text.new.items ≡ text.old.items ++ spaced_numbers numbers.now) }
-    ensures memory { IsOkUnless result Fault.Memory }
-{
-    for number in numbers {
-        put_after_space(text, number)?;
-    }
-    Ok(())
 }
 
 /// The numbers of lines in decimal digits, each after a space. `Memory` is the only fault.

@@ -22,6 +22,7 @@ use wc_model::{ByteIn, ByteOut};
 use wc_record::{LogFault, Recorder, Row, Rows};
 
 /// Does a row and puts what is printed of it. The room of its bytes goes back to the rows.
+#[inline(always)]
 fn run_row<R: ByteIn, W: ByteOut>(
     room: &mut Room,
     scale: &mut Scale<'_>,

@@ -13,6 +13,7 @@ use wc_model::{ByteOut, write_whole};
 use wc_record::{Record, Recorder};
 
 /// Writes a text.
+#[inline(always)]
 fn write_text<W: ByteOut>(text: &[u8], writer: &mut W) -> Result<(), RunFault>
     ensures writes { Writes text.now result (W.bytes_taken writer.old) (W.bytes_taken writer.new) }
     ensures write { IsErrOf result RunFault.Write
@@ -27,6 +28,7 @@ fn write_text<W: ByteOut>(text: &[u8], writer: &mut W) -> Result<(), RunFault>
 }
 
 /// Writes the line of a scan, which stands in the room for it then.
+#[inline(always)]
 fn write_scan<W: ByteOut>(scan: &Record, text: &mut Vec<u8>, writer: &mut W) -> Result<(), RunFault>
     ensures writes { Writes (line_text (line_of_record scan.now)) result
         (W.bytes_taken writer.old) (W.bytes_taken writer.new) }
@@ -43,6 +45,7 @@ fn write_scan<W: ByteOut>(scan: &Record, text: &mut Vec<u8>, writer: &mut W) -> 
 }
 
 /// Keeps the record of a scan where there is a recorder; else writes its line.
+#[inline(always)]
 fn put_scan<W: ByteOut>(
     scan: Record,
     text: &mut Vec<u8>,
@@ -68,6 +71,7 @@ fn put_scan<W: ByteOut>(
 }
 
 /// Writes a line, which stands in the room for it; of a scan only where there is no recorder that keeps its record.
+#[inline(always)]
 pub(crate) fn put<W: ByteOut>(
     output: RowOutput,
     text: &mut Vec<u8>,

@@ -54,6 +54,7 @@ impl<'a> Scale<'a> {
     }
 
     /// Does a row, and gives what is to be printed of it; a line stands in the room then.
+    #[inline(always)]
     pub(crate) fn take(&mut self, room: &mut Room, row: &Row) -> Result<RowOutput, RunFault>
         requires in_range { IsDataInRange (data_view row.now.kind) }
         requires early { row.now.ms < 2 ^ 40 }
@@ -85,6 +86,7 @@ impl<'a> Scale<'a> {
     }
 
     /// Takes a sample. Nothing is printed of it.
+    #[inline(always)]
     fn take_sample(&mut self, counts: i32)
         requires { IsDataInRange (Counts counts) }
         ensures stands { (ms : ℕ) → TakesRow self.old self.new ms (Counts counts) }
@@ -111,6 +113,7 @@ impl<'a> Scale<'a> {
     }
 
     /// Takes the inputs from now on. Nothing is printed of them.
+    #[inline(always)]
     fn take_inputs(&mut self, inputs: u16)
         ensures stands { (ms : ℕ) → TakesRow self.old self.new ms (Inputs inputs) }
         ensures machine { self.new.machine ≡ self.old.machine }

@@ -12,6 +12,7 @@ use wc_report::put_scan_line;
 use wc_store::SlotStore;
 
 /// Does one scan of an image at a moment, and gives its record. It takes no memory.
+#[inline(always)]
 pub(crate) fn scan_record(ms: u64, image: &Image, machine: &mut Machine<'_, SlotStore>) -> Record
     requires not_before { machine.old.last ≤ ms }
     requires early { ms < 2 ^ 40 }
@@ -30,6 +31,7 @@ pub(crate) fn scan_record(ms: u64, image: &Image, machine: &mut Machine<'_, Slot
 }
 
 /// Puts the line of a scan by its record behind a text.
+#[inline(always)]
 pub(crate) fn put_record(text: &mut Vec<u8>, scan: &Record) -> Result<(), RunFault>
     ensures text { OnOk result
         (text.new.items ≡ text.old.items ++ line_text (line_of_record scan.now)) }
