@@ -1,44 +1,18 @@
 -- Decimal digits as numbers.
-use Rattle.std.proofs.Common.{◌≡◌, ◌≤◌, ◌<◌, ◌+◌, ◌*◌, ◌-◌, ◌^◌, get_or, ℕ, zero, suc, subst, add-zero, add-suc, Bool, true, false, List, [], ◌∷◌, length, map, ◌&&◌, refl, arith}
+use Rattle.std.proofs.Common.{◌≡◌, ◌≤◌, ◌<◌, ◌+◌, ◌*◌, ◌-◌, ◌^◌, get_or, ℕ, zero, suc, take, drop, sym, subst, add-zero, add-suc, Bool, true, List, [], ◌∷◌, length, map, arith}
 use Rattle.std.specs.Char.{is_ascii_digit}
-use Rattle.std.specs.Int.Digits.{AllBelowBase, number_from_digits, number_from_digits_after}
+use Rattle.std.specs.Int.Digits.{number_from_digits_after}
 use Rattle.std.specs.List.{list_all}
-use Rattle.std.proofs.lemmas.Bool.Decides.{nat_tests}
-use Rattle.std.specs.Prelude.{nat_le}
-use Rattle.std.proofs.lemmas.Int.Digits.{number_lt, number_after_ge}
-use Rattle.std.proofs.lemmas.List.{length-map}
 use Rattle.std.proofs.Math.Nat.{pow-suc}
+use Rattle.std.proofs.Math.Seq.{take-length}
 
 -- the values of digits
 abbrev pub values : List ℕ → List ℕ
 values text = map (λ digit. digit - 48) text
 
--- both parts of a test that holds
-both : (a b : Bool) → (a && b) ≡ true → (a ≡ true) × (b ≡ true)
-both true b e = (refl, e)
-both false b e = cc
-
 -- a digit's value is below 10
 digit_below : (c : ℕ) → is_ascii_digit c ≡ true → c - 48 < 10
 digit_below c e = grind (arith)
-
--- the values of digits are below 10
-values_below : (text : List ℕ) → list_all is_ascii_digit text ≡ true → AllBelowBase 10 (values text)
-values_below [] e = tt
-values_below (c ∷ text) e = let h = both _ _ e in (digit_below c h.0, values_below text h.1)
-
--- digits write a number of that many digits
-pub value_below : (text : List ℕ) → list_all is_ascii_digit text ≡ true → number_from_digits 10 (values text) < 10 ^ length text
-value_below text e = rw length-map at (number_lt 10 (values text) (values_below text e))
-
--- what is read so far is no more than the whole
-pub value_so_far : (value : ℕ) (rest : List ℕ) → value ≤ number_from_digits_after 10 value (values rest)
-value_so_far value rest = number_after_ge 10 value (values rest) (omega arith)
-
--- what is read with the next digit is no more than the whole
-pub next_so_far : (value : ℕ) (rest : List ℕ) → 1 ≤ length rest → value * 10 + (get_or rest 0 0 - 48) ≤ number_from_digits_after 10 value (values rest)
-next_so_far value [] h = absurd (omega arith)
-next_so_far value (c ∷ rest) h = value_so_far (value * 10 + (c - 48)) rest
 
 -- a power of ten is no more than a higher one
 ten_more : (m k : ℕ) → 10 ^ m ≤ 10 ^ (m + k)
@@ -49,18 +23,41 @@ ten_more m (suc k) = rw (add-suc, pow-suc) (omega (arith, ten_more m k))
 pub ten_rises : (m n : ℕ) → m ≤ n → 10 ^ m ≤ 10 ^ n
 ten_rises m n h = let e : m + (n - m) ≡ n = omega arith in subst (λ k. 10 ^ m ≤ 10 ^ k) e (ten_more m (n - m))
 
--- so it is within the power of ten
-pub next_within : (value : ℕ) (rest text : List ℕ) → length text ≤ 13 → 1 ≤ length rest → number_from_digits_after 10 value (values rest) ≡ number_from_digits 10 (values text) → number_from_digits 10 (values text) < 10 ^ length text
-    → value * 10 + (get_or rest 0 0 - 48) ≤ 10 ^ 13
-next_within value rest text few more whole below =
-    omega (arith, next_so_far value rest more, ten_rises (length text) 13 few)
+-- a digit more, of a number of so many digits
+pub digit_more : (value digit size : ℕ) → value < 10 ^ size → digit < 10 → value * 10 + digit < 10 ^ (size + 1)
+digit_more value digit size below small = rw (add-suc, add-zero, pow-suc) (omega (arith, below, small))
 
--- a test of an order that holds
-le_holds : (a b : ℕ) → nat_le a b ≡ true → a ≤ b
-le_holds a b e = grind (arith, nat_tests)
+-- what stands behind the first byte
+abbrev pub behind_first : List ℕ → List ℕ
+behind_first text = take (length text - 1) (drop 1 text)
 
--- what 1 to so many digits are
-pub number_form : (most : ℕ) (text : List ℕ) → (nat_le 1 (length text) && nat_le (length text) most && list_all is_ascii_digit text) ≡ true → (list_all is_ascii_digit text ≡ true) × (length text ≤ most)
-number_form most text e =
-    let outer = both (nat_le 1 (length text) && nat_le (length text) most) (list_all is_ascii_digit text) e in
-    (outer.1, le_holds (length text) most (both (nat_le 1 (length text)) (nat_le (length text) most) outer.0).1)
+-- that of a text that is not empty
+behind_is : (c : ℕ) (text : List ℕ) → behind_first (c ∷ text) ≡ text
+behind_is c text = let size : suc (length text) - 1 ≡ length text = omega arith in rw size (take-length text)
+
+-- one digit more is one digit
+pub digits_behind : (rest : List ℕ) (all : Bool) → 1 ≤ length rest → true ≡ is_ascii_digit (get_or rest 0 0) → list_all is_ascii_digit rest ≡ all → list_all is_ascii_digit (behind_first rest) ≡ all
+digits_behind [] all h digit e = absurd (omega arith)
+digits_behind (c ∷ rest) all h digit e = rw (behind_is c rest) (rw (sym digit) at e)
+
+-- it goes on to the whole
+pub whole_behind : (value digit whole : ℕ) (rest : List ℕ) → 1 ≤ length rest → digit ≡ get_or rest 0 0 - 48 → number_from_digits_after 10 value (values rest) ≡ whole → number_from_digits_after 10 (value * 10 + digit) (values (behind_first rest)) ≡ whole
+whole_behind value digit whole [] h is e = absurd (omega arith)
+whole_behind value digit whole (c ∷ rest) h is e = rw (behind_is c rest, is) e
+
+-- how much is behind
+behind_size : (rest : List ℕ) → 1 ≤ length rest → length (behind_first rest) + 1 ≡ length rest
+behind_size [] h = absurd (omega arith)
+behind_size (c ∷ rest) h = rw (behind_is c rest) (omega arith)
+
+-- less is left
+pub shorter_behind : (rest : List ℕ) (most : ℕ) → 1 ≤ length rest → length rest ≤ most → length (behind_first rest) ≤ most
+shorter_behind rest most h few = omega (arith, behind_size rest h)
+
+-- it has one digit more at most
+pub few_behind : (value digit most : ℕ) (rest : List ℕ) → 1 ≤ length rest → length rest ≤ most → true ≡ is_ascii_digit (get_or rest 0 0) → digit ≡ get_or rest 0 0 - 48 → value < 10 ^ (most - length rest)
+    → value * 10 + digit < 10 ^ (most - length (behind_first rest))
+few_behind value digit most rest h few is_digit is below =
+    let size : most - length (behind_first rest) ≡ (most - length rest) + 1 = omega (arith, behind_size rest h) in
+    let small : digit < 10 = rw is (digit_below (get_or rest 0 0) (sym is_digit)) in
+    rw size (digit_more value digit (most - length rest) below small)

@@ -1,12 +1,14 @@
 -- The bytes that hexadecimal digits write, and what `hex` decodes.
-use Rattle.std.proofs.Common.{◌≡◌, ◌≤◌, ◌<◌, ◌+◌, ◌*◌, ◌%◌, ◌/◌, ◌==◌, ◌⊎◌, inl, inr, ℕ, suc, Bool, true, false, cond, List, [], ◌∷◌, length, Option, Some, None, Result, Ok, Err, refl, sym, ap, ◌∙◌, arith, get_or}
+use Rattle.std.proofs.lemmas.List.{append-nil}
+use Rattle.std.proofs.Math.Seq.{take-length}
+use Rattle.std.proofs.Math.ListN.{drop_of_length-le}
+use Rattle.std.proofs.Common.{◌≡◌, ◌≤◌, ◌<◌, ◌+◌, ◌*◌, ◌%◌, ◌/◌, ◌==◌, ◌++◌, take, drop, ℕ, suc, Bool, true, false, cond, List, [], ◌∷◌, length, Option, Some, None, Result, Ok, Err, refl, sym, ap, ◌∙◌, arith, get_or}
 use Rattle.std.specs.Char.{digit_value, is_digit}
 use Rattle.std.proofs.lemmas.Bool.Decides.{nat_tests}
 use Rattle.std.specs.Int.Digits.{number_from_digits}
 use Rattle.std.specs.Prelude.{nat_le, MatchResult, option_map}
-use Rattle.hex.specs.Hex.{hex_digit_value, pair_value, decode_pairs, decode_of, decode_sized, ◌>>=◌}
+use Rattle.hex.specs.Hex.{hex_digit_value, pair_value, decode_pairs, decode_sized, ◌>>=◌}
 use Rattle.hex.specs.declared.error.FromHexError.{FromHexError}
-use Rattle.hex.specs.declared.error.FromHexError.TheVariants.{OutOfMemory}
 use Rattle.wc_model.specs.Run.Hex.{bytes_of_hex, byte_of_digits, with_byte}
 use Rattle.wc_model.specs.Run.Log.{where_passes, line_piece_of, inputs_word_of}
 
@@ -67,33 +69,15 @@ halves (high ∷ low ∷ rest) bytes e = by_parts (byte_of_digits high low) (byt
         let size = m tail refl in
         rw (← same) (omega arith)
 
--- what `decode` gives, as bytes of digits
-decoded_same : (text : List ℕ) → ok_of (decode_of text) ≡ bytes_of_hex text
-decoded_same text = by_length (length text % 2 == 1) refl
+-- what decoding into room of its size gives
+room_same : (text : List ℕ) → ok_of (decode_sized text (length text / 2)) ≡ bytes_of_hex text
+room_same text = by_length (length text % 2 == 1) refl
   where
-    by_length : (odd : Bool) → (length text % 2 == 1) ≡ odd → ok_of (decode_of text) ≡ bytes_of_hex text
+    by_length : (odd : Bool) → (length text % 2 == 1) ≡ odd → ok_of (decode_sized text (length text / 2)) ≡ bytes_of_hex text
     by_length true e = let odd : length text % 2 ≡ 1 = grind (arith, nat_tests) in rw (e) (sym (odd_writes_nothing text odd))
-    by_length false e = rw (e) (pairs_same 0 text)
-
--- bytes that were decoded are a piece where they are few
-pub piece_read : (text bytes : List ℕ) → length text ≤ 8192 → decode_of text ≡ Ok bytes → Some bytes ≡ line_piece_of text
-piece_read text bytes few e =
-    let read : bytes_of_hex text ≡ Some bytes = sym (decoded_same text) ∙ ap ok_of e in
-    let size = halves text bytes read in
-    let short : nat_le (length bytes) 4096 ≡ true = grind (arith, nat_tests) in
-    rw (read, short) refl
-
--- they are few
-pub piece_few : (text bytes : List ℕ) → length text ≤ 8192 → decode_of text ≡ Ok bytes → length bytes ≤ 4096
-piece_few text bytes few e =
-    let read : bytes_of_hex text ≡ Some bytes = sym (decoded_same text) ∙ ap ok_of e in
-    omega (arith, halves text bytes read)
-
--- what is not decoded is no piece
-piece_refused : (text : List ℕ) (e : FromHexError) → decode_of text ≡ Err e → None ≡ line_piece_of text
-piece_refused text e h =
-    let read : bytes_of_hex text ≡ None = sym (decoded_same text) ∙ ap ok_of h in
-    rw read refl
+    by_length false e =
+        let same : (length text / 2 == length text / 2) ≡ true = grind (arith, nat_tests) in
+        rw (e, same) (pairs_same 0 text)
 
 -- a longer text is no piece
 pub piece_too_long : (text : List ℕ) → 8192 < length text → None ≡ line_piece_of text
@@ -173,7 +157,35 @@ word_refused text out r h f e =
     let read = sym (sized_same text) ∙ refused (decode_sized text 2) r out h f e in
     sym (ap (option_map (number_from_digits 256)) read)
 
--- what is refused, but not for memory, is no piece
-pub piece_not_read : (text : List ℕ) (e : FromHexError) → (e ≡ OutOfMemory → ⊥) → (e ≡ OutOfMemory) ⊎ (decode_of text ≡ Err e) → None ≡ line_piece_of text
-piece_not_read text e other (inl h) = absurd (other h)
-piece_not_read text e other (inr h) = piece_refused text e h
+-- what decoding answers
+abbrev Decodes : Result (List ℕ) FromHexError → Result Unit FromHexError → List ℕ → Type 0
+Decodes decoded r out = MatchResult decoded (λ bytes. (r ≡ Ok tt) × (out ≡ bytes)) (λ e. r ≡ Err e)
+
+-- what was decoded into room of its size
+read_whole : (text out : List ℕ) (size : ℕ) (r : Result Unit FromHexError) → size ≡ length text / 2 → Decodes (decode_sized text size) r out → (u : Unit) → r ≡ Ok u → bytes_of_hex text ≡ Some out
+read_whole text out size r is h u e = sym (room_same text) ∙ ap (λ n. ok_of (decode_sized text n)) (sym is) ∙ written (decode_sized text size) r out h u e
+
+-- bytes that were decoded are a piece where they are few
+pub piece_read : (text out : List ℕ) (size : ℕ) (r : Result Unit FromHexError) → length text ≤ 8192 → size ≡ length text / 2 → Decodes (decode_sized text size) r out → (u : Unit) → r ≡ Ok u → Some out ≡ line_piece_of text
+piece_read text out size r few is h u e =
+    let read = read_whole text out size r is h u e in
+    let half = halves text out read in
+    let short : nat_le (length out) 4096 ≡ true = grind (arith, nat_tests) in
+    rw (read, short) refl
+
+-- they are few
+pub piece_few : (text out : List ℕ) (size : ℕ) (r : Result Unit FromHexError) → length text ≤ 8192 → size ≡ length text / 2 → Decodes (decode_sized text size) r out → (u : Unit) → r ≡ Ok u → length out ≤ 4096
+piece_few text out size r few is h u e = omega (arith, halves text out (read_whole text out size r is h u e))
+
+-- what is not decoded is no piece
+pub piece_not_read : (text out : List ℕ) (size : ℕ) (r : Result Unit FromHexError) → size ≡ length text / 2 → Decodes (decode_sized text size) r out → (f : FromHexError) → r ≡ Err f → None ≡ line_piece_of text
+piece_not_read text out size r is h f e =
+    let read : bytes_of_hex text ≡ None = sym (room_same text) ∙ ap (λ n. ok_of (decode_sized text n)) (sym is) ∙ refused (decode_sized text size) r out h f e in
+    rw read refl
+
+-- room that is written whole holds what was written
+pub whole_room : (room out : List ℕ) (size : ℕ) → length out ≡ length room → size ≡ length room → take size (out ++ drop (length out) room) ≡ out
+whole_room room out size filled is =
+    let behind : drop (length out) room ≡ [] = drop_of_length-le room (omega (arith, filled)) in
+    let long : size ≡ length out = omega (arith, filled, is) in
+    rw (behind, append-nil out, long) (take-length out)

@@ -114,3 +114,12 @@ HasCause failures_before failures start spent = (failures_before < failures) ⊎
 -- the same of the reader that is lent
 abbrev pub HasCauseIn : {R : Type 0} → (R → ℕ) → (R → ℕ) → ℕ → Rows R → Type 0
 HasCauseIn failures spent before rows = HasCause before (count_in failures rows) (started_at rows) (count_in spent rows)
+
+-- all that was counted, and how the log has ended, is as it was
+pub record KeepsAll {R : Type 0} (old new : Rows R) : Type 0 where
+  pub read : rows_read new ≡ rows_read old
+  pub last : last_ms new ≡ last_ms old
+  pub end : ended new ≡ ended old
+  pub start : started_at new ≡ started_at old
+  pub bounded : bounded_from new ≡ bounded_from old
+  pub counts : (count : R → ℕ) → count_in count new ≡ count_in count old

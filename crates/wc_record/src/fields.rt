@@ -18,6 +18,7 @@ struct RowFields<'f> {
 }
 
 /// The fields of a record of three.
+#[inline(always)]
 fn three_fields(row: &ByteRecord) -> Option<RowFields<'_>>
     ensures { option_map fields_view result ≡ three_of (fields_of row.now) }
 {
@@ -48,8 +49,10 @@ pub(crate) fn is_first_row(row: &ByteRecord) -> bool
 }
 
 /// The row of that number that a record writes, where the last row's moment was `last`, 0 before any.
+#[inline(always)]
 pub(crate) fn row_in(
     alloc: Global,
+    room: &mut Vec<u8>,
     row: &ByteRecord,
     number: u32,
     last: u64,
@@ -66,7 +69,7 @@ pub(crate) fn row_in(
     if ms < last {
         return Err(RowFault::Refused(603));
     }
-    match row_data(alloc, fields.kind, fields.text) {
+    match row_data(alloc, room, fields.kind, fields.text) {
         Ok(kind) => Ok(Row { number, ms, kind }),
         Err(fault) => Err(fault),
     }

@@ -1,24 +1,22 @@
-ghost use Rattle.std.specs.Prelude.{◌≡◌, ◌≤◌, IfOk, IfSome, length, option_map};
+ghost use Rattle.std.specs.Prelude.{◌≡◌, ◌≤◌, if◌then◌else◌, true, IfOk, length, Some, None};
 ghost use Rattle.wc_model.specs.Run.Log.{line_piece_of, inputs_word_of};
 
-use hex::FromHexError;
-use std::alloc::{AllocError, Global};
+use std::alloc::AllocError;
 
-/// The line bytes that a text of hexadecimal digits writes, where it writes at most 4096.
-pub(crate) fn line_piece(alloc: Global, text: &[u8]) -> Result<Option<Vec<u8>>, AllocError>
+/// Puts the line bytes that a text of hexadecimal digits writes into the room, where it writes at most 4096: whether it
+/// does. No memory is taken where the room is large enough.
+pub(crate) fn line_piece(room: &mut Vec<u8>, text: &[u8]) -> Result<bool, AllocError>
     ensures piece { IfOk result
-        (λ piece. option_map (λ bytes. bytes.items) piece ≡ line_piece_of text.now) }
-    ensures few { IfOk result (λ piece. IfSome piece (λ bytes. length bytes.items ≤ 4096)) }
+        (λ found. (if found then Some room.new.items else None) ≡ line_piece_of text.now) }
+    ensures few { IfOk result (λ found. found ≡ true → length room.new.items ≤ 4096) }
 {
     if text.len() > 8192 {
-        return Ok(None);
+        return Ok(false);
     }
-    match hex::decode(alloc, text) {
-        Ok(bytes) => Ok(Some(bytes)),
-        Err(error) => match error {
-            FromHexError::OutOfMemory => Err(AllocError),
-            _ => Ok(None),
-        },
+    room.resize(text.len() / 2, 0)?;
+    match hex::decode_to_slice(text, room.as_mut_slice()) {
+        Ok(()) => Ok(true),
+        Err(_) => Ok(false),
     }
 }
 

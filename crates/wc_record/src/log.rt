@@ -1,7 +1,7 @@
 ghost use Rattle.std.specs.Prelude.{◌≡◌, ◌⊎◌, ◌∷◌, [], suc, max, ℕ, List, Some, None, true, false, IfOk, IfErr, IfSome, OnOk, IsErrOf};
 ghost use Rattle.csv.specs.Records.{fields_of};
 ghost use Rattle.wc_model.specs.Run.Log.{Record, LogOf, log_of, log_after};
-ghost use Rattle.wc_record.specs.Left.{HasCauseIn, HasLeft, IsNext, StandsBehind, Takes, bounded_from, count_in, ended, last_ms, log_behind, rows_read, started_at};
+ghost use Rattle.wc_record.specs.Left.{HasCauseIn, HasLeft, IsNext, KeepsAll, StandsBehind, Takes, bounded_from, count_in, ended, last_ms, log_behind, rows_read, started_at};
 ghost use Rattle.wc_record.specs.Left as left;
 ghost use Rattle.wc_record.specs.Reading.{TakesFirst, records_of};
 ghost use Rattle.wc_record.specs.Source.{SourceHas};
@@ -10,7 +10,7 @@ ghost use Rattle.wc_record.specs.Steps.{GivesRecord, IsBehindFirst, Keeps, Keeps
 use crate::bounded::{Bounded, is_used_up};
 use crate::fields::{is_first_row, row_in};
 use crate::row_data::RowFault;
-use crate::row_kind::{LogFault, Row};
+use crate::row_kind::{LogFault, Row, RowKind};
 use crate::source::Source;
 use csv::ByteRecord;
 use std::alloc::Global;
@@ -29,6 +29,7 @@ pub(crate) enum LogEnd {
 }
 
 /// What each further call answers.
+#[inline(always)]
 fn answer_at(end: LogEnd) -> Result<Option<Row>, LogFault>
     ensures { result ≡ left.answer_at end }
 {
@@ -39,6 +40,7 @@ fn answer_at(end: LogEnd) -> Result<Option<Row>, LogFault>
 }
 
 /// How the log has ended, where that answer ends it.
+#[inline(always)]
 fn end_behind(answer: &Result<Option<Row>, LogFault>) -> Option<LogEnd>
     ensures { result ≡ left.end_behind answer.now }
 {
@@ -56,6 +58,7 @@ pub struct Rows<'r, R> {
     alloc: Global,
     source: Source<'r, R>,
     row: ByteRecord,
+    room: Vec<u8>,
     start: u64,
     number: u32,
     last: u64,
@@ -79,6 +82,7 @@ impl<'r, R: ByteIn> Rows<'r, R> {
             alloc,
             source: Source::new(alloc, Bounded { reader, start }),
             row: ByteRecord::new(alloc),
+            room: Vec::new(alloc),
             start,
             number: 0,
             last: 0,
@@ -88,6 +92,8 @@ impl<'r, R: ByteIn> Rows<'r, R> {
 
     /// The fault behind a read that failed: the reader's where it failed in this call or as much was read as may
     /// be, else memory.
+    #[cold]
+    #[inline(never)]
     fn cause(&self, failures_before: u64) -> LogFault
         ensures read { (result ≡ LogFault.Read)
             → HasCauseIn R.failure_count R.spent_count failures_before self.now }
@@ -107,6 +113,7 @@ impl<'r, R: ByteIn> Rows<'r, R> {
     }
 
     /// Reads the next record, where there is one. `Memory` stands for whatever kept it from being read.
+    #[inline(always)]
     fn read(&mut self) -> Result<bool, LogFault>
         ensures next { IfOk result
             (λ found.
@@ -122,6 +129,8 @@ impl<'r, R: ByteIn> Rows<'r, R> {
     }
 
     /// Reads the first row, which is no row of the log.
+    #[cold]
+    #[inline(never)]
     fn first_row(&mut self) -> Result<(), LogFault>
         ensures first { OnOk result
             ((left : List Record) → StandsBehind R.bytes_left self.old [] left
@@ -151,6 +160,7 @@ impl<'r, R: ByteIn> Rows<'r, R> {
     }
 
     /// The row that the record writes.
+    #[inline(always)]
     fn judged(&mut self) -> Result<Option<Row>, LogFault>
         ensures gives { (first : Record) (before rest : List Record)
             → StandsBehind R.bytes_left self.old (first ∷ before) rest
@@ -170,7 +180,7 @@ impl<'r, R: ByteIn> Rows<'r, R> {
             });
         }
         let number = self.number + 1;
-        match row_in(self.alloc, &self.row, number, self.last) {
+        match row_in(self.alloc, &mut self.room, &self.row, number, self.last) {
             Ok(row) => {
                 self.number = number;
                 self.last = row.ms;
@@ -185,6 +195,7 @@ impl<'r, R: ByteIn> Rows<'r, R> {
     }
 
     /// The next row behind the first.
+    #[inline(always)]
     fn later_row(&mut self) -> Result<Option<Row>, LogFault>
         ensures gives { (first : Record) (before left : List Record)
             → StandsBehind R.bytes_left self.old (first ∷ before) left
@@ -204,6 +215,7 @@ impl<'r, R: ByteIn> Rows<'r, R> {
     }
 
     /// The next row, where nothing has ended the log.
+    #[inline(always)]
     fn next_row(&mut self) -> Result<Option<Row>, LogFault>
         ensures gives { (before left : List Record) → StandsBehind R.bytes_left self.old before left
             → GivesRecord R.bytes_left (log_behind before left) result self.new }
@@ -225,6 +237,7 @@ impl<'r, R: ByteIn> Rows<'r, R> {
     }
 
     /// The next row, where nothing has ended the log, with the cause of what kept a record from being read.
+    #[inline(always)]
     fn told_row(&mut self) -> Result<Option<Row>, LogFault>
         ensures gives { (before left : List Record) → StandsBehind R.bytes_left self.old before left
             → GivesRecord R.bytes_left (log_behind before left) result self.new }
@@ -255,6 +268,7 @@ impl<'r, R: ByteIn> Rows<'r, R> {
     /// end, or where as much was read as may be: 134217728 bytes and calls since `new`. `Memory` comes where a growth
     /// was refused, and where a read failed, without such a cause. After `None` or a fault each call answers the same
     /// again and reads nothing.
+    #[inline(always)]
     pub fn next(&mut self) -> Result<Option<Row>, LogFault>
         ensures takes { (log : LogOf) → HasLeft R.bytes_left self.old log
             → Takes R.bytes_left log result self.new }
@@ -281,6 +295,19 @@ impl<'r, R: ByteIn> Rows<'r, R> {
                 self.end = end_behind(&answer);
                 answer
             }
+        }
+    }
+
+    /// Takes a row that is done: the room of its bytes serves the next row that brings bytes. What is left to be read, and
+    /// what was counted, stay as they were.
+    #[inline(always)]
+    pub fn recycle(&mut self, row: Row)
+        ensures left { (log : LogOf) → HasLeft R.bytes_left self.old log
+            → HasLeft R.bytes_left self.new log }
+        ensures same { KeepsAll self.old self.new }
+    {
+        if let RowKind::Bytes(bytes) = row.kind {
+            self.room = bytes;
         }
     }
 }

@@ -1,58 +1,47 @@
-ghost use Rattle.std.specs.Prelude.{◌≡◌, ◌≤◌, ◌≤ℤ◌, ◌<◌, ◌^◌, ◌-◌, ◌&&◌, nat_le, length, map, true, IfSome};
+ghost use Rattle.std.specs.Prelude.{◌≡◌, ◌≤◌, ◌≤ℤ◌, ◌<◌, ◌^◌, ◌-◌, length, map, if◌then◌else◌, Some, None, IfSome};
 ghost use Rattle.std.specs.Char.{is_ascii_digit};
 ghost use Rattle.std.specs.Int.Digits.{number_from_digits};
 ghost use Rattle.std.specs.List.{list_all};
 ghost use Rattle.wc_model.specs.Instrument.Plates.{least_sample, greatest_sample};
 ghost use Rattle.wc_model.specs.Run.Log.{number_within, moment_of, whole_of, counts_of};
 
-/// The number that at most thirteen digits write.
-fn value_of_digits(text: &[u8]) -> u64
-    requires digits { list_all is_ascii_digit text.now ≡ true }
-    requires few { length text.now ≤ 13 }
-    ensures value { result ≡ number_from_digits 10 (map (λ digit. digit - 48) text.now) }
-    ensures few { result < 10 ^ length text.now }
+/// The number that at most thirteen digits write, and none where a byte is no digit.
+#[inline(always)]
+fn value_of_digits(text: &[u8]) -> Option<u64>
+    requires { length text.now ≤ 13 }
+    ensures value { result
+        ≡ (if list_all is_ascii_digit text.now
+        then Some (number_from_digits 10 (map (λ digit. digit - 48) text.now)) else None) }
+    ensures few { IfSome result (λ number. number < 10 ^ length text.now) }
 {
     let mut value = 0_u64;
     let mut rest = text;
     while let [first, after @ ..] = rest {
+        if !first.is_ascii_digit() {
+            return None;
+        }
         value = value * 10 + u64::from(*first - b'0');
         rest = after;
     }
-    value
-}
-
-/// Whether each byte is a digit.
-fn are_digits(text: &[u8]) -> bool
-    ensures { result ≡ list_all is_ascii_digit text.now }
-{
-    text.iter().all(|digit| digit.is_ascii_digit())
-}
-
-/// Whether the text is 1 to so many digits.
-fn is_number(most: usize, text: &[u8]) -> bool
-    ensures { result
-        ≡
-        (nat_le 1 (length text.now) && nat_le
-        (length text.now) most && list_all is_ascii_digit text.now) }
-{
-    !text.is_empty() && text.len() <= most && are_digits(text)
+    Some(value)
 }
 
 /// The number that 1 to so many digits write.
-#[tactic(auto, using(crate::proofs::DigitValues::number_form, crate::proofs::DigitValues::ten_rises))]
+#[tactic(auto, using(crate::proofs::DigitValues::ten_rises))]
+#[inline(always)]
 fn number_within(most: usize, text: &[u8]) -> Option<u64>
     requires { most ≤ 13 }
     ensures value { result ≡ number_within most text.now }
     ensures few { IfSome result (λ number. number < 10 ^ most) }
 {
-    if is_number(most, text) {
-        Some(value_of_digits(text))
-    } else {
-        None
+    if text.is_empty() || text.len() > most {
+        return None;
     }
+    value_of_digits(text)
 }
 
 /// The moment of a row: 1 to 13 digits, below 2^40.
+#[inline(always)]
 pub(crate) fn moment(text: &[u8]) -> Option<u64>
     ensures { result ≡ moment_of text.now }
 {
@@ -63,6 +52,7 @@ pub(crate) fn moment(text: &[u8]) -> Option<u64>
 }
 
 /// A whole number: 1 to 10 digits, with `-` before them where it is negative.
+#[inline(always)]
 fn whole(text: &[u8]) -> Option<i64>
     ensures { result ≡ whole_of text.now }
 {
@@ -83,6 +73,7 @@ fn whole(text: &[u8]) -> Option<i64>
 }
 
 /// Counts: a whole number in the range of a sample.
+#[inline(always)]
 pub(crate) fn counts(text: &[u8]) -> Option<i32>
     ensures value { result ≡ counts_of text.now }
     ensures range { IfSome result

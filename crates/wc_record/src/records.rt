@@ -35,6 +35,7 @@ impl<'r, R: ByteIn> Records<'r, R> {
     }
 
     /// Reads the next record into `row`, where there is one.
+    #[inline(always)]
     pub(crate) fn read(&mut self, row: &mut ByteRecord) -> Result<bool, Unread>
         ensures { IfOk result
             (λ found.
@@ -49,6 +50,7 @@ impl<'r, R: ByteIn> Records<'r, R> {
     }
 
     /// How many calls of the reader failed.
+    #[inline(always)]
     pub(crate) fn failures(&self) -> u64
         ensures { result ≡ R.failure_count (lent (reader_source self.now.csv)) }
     {
@@ -56,6 +58,7 @@ impl<'r, R: ByteIn> Records<'r, R> {
     }
 
     /// What the reader has given, and its calls.
+    #[inline(always)]
     pub(crate) fn spent(&self) -> u64
         ensures { result ≡ R.spent_count (lent (reader_source self.now.csv)) }
     {

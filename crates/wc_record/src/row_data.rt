@@ -8,6 +8,7 @@ use crate::hexadecimal::{inputs_word, line_piece};
 use crate::numbers::counts;
 use crate::row_kind::RowKind;
 use std::alloc::Global;
+use std::mem;
 
 /// Why fields are no row.
 pub(crate) enum RowFault {
@@ -18,6 +19,7 @@ pub(crate) enum RowFault {
 }
 
 /// A sample.
+#[inline(always)]
 fn sample(text: &[u8]) -> Result<RowKind, RowFault>
     ensures says { SaysData result (log.brings_or 605 rows.Counts (log.counts_of text.now)) }
     ensures range { IfOk result (λ kind. IsDataInRange (data_view kind)) }
@@ -28,19 +30,20 @@ fn sample(text: &[u8]) -> Result<RowKind, RowFault>
     }
 }
 
-/// Bytes on the line.
-fn line_bytes(alloc: Global, text: &[u8]) -> Result<RowKind, RowFault>
+/// Bytes on the line, in the room that is kept for them, which is left empty.
+fn line_bytes(alloc: Global, room: &mut Vec<u8>, text: &[u8]) -> Result<RowKind, RowFault>
     ensures says { SaysData result (log.brings_or 606 rows.Bytes (log.line_piece_of text.now)) }
     ensures range { IfOk result (λ kind. IsDataInRange (data_view kind)) }
 {
-    match line_piece(alloc, text) {
-        Ok(Some(bytes)) => Ok(RowKind::Bytes(bytes)),
-        Ok(None) => Err(RowFault::Refused(606)),
+    match line_piece(room, text) {
+        Ok(true) => Ok(RowKind::Bytes(mem::replace(room, Vec::new(alloc)))),
+        Ok(false) => Err(RowFault::Refused(606)),
         Err(_) => Err(RowFault::Memory),
     }
 }
 
 /// Inputs.
+#[inline(always)]
 fn inputs(text: &[u8]) -> Result<RowKind, RowFault>
     ensures says { SaysData result (log.brings_or 606 rows.Inputs (log.inputs_word_of text.now)) }
     ensures range { IfOk result (λ kind. IsDataInRange (data_view kind)) }
@@ -52,6 +55,7 @@ fn inputs(text: &[u8]) -> Result<RowKind, RowFault>
 }
 
 /// A scan, which has no data.
+#[inline(always)]
 fn scan(text: &[u8]) -> Result<RowKind, RowFault>
     ensures says { SaysData result (log.scan_of_data text.now) }
     ensures range { IfOk result (λ kind. IsDataInRange (data_view kind)) }
@@ -63,14 +67,20 @@ fn scan(text: &[u8]) -> Result<RowKind, RowFault>
     }
 }
 
-/// What a kind and its data bring.
-pub(crate) fn row_data(alloc: Global, kind: &[u8], text: &[u8]) -> Result<RowKind, RowFault>
+/// What a kind and its data bring; bytes come in the room, where there is one.
+#[inline(always)]
+pub(crate) fn row_data(
+    alloc: Global,
+    room: &mut Vec<u8>,
+    kind: &[u8],
+    text: &[u8],
+) -> Result<RowKind, RowFault>
     ensures says { SaysData result (row_data_of kind.now text.now) }
     ensures range { IfOk result (λ kind. IsDataInRange (data_view kind)) }
 {
     match kind {
         b"C" => sample(text),
-        b"L" => line_bytes(alloc, text),
+        b"L" => line_bytes(alloc, room, text),
         b"I" => inputs(text),
         b"S" => scan(text),
         _ => Err(RowFault::Refused(604)),

@@ -35,7 +35,10 @@ impl<'r, R: ByteIn> Source<'r, R> {
         }
     }
 
-    /// Makes the reader of records, where it is not made yet.
+    /// Makes the reader of records, where it is not made yet. It stands apart since the reader is large: a function pays at
+    /// its entry for the size of its locals.
+    #[cold]
+    #[inline(never)]
     fn open(&mut self)
         ensures records { (left : List Record) → SourceHas R.bytes_left self.old left
             → SourceHas R.bytes_left self.new left }
@@ -49,13 +52,16 @@ impl<'r, R: ByteIn> Source<'r, R> {
     }
 
     /// Reads the next record into `row`, where there is one.
+    #[inline(always)]
     pub(crate) fn read(&mut self, row: &mut ByteRecord) -> Result<bool, Unread>
         ensures { IfOk result
             (λ found.
             TakesFirst (SourceHas R.bytes_left self.old) (SourceHas R.bytes_left self.new) found
             (fields_of row.new)) }
     {
-        self.open();
+        if self.opened.is_none() {
+            self.open();
+        }
         match &mut self.opened {
             Some(records) => records.read(row),
             None => Err(Unread),
@@ -63,6 +69,7 @@ impl<'r, R: ByteIn> Source<'r, R> {
     }
 
     /// How many calls of the reader failed.
+    #[inline(always)]
     pub(crate) fn failures(&self) -> u64
         ensures { result ≡ counted_in R.failure_count self.now }
     {
@@ -76,6 +83,7 @@ impl<'r, R: ByteIn> Source<'r, R> {
     }
 
     /// What the reader has given, and its calls.
+    #[inline(always)]
     pub(crate) fn spent(&self) -> u64
         ensures { result ≡ counted_in R.spent_count self.now }
     {

@@ -1,3 +1,6 @@
+mod Lengths
 mod Made
+mod Placed
+mod ScanText
 mod SpacedNumbers
 mod WrittenDigits

@@ -1,9 +1,12 @@
 //! The texts that a run, a check and a refusal print, line by line.
 #![tactic(auto)]
 
+mod backward;
 mod digits;
 mod lines;
 mod memory;
 mod numbers;
 
-pub use lines::{answer_line, path_line, refused_line, scan_line, unit_line};
+pub use lines::{
+    answer_line, path_line, put_answer_line, put_scan_line, refused_line, scan_line, unit_line,
+};

@@ -1,11 +1,12 @@
-ghost use Rattle.std.specs.Prelude.{◌≡◌, IfOk, IsOkUnless};
+ghost use Rattle.std.specs.Prelude.{◌≡◌, ◌≤◌, ◌++◌, drop, IfOk, IsOkUnless, OnOk};
 ghost use Rattle.wc_model.specs.Say.Job.{refused_text};
 ghost use Rattle.wc_model.specs.Say.Report.{AnswerLine, ScanLine, line_text};
 ghost use Rattle.wc_model.specs.Say.UnitReport.{path_line, unit_line};
 
-use crate::digits::{digits_of_bytes, digits_of_word};
+use crate::backward;
+use crate::digits::put_digits;
 use crate::memory::or_memory;
-use crate::numbers::{spaced, spaced_lines};
+use crate::numbers::{put_bytes, put_number, spaced_lines};
 use std::alloc::Global;
 use wc_model::{Fault, Outputs, Steps};
 
@@ -16,11 +17,46 @@ pub fn scan_line(alloc: Global, ms: u64, steps: Steps, outputs: &Outputs) -> Res
     ensures text { IfOk result (λ text. text.items ≡ line_text (ScanLine ms steps.0 outputs.now)) }
     ensures memory { IsOkUnless result Fault.Memory }
 {
-    let steps = steps.0;
-    let bits = digits_of_word(alloc, outputs.bits)?;
-    let words = spaced(alloc, &outputs.words)?;
-    let text = or_memory(format!(in alloc; "S {ms} {steps} {bits}{words}\n"))?;
-    Ok(text.into_bytes())
+    let mut text = Vec::new(alloc);
+    put_scan_line(&mut text, ms, steps, outputs)?;
+    Ok(text)
+}
+
+/// Puts the line of a scan behind a text, as `scan_line` gives it. No memory is taken where the text has room for it. After
+/// `Memory`, its only fault, a front of the line may stand behind the text.
+pub fn put_scan_line(
+    text: &mut Vec<u8>,
+    ms: u64,
+    steps: Steps,
+    outputs: &Outputs,
+) -> Result<(), Fault>
+    ensures text { OnOk result
+        (text.new.items ≡ text.old.items ++ line_text (ScanLine ms steps.0 outputs.now)) }
+    ensures memory { IsOkUnless result Fault.Memory }
+{
+    let mut room = [0; SCAN_ROOM];
+    let start = scan_backward(ms, steps, outputs, &mut room);
+    put_bytes(text, &room[start..])
+}
+
+/// Room that each line of a scan has in.
+const SCAN_ROOM: usize = 144;
+
+/// Writes the line of a scan at the end of its room: where it starts.
+fn scan_backward(ms: u64, steps: Steps, outputs: &Outputs, room: &mut [u8; SCAN_ROOM]) -> usize
+    ensures within { result ≤ 144 }
+    ensures text { drop result room.new ≡ line_text (ScanLine ms steps.0 outputs.now) }
+{
+    let [first, second, third, fourth] = &outputs.words;
+    let at = backward::put_byte(b'\n', room, SCAN_ROOM);
+    let at = backward::put_signed(fourth, room, at);
+    let at = backward::put_signed(third, room, at);
+    let at = backward::put_signed(second, room, at);
+    let at = backward::put_signed(first, room, at);
+    let at = backward::put_word(outputs.bits, room, at);
+    let at = backward::put_number(u64::from(steps.0), room, at);
+    let at = backward::put_number(ms, room, at);
+    backward::put_byte(b'S', room, at)
 }
 
 /// The line of an answer: `L`, the moment of its row in milliseconds, and its bytes, two hexadecimal digits for each, with
@@ -29,9 +65,23 @@ pub fn answer_line(alloc: Global, ms: u64, bytes: &[u8]) -> Result<Vec<u8>, Faul
     ensures text { IfOk result (λ text. text.items ≡ line_text (AnswerLine ms bytes.now)) }
     ensures memory { IsOkUnless result Fault.Memory }
 {
-    let digits = digits_of_bytes(alloc, bytes)?;
-    let text = or_memory(format!(in alloc; "L {ms} {digits}\n"))?;
-    Ok(text.into_bytes())
+    let mut text = Vec::new(alloc);
+    put_answer_line(&mut text, ms, bytes)?;
+    Ok(text)
+}
+
+/// Puts the line of an answer behind a text, as `answer_line` gives it. No memory is taken where the text has room for it.
+/// After `Memory`, its only fault, a front of the line may stand behind the text.
+pub fn put_answer_line(text: &mut Vec<u8>, ms: u64, bytes: &[u8]) -> Result<(), Fault>
+    ensures text { OnOk result
+        (text.new.items ≡ text.old.items ++ line_text (AnswerLine ms bytes.now)) }
+    ensures memory { IsOkUnless result Fault.Memory }
+{
+    put_bytes(text, b"L ")?;
+    put_number(text, ms)?;
+    put_bytes(text, b" ")?;
+    put_digits(text, bytes)?;
+    put_bytes(text, b"\n")
 }
 
 /// The line of a refusal: `refused`, its number and its place, a line or row counted from 1 or 0 for none, with a space

@@ -1,22 +1,27 @@
-ghost use Rattle.std.specs.Prelude.{◌≡◌, IfOk, IsOkUnless};
+ghost use Rattle.std.specs.Prelude.{◌≡◌, ◌++◌, decimal, IfOk, IsOkUnless, OnOk};
 ghost use Rattle.std.specs.String.{string_bytes};
-ghost use Rattle.wc_model.specs.Say.Report.{spaced_numbers};
 ghost use Rattle.wc_model.specs.Say.UnitReport.{spaced_lines};
 
 use crate::memory::or_memory;
+use itoa::Buffer;
 use std::alloc::Global;
 use wc_model::Fault;
 
-/// Numbers in decimal digits, each after a space. `Memory` is the only fault.
-pub(crate) fn spaced(alloc: Global, numbers: &[i32]) -> Result<String, Fault>
-    ensures numbers { IfOk result (λ text. string_bytes text ≡ spaced_numbers numbers.now) }
+/// Puts bytes behind a text. `Memory` is the only fault.
+pub(crate) fn put_bytes(text: &mut Vec<u8>, bytes: &[u8]) -> Result<(), Fault>
+    ensures bytes { OnOk result (text.new.items ≡ text.old.items ++ bytes.now) }
     ensures memory { IsOkUnless result Fault.Memory }
 {
-    let mut text = String::new(alloc);
-    for number in numbers {
-        or_memory(write!(text, " {number}"))?;
-    }
-    Ok(text)
+    or_memory(text.extend_from_slice(bytes))
+}
+
+/// Puts a number in decimal digits behind a text. `Memory` is the only fault.
+pub(crate) fn put_number(text: &mut Vec<u8>, number: u64) -> Result<(), Fault>
+    ensures digits { OnOk result (text.new.items ≡ text.old.items ++ decimal number) }
+    ensures memory { IsOkUnless result Fault.Memory }
+{
+    let mut buffer = Buffer::new();
+    put_bytes(text, buffer.format(number).as_bytes())
 }
 
 /// The numbers of lines in decimal digits, each after a space. `Memory` is the only fault.

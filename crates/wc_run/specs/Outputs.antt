@@ -13,8 +13,8 @@ line_of_record scan = ScanLine scan.ms scan.steps scan.outputs
 abbrev pub lines_of_records : List Record → List ReportLine
 lines_of_records scans = map line_of_record scans
 
--- these are the lines: none, one with an answer and its text, or a scan's
-abbrev pub IsOutput : RowOutput → List ReportLine → Type 0
-IsOutput Nothing lines = lines ≡ []
-IsOutput (Line text) lines = (ms : ℕ) × (bytes : List ℕ) × (lines ≡ AnswerLine ms bytes ∷ []) × (text.items ≡ line_text (AnswerLine ms bytes))
-IsOutput (Scan scan) lines = lines ≡ line_of_record scan ∷ []
+-- these are the lines: none, one with an answer, whose text this is, or a scan's
+abbrev pub IsOutput : RowOutput → List ℕ → List ReportLine → Type 0
+IsOutput Nothing text lines = lines ≡ []
+IsOutput Line text lines = (ms : ℕ) × (bytes : List ℕ) × (lines ≡ AnswerLine ms bytes ∷ []) × (text ≡ line_text (AnswerLine ms bytes))
+IsOutput (Scan scan) text lines = lines ≡ line_of_record scan ∷ []

@@ -1,5 +1,5 @@
 -- What a row does to a scale, whatever the scale stands for: told of the row's moment and of what it brings.
-use Rattle.std.specs.Prelude.{◌≡◌, ℕ, ◌∷◌, Option}
+use Rattle.std.specs.Prelude.{◌≡◌, ℕ, List, ◌∷◌, Option}
 use Rattle.wc_machine.specs.Machines.{MachineState, StandsFor}
 use Rattle.wc_model.specs.Instrument.Plates.{PlateData}
 use Rattle.wc_model.specs.Say.ProgramReport.{scans_of}
@@ -23,9 +23,9 @@ row_at number ms brings = record { number = number; ms = ms; brings = brings }
 abbrev pub TakesRow : Scale → Scale → ℕ → RowData → Type 0
 TakesRow old new ms brings = (plate : PlateData) (logic : Option Logic) (past : Past) (number : ℕ) → Stands old plate logic past → Stands new plate logic (row_at number ms brings ∷ past)
 
--- the output is what the report has of that row
-abbrev pub Gives : Scale → ℕ → RowData → RowOutput → Type 0
-Gives old ms brings output = (plate : PlateData) (logic : Option Logic) (past : Past) (number : ℕ) → Stands old plate logic past → IsOutput output (lines_of_row plate logic past (row_at number ms brings))
+-- the output is what the report has of that row, and this its text
+abbrev pub Gives : Scale → ℕ → RowData → RowOutput → List ℕ → Type 0
+Gives old ms brings output text = (plate : PlateData) (logic : Option Logic) (past : Past) (number : ℕ) → Stands old plate logic past → IsOutput output text (lines_of_row plate logic past (row_at number ms brings))
 
 -- the machine stands for the store that the scan leaves
 abbrev pub TakesScan : MachineState → MachineState → ℕ → Image → Type 0

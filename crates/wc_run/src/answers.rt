@@ -4,19 +4,24 @@ ghost use Rattle.wc_run.specs.Outputs.{IsOutput};
 
 use crate::fault::RunFault;
 use crate::row_output::RowOutput;
-use std::alloc::Global;
-use wc_report::answer_line;
+use wc_report::put_answer_line;
 
-/// What is printed of the line's answer to a row: one line, and nothing of an empty answer.
-pub(crate) fn answer_output(alloc: Global, ms: u64, answer: &[u8]) -> Result<RowOutput, RunFault>
-    ensures output { IfOk result (λ output. IsOutput output (answer_line ms answer.now)) }
+/// What is printed of the line's answer to a row: one line, which is the text then, and nothing of an empty answer.
+pub(crate) fn answer_output(
+    ms: u64,
+    answer: &[u8],
+    text: &mut Vec<u8>,
+) -> Result<RowOutput, RunFault>
+    ensures output { IfOk result
+        (λ output. IsOutput output text.new.items (answer_line ms answer.now)) }
     ensures memory { IsOkUnless result RunFault.Memory }
 {
     if answer.is_empty() {
         return Ok(RowOutput::Nothing);
     }
-    match answer_line(alloc, ms, answer) {
-        Ok(text) => Ok(RowOutput::Line(text)),
+    text.clear();
+    match put_answer_line(text, ms, answer) {
+        Ok(()) => Ok(RowOutput::Line),
         Err(_) => Err(RunFault::Memory),
     }
 }

@@ -5,6 +5,7 @@ mod answers;
 mod fault;
 mod log_rows;
 mod printing;
+mod room;
 mod row_output;
 mod running;
 mod scale;

@@ -4,7 +4,7 @@ ghost use Rattle.wc_model.specs.Instrument.Plates.{PlateData};
 ghost use Rattle.wc_model.specs.Run.Rows.{Past};
 ghost use Rattle.wc_model.specs.Run.Writing.{HasFailedSince};
 ghost use Rattle.wc_model.specs.Say.Report.{ReportLine};
-ghost use Rattle.wc_record.specs.Left.{HasLeft, last_ms, rows_read};
+ghost use Rattle.wc_record.specs.Left.{HasLeft, KeepsAll, last_ms, rows_read};
 ghost use Rattle.wc_record.specs.Reading.{records_of};
 ghost use Rattle.wc_record.specs.Views.{IsDataInRange, data_view, row_view};
 ghost use Rattle.wc_run.specs.Deferring.{HoldsScans};
@@ -15,15 +15,18 @@ ghost use Rattle.wc_run.specs.Standing.{IsNotBehind, Stands};
 
 use crate::fault::RunFault;
 use crate::printing::put;
+use crate::room::Room;
 use crate::scale::Scale;
 use std::alloc::Global;
 use wc_model::{ByteIn, ByteOut};
 use wc_record::{LogFault, Recorder, Row, Rows};
 
-/// Does a row and puts what is printed of it.
-fn run_row<W: ByteOut>(
-    alloc: Global,
+/// Does a row and puts what is printed of it. The room of its bytes goes back to the rows.
+#[inline(always)]
+fn run_row<R: ByteIn, W: ByteOut>(
+    room: &mut Room,
     scale: &mut Scale<'_>,
+    rows: &mut Rows<'_, R>,
     row: Row,
     recorder: &mut Option<Recorder>,
     writer: &mut W,
@@ -37,13 +40,18 @@ fn run_row<W: ByteOut>(
         → Does plate logic number before past (row_view row) scale.new recorder.new result
         (W.bytes_taken writer.old) (W.bytes_taken writer.new) }
     ensures in_order { OnOk result (IsNotBehind scale.new row.ms) }
+    ensures left { (log : LogOf) → HasLeft R.bytes_left rows.old log
+        → HasLeft R.bytes_left rows.new log }
+    ensures same { KeepsAll rows.old rows.new }
     ensures write { IsErrOf result RunFault.Write
         → HasFailedSince (W.failure_count writer.old) (W.failure_count writer.new) }
     ensures steady { ¬ IsErrOf result RunFault.Write
         → W.failure_count writer.new ≡ W.failure_count writer.old }
 {
-    match scale.take(alloc, &row) {
-        Ok(output) => put(alloc, output, recorder, writer),
+    let taken = scale.take(room, &row);
+    rows.recycle(row);
+    match taken {
+        Ok(output) => put(output, &mut room.text, recorder, writer),
         Err(fault) => Err(fault),
     }
 }
@@ -61,7 +69,7 @@ fn answer_to(fault: LogFault) -> RunFault
 
 /// Runs the rows that are left: how many there were.
 fn run_rows<R: ByteIn, W: ByteOut>(
-    alloc: Global,
+    room: &mut Room,
     scale: &mut Scale<'_>,
     rows: &mut Rows<'_, R>,
     recorder: &mut Option<Recorder>,
@@ -83,7 +91,7 @@ fn run_rows<R: ByteIn, W: ByteOut>(
     loop {
         match rows.next() {
             Ok(given) => match given {
-                Some(row) => match run_row(alloc, scale, row, recorder, writer) {
+                Some(row) => match run_row(room, scale, rows, row, recorder, writer) {
                     Ok(()) => count += 1,
                     Err(fault) => return Err(fault),
                 },
@@ -113,8 +121,9 @@ pub(crate) fn run_log<R: ByteIn, W: ByteOut>(
     ensures steady { ¬ IsErrOf result RunFault.Write
         → W.failure_count writer.new ≡ W.failure_count writer.old }
 {
+    let mut room = Room::new(alloc);
     let mut rows = Rows::new(alloc, reader);
-    let answer = run_rows(alloc, scale, &mut rows, recorder, writer);
+    let answer = run_rows(&mut room, scale, &mut rows, recorder, writer);
     drop(rows);
     answer
 }

@@ -7,12 +7,13 @@ ghost use Rattle.wc_run.specs.Outputs.{IsOutput, line_of_record};
 
 use crate::fault::RunFault;
 use crate::row_output::RowOutput;
-use crate::scans::{last_text, record_text};
+use crate::scans::{last_text, put_record};
 use std::alloc::Global;
 use wc_model::{ByteOut, write_whole};
 use wc_record::{Record, Recorder};
 
 /// Writes a text.
+#[inline(always)]
 fn write_text<W: ByteOut>(text: &[u8], writer: &mut W) -> Result<(), RunFault>
     ensures writes { Writes text.now result (W.bytes_taken writer.old) (W.bytes_taken writer.new) }
     ensures write { IsErrOf result RunFault.Write
@@ -26,8 +27,9 @@ fn write_text<W: ByteOut>(text: &[u8], writer: &mut W) -> Result<(), RunFault>
     }
 }
 
-/// Writes the line of a scan.
-fn write_scan<W: ByteOut>(alloc: Global, scan: &Record, writer: &mut W) -> Result<(), RunFault>
+/// Writes the line of a scan, which stands in the room for it then.
+#[inline(always)]
+fn write_scan<W: ByteOut>(scan: &Record, text: &mut Vec<u8>, writer: &mut W) -> Result<(), RunFault>
     ensures writes { Writes (line_text (line_of_record scan.now)) result
         (W.bytes_taken writer.old) (W.bytes_taken writer.new) }
     ensures write { IsErrOf result RunFault.Write
@@ -35,16 +37,18 @@ fn write_scan<W: ByteOut>(alloc: Global, scan: &Record, writer: &mut W) -> Resul
     ensures steady { ¬ IsErrOf result RunFault.Write
         → W.failure_count writer.new ≡ W.failure_count writer.old }
 {
-    match record_text(alloc, scan) {
-        Ok(text) => write_text(&text, writer),
+    text.clear();
+    match put_record(text, scan) {
+        Ok(()) => write_text(text, writer),
         Err(fault) => Err(fault),
     }
 }
 
 /// Keeps the record of a scan where there is a recorder; else writes its line.
+#[inline(always)]
 fn put_scan<W: ByteOut>(
-    alloc: Global,
     scan: Record,
+    text: &mut Vec<u8>,
     recorder: &mut Option<Recorder>,
     writer: &mut W,
 ) -> Result<(), RunFault>
@@ -62,19 +66,20 @@ fn put_scan<W: ByteOut>(
             recorder.keep(scan);
             Ok(())
         }
-        None => write_scan(alloc, &scan, writer),
+        None => write_scan(&scan, text, writer),
     }
 }
 
-/// Writes a line; of a scan only where there is no recorder that keeps its record.
+/// Writes a line, which stands in the room for it; of a scan only where there is no recorder that keeps its record.
+#[inline(always)]
 pub(crate) fn put<W: ByteOut>(
-    alloc: Global,
     output: RowOutput,
+    text: &mut Vec<u8>,
     recorder: &mut Option<Recorder>,
     writer: &mut W,
 ) -> Result<(), RunFault>
     ensures puts { (number : Option ℕ) (before lines : List ReportLine)
-        → IsOutput output lines → HoldsScans recorder.old number before
+        → IsOutput output text.old.items lines → HoldsScans recorder.old number before
         → Puts number before lines recorder.new result (W.bytes_taken writer.old)
         (W.bytes_taken writer.new) }
     ensures write { IsErrOf result RunFault.Write
@@ -84,8 +89,8 @@ pub(crate) fn put<W: ByteOut>(
 {
     match output {
         RowOutput::Nothing => Ok(()),
-        RowOutput::Line(text) => write_text(&text, writer),
-        RowOutput::Scan(scan) => put_scan(alloc, scan, recorder, writer),
+        RowOutput::Line => write_text(text, writer),
+        RowOutput::Scan(scan) => put_scan(scan, text, recorder, writer),
     }
 }
 

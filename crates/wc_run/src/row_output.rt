@@ -1,12 +1,12 @@
 use wc_record::Record;
 
 /// What a row gives to be printed.
-#[derive(Drop)]
+#[derive(Clone, Copy)]
 pub(crate) enum RowOutput {
     /// Nothing.
     Nothing,
-    /// A line, to be written at once.
-    Line(Vec<u8>),
+    /// The line that stands in the room for it, to be written at once.
+    Line,
     /// The record of a scan.
     Scan(Record),
 }

@@ -1,4 +1,4 @@
-ghost use Rattle.std.specs.Prelude.{◌≡◌, ◌<◌, ◌^◌, ℕ, [], ◌∷◌, Option, IfOk, IsOkUnless, OnOk};
+ghost use Rattle.std.specs.Prelude.{◌≡◌, ◌<◌, ◌^◌, ℕ, List, [], ◌∷◌, Option, IfOk, IsOkUnless, OnOk};
 ghost use Rattle.wc_model.specs.Instrument.Plates.{PlateData};
 ghost use Rattle.wc_model.specs.Run.Rows.{Past, Counts, Bytes, Inputs, Scan};
 ghost use Rattle.wc_record.specs.Views.{IsDataInRange, data_view, row_view};
@@ -9,12 +9,12 @@ ghost use Rattle.wc_run.specs.Taking.{Gives, TakesRow};
 
 use crate::answers::answer_output;
 use crate::fault::RunFault;
+use crate::room::Room;
 use crate::row_output::RowOutput;
 use crate::scans::scan_record;
 use std::alloc::Global;
 use wc_indicator::Indicator;
 use wc_machine::Machine;
-use wc_model::Device;
 use wc_plate::Plate;
 use wc_record::{Row, RowKind, image};
 use wc_sma::Line;
@@ -53,8 +53,9 @@ impl<'a> Scale<'a> {
         }
     }
 
-    /// Does a row, and gives what is to be printed of it.
-    pub(crate) fn take(&mut self, alloc: Global, row: &Row) -> Result<RowOutput, RunFault>
+    /// Does a row, and gives what is to be printed of it; a line stands in the room then.
+    #[inline(always)]
+    pub(crate) fn take(&mut self, room: &mut Room, row: &Row) -> Result<RowOutput, RunFault>
         requires in_range { IsDataInRange (data_view row.now.kind) }
         requires early { row.now.ms < 2 ^ 40 }
         requires in_order { IsNotBehind self.old row.now.ms }
@@ -65,7 +66,8 @@ impl<'a> Scale<'a> {
         ensures output { IfOk result
             (λ output. (plate : PlateData) (logic : Option Logic) (past : Past)
             → Stands self.old plate logic past
-            → IsOutput output (lines_of_row plate logic past (row_view row.now))) }
+            → IsOutput output room.new.text.items
+            (lines_of_row plate logic past (row_view row.now))) }
         ensures in_order { OnOk result (IsNotBehind self.new row.now.ms) }
         ensures memory { IsOkUnless result RunFault.Memory }
     {
@@ -74,7 +76,7 @@ impl<'a> Scale<'a> {
                 self.take_sample(*counts);
                 Ok(RowOutput::Nothing)
             }
-            RowKind::Bytes(bytes) => self.take_bytes(alloc, row.ms, bytes),
+            RowKind::Bytes(bytes) => self.take_bytes(room, row.ms, bytes),
             RowKind::Inputs(inputs) => {
                 self.take_inputs(*inputs);
                 Ok(RowOutput::Nothing)
@@ -84,6 +86,7 @@ impl<'a> Scale<'a> {
     }
 
     /// Takes a sample. Nothing is printed of it.
+    #[inline(always)]
     fn take_sample(&mut self, counts: i32)
         requires { IsDataInRange (Counts counts) }
         ensures stands { (ms : ℕ) → TakesRow self.old self.new ms (Counts counts) }
@@ -93,20 +96,24 @@ impl<'a> Scale<'a> {
     }
 
     /// Takes bytes on the line, and gives the line of what was answered, if anything was.
-    fn take_bytes(&mut self, alloc: Global, ms: u64, bytes: &[u8]) -> Result<RowOutput, RunFault>
+    fn take_bytes(&mut self, room: &mut Room, ms: u64, bytes: &[u8]) -> Result<RowOutput, RunFault>
         ensures stands { OnOk result (TakesRow self.old self.new ms (Bytes bytes.now)) }
-        ensures output { IfOk result (λ output. Gives self.old ms (Bytes bytes.now) output) }
+        ensures output { IfOk result (λ output. Gives self.old ms (Bytes bytes.now) output room.new.text.items) }
         ensures machine { self.new.machine ≡ self.old.machine }
         ensures memory { IsOkUnless result RunFault.Memory }
     {
-        let mut answers = Device::new(Vec::new(alloc));
-        match self.line.feed(bytes, &mut self.indicator, &mut answers) {
-            Ok(()) => answer_output(alloc, ms, answers.get_ref()),
+        room.answers.bytes.clear();
+        match self
+            .line
+            .feed(bytes, &mut self.indicator, &mut room.answers)
+        {
+            Ok(()) => answer_output(ms, &room.answers.bytes, &mut room.text),
             Err(_) => Err(RunFault::Memory),
         }
     }
 
     /// Takes the inputs from now on. Nothing is printed of them.
+    #[inline(always)]
     fn take_inputs(&mut self, inputs: u16)
         ensures stands { (ms : ℕ) → TakesRow self.old self.new ms (Inputs inputs) }
         ensures machine { self.new.machine ≡ self.old.machine }
@@ -119,7 +126,7 @@ impl<'a> Scale<'a> {
         requires early { ms < 2 ^ 40 }
         requires in_order { IsNotBehind self.old ms }
         ensures stands { TakesRow self.old self.new ms Scan }
-        ensures output { Gives self.old ms Scan result }
+        ensures output { (text : List ℕ) → Gives self.old ms Scan result text }
         ensures in_order { IsNotBehind self.new ms }
     {
         match &mut self.machine {

@@ -1,4 +1,4 @@
-ghost use Rattle.std.specs.Prelude.{◌≡◌, ◌<◌, ◌≤◌, ◌+◌, ◌^◌, IfOk, IsOkUnless};
+ghost use Rattle.std.specs.Prelude.{◌≡◌, ◌<◌, ◌≤◌, ◌+◌, ◌++◌, ◌^◌, IfOk, IsOkUnless, OnOk};
 ghost use Rattle.wc_model.specs.Say.Report.{line_text, report_text};
 ghost use Rattle.wc_run.specs.Outputs.{line_of_record, lines_of_records};
 ghost use Rattle.wc_run.specs.Taking.{RecordsScan, TakesScan};
@@ -8,10 +8,11 @@ use std::alloc::Global;
 use wc_machine::Machine;
 use wc_model::{Image, Steps};
 use wc_record::{Record, Recorder};
-use wc_report::scan_line;
+use wc_report::put_scan_line;
 use wc_store::SlotStore;
 
 /// Does one scan of an image at a moment, and gives its record. It takes no memory.
+#[inline(always)]
 pub(crate) fn scan_record(ms: u64, image: &Image, machine: &mut Machine<'_, SlotStore>) -> Record
     requires not_before { machine.old.last ≤ ms }
     requires early { ms < 2 ^ 40 }
@@ -29,13 +30,15 @@ pub(crate) fn scan_record(ms: u64, image: &Image, machine: &mut Machine<'_, Slot
     }
 }
 
-/// The line of a scan by its record.
-pub(crate) fn record_text(alloc: Global, scan: &Record) -> Result<Vec<u8>, RunFault>
-    ensures text { IfOk result (λ text. text.items ≡ line_text (line_of_record scan.now)) }
+/// Puts the line of a scan by its record behind a text.
+#[inline(always)]
+pub(crate) fn put_record(text: &mut Vec<u8>, scan: &Record) -> Result<(), RunFault>
+    ensures text { OnOk result
+        (text.new.items ≡ text.old.items ++ line_text (line_of_record scan.now)) }
     ensures memory { IsOkUnless result RunFault.Memory }
 {
-    match scan_line(alloc, scan.ms, Steps(scan.steps), &scan.outputs) {
-        Ok(text) => Ok(text),
+    match put_scan_line(text, scan.ms, Steps(scan.steps), &scan.outputs) {
+        Ok(()) => Ok(()),
         Err(_) => Err(RunFault::Memory),
     }
 }
@@ -51,13 +54,9 @@ pub(crate) fn last_text(alloc: Global, recorder: &Recorder) -> Result<Vec<u8>, R
         let Some(scan) = recorder.get(index) else {
             continue;
         };
-        let line = match record_text(alloc, scan) {
-            Ok(line) => line,
-            Err(fault) => return Err(fault),
-        };
-        match lines.extend_from_slice(&line) {
+        match put_record(&mut lines, scan) {
             Ok(()) => {}
-            Err(_) => return Err(RunFault::Memory),
+            Err(fault) => return Err(fault),
         }
     }
     Ok(lines)

@@ -2,7 +2,7 @@
 use std::alloc::Global;
 use std::test::Fail;
 use wc_model::{Fault, Outputs, Steps};
-use wc_report::{answer_line, refused_line, scan_line, unit_line};
+use wc_report::{answer_line, put_answer_line, put_scan_line, refused_line, scan_line, unit_line};
 
 /// Outputs with these bits and words.
 fn outputs(bits: u16, words: [i32; 4]) -> Outputs {
@@ -60,6 +60,20 @@ fn line_of_an_answer(rt: HostRuntime) {
             b"L 1099511627775 \n"
         )
     );
+}
+
+#[test]
+fn lines_stand_behind_a_text(rt: HostRuntime) -> Result<(), Fail> {
+    let alloc = rt.alloc();
+    let mut text = Vec::from_slice(alloc, b"L 1 0a\n")?;
+    let longest = outputs(0xa0f5, [-2147483648; 4]);
+    assert!(rt; put_scan_line(&mut text, u64::MAX, Steps(u32::MAX), &longest).is_ok());
+    assert!(rt; put_answer_line(&mut text, 7, b"\n?\r").is_ok());
+    assert!(rt;
+        text.as_slice()
+            == b"L 1 0a\nS 18446744073709551615 4294967295 a0f5 -2147483648 -2147483648 -2147483648 -2147483648\nL 7 0a3f0d\n".as_slice()
+    );
+    Ok(())
 }
 
 #[test]

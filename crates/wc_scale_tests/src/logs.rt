@@ -193,6 +193,35 @@ fn row_of_bytes(alloc: Global, count: usize) -> Result<Vec<u8, Global>, AllocErr
 }
 
 #[test]
+fn a_row_that_is_done_gives_its_room(rt: HostRuntime) {
+    let alloc = rt.alloc();
+    let text = b"ms,kind,data\n0,L,0a5a0d\n0,L,41\n1,S,\n2,L,\n3,L,0d0d0d0d\n";
+    let mut device = Device::new(text.as_slice());
+    let mut rows = Rows::new(alloc, &mut device);
+    for want in [
+        Some(b"\nZ\r".as_slice()),
+        Some(b"A".as_slice()),
+        None,
+        Some(b"".as_slice()),
+        Some(b"\r\r\r\r".as_slice()),
+    ] {
+        match rows.next() {
+            Ok(Some(row)) => {
+                match (&row.kind, want) {
+                    (RowKind::Bytes(bytes), Some(want)) => assert!(rt; bytes.as_slice() == want),
+                    (RowKind::Scan, None) => {}
+                    _ => assert!(rt; false),
+                }
+                rows.recycle(row);
+            }
+            _ => assert!(rt; false),
+        }
+    }
+    assert_eq!(rt; rows_left(&mut rows, 100), (0, None));
+    drop(rows);
+}
+
+#[test]
 fn a_row_brings_4096_bytes(rt: HostRuntime) -> Result<(), Fail> {
     let alloc = rt.alloc();
     let full = row_of_bytes(alloc, 4096)?;

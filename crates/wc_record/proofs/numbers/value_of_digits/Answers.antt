@@ -1,18 +1,28 @@
-use Rattle.std.proofs.Common.{arith, refl}
-use Rattle.wc_record.proofs.DigitValues.{next_within, value_below}
+use Rattle.std.proofs.Common.{◌≤◌, ◌-◌, length, arith}
+use Rattle.wc_record.proofs.DigitValues.{digits_behind, few_behind, shorter_behind, ten_rises, whole_behind}
 use Rattle.wc_record.proofs.numbers.value_of_digits.Goals as goal
-
-pub loop-rest-init : goal.loop-rest-init
-loop-rest-init c = record {
-  digits = c.requires.digits;
-  whole = refl;
-  few = value_below c.args.text.now c.requires.digits;
-}
 
 pub overflow_mul-value : goal.overflow_mul-value
 overflow_mul-value c =
-    omega (arith, next_within c.loop-rest.value c.loop-rest.rest.now c.args.text.now c.requires.few c.in-len1-up.len_at_least c.loop-rest.invariant.whole c.loop-rest.invariant.few)
+    let i = c.loop-rest.invariant in
+    let so_far : length c.args.text.now - length c.loop-rest.rest.now ≤ 12 = omega (arith, c.requires, c.in-len1-up.len_at_least) in
+    omega (arith, i.few, ten_rises (length c.args.text.now - length c.loop-rest.rest.now) 12 so_far)
 
 pub overflow_add-value : goal.overflow_add-value
 overflow_add-value c =
-    omega (arith, next_within c.loop-rest.value c.loop-rest.rest.now c.args.text.now c.requires.few c.in-len1-up.len_at_least c.loop-rest.invariant.whole c.loop-rest.invariant.few)
+    let i = c.loop-rest.invariant in
+    let so_far : length c.args.text.now - length c.loop-rest.rest.now ≤ 12 = omega (arith, c.requires, c.in-len1-up.len_at_least) in
+    omega (arith, i.few, ten_rises (length c.args.text.now - length c.loop-rest.rest.now) 12 so_far)
+
+pub loop-rest-preserved : goal.loop-rest-preserved
+loop-rest-preserved c =
+    let i = c.loop-rest.invariant in
+    let rest = c.loop-rest.rest.now in
+    let some = c.in-len1-up.len_at_least in
+    let digit = c.if-not-is_ascii_digit.ensures.value in
+    record {
+      digits = digits_behind rest _ some digit i.digits;
+      whole = whole_behind c.loop-rest.value c.from.result _ rest some c.from.ensures i.whole;
+      shorter = shorter_behind rest (length c.args.text.now) some i.shorter;
+      few = few_behind c.loop-rest.value c.from.result (length c.args.text.now) rest some i.shorter digit c.from.ensures i.few;
+    }

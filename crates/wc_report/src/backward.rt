@@ -1,0 +1,66 @@
+// A text that is put together from its end: what stands so far are the bytes of the room from a place on.
+ghost use Rattle.std.specs.Prelude.{◌≡◌, ◌≤◌, ◌+◌, ◌∷◌, ◌++◌, length, decimal, drop};
+ghost use Rattle.std.specs.Fmt.{signed_decimal};
+ghost use Rattle.wc_model.specs.Run.Hex.{hex_of_word};
+
+use itoa::write_digits;
+
+/// Puts a byte before the text: where the text starts then.
+pub(crate) fn put_byte(byte: u8, room: &mut [u8], end: usize) -> usize
+    requires { (1 ≤ end) × (end ≤ length room.old) }
+    ensures start { result + 1 ≡ end }
+    ensures text { drop result room.new ≡ byte ∷ drop end room.old }
+{
+    let start = end - 1;
+    room[start] = byte;
+    start
+}
+
+/// Puts a number in decimal digits before the text, and a space before it: where the text starts then.
+#[tactic(auto, using(crate::proofs::Lengths::short_decimal))]
+pub(crate) fn put_number(number: u64, room: &mut [u8], end: usize) -> usize
+    requires { (21 ≤ end) × (end ≤ length room.old) }
+    ensures start { (result ≤ end) × (end ≤ result + 21) }
+    ensures text { drop result room.new ≡ 32 ∷ (decimal number ++ drop end room.old) }
+{
+    let start = write_digits(number, room, end);
+    put_byte(b' ', room, start)
+}
+
+/// The same of a number that may be negative.
+#[tactic(auto, using(crate::proofs::Lengths::short_decimal))]
+pub(crate) fn put_signed(number: &i32, room: &mut [u8], end: usize) -> usize
+    requires { (22 ≤ end) × (end ≤ length room.old) }
+    ensures start { (result ≤ end) × (end ≤ result + 22) }
+    ensures text { drop result room.new ≡ 32 ∷ (signed_decimal number.now ++ drop end room.old) }
+{
+    let start = write_digits(u64::from(number.unsigned_abs()), room, end);
+    if *number < 0 {
+        let sign = put_byte(b'-', room, start);
+        return put_byte(b' ', room, sign);
+    }
+    put_byte(b' ', room, start)
+}
+
+/// The four hexadecimal digits of a word, its high byte first.
+fn word_digits(word: u16) -> [u8; 4]
+    ensures { result ≡ hex_of_word word }
+{
+    let mut digits = [0; 4];
+    let _whole = hex::encode_to_slice(word.to_be_bytes(), &mut digits);
+    digits
+}
+
+/// Puts the four hexadecimal digits of a word before the text, and a space before them: where the text starts then.
+pub(crate) fn put_word(word: u16, room: &mut [u8], end: usize) -> usize
+    requires { (5 ≤ end) × (end ≤ length room.old) }
+    ensures start { result + 5 ≡ end }
+    ensures text { drop result room.new ≡ 32 ∷ (hex_of_word word ++ drop end room.old) }
+{
+    let [first, second, third, fourth] = word_digits(word);
+    let at = put_byte(fourth, room, end);
+    let at = put_byte(third, room, at);
+    let at = put_byte(second, room, at);
+    let at = put_byte(first, room, at);
+    put_byte(b' ', room, at)
+}

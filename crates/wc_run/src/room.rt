@@ -1,0 +1,59 @@
+use std::alloc::Global;
+use std::io;
+use wc_model::ByteOut;
+
+/// Answers that are gathered.
+#[derive(Drop)]
+pub(crate) struct Answers {
+    pub(crate) bytes: Vec<u8>,
+    pub(crate) failures: u64,
+}
+
+impl ByteOut for Answers {
+    ghost use Rattle.std.specs.Prelude.{Some};
+
+    ghost bytes_taken = { λ answers. Some answers.bytes.items };
+
+    ghost failure_count = { λ answers. answers.failures };
+
+    fn write(&mut self, piece: &[u8]) -> io::Result<usize> {
+        match self.bytes.extend_from_slice(piece) {
+            Ok(()) => {
+                if piece.is_empty() {
+                    return Ok(0);
+                }
+                Ok(piece.len())
+            }
+            Err(_) => {
+                self.failures = self.failures.saturating_add(1);
+                Err(io::Error::from(io::ErrorKind::OutOfMemory))
+            }
+        }
+    }
+
+    fn failures(&self) -> u64 {
+        self.failures
+    }
+}
+
+/// Room for what comes of a row. It is kept from row to row, so that a row takes no memory where the room is large enough.
+#[derive(Drop)]
+pub(crate) struct Room {
+    /// What the line answers to a row.
+    pub(crate) answers: Answers,
+    /// The line that is printed of a row.
+    pub(crate) text: Vec<u8>,
+}
+
+impl Room {
+    /// Room that has no size yet. It takes no memory.
+    pub(crate) fn new(alloc: Global) -> Room {
+        Room {
+            answers: Answers {
+                bytes: Vec::new(alloc),
+                failures: 0,
+            },
+            text: Vec::new(alloc),
+        }
+    }
+}
