@@ -5,6 +5,7 @@ ghost use Rattle.wc_model.specs.Language.Frames.{bit_number};
 use wc_model::Operator;
 
 /// Whether a number that is 0 or 1 is 1.
+#[inline(always)]
 pub(crate) fn truth(number: i32) -> bool
     requires { IsSome (bit_of number) }
     ensures { bit_of number ≡ Some result }
@@ -13,6 +14,7 @@ pub(crate) fn truth(number: i32) -> bool
 }
 
 /// FALSE as 0, TRUE as 1.
+#[inline(always)]
 pub(crate) fn bit(truth: bool) -> i32
     ensures { result ≡ bit_number truth }
 {
@@ -20,6 +22,7 @@ pub(crate) fn bit(truth: bool) -> i32
 }
 
 /// The quotient toward zero, in 32 bits.
+#[inline(always)]
 fn divided(a: i32, b: i32) -> i32
     requires { IsSome (combined Operator.Div a b) }
     ensures { combined Operator.Div a b ≡ Some result }
@@ -28,6 +31,7 @@ fn divided(a: i32, b: i32) -> i32
 }
 
 /// What is left of a division toward zero.
+#[inline(always)]
 fn remainder(a: i32, b: i32) -> i32
     requires { IsSome (combined Operator.Mod a b) }
     ensures { combined Operator.Mod a b ≡ Some result }
@@ -36,6 +40,7 @@ fn remainder(a: i32, b: i32) -> i32
 }
 
 /// `a operator b`.
+#[inline(always)]
 pub(crate) fn combined(operator: Operator, a: i32, b: i32) -> i32
     requires { IsSome (combined operator a b) }
     ensures { combined operator a b ≡ Some result }

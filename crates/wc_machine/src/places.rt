@@ -7,6 +7,7 @@ use wc_model::{Place, Storing};
 use wc_store::Store;
 
 /// The negation of a number that is 0 or 1.
+#[inline(always)]
 pub(crate) fn flipped(number: i32) -> i32
     requires { IsSome (flipped number) }
     ensures { flipped number ≡ Some result }
@@ -15,6 +16,7 @@ pub(crate) fn flipped(number: i32) -> i32
 }
 
 /// The number at a place of the instance that begins at `base`.
+#[inline(always)]
 pub(crate) fn read<S: Store>(store: &S, base: usize, place: Place) -> i32
     requires room { length (S.slot_kinds store.now) ≤ 65536 }
     requires there { IsSome (held base (S.slot_kinds store.now) (S.numbers store.now) place) }
@@ -24,6 +26,7 @@ pub(crate) fn read<S: Store>(store: &S, base: usize, place: Place) -> i32
 }
 
 /// Writes a number to a place of the instance that begins at `base`.
+#[inline(always)]
 pub(crate) fn write<S: Store>(store: &mut S, base: usize, place: Place, number: i32)
     requires room { length (S.slot_kinds store.old) ≤ 65536 }
     requires there { IsSome
@@ -38,6 +41,7 @@ pub(crate) fn write<S: Store>(store: &mut S, base: usize, place: Place, number: 
 }
 
 /// LD and LDN of a place.
+#[inline(always)]
 pub(crate) fn load<S: Store>(store: &S, base: usize, negated: bool, place: Place) -> i32
     requires room { length (S.slot_kinds store.now) ≤ 65536 }
     requires there { IsSome
@@ -50,6 +54,7 @@ pub(crate) fn load<S: Store>(store: &S, base: usize, negated: bool, place: Place
 }
 
 /// ST, STN, S and R.
+#[inline(always)]
 pub(crate) fn put<S: Store>(
     store: &mut S,
     base: usize,
@@ -83,6 +88,7 @@ pub(crate) fn put<S: Store>(
 }
 
 /// An argument that stands at a place.
+#[inline(always)]
 pub(crate) fn pass<S: Store>(store: &mut S, base: usize, place: Place, target: Place)
     requires room { length (S.slot_kinds store.old) ≤ 65536 }
     requires there { IsSome
