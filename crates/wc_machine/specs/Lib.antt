@@ -1,3 +1,4 @@
 pub mod Lines
+pub mod Courses
 pub mod Running
 pub mod Machines
