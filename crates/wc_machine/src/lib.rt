@@ -7,6 +7,7 @@ mod ctu;
 mod fields;
 mod first;
 mod image;
+mod logic;
 mod machine;
 mod operators;
 mod outputs;
