@@ -1,6 +1,6 @@
 ghost use Rattle.std.specs.Prelude.{◌≡◌, ◌≤◌, ℕ, Some, IsSome, length};
 ghost use Rattle.wc_flat.specs.NumberOperators.{flipped};
-ghost use Rattle.wc_machine.specs.Lines.{held, loaded, passed, stored, written, AreBefore};
+ghost use Rattle.wc_machine.specs.Lines.{held, loaded, negated_if, passed, stored, written, AreBefore};
 
 use crate::operators::truth;
 use wc_model::{Place, Storing};
@@ -13,6 +13,15 @@ pub(crate) fn flipped(number: i32) -> i32
     ensures { flipped number ≡ Some result }
 {
     i32::from(!truth(number))
+}
+
+/// The number, or the negation of one that is 0 or 1, with no branch.
+#[inline(always)]
+fn negated_where(negated: bool, number: i32) -> i32
+    requires { IsSome (negated_if negated number) }
+    ensures { negated_if negated number ≡ Some result }
+{
+    number ^ i32::from(negated)
 }
 
 /// The number at a place of the instance that begins at `base`.
@@ -49,8 +58,7 @@ pub(crate) fn load<S: Store>(store: &S, base: usize, negated: bool, place: Place
     ensures { loaded base (S.slot_kinds store.now) (S.numbers store.now) negated place
         ≡ Some result }
 {
-    let number = read(store, base, place);
-    if negated { flipped(number) } else { number }
+    negated_where(negated, read(store, base, place))
 }
 
 /// ST, STN, S and R.
