@@ -1,8 +1,9 @@
-ghost use Rattle.std.specs.Prelude.{◌≡◌, Some, IsSome};
+ghost use Rattle.std.specs.Prelude.{◌≡◌, Some, IsSome, false};
 ghost use Rattle.wc_flat.specs.NumberOperators.{bit_of, combined};
+ghost use Rattle.wc_machine.specs.Logic.{is_logic};
 ghost use Rattle.wc_model.specs.Language.Frames.{bit_number};
 
-use crate::logic::logic;
+use crate::logic::{is_logic, logic};
 use wc_model::Operator;
 
 /// Whether a number that is 0 or 1 is 1.
@@ -40,19 +41,14 @@ fn remainder(a: i32, b: i32) -> i32
     a.wrapping_rem(b)
 }
 
-/// `a operator b`.
+/// `a operator b` on numbers.
 #[inline(always)]
-pub(crate) fn combined(operator: Operator, a: i32, b: i32) -> i32
-    requires { IsSome (combined operator a b) }
+fn counted(operator: Operator, a: i32, b: i32) -> i32
+    requires kind { is_logic operator ≡ false }
+    requires there { IsSome (combined operator a b) }
     ensures { combined operator a b ≡ Some result }
 {
     match operator {
-        Operator::And
-        | Operator::Andn
-        | Operator::Or
-        | Operator::Orn
-        | Operator::Xor
-        | Operator::Xorn => bit(logic(operator, truth(a), truth(b))),
         Operator::Add => a.wrapping_add(b),
         Operator::Sub => a.wrapping_sub(b),
         Operator::Mul => a.wrapping_mul(b),
@@ -64,5 +60,20 @@ pub(crate) fn combined(operator: Operator, a: i32, b: i32) -> i32
         Operator::Ne => bit(a != b),
         Operator::Le => bit(a <= b),
         Operator::Lt => bit(a < b),
+        // The others are on BOOLs.
+        _ => a,
+    }
+}
+
+/// `a operator b`.
+#[inline(always)]
+pub(crate) fn combined(operator: Operator, a: i32, b: i32) -> i32
+    requires { IsSome (combined operator a b) }
+    ensures { combined operator a b ≡ Some result }
+{
+    if is_logic(operator) {
+        bit(logic(operator, truth(a), truth(b)))
+    } else {
+        counted(operator, a, b)
     }
 }

@@ -1,5 +1,6 @@
-ghost use Rattle.std.specs.Prelude.{◌≡◌, ◌≤◌, ℕ, Some, IsSome, length};
+ghost use Rattle.std.specs.Prelude.{◌≡◌, ◌≤◌, ℕ, Some, IsSome, false, length, true};
 ghost use Rattle.wc_flat.specs.NumberOperators.{flipped};
+ghost use Rattle.wc_model.specs.declared.operator.Storing.TheVariants as stores;
 ghost use Rattle.wc_machine.specs.Lines.{held, loaded, negated_if, passed, stored, written, AreBefore};
 
 use crate::operators::truth;
@@ -61,6 +62,18 @@ pub(crate) fn load<S: Store>(store: &S, base: usize, negated: bool, place: Place
     negated_where(negated, read(store, base, place))
 }
 
+/// Whether it is the negation that is stored.
+#[inline(always)]
+fn negates(storing: Storing) -> bool
+    ensures plain { storing ≡ stores.Result → result ≡ false }
+    ensures negated { storing ≡ stores.Negation → result ≡ true }
+{
+    match storing {
+        Storing::Negation => true,
+        _ => false,
+    }
+}
+
 /// ST, STN, S and R.
 #[inline(always)]
 pub(crate) fn put<S: Store>(
@@ -80,8 +93,9 @@ pub(crate) fn put<S: Store>(
         → AreBefore now (S.slot_kinds store.new) (S.numbers store.new) }
 {
     match storing {
-        Storing::Result => write(store, base, place, current),
-        Storing::Negation => write(store, base, place, flipped(current)),
+        Storing::Result | Storing::Negation => {
+            write(store, base, place, negated_where(negates(storing), current));
+        }
         Storing::Set => {
             if truth(current) {
                 write(store, base, place, 1);
