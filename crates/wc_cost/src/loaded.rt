@@ -64,6 +64,7 @@ impl<'a> Loaded<'a> {
     }
 
     /// The flat lines of a unit's body.
+    #[inline(always)]
     pub fn code(&self, unit: usize) -> &[Code]
         requires { unit < length self.now.codes }
         ensures { slice_get self.now.codes unit ≡ Some result.now }

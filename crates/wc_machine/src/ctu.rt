@@ -12,6 +12,7 @@ use wc_blocks::Ctu;
 use wc_store::Store;
 
 /// The fields of a CTU whose places begin there.
+#[inline(always)]
 fn fields_at<S: Store>(store: &S, at: usize) -> Ctu
     requires room { length (S.slot_kinds store.now) ≤ 65536 }
     requires slots { AreSlots (slots_of blocks.Ctu) (S.slot_kinds store.now) at }
@@ -30,6 +31,7 @@ fn fields_at<S: Store>(store: &S, at: usize) -> Ctu
 }
 
 /// Writes the fields.
+#[inline(always)]
 fn set_fields<S: Store>(store: &mut S, at: usize, block: Ctu)
     requires room { length (S.slot_kinds store.old) ≤ 65536 }
     requires slots { AreSlots (slots_of blocks.Ctu) (S.slot_kinds store.old) at }

@@ -9,6 +9,7 @@ use wc_model::Place;
 use wc_store::Store;
 
 /// A BOOL of a block.
+#[inline(always)]
 pub(crate) fn truth_at<S: Store>(store: &S, at: usize) -> bool
     requires room { length (S.slot_kinds store.now) ≤ 65536 }
     requires kind { is_slot slots.Bool (slice_get (S.slot_kinds store.now) at) ≡ true }
@@ -19,6 +20,7 @@ pub(crate) fn truth_at<S: Store>(store: &S, at: usize) -> bool
 }
 
 /// A DINT of a block.
+#[inline(always)]
 pub(crate) fn count_at<S: Store>(store: &S, at: usize) -> i32
     requires room { length (S.slot_kinds store.now) ≤ 65536 }
     requires kind { is_slot slots.Dint (slice_get (S.slot_kinds store.now) at) ≡ true }
@@ -29,6 +31,7 @@ pub(crate) fn count_at<S: Store>(store: &S, at: usize) -> i32
 }
 
 /// A TIME of a block, in milliseconds.
+#[inline(always)]
 pub(crate) fn time_at<S: Store>(store: &S, at: usize) -> i32
     requires room { length (S.slot_kinds store.now) ≤ 65536 }
     requires kind { is_slot slots.Time (slice_get (S.slot_kinds store.now) at) ≡ true }
@@ -39,6 +42,7 @@ pub(crate) fn time_at<S: Store>(store: &S, at: usize) -> i32
 }
 
 /// The moment that a timer keeps, in milliseconds.
+#[inline(always)]
 pub(crate) fn moment_at<S: Store>(store: &S, at: usize) -> u64
     requires room { length (S.slot_kinds store.now) ≤ 65536 }
     requires kind { is_slot slots.Moment (slice_get (S.slot_kinds store.now) at) ≡ true }
@@ -51,6 +55,7 @@ pub(crate) fn moment_at<S: Store>(store: &S, at: usize) -> u64
 }
 
 /// The phase that a timer keeps, 0 to 2.
+#[inline(always)]
 pub(crate) fn phase_at<S: Store>(store: &S, at: usize) -> u8
     requires room { length (S.slot_kinds store.now) ≤ 65536 }
     requires kind { is_slot slots.Phase (slice_get (S.slot_kinds store.now) at) ≡ true }

@@ -2,10 +2,12 @@
 #![tactic(auto)]
 
 mod body;
+mod course;
 mod ctu;
 mod fields;
 mod first;
 mod image;
+mod logic;
 mod machine;
 mod operators;
 mod outputs;

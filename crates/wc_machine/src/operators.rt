@@ -1,10 +1,13 @@
-ghost use Rattle.std.specs.Prelude.{◌≡◌, Some, IsSome};
+ghost use Rattle.std.specs.Prelude.{◌≡◌, Some, IsSome, false};
 ghost use Rattle.wc_flat.specs.NumberOperators.{bit_of, combined};
+ghost use Rattle.wc_machine.specs.Logic.{is_logic};
 ghost use Rattle.wc_model.specs.Language.Frames.{bit_number};
 
+use crate::logic::{is_logic, logic};
 use wc_model::Operator;
 
 /// Whether a number that is 0 or 1 is 1.
+#[inline(always)]
 pub(crate) fn truth(number: i32) -> bool
     requires { IsSome (bit_of number) }
     ensures { bit_of number ≡ Some result }
@@ -13,6 +16,7 @@ pub(crate) fn truth(number: i32) -> bool
 }
 
 /// FALSE as 0, TRUE as 1.
+#[inline(always)]
 pub(crate) fn bit(truth: bool) -> i32
     ensures { result ≡ bit_number truth }
 {
@@ -20,6 +24,7 @@ pub(crate) fn bit(truth: bool) -> i32
 }
 
 /// The quotient toward zero, in 32 bits.
+#[inline(always)]
 fn divided(a: i32, b: i32) -> i32
     requires { IsSome (combined Operator.Div a b) }
     ensures { combined Operator.Div a b ≡ Some result }
@@ -28,6 +33,7 @@ fn divided(a: i32, b: i32) -> i32
 }
 
 /// What is left of a division toward zero.
+#[inline(always)]
 fn remainder(a: i32, b: i32) -> i32
     requires { IsSome (combined Operator.Mod a b) }
     ensures { combined Operator.Mod a b ≡ Some result }
@@ -35,18 +41,14 @@ fn remainder(a: i32, b: i32) -> i32
     a.wrapping_rem(b)
 }
 
-/// `a operator b`.
-pub(crate) fn combined(operator: Operator, a: i32, b: i32) -> i32
-    requires { IsSome (combined operator a b) }
+/// `a operator b` on numbers.
+#[inline(always)]
+fn counted(operator: Operator, a: i32, b: i32) -> i32
+    requires kind { is_logic operator ≡ false }
+    requires there { IsSome (combined operator a b) }
     ensures { combined operator a b ≡ Some result }
 {
     match operator {
-        Operator::And => bit(truth(a) & truth(b)),
-        Operator::Andn => bit(truth(a) & !truth(b)),
-        Operator::Or => bit(truth(a) | truth(b)),
-        Operator::Orn => bit(truth(a) | !truth(b)),
-        Operator::Xor => bit(truth(a) != truth(b)),
-        Operator::Xorn => bit(truth(a) == truth(b)),
         Operator::Add => a.wrapping_add(b),
         Operator::Sub => a.wrapping_sub(b),
         Operator::Mul => a.wrapping_mul(b),
@@ -58,5 +60,20 @@ pub(crate) fn combined(operator: Operator, a: i32, b: i32) -> i32
         Operator::Ne => bit(a != b),
         Operator::Le => bit(a <= b),
         Operator::Lt => bit(a < b),
+        // The others are on BOOLs.
+        _ => a,
+    }
+}
+
+/// `a operator b`.
+#[inline(always)]
+pub(crate) fn combined(operator: Operator, a: i32, b: i32) -> i32
+    requires { IsSome (combined operator a b) }
+    ensures { combined operator a b ≡ Some result }
+{
+    if is_logic(operator) {
+        bit(logic(operator, truth(a), truth(b)))
+    } else {
+        counted(operator, a, b)
     }
 }

@@ -12,6 +12,7 @@ use wc_blocks::RTrig;
 use wc_store::Store;
 
 /// The fields of an R_TRIG whose places begin there.
+#[inline(always)]
 fn fields_at<S: Store>(store: &S, at: usize) -> RTrig
     requires room { length (S.slot_kinds store.now) ≤ 65536 }
     requires slots { AreSlots (slots_of blocks.RTrig) (S.slot_kinds store.now) at }
@@ -27,6 +28,7 @@ fn fields_at<S: Store>(store: &S, at: usize) -> RTrig
 }
 
 /// Writes the fields.
+#[inline(always)]
 fn set_fields<S: Store>(store: &mut S, at: usize, block: RTrig)
     requires room { length (S.slot_kinds store.old) ≤ 65536 }
     requires slots { AreSlots (slots_of blocks.RTrig) (S.slot_kinds store.old) at }

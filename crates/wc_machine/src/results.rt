@@ -7,6 +7,7 @@ use arrayvec::ArrayVec;
 use wc_model::{Condition, Operator};
 
 /// Whether a conditional acts on a result.
+#[inline(always)]
 pub(crate) fn acts(condition: Condition, current: i32) -> bool
     requires { IsSome (acts condition (Some current)) }
     ensures { acts condition (Some current) ≡ Some result }
@@ -19,6 +20,7 @@ pub(crate) fn acts(condition: Condition, current: i32) -> bool
 }
 
 /// The `)`: the result that was last put by, and the operator with the inner one.
+#[inline(always)]
 pub(crate) fn close(deferred: &mut ArrayVec<i32, 8>, operator: Operator, inner: i32) -> i32
     requires { IsClosable operator inner (reverse deferred.old.items) }
     ensures { IsClosed operator inner (reverse deferred.old.items) result

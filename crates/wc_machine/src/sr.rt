@@ -12,6 +12,7 @@ use wc_blocks::Sr;
 use wc_store::Store;
 
 /// The fields of an SR whose places begin there.
+#[inline(always)]
 fn fields_at<S: Store>(store: &S, at: usize) -> Sr
     requires room { length (S.slot_kinds store.now) ≤ 65536 }
     requires slots { AreSlots (slots_of blocks.Sr) (S.slot_kinds store.now) at }
@@ -27,6 +28,7 @@ fn fields_at<S: Store>(store: &S, at: usize) -> Sr
 }
 
 /// Writes the fields.
+#[inline(always)]
 fn set_fields<S: Store>(store: &mut S, at: usize, block: Sr)
     requires room { length (S.slot_kinds store.old) ≤ 65536 }
     requires slots { AreSlots (slots_of blocks.Sr) (S.slot_kinds store.old) at }

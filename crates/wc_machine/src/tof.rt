@@ -12,6 +12,7 @@ use wc_blocks::Tof;
 use wc_store::Store;
 
 /// The fields of a TOF whose places begin there.
+#[inline(always)]
 fn fields_at<S: Store>(store: &S, at: usize) -> Tof
     requires room { length (S.slot_kinds store.now) ≤ 65536 }
     requires slots { AreSlots (slots_of blocks.Tof) (S.slot_kinds store.now) at }
@@ -33,6 +34,7 @@ fn fields_at<S: Store>(store: &S, at: usize) -> Tof
 }
 
 /// Writes the fields.
+#[inline(always)]
 fn set_fields<S: Store>(store: &mut S, at: usize, block: Tof)
     requires room { length (S.slot_kinds store.old) ≤ 65536 }
     requires slots { AreSlots (slots_of blocks.Tof) (S.slot_kinds store.old) at }

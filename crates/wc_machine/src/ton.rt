@@ -12,6 +12,7 @@ use wc_blocks::Ton;
 use wc_store::Store;
 
 /// The fields of a TON whose places begin there.
+#[inline(always)]
 fn fields_at<S: Store>(store: &S, at: usize) -> Ton
     requires room { length (S.slot_kinds store.now) ≤ 65536 }
     requires slots { AreSlots (slots_of blocks.Ton) (S.slot_kinds store.now) at }
@@ -33,6 +34,7 @@ fn fields_at<S: Store>(store: &S, at: usize) -> Ton
 }
 
 /// Writes the fields.
+#[inline(always)]
 fn set_fields<S: Store>(store: &mut S, at: usize, block: Ton)
     requires room { length (S.slot_kinds store.old) ≤ 65536 }
     requires slots { AreSlots (slots_of blocks.Ton) (S.slot_kinds store.old) at }

@@ -8,6 +8,7 @@ use wc_model::Place;
 use wc_store::Store;
 
 /// Writes a BOOL of a block.
+#[inline(always)]
 pub(crate) fn set_truth<S: Store>(store: &mut S, at: usize, truth: bool)
     requires room { length (S.slot_kinds store.old) ≤ 65536 }
     requires kind { is_slot slots.Bool (slice_get (S.slot_kinds store.old) at) ≡ true }
@@ -20,6 +21,7 @@ pub(crate) fn set_truth<S: Store>(store: &mut S, at: usize, truth: bool)
 }
 
 /// Writes a DINT of a block.
+#[inline(always)]
 pub(crate) fn set_count<S: Store>(store: &mut S, at: usize, count: i32)
     requires room { length (S.slot_kinds store.old) ≤ 65536 }
     requires kind { is_slot slots.Dint (slice_get (S.slot_kinds store.old) at) ≡ true }
@@ -32,6 +34,7 @@ pub(crate) fn set_count<S: Store>(store: &mut S, at: usize, count: i32)
 }
 
 /// Writes a TIME of a block.
+#[inline(always)]
 pub(crate) fn set_time<S: Store>(store: &mut S, at: usize, time: i32)
     requires room { length (S.slot_kinds store.old) ≤ 65536 }
     requires kind { is_slot slots.Time (slice_get (S.slot_kinds store.old) at) ≡ true }
@@ -44,6 +47,7 @@ pub(crate) fn set_time<S: Store>(store: &mut S, at: usize, time: i32)
 }
 
 /// Writes the moment that a timer keeps.
+#[inline(always)]
 pub(crate) fn set_moment<S: Store>(store: &mut S, at: usize, moment: u64)
     requires room { length (S.slot_kinds store.old) ≤ 65536 }
     requires kind { is_slot slots.Moment (slice_get (S.slot_kinds store.old) at) ≡ true }
@@ -58,6 +62,7 @@ pub(crate) fn set_moment<S: Store>(store: &mut S, at: usize, moment: u64)
 }
 
 /// Writes the phase that a timer keeps.
+#[inline(always)]
 pub(crate) fn set_phase<S: Store>(store: &mut S, at: usize, phase: u8)
     requires room { length (S.slot_kinds store.old) ≤ 65536 }
     requires kind { is_slot slots.Phase (slice_get (S.slot_kinds store.old) at) ≡ true }

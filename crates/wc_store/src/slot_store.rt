@@ -42,11 +42,13 @@ impl Store for SlotStore {
         self.numbers.len()
     }
 
+    #[inline(always)]
     fn get(&self, place: Place) -> i64 {
         let at = place.0 as usize;
         self.numbers[at]
     }
 
+    #[inline(always)]
     fn set(&mut self, place: Place, number: i64) {
         self.numbers[place.0 as usize] = number;
     }

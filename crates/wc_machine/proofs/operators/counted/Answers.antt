@@ -2,7 +2,7 @@
 use Rattle.std.proofs.Common.{w32, Some, ap, sym, ◌∙◌}
 use Rattle.std.proofs.lemmas.Int.{wrapping_add_is, wrapping_sub_is}
 use Rattle.wc_flat.specs.NumberOperators.{combined}
-use Rattle.wc_machine.proofs.operators.combined.Goals as goal
+use Rattle.wc_machine.proofs.operators.counted.Goals as goal
 
 pub returns-in-Add : goal.returns-in-Add
 returns-in-Add c =
