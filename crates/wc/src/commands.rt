@@ -1,12 +1,12 @@
 ghost use Rattle.std.specs.Prelude.{◌≤◌, IfSome};
 
-use crate::devices::{Noting, Opening};
+use crate::devices::{Keeping, Noting, Opening};
 use crate::output::{Emptying, Gathered, Gathering};
 use crate::telling::{Met, Sources, end, without_memory};
 use crate::words::ProgramFiles;
 use std::cell::RefCell;
 use std::io;
-use std::io::Stdin;
+use std::io::{IsTerminal, Stdin};
 use wc_controller::{Ending, answer_job, check_file, line_files, run_files};
 use wc_model::Device;
 
@@ -43,18 +43,31 @@ fn finish(
     end(rt, &met, sources)
 }
 
+/// Says that a job is awaited, where somebody types it.
+fn tell_waiting(rt: &HostRuntime) {
+    if rt.stdin().is_terminal() {
+        let _told = rt.eprintln(
+            "wc: reading a job from standard input, up to its end (Ctrl-D); `wc help` says more",
+        );
+    }
+}
+
 /// Answers a job on standard input: the exit status.
 pub(crate) fn run_job(rt: &HostRuntime) -> u8 {
     let gathered = match Gathered::new(rt) {
         Ok(gathered) => RefCell::new(gathered),
         Err(_) => return without_memory(rt),
     };
+    tell_waiting(rt);
     let input: Noting<Stdin> = Noting::new(rt.stdin());
-    let mut reader = Device::new(Emptying::new(&gathered, input));
+    let keeping = Keeping::new(rt.alloc(), input);
+    let mut reader = Device::new(Emptying::new(&gathered, keeping));
     let mut writer = Device::new(Gathering::new(&gathered));
     let ending = answer_job(rt.alloc(), &mut reader, &mut writer);
-    let reading = reader.get_ref().get_ref().cause();
-    finish(rt, ending, reading, &gathered, &Sources::Job)
+    let keeping = reader.get_ref().get_ref();
+    let reading = keeping.get_ref().cause();
+    let bytes = keeping.bytes();
+    finish(rt, ending, reading, &gathered, &Sources::Job { bytes })
 }
 
 /// Checks the program in a file: the exit status.

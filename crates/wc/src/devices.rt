@@ -1,5 +1,6 @@
 ghost use Rattle.std.specs.Io.{ReadsAtMost, WritesAtMost};
 
+use std::alloc::Global;
 use std::fs::File;
 use std::io;
 use std::io::{Read, Write};
@@ -119,5 +120,51 @@ impl<D: Write> Write for Noting<D> {
 
     fn flush(&mut self) -> io::Result<()> {
         self.inner.flush()
+    }
+}
+
+/// A reader that keeps the bytes that it reads.
+#[derive(Drop)]
+pub(crate) struct Keeping<D> {
+    inner: D,
+    kept: Vec<u8>,
+    whole: bool,
+}
+
+impl<D> Keeping<D> {
+    /// One that has read nothing.
+    pub(crate) fn new(alloc: Global, inner: D) -> Keeping<D> {
+        Keeping {
+            inner,
+            kept: Vec::new(alloc),
+            whole: true,
+        }
+    }
+
+    /// The reader inside.
+    pub(crate) fn get_ref(&self) -> &D {
+        &self.inner
+    }
+
+    /// All bytes that were read, where there was memory for them.
+    pub(crate) fn bytes(&self) -> Option<&[u8]> {
+        if self.whole {
+            Some(self.kept.as_slice())
+        } else {
+            None
+        }
+    }
+}
+
+impl<D: Read> Read for Keeping<D> {
+    fn read(&mut self, buffer: &mut [u8]) -> io::Result<usize> {
+        match self.inner.read(buffer) {
+            Ok(count) => {
+                let (read, _) = buffer.split_at(count);
+                self.whole = self.whole && self.kept.extend_from_slice(read).is_ok();
+                Ok(count)
+            }
+            Err(error) => Err(error),
+        }
     }
 }

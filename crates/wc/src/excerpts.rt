@@ -1,31 +1,50 @@
-use std::fs::File;
+use std::fs::{File, metadata};
+use std::io::Read;
 use wc_job::read_whole;
+use wc_messages::RowSeeker;
 use wc_model::Device;
 
-/// The line of these bytes by its number, counted from 1, without its end.
-fn line_in(bytes: &[u8], place: u32) -> Option<&[u8]> {
-    let mut number = 1_u32;
-    for line in bytes.split(|byte| *byte == b'\n') {
-        if number == place {
-            return Some(line);
-        }
-        number = number.saturating_add(1);
+/// How many bytes of a log are read at once.
+const PIECE: usize = 4096;
+
+/// A log is read so many times at most.
+const MOST_READS: u32 = 65536;
+
+/// Opens a file anew: nothing for a pipe or a device, which would give other bytes.
+fn open_again(rt: &HostRuntime, path: &str) -> Option<File> {
+    match metadata(rt, path) {
+        Ok(found) if found.is_file() => File::open(rt, path).ok(),
+        _ => None,
     }
-    None
 }
 
-/// The line of a file by its number, where it can be read.
-pub(crate) fn line_of(rt: &HostRuntime, path: &str, place: u32) -> Option<Vec<u8>> {
-    let mut file = match File::open(rt, path) {
-        Ok(file) => Device::new(file),
-        Err(_) => return None,
-    };
-    let bytes = match read_whole(rt.alloc(), &mut file) {
-        Ok(bytes) => bytes,
-        Err(_) => return None,
-    };
-    match line_in(&bytes, place) {
-        Some(line) => Vec::from_slice(rt.alloc(), line).ok(),
-        None => None,
+/// The bytes of a file, where it can be read again and is no longer than a plate or a program may be.
+pub(crate) fn bytes_of(rt: &HostRuntime, path: &str) -> Option<Vec<u8>> {
+    let file = open_again(rt, path)?;
+    read_whole(rt.alloc(), &mut Device::new(file)).ok()
+}
+
+/// Hands the next bytes of a file to the seeker: false at the end, or where it fails.
+fn seek_more(file: &mut File, seeker: &mut RowSeeker) -> bool {
+    let mut buffer = [0_u8; PIECE];
+    match file.read(&mut buffer) {
+        Ok(count) => {
+            let (read, _) = buffer.split_at(count.min(PIECE));
+            count > 0 && seeker.feed(read).is_ok()
+        }
+        Err(_) => false,
     }
+}
+
+/// The seeker of a row in a log, behind as many bytes as it takes.
+pub(crate) fn row_of(rt: &HostRuntime, path: &str, number: u32) -> Option<RowSeeker> {
+    let mut seeker = RowSeeker::new(rt.alloc(), number);
+    let mut file = open_again(rt, path)?;
+    for _ in 0..MOST_READS {
+        if !seeker.is_seeking() || !seek_more(&mut file, &mut seeker) {
+            break;
+        }
+    }
+    seeker.finish();
+    Some(seeker)
 }

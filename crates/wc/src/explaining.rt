@@ -1,24 +1,14 @@
-use crate::hints::hint;
-use crate::pages::page_of;
-use crate::sentences::sentence;
 use std::io;
+use std::io::Write;
+use wc_messages::page_of;
 
 /// Prints the page of a refusal: false where there is none of that number.
 pub(crate) fn explain(rt: &HostRuntime, number: u16) -> io::Result<bool> {
-    let page = match page_of(number) {
-        Some(page) => page,
-        None => return Ok(false),
-    };
-    let why = sentence(number);
-    let help = hint(number);
-    println!(rt; "{number}: {why}")?;
-    println!(rt; "met at: {}", page.pass)?;
-    println!(rt; "place: {}", page.place)?;
-    println!(rt;
-        "a smallest input, in which ` / ` ends a line: {}",
-        page.input
-    )?;
-    println!(rt; "the answer to it: {}", page.answer)?;
-    println!(rt; "help: {help}")?;
-    Ok(true)
+    match page_of(rt.alloc(), number)? {
+        Some(page) => {
+            rt.stdout().write_all(page.as_bytes())?;
+            Ok(true)
+        }
+        None => Ok(false),
+    }
 }

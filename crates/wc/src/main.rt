@@ -6,11 +6,7 @@ mod commands;
 mod devices;
 mod excerpts;
 mod explaining;
-mod hints;
 mod output;
-mod pages;
-mod printable;
-mod sentences;
 mod telling;
 mod words;
 
@@ -18,9 +14,12 @@ use clap::Error;
 use clap::error::ErrorKind;
 use commands::{check_words, line_words, run_job, run_words};
 use explaining::explain;
+use std::fs::File;
+use std::io::Write;
 use std::process::ExitCode;
 use std::{env, io};
 use telling::without_memory;
+use wc_messages::shown;
 use words::{Wanted, read_words};
 
 /// The exit status where the words are wrong.
@@ -44,13 +43,41 @@ fn end_without_words(rt: &HostRuntime, error: &io::Error) -> u8 {
     WRONG_WORDS
 }
 
+/// Says which word takes a program, or how a job is read, with the path of a file that there is.
+fn tell_words(rt: &HostRuntime, words: &str, path: &str) -> io::Result<()> {
+    let path = shown(rt.alloc(), path.as_bytes())?;
+    rt.eprint(words)?;
+    rt.stderr().write_all(path.as_bytes())?;
+    rt.eprintln("")
+}
+
+/// Says what could be meant by a first word that the program has not.
+fn tell_meant(rt: &HostRuntime, word: Option<&String>) -> io::Result<()> {
+    let job = "help: a job is read from standard input: wc < ";
+    match word {
+        Some(path) if File::open(rt, path).is_ok() => {
+            if path.as_str().ends_with(".il") {
+                tell_words(rt, "help: a program is checked by: wc check ", path)
+            } else {
+                tell_words(rt, job, path)
+            }
+        }
+        _ => tell_words(rt, job, "job.txt"),
+    }
+}
+
 /// Prints help, the version, or what is wrong with the words: the exit status.
-fn show(rt: &HostRuntime, error: &Error) -> u8 {
+fn show(rt: &HostRuntime, error: &Error, words: &[String]) -> u8 {
     if error.kind() == ErrorKind::OutOfMemory {
         return without_memory(rt);
     }
     match error.print(rt) {
-        Ok(()) => error.exit_code() as u8,
+        Ok(()) => {
+            if error.kind() == ErrorKind::InvalidSubcommand {
+                let _told = tell_meant(rt, words.get(1));
+            }
+            error.exit_code() as u8
+        }
         Err(_) => {
             let _told = rt.eprintln("device fault");
             DEVICE_FAULT
@@ -93,7 +120,7 @@ fn answer(rt: &HostRuntime) -> u8 {
     match words_given(rt) {
         Ok(words) => match read_words(rt.alloc(), words.as_slice()) {
             Ok(wanted) => execute(rt, wanted),
-            Err(error) => show(rt, &error),
+            Err(error) => show(rt, &error, words.as_slice()),
         },
         Err(error) => end_without_words(rt, &error),
     }

@@ -1,10 +1,9 @@
-use crate::excerpts::line_of;
-use crate::hints::hint;
-use crate::printable::printable;
-use crate::sentences::sentence;
+use crate::excerpts::{bytes_of, row_of};
 use crate::words::ProgramFiles;
 use std::io;
+use std::io::Write;
 use wc_controller::{Ending, Input};
+use wc_messages::{Part, Refusal, RowSeeker, explained, section_of, shown};
 
 /// How a command ended, and what the system said of a read and of a write that failed.
 #[derive(Clone, Copy, Debug)]
@@ -14,10 +13,13 @@ pub(crate) struct Met {
     pub(crate) writing: Option<io::Error>,
 }
 
-/// Where the inputs of a command come from: a job on standard input, or files by their paths.
+/// Where the inputs of a command come from: a job on standard input, with its bytes where they were kept, or files by their
+/// paths.
 #[derive(Clone, Copy, Debug)]
 pub(crate) enum Sources<'a> {
-    Job,
+    Job {
+        bytes: Option<&'a [u8]>,
+    },
     Program {
         program: &'a str,
     },
@@ -35,7 +37,7 @@ impl<'a> Sources<'a> {
     /// The path of an input, where it comes from a file.
     fn path(&self, input: Input) -> Option<&'a str> {
         match self {
-            Sources::Job => None,
+            Sources::Job { .. } => None,
             Sources::Program { program } => Some(program),
             Sources::Files { plate, files } => match input {
                 Input::Plate => Some(plate),
@@ -60,31 +62,87 @@ fn section(input: Input) -> &'static str {
     }
 }
 
-/// Says where an input is refused, with the line of the program's text.
-fn tell_place(rt: &HostRuntime, source: &str, input: Input, place: u32) -> io::Result<()> {
-    if place == 0 {
-        eprintln!(rt; " --> {source}")
-    } else if input == Input::Log {
-        eprintln!(rt; " --> {source}: row {place}")
-    } else {
-        eprintln!(rt; " --> {source}:{place}")
+/// The part that an input is.
+fn part_of(input: Input) -> Part {
+    match input {
+        Input::Job => Part::Job,
+        Input::Plate => Part::Plate,
+        Input::Program => Part::Program,
+        Input::Log => Part::Log,
     }
 }
 
-/// Shows the line of a program's text that is refused.
-fn show_line(rt: &HostRuntime, path: &str, place: u32) -> io::Result<()> {
-    match line_of(rt, path, place) {
-        Some(line) => {
-            let shown = printable(rt.alloc(), &line)?;
-            eprintln!(rt; "  |")?;
-            eprintln!(rt; "{place} | {shown}")?;
-            eprintln!(rt; "  |")
+/// Explains a refusal on standard error.
+fn explain(rt: &HostRuntime, refusal: &Refusal<'_>) -> io::Result<()> {
+    let message = explained(rt.alloc(), refusal)?;
+    rt.stderr().write_all(message.as_bytes())
+}
+
+/// Explains a refusal with its text, above which so many lines stand.
+fn explain_text(
+    rt: &HostRuntime,
+    refusal: &Refusal<'_>,
+    text: &[u8],
+    above: u32,
+) -> io::Result<()> {
+    let name: &[u8] = refusal.name;
+    let with_text = Refusal {
+        number: refusal.number,
+        place: refusal.place,
+        part: refusal.part,
+        name,
+        in_job: refusal.in_job,
+        text: Some(text),
+        above,
+    };
+    explain(rt, &with_text)
+}
+
+/// Explains a refusal of a log whose row was sought, and above which so many lines stand.
+fn explain_row(
+    rt: &HostRuntime,
+    refusal: &Refusal<'_>,
+    seeker: &RowSeeker,
+    above: u32,
+) -> io::Result<()> {
+    match seeker.row() {
+        Some(row) => {
+            let line = row.line.saturating_sub(1);
+            explain_text(rt, refusal, row.text, above.saturating_add(line))
         }
-        None => Ok(()),
+        None => explain(rt, refusal),
     }
 }
 
-/// Says why an input is refused, where, and what to write instead, if there is one thing to say.
+/// Explains a refusal in a file.
+fn explain_file(rt: &HostRuntime, refusal: &Refusal<'_>, path: &str) -> io::Result<()> {
+    if refusal.part == Part::Log {
+        return match row_of(rt, path, refusal.place) {
+            Some(seeker) => explain_row(rt, refusal, &seeker, 0),
+            None => explain(rt, refusal),
+        };
+    }
+    match bytes_of(rt, path) {
+        Some(text) => explain_text(rt, refusal, text.as_slice(), 0),
+        None => explain(rt, refusal),
+    }
+}
+
+/// Explains a refusal in a section of a job.
+fn explain_section(rt: &HostRuntime, refusal: &Refusal<'_>, job: &[u8]) -> io::Result<()> {
+    let Some(section) = section_of(job, refusal.part) else {
+        return explain(rt, refusal);
+    };
+    if refusal.part == Part::Log {
+        let mut seeker = RowSeeker::new(rt.alloc(), refusal.place);
+        seeker.feed(section.text)?;
+        seeker.finish();
+        return explain_row(rt, refusal, &seeker, section.above);
+    }
+    explain_text(rt, refusal, section.text, section.above)
+}
+
+/// Says why an input is refused, where, and what to write instead.
 fn tell_refusal(
     rt: &HostRuntime,
     sources: &Sources<'_>,
@@ -92,20 +150,21 @@ fn tell_refusal(
     number: u16,
     place: u32,
 ) -> io::Result<()> {
-    let why = sentence(number);
-    eprintln!(rt; "error[{number}]: {why}")?;
-    match sources.path(input) {
-        Some(path) => {
-            let name = printable(rt.alloc(), path.as_bytes())?;
-            tell_place(rt, &name, input, place)?;
-            if input == Input::Program && place > 0 {
-                show_line(rt, path, place)?;
-            }
-        }
-        None => tell_place(rt, section(input), input, place)?,
+    let path = sources.path(input);
+    let refusal = Refusal {
+        number,
+        place,
+        part: part_of(input),
+        name: path.unwrap_or("standard input").as_bytes(),
+        in_job: path.is_none(),
+        text: None,
+        above: 0,
+    };
+    match (path, sources) {
+        (Some(path), _) => explain_file(rt, &refusal, path),
+        (None, Sources::Job { bytes: Some(job) }) => explain_section(rt, &refusal, job),
+        _ => explain(rt, &refusal),
     }
-    let help = hint(number);
-    eprintln!(rt; "help: {help}; `wc explain {number}` says more")
 }
 
 /// Says which input could not be read, and why.
@@ -116,10 +175,9 @@ fn tell_read_fault(
     cause: Option<io::Error>,
 ) -> io::Result<()> {
     rt.eprintln("device fault")?;
-    let name = match sources.path(input) {
-        Some(path) => printable(rt.alloc(), path.as_bytes())?,
-        None => printable(rt.alloc(), section(input).as_bytes())?,
-    };
+    let name = sources.path(input).unwrap_or(section(input));
+    let name = shown(rt.alloc(), name.as_bytes())?;
+    let name = str::from_utf8(name.as_bytes()).unwrap_or("the input");
     match cause {
         Some(error) => eprintln!(rt; "error: {name} can't be read: {error}"),
         None => eprintln!(rt; "error: {name} is longer than 134217728 bytes and reads"),

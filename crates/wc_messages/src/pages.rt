@@ -1,3 +1,6 @@
+ghost use Rattle.std.specs.Prelude.{◌≡◌, is_some, true};
+ghost use Rattle.wc_messages.specs.Numbers.{is_refusal};
+
 /// What is said of a refusal beside its sentence and its hint: where it is met, its place, and a smallest input with the
 /// answer to it, as docs/REFUSALS.md has them. In the input ` / ` ends a line.
 #[derive(Clone, Copy, Debug)]
@@ -14,7 +17,9 @@ fn written(
     place: &'static str,
     input: &'static str,
     answer: &'static str,
-) -> Option<Page> {
+) -> Option<Page>
+    ensures { is_some result ≡ true }
+{
     Some(Page {
         pass,
         place,
@@ -24,7 +29,9 @@ fn written(
 }
 
 /// The page of a refusal, where there is one of that number.
-pub(crate) fn page_of(number: u16) -> Option<Page> {
+pub(crate) fn page_of(number: u16) -> Option<Page>
+    ensures { is_some result ≡ is_refusal number }
+{
     match number {
         101..=107 => token_page(number),
         201..=208 => reading_page(number),
@@ -38,7 +45,9 @@ pub(crate) fn page_of(number: u16) -> Option<Page> {
 }
 
 /// The pages of tokens.
-fn token_page(number: u16) -> Option<Page> {
+fn token_page(number: u16) -> Option<Page>
+    ensures { is_some result ≡ true }
+{
     match number {
         101 => written("tokens", "the line of the byte", "!", "refused 101 1"),
         102 => written("tokens", "the line of its (*", "(*", "refused 102 1"),
@@ -56,7 +65,9 @@ fn token_page(number: u16) -> Option<Page> {
 }
 
 /// The pages of reading.
-fn reading_page(number: u16) -> Option<Page> {
+fn reading_page(number: u16) -> Option<Page>
+    ensures { is_some result ≡ true }
+{
     match number {
         201 => written(
             "reader",
@@ -105,7 +116,9 @@ fn reading_page(number: u16) -> Option<Page> {
 }
 
 /// The pages of declarations.
-fn declaration_page(number: u16) -> Option<Page> {
+fn declaration_page(number: u16) -> Option<Page>
+    ensures { is_some result ≡ true }
+{
     match number {
         301 => written(
             "tables",
@@ -159,7 +172,9 @@ fn declaration_page(number: u16) -> Option<Page> {
 }
 
 /// The pages of bodies and of their cost.
-fn body_page(number: u16) -> Option<Page> {
+fn body_page(number: u16) -> Option<Page>
+    ensures { is_some result ≡ true }
+{
     match number {
         401 => written(
             "verify",
@@ -224,14 +239,16 @@ fn body_page(number: u16) -> Option<Page> {
         _ => written(
             "cost",
             "the line of the unit's keyword",
-            "(the text below the table)",
+            "(the text below the table) of docs/REFUSALS.md: nineteen blocks, of which each calls the one before twice, and a program that calls the last one twice",
             "refused 411 94",
         ),
     }
 }
 
 /// The pages of a plate.
-fn plate_page(number: u16) -> Option<Page> {
+fn plate_page(number: u16) -> Option<Page>
+    ensures { is_some result ≡ true }
+{
     match number {
         501 => written("plate", "0", "plate x", "refused 501 0"),
         502 => written("plate", "0", "(the empty plate)", "refused 502 0"),
@@ -250,7 +267,9 @@ fn plate_page(number: u16) -> Option<Page> {
 }
 
 /// The pages of a log.
-fn log_page(number: u16) -> Option<Page> {
+fn log_page(number: u16) -> Option<Page>
+    ensures { is_some result ≡ true }
+{
     match number {
         601 => written("log", "the row", "(the empty log)", "refused 601 1"),
         602 => written("log", "the row", "row ,S,", "refused 602 2"),
@@ -269,7 +288,9 @@ fn log_page(number: u16) -> Option<Page> {
 }
 
 /// The pages of a job and of files.
-fn job_page(number: u16) -> Option<Page> {
+fn job_page(number: u16) -> Option<Page>
+    ensures { is_some result ≡ true }
+{
     match number {
         701 => written("job", "0", "(the empty job)", "refused 701 0"),
         _ => written("job, files", "0", "(1048577 spaces)", "refused 702 0"),

@@ -1,0 +1,67 @@
+ghost use Rattle.std.specs.Prelude.{◌≡◌, None, []};
+
+use std::alloc::{AllocError, Global};
+
+/// Bytes of a line that are meant.
+#[derive(Clone, Copy, Debug, PartialEq, Eq)]
+pub struct Spot {
+    /// The first of them, counted from 0.
+    pub start: usize,
+    /// How many.
+    pub length: usize,
+}
+
+/// What exactly is wrong, as far as it is sure.
+#[derive(Drop)]
+pub struct Finding {
+    /// The line that is shown, counted from 1 in the text at hand; 0: none.
+    pub line: u32,
+    /// Its bytes.
+    pub shown: Vec<u8>,
+    /// What is meant in it.
+    pub spot: Option<Spot>,
+    /// The piece of the text with which the headline begins; empty: none.
+    pub subject: Vec<u8>,
+    /// The headline; nothing where the number's own sentence says all.
+    pub says: Option<&'static str>,
+    /// What stands behind the headline; empty: nothing.
+    pub detail: String,
+    /// What could stand at the spot.
+    pub expected: Vec<&'static str>,
+    /// What to write instead; nothing where the number's own hint says all.
+    pub help: Option<&'static str>,
+    /// What to write instead, with the values that are at hand; empty: nothing beyond the help.
+    pub advice: String,
+}
+
+impl Finding {
+    /// Nothing beyond what the number says, on that line.
+    pub(crate) fn new(alloc: Global, line: u32) -> Finding
+        ensures { (result.spot ≡ None) × (result.shown.items ≡ []) }
+    {
+        Finding {
+            line,
+            shown: Vec::new(alloc),
+            spot: None,
+            subject: Vec::new(alloc),
+            says: None,
+            detail: String::new(alloc),
+            expected: Vec::new(alloc),
+            help: None,
+            advice: String::new(alloc),
+        }
+    }
+
+    /// Points to bytes of the line.
+    pub(crate) fn point(&mut self, start: usize, length: usize) {
+        self.spot = Some(Spot { start, length });
+    }
+
+    /// Says this of a piece of the text.
+    pub(crate) fn tell(&mut self, subject: &[u8], says: &'static str) -> Result<(), AllocError> {
+        self.subject.clear();
+        self.says = Some(says);
+        self.subject.extend_from_slice(subject)?;
+        Ok(())
+    }
+}

@@ -1,0 +1,45 @@
+use wc_findings::Part;
+use wc_job::sections;
+
+/// A section of a job.
+#[derive(Clone, Copy, Debug)]
+pub struct Section<'a> {
+    /// Its bytes.
+    pub text: &'a [u8],
+    /// How many lines of the job stand above them.
+    pub above: u32,
+}
+
+/// How many line feeds there are.
+fn line_feeds(text: &[u8]) -> usize {
+    text.iter().filter(|byte| **byte == b'\n').count()
+}
+
+/// How many lines a heading ends, with those of the section above it.
+fn behind_heading(above: u32, section: &[u8]) -> u32 {
+    let feeds = line_feeds(section).min(1048576) as u32;
+    above.saturating_add(feeds).saturating_add(1)
+}
+
+/// The section of a job that is this part, where the job has its headings.
+pub fn section_of(job: &[u8], part: Part) -> Option<Section<'_>> {
+    let Ok(found) = sections(job) else {
+        return None;
+    };
+    let program = behind_heading(1, found.plate);
+    match part {
+        Part::Job => None,
+        Part::Plate => Some(Section {
+            text: found.plate,
+            above: 1,
+        }),
+        Part::Program => Some(Section {
+            text: found.program,
+            above: program,
+        }),
+        Part::Log => Some(Section {
+            text: found.log,
+            above: behind_heading(program, found.program),
+        }),
+    }
+}

@@ -1,0 +1,22 @@
+//! What is said of a refusal for people: what is wrong, where, the line with what is meant in it, and what to write instead; and
+//! a page for each number. A message has printable ASCII and line feeds alone. The fixed lines, on which machines rely, are
+//! not made here.
+#![tactic(auto)]
+
+mod explaining;
+mod hints;
+mod jobs;
+mod message;
+mod page;
+mod pages;
+mod seeking;
+mod sentences;
+#[cfg(test)]
+mod tests;
+
+pub use explaining::explained;
+pub use jobs::{Section, section_of};
+pub use message::{Message, shown};
+pub use page::page as page_of;
+pub use seeking::{Row, RowSeeker};
+pub use wc_findings::{Part, Refusal};

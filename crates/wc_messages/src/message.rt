@@ -1,0 +1,129 @@
+ghost use Rattle.std.specs.Prelude.{◌≡◌, ◌<◌, ◌/◌, ◌%◌, ◌∷◌, ◌++◌, [], IfOk, OnOk, true};
+ghost use Rattle.std.specs.List.{list_all};
+ghost use Rattle.wc_messages.specs.Plain.{hex_digit, is_plain, shown_byte, shown_text};
+
+use std::alloc::{AllocError, Global};
+
+/// A text for people, of bytes that a terminal only shows: printable ASCII and line feeds.
+#[derive(Drop)]
+pub struct Message {
+    alloc: Global,
+    bytes: Vec<u8>,
+    ghost plain: { list_all is_plain bytes.items ≡ true },
+}
+
+/// A hexadecimal digit.
+fn digit(value: u8) -> u8
+    ensures plain { is_plain result ≡ true }
+    ensures digit { value < 16 → result ≡ hex_digit value }
+{
+    match value {
+        0..=9 => b'0' + value,
+        10..=15 => b'a' + (value - 10),
+        _ => b'?',
+    }
+}
+
+impl Message {
+    /// A text with nothing in it.
+    pub(crate) fn new(alloc: Global) -> Message
+        ensures { result.bytes.items ≡ [] }
+    {
+        Message {
+            alloc,
+            bytes: Vec::new(alloc),
+        }
+    }
+
+    /// The bytes: printable ASCII and line feeds.
+    pub fn as_bytes(&self) -> &[u8]
+        ensures plain { list_all is_plain result.now ≡ true }
+        ensures all { result.now ≡ self.now.bytes.items }
+    {
+        self.bytes.as_slice()
+    }
+
+    /// Adds a byte that is shown as it is.
+    fn put(&mut self, byte: u8) -> Result<(), AllocError>
+        requires { is_plain byte ≡ true }
+        ensures { OnOk result (self.new.bytes.items ≡ self.old.bytes.items ++ byte ∷ []) }
+    {
+        self.bytes.push(byte)?;
+        Ok(())
+    }
+
+    /// Adds `\x` and the two digits of a byte.
+    fn escape(&mut self, byte: u8) -> Result<(), AllocError>
+        ensures { OnOk result (self.new.bytes.items
+            ≡ self.old.bytes.items
+            ++ (92 ∷ 120 ∷ hex_digit (byte / 16) ∷ hex_digit (byte % 16) ∷ [])) }
+    {
+        self.put(b'\\')?;
+        self.put(b'x')?;
+        self.put(digit(byte / 16))?;
+        self.put(digit(byte % 16))
+    }
+
+    /// Adds a byte: printable ASCII as it is, a tab as a space, any other as `\x` and two digits.
+    fn show(&mut self, byte: u8) -> Result<(), AllocError>
+        ensures { OnOk result (self.new.bytes.items ≡ self.old.bytes.items ++ shown_byte byte) }
+    {
+        if byte >= 32 && byte <= 126 {
+            self.put(byte)
+        } else if byte == b'\t' {
+            self.put(b' ')
+        } else {
+            self.escape(byte)
+        }
+    }
+
+    /// Adds bytes on the line.
+    pub(crate) fn add(&mut self, text: &[u8]) -> Result<(), AllocError>
+        ensures { OnOk result (self.new.bytes.items ≡ self.old.bytes.items ++ shown_text text.now) }
+    {
+        for byte in text {
+            self.show(*byte)?;
+        }
+        Ok(())
+    }
+
+    /// Adds words on the line.
+    pub(crate) fn say(&mut self, text: &str) -> Result<(), AllocError> {
+        self.add(text.as_bytes())
+    }
+
+    /// Adds a number.
+    pub(crate) fn count(&mut self, number: u32) -> Result<(), AllocError> {
+        let text = format!(in self.alloc; "{number}")?;
+        self.say(&text)
+    }
+
+    /// Adds a piece of a text between backquotes.
+    pub(crate) fn quote(&mut self, text: &[u8]) -> Result<(), AllocError> {
+        self.say("`")?;
+        self.add(text)?;
+        self.say("`")
+    }
+
+    /// Adds a mark so many times.
+    pub(crate) fn repeat(&mut self, mark: &str, times: usize) -> Result<(), AllocError> {
+        for _ in 0..times {
+            self.say(mark)?;
+        }
+        Ok(())
+    }
+
+    /// Ends the line.
+    pub(crate) fn end_line(&mut self) -> Result<(), AllocError> {
+        self.put(b'\n')
+    }
+}
+
+/// Bytes as they are shown on one line: printable ASCII as it is, a tab as a space, any other byte as `\x` and two digits.
+pub fn shown(alloc: Global, text: &[u8]) -> Result<Message, AllocError>
+    ensures { IfOk result (λ message. message.bytes.items ≡ shown_text text.now) }
+{
+    let mut message = Message::new(alloc);
+    message.add(text)?;
+    Ok(message)
+}
