@@ -1,3 +1,7 @@
+ghost use Rattle.std.specs.Prelude.{◌≡◌, option_map};
+ghost use Rattle.wc_messages.specs.Parts.{text_of};
+ghost use Rattle.wc_model.specs.Run.JobSections.{sections_of};
+
 use wc_findings::Part;
 use wc_job::sections;
 
@@ -22,7 +26,9 @@ fn behind_heading(above: u32, section: &[u8]) -> u32 {
 }
 
 /// The section of a job that is this part, where the job has its headings.
-pub fn section_of(job: &[u8], part: Part) -> Option<Section<'_>> {
+pub fn section_of(job: &[u8], part: Part) -> Option<Section<'_>>
+    ensures { option_map (λ section. section.text.now) result ≡ text_of part (sections_of job.now) }
+{
     let Ok(found) = sections(job) else {
         return None;
     };
