@@ -20,6 +20,7 @@ use wc_lexer::{Shape, Token};
 use wc_model::{Line, Section, Unit};
 
 /// On a line, or behind its end.
+#[inline(always)]
 fn line_state<'a>(
     alloc: Global,
     body: Body<'a>,
@@ -42,6 +43,7 @@ fn line_state<'a>(
 }
 
 /// On a line, or behind its end, where a line goes on so.
+#[inline(always)]
 fn on_line<'a>(
     alloc: Global,
     body: Body<'a>,
@@ -74,6 +76,7 @@ fn section_begun(done: &[Line], text: &[u8]) -> Option<Section>
 
 /// Behind the first word of a line of a body with no parenthesis open, which does not end the unit and which no colon
 /// follows.
+#[inline(always)]
 fn at_word<'a>(
     alloc: Global,
     body: Body<'a>,
@@ -100,6 +103,7 @@ fn at_word<'a>(
 }
 
 /// Behind the token after a `)`: the line's end.
+#[inline(always)]
 pub(crate) fn at_closed<'a>(body: Body<'a>, token: Token<'a>) -> Option<TextState<'a>>
     requires { IsCounted body }
     ensures behind { (units : List ProgramUnit) (line : ℕ) (colon : Bool)
@@ -145,6 +149,7 @@ fn behind_unit<'a>(units: Vec<Unit<'a>, Global>, body: Body<'a>) -> Result<Readi
 }
 
 /// The units, where the token is inside the text that they begin.
+#[inline(always)]
 pub(crate) fn with_units<'a>(
     units: Vec<Unit<'a>, Global>,
     state: Option<TextState<'a>>,
@@ -161,6 +166,7 @@ pub(crate) fn with_units<'a>(
 }
 
 /// Behind the first word of a line of a body with no parenthesis open, which no colon follows: it may end the unit.
+#[inline(always)]
 fn at_body_word<'a>(
     alloc: Global,
     units: Vec<Unit<'a>, Global>,
@@ -187,6 +193,7 @@ fn at_body_word<'a>(
 }
 
 /// Behind the first identifier of a line of a body with no parenthesis open.
+#[inline(always)]
 fn at_body_identifier<'a>(
     alloc: Global,
     units: Vec<Unit<'a>, Global>,
@@ -212,6 +219,7 @@ fn at_body_identifier<'a>(
 }
 
 /// Behind the first token of a line of a body with no parenthesis open, other than a line end.
+#[inline(always)]
 fn at_body_line<'a>(
     alloc: Global,
     units: Vec<Unit<'a>, Global>,
@@ -254,6 +262,7 @@ fn at_closing<'a>(body: Body<'a>, line: u32) -> Result<Option<TextState<'a>>, Al
 }
 
 /// Behind the first token of a line in parentheses, other than a line end.
+#[inline(always)]
 fn at_inside_line<'a>(
     alloc: Global,
     body: Body<'a>,
@@ -276,6 +285,7 @@ fn at_inside_line<'a>(
 }
 
 /// Behind the first token of a line, other than a line end.
+#[inline(always)]
 fn at_line_start<'a>(
     alloc: Global,
     units: Vec<Unit<'a>, Global>,
@@ -300,6 +310,7 @@ fn at_line_start<'a>(
 }
 
 /// Behind one more token at the start of a line.
+#[inline(always)]
 pub(crate) fn at_line<'a>(
     alloc: Global,
     units: Vec<Unit<'a>, Global>,
@@ -325,6 +336,7 @@ pub(crate) fn at_line<'a>(
 }
 
 /// Behind one more token of a line that has begun.
+#[inline(always)]
 pub(crate) fn along_line<'a>(
     alloc: Global,
     body: Body<'a>,

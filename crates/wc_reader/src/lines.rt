@@ -17,6 +17,7 @@ use wc_lexer::{Shape, Token};
 use wc_model::{Condition, Operand, Operator, Word};
 
 /// Behind an operator.
+#[inline(always)]
 fn behind_operator<'a>(label: Option<Word<'a>>, line: u32, operation: Operation) -> LineState<'a>
     ensures { line_state_view result
         ≡ lines.behind_operator (option_map word_view label.entry) line (operation_view operation) }
@@ -32,6 +33,7 @@ fn behind_operator<'a>(label: Option<Word<'a>>, line: u32, operation: Operation)
 }
 
 /// Behind a token that has to be an operator.
+#[inline(always)]
 fn at_operator<'a>(label: Option<Word<'a>>, token: Token<'a>) -> Option<LineState<'a>>
     ensures { option_map line_state_view result
         ≡ lines.at_operator (option_map word_view label.entry) token.entry.line
@@ -58,6 +60,7 @@ fn operator_or_label<'a>(token: Token<'a>) -> LineState<'a>
 }
 
 /// Behind the first token of a line of a body; `colon` says whether a colon follows it.
+#[inline(always)]
 pub(crate) fn at_start<'a>(token: Token<'a>, colon: bool) -> Option<LineState<'a>>
     ensures { option_map line_state_view result
         ≡ lines.line_move InBody lines.Start (symbol_view token.entry) token.entry.line colon }
@@ -70,6 +73,7 @@ pub(crate) fn at_start<'a>(token: Token<'a>, colon: bool) -> Option<LineState<'a
 }
 
 /// Behind the first token of a line in parentheses, where no label, jump, call or return stands.
+#[inline(always)]
 pub(crate) fn at_start_inside<'a>(token: Token<'a>) -> Option<LineState<'a>>
     ensures { (colon : Bool)
         → option_map line_state_view result
@@ -100,6 +104,7 @@ fn at_labelled<'a>(label: Word<'a>, token: Token<'a>) -> Option<LineState<'a>>
 }
 
 /// Behind the token after a deferrable operator, which may open a parenthesis.
+#[inline(always)]
 fn at_applied<'a>(
     begun: Begun<'a>,
     operator: Operator,
@@ -122,6 +127,7 @@ fn at_applied<'a>(
 }
 
 /// Behind the token after an operator that takes an operand.
+#[inline(always)]
 fn at_operated<'a>(
     begun: Begun<'a>,
     operating: Operating,
@@ -188,6 +194,7 @@ fn at_called<'a>(begun: Begun<'a>, condition: Condition, token: Token<'a>) -> Op
 }
 
 /// Behind the token after a whole instruction: the line's end.
+#[inline(always)]
 fn at_step_end<'a>(begun: Begun<'a>, step: Step<'a>, token: Token<'a>) -> Option<LineState<'a>>
     ensures { (setting : Setting) (line : ℕ) (colon : Bool)
         → option_map line_state_view result
@@ -233,6 +240,7 @@ fn at_colon<'a>(label: Word<'a>, token: Token<'a>) -> Option<LineState<'a>>
 }
 
 /// Behind one more token of a line that has begun; none where no line goes on so.
+#[inline(always)]
 pub(crate) fn line_move<'a>(
     alloc: Global,
     state: LineState<'a>,

@@ -31,6 +31,7 @@ fn at_first_word<'a>(token: Token<'a>) -> Option<TextState<'a>>
 }
 
 /// Behind a token between units.
+#[inline(always)]
 fn outside<'a>(token: Token<'a>) -> Option<TextState<'a>>
     ensures behind { (units : List ProgramUnit) (colon : Bool)
         → option_map (state_view units) result
@@ -68,6 +69,7 @@ fn at_name<'a>(alloc: Global, kind: UnitKind, line: u32, token: Token<'a>) -> Op
 }
 
 /// In a section, or at the start of the body behind it.
+#[inline(always)]
 fn section_state<'a>(alloc: Global, declaring: Declaring<'a>) -> TextState<'a>
     ensures behind { (units : List ProgramUnit)
         → state_view units result ≡ section_view units declaring.entry }
@@ -85,6 +87,7 @@ fn section_state<'a>(alloc: Global, declaring: Declaring<'a>) -> TextState<'a>
 }
 
 /// Behind one more token of a section.
+#[inline(always)]
 fn in_section<'a>(
     alloc: Global,
     unit: Unit<'a>,
@@ -106,6 +109,7 @@ fn in_section<'a>(
 }
 
 /// Behind one more token; none where no text goes on so. `colon` says whether a colon follows it.
+#[inline(always)]
 pub(crate) fn text_move<'a>(
     alloc: Global,
     reading: Reading<'a>,

@@ -20,6 +20,7 @@ use wc_lexer::{Shape, Token, tokens};
 use wc_model::{Fault, Source};
 
 /// Whether the next token is a colon.
+#[inline(always)]
 fn is_colon_next(tokens: &[Token]) -> bool
     ensures { result ≡ colon_next (marks_of tokens.now) false }
 {
@@ -30,6 +31,7 @@ fn is_colon_next(tokens: &[Token]) -> bool
 }
 
 /// What stands behind a token of that line, which is unexpected where there is nothing.
+#[inline(always)]
 fn or_unexpected<'a>(next: Option<Reading<'a>>, line: u32) -> Result<Reading<'a>, Fault>
     ensures there { IfOk result (λ reading. next.entry ≡ Some reading) }
     ensures nothing { IfErr result
@@ -45,6 +47,7 @@ fn or_unexpected<'a>(next: Option<Reading<'a>>, line: u32) -> Result<Reading<'a>
 }
 
 /// Behind a token with which nothing else is wrong, or that it is unexpected.
+#[inline(always)]
 fn moved<'a>(
     alloc: Global,
     reading: Reading<'a>,
@@ -71,6 +74,7 @@ fn moved<'a>(
 }
 
 /// Behind one more token, or what is wrong with it. `colon` says whether a colon follows it.
+#[inline(always)]
 fn next_reading<'a>(
     alloc: Global,
     reading: Reading<'a>,
@@ -97,6 +101,7 @@ fn next_reading<'a>(
 }
 
 /// Behind the token at that index, or what is wrong with it.
+#[inline(always)]
 fn read_at<'a>(
     alloc: Global,
     reading: Reading<'a>,
