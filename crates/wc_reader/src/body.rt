@@ -53,6 +53,7 @@ pub(crate) fn body_start<'a>(alloc: Global, unit: Unit<'a>) -> Body<'a>
 }
 
 /// The line of a label alone.
+#[inline(always)]
 fn label_line<'a>(label: Word<'a>) -> Line<'a>
     ensures { (rest : Lines) → line_view result rest ≡ tree.Alone (word_view label.entry) rest }
 {
@@ -63,6 +64,7 @@ fn label_line<'a>(label: Word<'a>) -> Line<'a>
 }
 
 /// The line of an instruction.
+#[inline(always)]
 fn line_with<'a>(label: Option<Word<'a>>, instr: Instr<'a>) -> Line<'a>
     ensures { result ≡ record { label = label.entry; instr = Some instr.entry } }
 {
@@ -97,6 +99,7 @@ fn call_line<'a>(label: Option<Word<'a>>, call: Listed<'a>, line: u32) -> Line<'
 }
 
 /// The line of an instruction.
+#[inline(always)]
 fn step_line<'a>(begun: Begun<'a>, step: Step<'a>) -> Line<'a>
     ensures { (rest : Lines)
         → line_view result rest
@@ -183,6 +186,7 @@ fn one_more(count: usize) -> usize
 }
 
 /// The body behind a label alone.
+#[inline(always)]
 fn behind_label<'a>(body: Body<'a>, label: Word<'a>) -> Result<Body<'a>, AllocError>
     requires { IsCounted body }
     ensures behind { IfOk result
@@ -198,6 +202,7 @@ fn behind_label<'a>(body: Body<'a>, label: Word<'a>) -> Result<Body<'a>, AllocEr
 }
 
 /// The body behind an instruction.
+#[inline(always)]
 fn behind_step<'a>(body: Body<'a>, begun: Begun<'a>, step: Step<'a>) -> Result<Body<'a>, AllocError>
     requires { IsCounted body }
     ensures behind { IfOk result
@@ -252,6 +257,7 @@ fn behind_opening<'a>(
 }
 
 /// The body behind a line.
+#[inline(always)]
 pub(crate) fn behind_line<'a>(
     alloc: Global,
     body: Body<'a>,

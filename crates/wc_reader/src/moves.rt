@@ -31,6 +31,7 @@ fn at_first_word<'a>(token: Token<'a>) -> Option<TextState<'a>>
 }
 
 /// Behind a token between units.
+#[inline(always)]
 fn outside<'a>(token: Token<'a>) -> Option<TextState<'a>>
     ensures behind { (units : List ProgramUnit) (colon : Bool)
         → option_map (state_view units) result
