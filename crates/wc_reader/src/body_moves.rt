@@ -245,7 +245,6 @@ fn at_body_line<'a>(
 }
 
 /// Behind a `)` at the start of a line.
-#[inline(always)]
 fn at_closing<'a>(body: Body<'a>, line: u32) -> Result<Option<TextState<'a>>, AllocError>
     requires { IsCounted body }
     ensures behind { IfOk result

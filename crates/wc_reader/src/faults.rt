@@ -109,7 +109,6 @@ fn depth_fault<'a>(openings: &[Opening<'a>], line: u32) -> Option<Fault>
 }
 
 /// What is wrong with a token behind a deferrable operator.
-#[inline(always)]
 fn applied_fault(body: &Body, line: u32, token: Token) -> Option<Fault>
     ensures { (units : List ProgramUnit) (label : Option Word) (operator : Operator)
         → result
@@ -125,7 +124,6 @@ fn applied_fault(body: &Body, line: u32, token: Token) -> Option<Fault>
 }
 
 /// What is wrong with a token behind an operator that takes an operand.
-#[inline(always)]
 fn operated_fault<'a>(
     body: &Body<'a>,
     begun: &Begun<'a>,
@@ -146,7 +144,6 @@ fn operated_fault<'a>(
 }
 
 /// What is wrong with a token of a line that has begun: an operator behind a label, or a bracket behind an operator.
-#[inline(always)]
 fn state_fault<'a>(body: &Body<'a>, line: &LineState<'a>, token: Token<'a>) -> Option<Fault>
     requires { IsCounted body.now }
     ensures { (units : List ProgramUnit)
@@ -163,7 +160,6 @@ fn state_fault<'a>(body: &Body<'a>, line: &LineState<'a>, token: Token<'a>) -> O
 }
 
 /// What is wrong with a token, other than that it is unexpected. `colon` says whether a colon follows it.
-#[inline(always)]
 pub(crate) fn fault_at<'a>(reading: &Reading<'a>, token: Token<'a>, colon: bool) -> Option<Fault>
     requires { IsStateCounted reading.now.state }
     ensures { result

@@ -47,7 +47,6 @@ fn at_operator<'a>(label: Option<Word<'a>>, token: Token<'a>) -> Option<LineStat
 
 /// Behind a line's first identifier that no colon follows. One that is no operator may still be a label: what is wrong
 /// is the token behind it.
-#[inline(always)]
 fn operator_or_label<'a>(token: Token<'a>) -> LineState<'a>
     ensures { line_state_view result
         ≡ lines.operator_or_label
@@ -94,7 +93,6 @@ pub(crate) fn at_start_inside<'a>(token: Token<'a>) -> Option<LineState<'a>>
 }
 
 /// Behind the token after a label's colon.
-#[inline(always)]
 fn at_labelled<'a>(label: Word<'a>, token: Token<'a>) -> Option<LineState<'a>>
     ensures { option_map line_state_view result
         ≡ lines.at_labelled (word_view label.entry) (symbol_view token.entry) token.entry.line }
@@ -152,7 +150,6 @@ fn at_operated<'a>(
 }
 
 /// Behind the token after an operator's bracket.
-#[inline(always)]
 fn at_bracketed<'a>(
     begun: Begun<'a>,
     operator: Operator,
@@ -171,7 +168,6 @@ fn at_bracketed<'a>(
 }
 
 /// Behind the token after a jump's operator: its label.
-#[inline(always)]
 fn at_target<'a>(begun: Begun<'a>, condition: Condition, token: Token<'a>) -> Option<LineState<'a>>
     ensures { (setting : Setting) (line : ℕ) (colon : Bool)
         → option_map line_state_view result
@@ -185,7 +181,6 @@ fn at_target<'a>(begun: Begun<'a>, condition: Condition, token: Token<'a>) -> Op
 }
 
 /// Behind the token after a call's operator: its instance.
-#[inline(always)]
 fn at_called<'a>(begun: Begun<'a>, condition: Condition, token: Token<'a>) -> Option<LineState<'a>>
     ensures { (setting : Setting) (line : ℕ) (colon : Bool)
         → option_map line_state_view result
@@ -213,7 +208,6 @@ fn at_step_end<'a>(begun: Begun<'a>, step: Step<'a>, token: Token<'a>) -> Option
 }
 
 /// Behind the token after the operand of an opening line: the line's end.
-#[inline(always)]
 fn at_opening_end<'a>(
     begun: Begun<'a>,
     operator: Operator,
@@ -233,7 +227,6 @@ fn at_opening_end<'a>(
 }
 
 /// Behind the token after a label: its colon.
-#[inline(always)]
 fn at_colon<'a>(label: Word<'a>, token: Token<'a>) -> Option<LineState<'a>>
     ensures { (setting : Setting) (line : ℕ) (colon : Bool)
         → option_map line_state_view result
