@@ -4,15 +4,32 @@ use crate::lines::{front, line_start};
 use std::alloc::{AllocError, Global};
 use wc_lexer::{Shape, Token};
 
-/// How many tokens of a line are tried at most.
-const MOST_TRIED: u32 = 100;
-
 /// Where a token ends.
 fn token_end(token: &Token<'_>) -> usize {
     (token.start as usize).saturating_add(token.text.len())
 }
 
-/// The first token of a line with which the reader meets this fault, by its index.
+/// How many tokens stand before a line, or on it too.
+fn tokens_up_to(tokens: &[Token<'_>], line: u32) -> usize {
+    tokens.iter().take_while(|token| token.line <= line).count()
+}
+
+/// Whether the reader meets this fault in the text up to the end of the token of that index.
+fn is_met(
+    alloc: Global,
+    text: &[u8],
+    tokens: &[Token<'_>],
+    index: usize,
+    fault: (u16, u32),
+) -> bool {
+    match tokens.get(index) {
+        Some(token) => verdict(alloc, front(text, token_end(token))) == Some(fault),
+        None => false,
+    }
+}
+
+/// The first token of a line with which the reader meets this fault, by its index. Once it is met, it is met in all that goes
+/// on, so halving finds it.
 fn met_at(
     alloc: Global,
     text: &[u8],
@@ -20,17 +37,22 @@ fn met_at(
     number: u16,
     line: u32,
 ) -> Option<usize> {
-    let mut tried = 0_u32;
-    for index in 0..tokens.len() {
-        let token = tokens.get(index)?;
-        if token.line == line && tried < MOST_TRIED {
-            if verdict(alloc, front(text, token_end(token))) == Some((number, line)) {
-                return Some(index);
+    let mut first = tokens_up_to(tokens, line.saturating_sub(1));
+    let mut last = tokens_up_to(tokens, line).checked_sub(1)?;
+    if !is_met(alloc, text, tokens, last, (number, line)) {
+        return None;
+    }
+    for _ in 0..17 {
+        if first < last {
+            let middle = first + (last - first) / 2;
+            if is_met(alloc, text, tokens, middle, (number, line)) {
+                last = middle;
+            } else {
+                first = middle + 1;
             }
-            tried = tried.saturating_add(1);
         }
     }
-    None
+    Some(last)
 }
 
 /// Whether a token is one of two words.
@@ -115,17 +137,16 @@ fn tell_unexpected(
     }
 }
 
-/// Says which of the rules of its number a token of pass 2 breaks.
-fn tell_rule(finding: &mut Finding, number: u16, token: &Token<'_>) -> Result<(), AllocError> {
+/// Which of the rules of its number a token of pass 2 breaks, where it has more than one.
+fn rule_of(number: u16, token: &Token<'_>) -> Option<&'static str> {
     match (number, token.shape) {
-        (203, _) => finding.says = Some("a unit stands behind the PROGRAM"),
-        (206, Shape::Closing) => finding.says = Some("no parenthesis is open here"),
-        (206, _) => finding.says = Some("the parenthesis is not closed"),
-        (208, _) if is_unit_word(token) => finding.says = Some("there are more than 64 units"),
-        (208, _) => finding.says = Some("the unit has more than 1024 lines"),
-        _ => {}
+        (203, _) => Some("a unit stands behind the PROGRAM"),
+        (206, Shape::Closing) => Some("no parenthesis is open here"),
+        (206, _) => Some("the parenthesis is not closed"),
+        (208, _) if is_unit_word(token) => Some("there are more than 64 units"),
+        (208, _) => Some("the unit has more than 1024 lines"),
+        _ => None,
     }
-    Ok(())
 }
 
 /// Finds the fault of pass 2 on its line.
@@ -155,8 +176,8 @@ pub(crate) fn find_reading_fault(
         _ => point_to(finding, text, token),
     }
     if number == 201 {
-        tell_unexpected(alloc, finding, text, tokens, index)
-    } else {
-        tell_rule(finding, number, token)
+        return tell_unexpected(alloc, finding, text, tokens, index);
     }
+    finding.says = rule_of(number, token);
+    Ok(())
 }
