@@ -7,7 +7,8 @@
  *   WRITE_ROOM=N       standard output takes N bytes in all, and then each write fails
  *   WRITE_PIECE=N      a write to standard output takes at most N bytes
  *   INTERRUPTED=N      each Nth read or write is interrupted first
- *   COUNTS=FILE        at the end the number of calls that asked for memory is written there
+ *   COUNTS=FILE        at the end the number of calls that asked for memory is written there, and 1 where the call behind the
+ *                      refused one asked again, for no more, else 0
  */
 #define _GNU_SOURCE
 #include <dlfcn.h>
@@ -18,7 +19,8 @@
 #include <sys/types.h>
 #include <unistd.h>
 
-static long growths, transfers, refused, read_room = -1, read_piece, write_room = -1, write_piece, interrupted;
+static long growths, transfers, refused, asked_again, read_room = -1, read_piece, write_room = -1, write_piece, interrupted;
+static size_t refused_size;
 
 static ssize_t (*real_read)(int, void *, size_t);
 static ssize_t (*real_write)(int, const void *, size_t);
@@ -45,21 +47,24 @@ __attribute__((constructor)) static void begin(void)
 __attribute__((destructor)) static void end(void)
 {
     const char *path = getenv("COUNTS");
-    long count = growths;
+    long count = growths, again = asked_again;
     if (path) {
         FILE *file = fopen(path, "w");
         if (file) {
-            fprintf(file, "%ld\n", count);
+            fprintf(file, "%ld %ld\n", count, again);
             fclose(file);
         }
     }
 }
 
-static int is_refused(void)
+static int is_refused(size_t size)
 {
     growths += 1;
+    if (refused > 0 && growths == refused + 1)
+        asked_again = size <= refused_size;
     if (growths != refused)
         return 0;
+    refused_size = size;
     errno = ENOMEM;
     return 1;
 }
@@ -69,17 +74,17 @@ extern void *__libc_calloc(size_t, size_t);
 extern void *__libc_realloc(void *, size_t);
 extern void *__libc_memalign(size_t, size_t);
 
-void *malloc(size_t size) { return is_refused() ? NULL : __libc_malloc(size); }
+void *malloc(size_t size) { return is_refused(size) ? NULL : __libc_malloc(size); }
 
-void *calloc(size_t count, size_t size) { return is_refused() ? NULL : __libc_calloc(count, size); }
+void *calloc(size_t count, size_t size) { return is_refused(count * size) ? NULL : __libc_calloc(count, size); }
 
-void *realloc(void *old, size_t size) { return is_refused() ? NULL : __libc_realloc(old, size); }
+void *realloc(void *old, size_t size) { return is_refused(size) ? NULL : __libc_realloc(old, size); }
 
-void *aligned_alloc(size_t alignment, size_t size) { return is_refused() ? NULL : __libc_memalign(alignment, size); }
+void *aligned_alloc(size_t alignment, size_t size) { return is_refused(size) ? NULL : __libc_memalign(alignment, size); }
 
 int posix_memalign(void **place, size_t alignment, size_t size)
 {
-    if (is_refused())
+    if (is_refused(size))
         return ENOMEM;
     *place = __libc_memalign(alignment, size);
     return *place ? 0 : ENOMEM;
