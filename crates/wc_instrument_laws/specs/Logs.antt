@@ -19,6 +19,6 @@ AreInOrder number earliest (row ∷ rows) =
     (row.number ≡ number) × (number ≤ most_rows) × (earliest ≤ row.ms) × (row.ms ≤ greatest_moment) × IsDataInRange row.brings
     × AreInOrder (suc number) row.ms rows
 
--- so are the rows of every log; its row 1 is the one that names the fields
+-- so are the rows of every log; its first row, which names the fields, has the number before theirs
 abbrev pub RowsAreInOrder : Type 0
 RowsAreInOrder = (records : List Record) → AreInOrder 2 0 (log_of records).rows

@@ -38,7 +38,8 @@ pub(crate) fn on(current: i32) -> Moved
 #[inline(always)]
 pub(crate) fn over(current: i32, passes: bool, skip: u32) -> Moved
     ensures current { result.current ≡ current }
-    ensures course { course_view result.course ≡ elim passes [ true ↦ skips skip | false ↦ skips 0 ] }
+    ensures course { course_view result.course
+        ≡ elim passes [ true ↦ skips skip | false ↦ skips 0 ] }
 {
     Moved {
         current,

@@ -98,7 +98,8 @@ impl<'a> Scale<'a> {
     /// Takes bytes on the line, and gives the line of what was answered, if anything was.
     fn take_bytes(&mut self, room: &mut Room, ms: u64, bytes: &[u8]) -> Result<RowOutput, RunFault>
         ensures stands { OnOk result (TakesRow self.old self.new ms (Bytes bytes.now)) }
-        ensures output { IfOk result (λ output. Gives self.old ms (Bytes bytes.now) output room.new.text.items) }
+        ensures output { IfOk result
+            (λ output. Gives self.old ms (Bytes bytes.now) output room.new.text.items) }
         ensures machine { self.new.machine ≡ self.old.machine }
         ensures memory { IsOkUnless result RunFault.Memory }
     {
