@@ -64,9 +64,9 @@ row_read fields a k d number last ms brings e f h g =
     rw (three_are fields a k d e, ← f, order, g) refl
 
 -- three fields, a moment in order and data at fault make none
-pub row_refused : (fields : Record) (a k d : List ℕ) (number last ms : ℕ) (fault : RowFault) → Some (a ∷ k ∷ d ∷ []) ≡ three_of fields → Some ms ≡ moment_of a → last ≤ ms → SaysData (Err fault) (row_data_of k d)
-    → SaysRow (Err fault) (row_of_fields number (Some last) fields)
-row_refused fields a k d number last ms (Refused n) e f h g =
+pub row_refused : (bytes : List ℕ) (fields : Record) (a k d : List ℕ) (number last ms : ℕ) (fault : RowFault) → Some (a ∷ k ∷ d ∷ []) ≡ three_of fields → Some ms ≡ moment_of a → last ≤ ms → SaysData bytes (Err fault) (row_data_of k d)
+    → SaysRow bytes (Err fault) (row_of_fields number (Some last) fields)
+row_refused bytes fields a k d number last ms (Refused n) e f h g =
     let order : nat_le last ms ≡ true = grind (arith, nat_tests) in
     rw (three_are fields a k d e, ← f, order, g) refl
-row_refused fields a k d number last ms Memory e f h g = tt
+row_refused bytes fields a k d number last ms Memory e f h g = tt

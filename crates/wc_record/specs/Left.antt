@@ -38,6 +38,10 @@ rows_read rows = rows.number
 abbrev pub last_ms : {R : Type 0} → Rows R → ℕ
 last_ms rows = rows.last
 
+-- the bytes that are lent with the last row
+abbrev pub row_bytes : {R : Type 0} → Rows R → List ℕ
+row_bytes rows = rows.room.items
+
 -- what the reader had spent when it was lent
 abbrev pub started_at : {R : Type 0} → Rows R → ℕ
 started_at rows = rows.start
@@ -90,7 +94,7 @@ HasLeft bytes_left rows log = IsLeft bytes_left rows.end rows log
 -- an answer takes the first row that is left, or tells that none is left, or the refusal; a fault of the reader or of
 -- memory says nothing
 abbrev pub Takes : {R : Type 0} → (R → Option (List ℕ)) → LogOf → Answer → Rows R → Type 0
-Takes bytes_left log (Ok (Some row)) rows = (rest : LogOf) × (log ≡ with_row (row_view row) rest) × HasLeft bytes_left rows rest
+Takes bytes_left log (Ok (Some row)) rows = (rest : LogOf) × (log ≡ with_row (row_view (row_bytes rows) row) rest) × HasLeft bytes_left rows rest
 Takes bytes_left log (Ok None) rows = (log ≡ nothing_left) × HasLeft bytes_left rows log
 Takes bytes_left log (Err (fault.Refused number place)) rows = (log ≡ refused_at number place) × HasLeft bytes_left rows log
 Takes bytes_left log (Err fault.Read) rows = ⊤
@@ -104,7 +108,7 @@ pub record IsNext {R : Type 0} (number ms : ℕ) (rows : Rows R) (row : Row) : T
   pub in_order : ms ≤ row.ms
   pub kept : last_ms rows ≡ row.ms
   pub early : row.ms < 2 ^ 40
-  pub in_range : IsDataInRange (data_view row.kind)
+  pub in_range : IsDataInRange (data_view (row_bytes rows) row.kind)
 
 -- a failed read has its cause in the reader: it has failed since, or its count of failures stands at its end, or as much
 -- was read as may be
@@ -114,12 +118,3 @@ HasCause failures_before failures start spent = (failures_before < failures) ⊎
 -- the same of the reader that is lent
 abbrev pub HasCauseIn : {R : Type 0} → (R → ℕ) → (R → ℕ) → ℕ → Rows R → Type 0
 HasCauseIn failures spent before rows = HasCause before (count_in failures rows) (started_at rows) (count_in spent rows)
-
--- all that was counted, and how the log has ended, is as it was
-pub record KeepsAll {R : Type 0} (old new : Rows R) : Type 0 where
-  pub read : rows_read new ≡ rows_read old
-  pub last : last_ms new ≡ last_ms old
-  pub end : ended new ≡ ended old
-  pub start : started_at new ≡ started_at old
-  pub bounded : bounded_from new ≡ bounded_from old
-  pub counts : (count : R → ℕ) → count_in count new ≡ count_in count old

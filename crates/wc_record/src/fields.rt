@@ -7,7 +7,6 @@ use crate::numbers::moment;
 use crate::row_data::{RowFault, row_data};
 use crate::row_kind::Row;
 use csv::ByteRecord;
-use std::alloc::Global;
 
 /// The three fields of a row.
 #[derive(Drop)]
@@ -48,17 +47,17 @@ pub(crate) fn is_first_row(row: &ByteRecord) -> bool
     }
 }
 
-/// The row of that number that a record writes, where the last row's moment was `last`, 0 before any.
+/// The row of that number that a record writes, whose bytes stand in the room then, where the last row's moment was `last`, 0 before any.
 #[inline(always)]
 pub(crate) fn row_in(
-    alloc: Global,
     room: &mut Vec<u8>,
     row: &ByteRecord,
     number: u32,
     last: u64,
 ) -> Result<Row, RowFault>
-    ensures says { SaysRow result (row_of_fields number (Some last) (fields_of row.now)) }
-    ensures range { IfOk result (λ read. IsDataInRange (data_view read.kind)) }
+    ensures says { SaysRow room.new.items result
+        (row_of_fields number (Some last) (fields_of row.now)) }
+    ensures range { IfOk result (λ read. IsDataInRange (data_view room.new.items read.kind)) }
 {
     let Some(fields) = three_fields(row) else {
         return Err(RowFault::Refused(601));
@@ -69,7 +68,7 @@ pub(crate) fn row_in(
     if ms < last {
         return Err(RowFault::Refused(603));
     }
-    match row_data(alloc, room, fields.kind, fields.text) {
+    match row_data(room, fields.kind, fields.text) {
         Ok(kind) => Ok(Row { number, ms, kind }),
         Err(fault) => Err(fault),
     }

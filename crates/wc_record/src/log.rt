@@ -1,7 +1,7 @@
 ghost use Rattle.std.specs.Prelude.{◌≡◌, ◌⊎◌, ◌∷◌, [], suc, max, ℕ, List, Some, None, true, false, IfOk, IfErr, IfSome, OnOk, IsErrOf};
 ghost use Rattle.csv.specs.Records.{fields_of};
 ghost use Rattle.wc_model.specs.Run.Log.{Record, LogOf, log_of, log_after};
-ghost use Rattle.wc_record.specs.Left.{HasCauseIn, HasLeft, IsNext, KeepsAll, StandsBehind, Takes, bounded_from, count_in, ended, last_ms, log_behind, rows_read, started_at};
+ghost use Rattle.wc_record.specs.Left.{HasCauseIn, HasLeft, IsNext, StandsBehind, Takes, bounded_from, count_in, ended, last_ms, log_behind, row_bytes, rows_read, started_at};
 ghost use Rattle.wc_record.specs.Left as left;
 ghost use Rattle.wc_record.specs.Reading.{TakesFirst, records_of};
 ghost use Rattle.wc_record.specs.Source.{SourceHas};
@@ -10,7 +10,7 @@ ghost use Rattle.wc_record.specs.Steps.{GivesRecord, IsBehindFirst, Keeps, Keeps
 use crate::bounded::{Bounded, is_used_up};
 use crate::fields::{is_first_row, row_in};
 use crate::row_data::RowFault;
-use crate::row_kind::{LogFault, Row, RowKind};
+use crate::row_kind::{LogFault, Row};
 use crate::source::Source;
 use csv::ByteRecord;
 use std::alloc::Global;
@@ -55,7 +55,6 @@ fn end_behind(answer: &Result<Option<Row>, LogFault>) -> Option<LogEnd>
 /// reads: without a byte order mark, of any number of fields, and blank lines are none.
 #[derive(Drop)]
 pub struct Rows<'r, R> {
-    alloc: Global,
     source: Source<'r, R>,
     row: ByteRecord,
     room: Vec<u8>,
@@ -79,7 +78,6 @@ impl<'r, R: ByteIn> Rows<'r, R> {
     {
         let start = reader.spent();
         Rows {
-            alloc,
             source: Source::new(alloc, Bounded { reader, start }),
             row: ByteRecord::new(alloc),
             room: Vec::new(alloc),
@@ -180,7 +178,7 @@ impl<'r, R: ByteIn> Rows<'r, R> {
             });
         }
         let number = self.number + 1;
-        match row_in(self.alloc, &mut self.room, &self.row, number, self.last) {
+        match row_in(&mut self.room, &self.row, number, self.last) {
             Ok(row) => {
                 self.number = number;
                 self.last = row.ms;
@@ -263,7 +261,7 @@ impl<'r, R: ByteIn> Rows<'r, R> {
         }
     }
 
-    /// The next row behind the first, or `None` where none is left. `Refused` names the first rule that is broken, 601
+    /// The next row behind the first, or `None` where none is left; `bytes` lends what a row of bytes brings. `Refused` names the first rule that is broken, 601
     /// to 608, and its row. `Read` comes only where the reader failed in this call or its count of failures is at its
     /// end, or where as much was read as may be: 134217728 bytes and calls since `new`. `Memory` comes where a growth
     /// was refused, and where a read failed, without such a cause. After `None` or a fault each call answers the same
@@ -298,16 +296,11 @@ impl<'r, R: ByteIn> Rows<'r, R> {
         }
     }
 
-    /// Takes a row that is done: the room of its bytes serves the next row that brings bytes. What is left to be read, and
-    /// what was counted, stay as they were.
+    /// The bytes that the last row brought, where it is one of bytes. They stand until the next row is read.
     #[inline(always)]
-    pub fn recycle(&mut self, row: Row)
-        ensures left { (log : LogOf) → HasLeft R.bytes_left self.old log
-            → HasLeft R.bytes_left self.new log }
-        ensures same { KeepsAll self.old self.new }
+    pub fn bytes(&self) -> &[u8]
+        ensures { result.now ≡ row_bytes self.now }
     {
-        if let RowKind::Bytes(bytes) = row.kind {
-            self.room = bytes;
-        }
+        self.room.as_slice()
     }
 }

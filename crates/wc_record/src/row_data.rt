@@ -1,4 +1,4 @@
-ghost use Rattle.std.specs.Prelude.{IfOk};
+ghost use Rattle.std.specs.Prelude.{ℕ, List, IfOk};
 ghost use Rattle.wc_model.specs.Run.Log.{row_data_of};
 ghost use Rattle.wc_model.specs.Run.Log as log;
 ghost use Rattle.wc_model.specs.Run.Rows as rows;
@@ -7,8 +7,6 @@ ghost use Rattle.wc_record.specs.Views.{IsDataInRange, SaysData, data_view};
 use crate::hexadecimal::{inputs_word, line_piece};
 use crate::numbers::counts;
 use crate::row_kind::RowKind;
-use std::alloc::Global;
-use std::mem;
 
 /// Why fields are no row.
 pub(crate) enum RowFault {
@@ -21,8 +19,10 @@ pub(crate) enum RowFault {
 /// A sample.
 #[inline(always)]
 fn sample(text: &[u8]) -> Result<RowKind, RowFault>
-    ensures says { SaysData result (log.brings_or 605 rows.Counts (log.counts_of text.now)) }
-    ensures range { IfOk result (λ kind. IsDataInRange (data_view kind)) }
+    ensures says { (bytes : List ℕ)
+        → SaysData bytes result (log.brings_or 605 rows.Counts (log.counts_of text.now)) }
+    ensures range { (bytes : List ℕ)
+        → IfOk result (λ kind. IsDataInRange (data_view bytes kind)) }
 {
     match counts(text) {
         Some(counts) => Ok(RowKind::Counts(counts)),
@@ -30,13 +30,14 @@ fn sample(text: &[u8]) -> Result<RowKind, RowFault>
     }
 }
 
-/// Bytes on the line, in the room that is kept for them, which is left empty.
-fn line_bytes(alloc: Global, room: &mut Vec<u8>, text: &[u8]) -> Result<RowKind, RowFault>
-    ensures says { SaysData result (log.brings_or 606 rows.Bytes (log.line_piece_of text.now)) }
-    ensures range { IfOk result (λ kind. IsDataInRange (data_view kind)) }
+/// Bytes on the line, which stand in the room then.
+fn line_bytes(room: &mut Vec<u8>, text: &[u8]) -> Result<RowKind, RowFault>
+    ensures says { SaysData room.new.items result
+        (log.brings_or 606 rows.Bytes (log.line_piece_of text.now)) }
+    ensures range { IfOk result (λ kind. IsDataInRange (data_view room.new.items kind)) }
 {
     match line_piece(room, text) {
-        Ok(true) => Ok(RowKind::Bytes(mem::replace(room, Vec::new(alloc)))),
+        Ok(true) => Ok(RowKind::Bytes),
         Ok(false) => Err(RowFault::Refused(606)),
         Err(_) => Err(RowFault::Memory),
     }
@@ -45,8 +46,10 @@ fn line_bytes(alloc: Global, room: &mut Vec<u8>, text: &[u8]) -> Result<RowKind,
 /// Inputs.
 #[inline(always)]
 fn inputs(text: &[u8]) -> Result<RowKind, RowFault>
-    ensures says { SaysData result (log.brings_or 606 rows.Inputs (log.inputs_word_of text.now)) }
-    ensures range { IfOk result (λ kind. IsDataInRange (data_view kind)) }
+    ensures says { (bytes : List ℕ)
+        → SaysData bytes result (log.brings_or 606 rows.Inputs (log.inputs_word_of text.now)) }
+    ensures range { (bytes : List ℕ)
+        → IfOk result (λ kind. IsDataInRange (data_view bytes kind)) }
 {
     match inputs_word(text) {
         Some(inputs) => Ok(RowKind::Inputs(inputs)),
@@ -57,8 +60,9 @@ fn inputs(text: &[u8]) -> Result<RowKind, RowFault>
 /// A scan, which has no data.
 #[inline(always)]
 fn scan(text: &[u8]) -> Result<RowKind, RowFault>
-    ensures says { SaysData result (log.scan_of_data text.now) }
-    ensures range { IfOk result (λ kind. IsDataInRange (data_view kind)) }
+    ensures says { (bytes : List ℕ) → SaysData bytes result (log.scan_of_data text.now) }
+    ensures range { (bytes : List ℕ)
+        → IfOk result (λ kind. IsDataInRange (data_view bytes kind)) }
 {
     if text.is_empty() {
         Ok(RowKind::Scan)
@@ -67,20 +71,15 @@ fn scan(text: &[u8]) -> Result<RowKind, RowFault>
     }
 }
 
-/// What a kind and its data bring; bytes come in the room, where there is one.
+/// What a kind and its data bring; bytes stand in the room then.
 #[inline(always)]
-pub(crate) fn row_data(
-    alloc: Global,
-    room: &mut Vec<u8>,
-    kind: &[u8],
-    text: &[u8],
-) -> Result<RowKind, RowFault>
-    ensures says { SaysData result (row_data_of kind.now text.now) }
-    ensures range { IfOk result (λ kind. IsDataInRange (data_view kind)) }
+pub(crate) fn row_data(room: &mut Vec<u8>, kind: &[u8], text: &[u8]) -> Result<RowKind, RowFault>
+    ensures says { SaysData room.new.items result (row_data_of kind.now text.now) }
+    ensures range { IfOk result (λ kind. IsDataInRange (data_view room.new.items kind)) }
 {
     match kind {
         b"C" => sample(text),
-        b"L" => line_bytes(alloc, room, text),
+        b"L" => line_bytes(room, text),
         b"I" => inputs(text),
         b"S" => scan(text),
         _ => Err(RowFault::Refused(604)),

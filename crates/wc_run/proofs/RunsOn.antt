@@ -7,7 +7,7 @@ use Rattle.wc_model.specs.Run.Log.{LogOf}
 use Rattle.wc_model.specs.Instrument.Plates.{PlateData}
 use Rattle.wc_model.specs.Run.Rows.{LogRow, Past}
 use Rattle.wc_model.specs.Say.Report.{ReportLine, report_text}
-use Rattle.wc_record.specs.Left.{HasLeft, Takes}
+use Rattle.wc_record.specs.Left.{HasLeft, Takes, row_bytes}
 use Rattle.wc_record.specs.Recorders.{RecorderState}
 use Rattle.wc_record.specs.Views.{row_view}
 use Rattle.wc_record.specs.declared.log.Rows.{Rows}
@@ -72,13 +72,13 @@ module _ {R : Type 0} (bytes_left : R → Option (List ℕ)) (rows : Rows R) (sc
   -- behind one row more
   pub one_more : (rows' : Rows R) (scale' : Scale) (recorder' : Option RecorderState) (new : Option (List ℕ)) (row : Row) {X : Type 0} (x : X)
       → Takes bytes_left r.left (Ok (Some row)) rows'
-      → Does plate logic number (lines_so_far plate logic r.past) r.past (row_view row) scale' recorder' (Ok x) mid new
+      → Does plate logic number (lines_so_far plate logic r.past) r.past (row_view (row_bytes rows') row) scale' recorder' (Ok x) mid new
       → Running bytes_left rows' scale' recorder' plate logic number log (count + 1) old new
   one_more rows' scale' recorder' new row x takes does =
-      let here : List ReportLine = lines_of_row plate logic r.past (row_view row) in
+      let here : List ReportLine = lines_of_row plate logic r.past (row_view (row_bytes rows') row) in
       let before : List ReportLine = lines_so_far plate logic r.past in
       record {
-        past = row_view row ∷ r.past;
+        past = row_view (row_bytes rows') row ∷ r.past;
         left = takes.0;
         has_left = takes.2;
         same_refusal = r.same_refusal ∙ ap (λ l. l.refusal) takes.1;
@@ -134,20 +134,20 @@ module _ {R : Type 0} (bytes_left : R → Option (List ℕ)) (rows : Rows R) (sc
 
   -- a row of which a front was written
   front_of_row : (rows' : Rows R) (new : Option (List ℕ)) (row : Row) → Takes bytes_left r.left (Ok (Some row)) rows'
-      → AppendsFront mid new (report_text (lines_at_once number (lines_of_row plate logic r.past (row_view row))))
+      → AppendsFront mid new (report_text (lines_at_once number (lines_of_row plate logic r.past (row_view (row_bytes rows') row))))
       → AppendsFront old new (text_at_once number plate logic log.rows)
   front_of_row rows' new row takes cut =
-      let here : List ReportLine = lines_of_row plate logic r.past (row_view row) in
+      let here : List ReportLine = lines_of_row plate logic r.past (row_view (row_bytes rows') row) in
       let before : List ReportLine = lines_so_far plate logic r.past in
-      let behind : List ReportLine = lines_of_rows plate logic (row_view row ∷ r.past) takes.0.rows in
+      let behind : List ReportLine = lines_of_rows plate logic (row_view (row_bytes rows') row ∷ r.past) takes.0.rows in
       let done : List ℕ = report_text (lines_at_once number before) in
       let later : List ℕ = report_text (lines_at_once number behind) in (
         done ++ cut.0,
         cut.1 ++ later,
         ap (λ l. text_at_once number plate logic l) (r.in_all ∙ ap (λ l. onto r.past l.rows) takes.1)
-            ∙ ap (λ l. report_text (lines_at_once number l)) (lines_of_all plate logic r.past (row_view row ∷ takes.0.rows))
-            ∙ once_text number before (lines_of_rows plate logic r.past (row_view row ∷ takes.0.rows))
-            ∙ ap (λ t. done ++ t) (ap (λ l. report_text (lines_at_once number l)) (one_row_more plate logic r.past (row_view row) takes.0.rows)
+            ∙ ap (λ l. report_text (lines_at_once number l)) (lines_of_all plate logic r.past (row_view (row_bytes rows') row ∷ takes.0.rows))
+            ∙ once_text number before (lines_of_rows plate logic r.past (row_view (row_bytes rows') row ∷ takes.0.rows))
+            ∙ ap (λ t. done ++ t) (ap (λ l. report_text (lines_at_once number l)) (one_row_more plate logic r.past (row_view (row_bytes rows') row) takes.0.rows)
             ∙ once_text number here behind ∙ ap (λ t. t ++ later) cut.2 ∙ append_assoc cut.0 cut.1 later)
             ∙ sym (append_assoc done cut.0 (cut.1 ++ later)),
         Appends-trans old mid new done cut.0 r.written cut.3,
@@ -155,7 +155,7 @@ module _ {R : Type 0} (bytes_left : R → Option (List ℕ)) (rows : Rows R) (sc
 
   -- a row that was not done to its end
   pub at_row : (rows' : Rows R) (recorder' : Option RecorderState) (new : Option (List ℕ)) (row : Row) → Takes bytes_left r.left (Ok (Some row)) rows'
-      → (met : RunFault) → IsCutShort met mid new (report_text (lines_at_once number (lines_of_row plate logic r.past (row_view row))))
+      → (met : RunFault) → IsCutShort met mid new (report_text (lines_at_once number (lines_of_row plate logic r.past (row_view (row_bytes rows') row))))
       → RunsRows number plate logic log recorder' (Err met) old new
   at_row rows' recorder' new row takes (Refused code place) cut = absurd cut
   at_row rows' recorder' new row takes Read cut = absurd cut

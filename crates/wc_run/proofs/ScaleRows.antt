@@ -74,7 +74,7 @@ takes_scan old machine new ms image is told takes plate logic past number stands
     }
 
 -- the scale stands after the row that brings this
-pub takes_row : (old new : Scale) (row : Row) (brings : RowData) → data_view row.kind ≡ brings → TakesRow old new row.ms brings →
-    (plate : PlateData) (logic : Option Logic) (past : Past) → Stands old plate logic past → Stands new plate logic (row_view row ∷ past)
-takes_row old new row brings is takes plate logic past stands =
+pub takes_row : (old new : Scale) (bytes : List ℕ) (row : Row) (brings : RowData) → data_view bytes row.kind ≡ brings → TakesRow old new row.ms brings →
+    (plate : PlateData) (logic : Option Logic) (past : Past) → Stands old plate logic past → Stands new plate logic (row_view bytes row ∷ past)
+takes_row old new bytes row brings is takes plate logic past stands =
     subst (λ kind. Stands new plate logic (row_at row.number row.ms kind ∷ past)) (sym is) (takes plate logic past row.number stands)

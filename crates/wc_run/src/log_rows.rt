@@ -4,7 +4,7 @@ ghost use Rattle.wc_model.specs.Instrument.Plates.{PlateData};
 ghost use Rattle.wc_model.specs.Run.Rows.{Past};
 ghost use Rattle.wc_model.specs.Run.Writing.{HasFailedSince};
 ghost use Rattle.wc_model.specs.Say.Report.{ReportLine};
-ghost use Rattle.wc_record.specs.Left.{HasLeft, KeepsAll, last_ms, rows_read};
+ghost use Rattle.wc_record.specs.Left.{HasLeft, last_ms, rows_read};
 ghost use Rattle.wc_record.specs.Reading.{records_of};
 ghost use Rattle.wc_record.specs.Views.{IsDataInRange, data_view, row_view};
 ghost use Rattle.wc_run.specs.Deferring.{HoldsScans};
@@ -21,36 +21,31 @@ use std::alloc::Global;
 use wc_model::{ByteIn, ByteOut};
 use wc_record::{LogFault, Recorder, Row, Rows};
 
-/// Does a row and puts what is printed of it. The room of its bytes goes back to the rows.
+/// Does a row, with the bytes that are lent with it, and puts what is printed of it.
 #[inline(always)]
-fn run_row<R: ByteIn, W: ByteOut>(
+fn run_row<W: ByteOut>(
     room: &mut Room,
     scale: &mut Scale<'_>,
-    rows: &mut Rows<'_, R>,
     row: Row,
+    bytes: &[u8],
     recorder: &mut Option<Recorder>,
     writer: &mut W,
 ) -> Result<(), RunFault>
-    requires in_range { IsDataInRange (data_view row.kind) }
+    requires in_range { IsDataInRange (data_view bytes.now row.kind) }
     requires early { row.ms < 2 ^ 40 }
     requires in_order { IsNotBehind scale.old row.ms }
     ensures does { (plate : PlateData) (logic : Option Logic) (past : Past)
         (number : Option ℕ) (before : List ReportLine)
         → Stands scale.old plate logic past → HoldsScans recorder.old number before
-        → Does plate logic number before past (row_view row) scale.new recorder.new result
+        → Does plate logic number before past (row_view bytes.now row) scale.new recorder.new result
         (W.bytes_taken writer.old) (W.bytes_taken writer.new) }
     ensures in_order { OnOk result (IsNotBehind scale.new row.ms) }
-    ensures left { (log : LogOf) → HasLeft R.bytes_left rows.old log
-        → HasLeft R.bytes_left rows.new log }
-    ensures same { KeepsAll rows.old rows.new }
     ensures write { IsErrOf result RunFault.Write
         → HasFailedSince (W.failure_count writer.old) (W.failure_count writer.new) }
     ensures steady { ¬ IsErrOf result RunFault.Write
         → W.failure_count writer.new ≡ W.failure_count writer.old }
 {
-    let taken = scale.take(room, &row);
-    rows.recycle(row);
-    match taken {
+    match scale.take(room, row, bytes) {
         Ok(output) => put(output, &mut room.text, recorder, writer),
         Err(fault) => Err(fault),
     }
@@ -91,7 +86,7 @@ fn run_rows<R: ByteIn, W: ByteOut>(
     loop {
         match rows.next() {
             Ok(given) => match given {
-                Some(row) => match run_row(room, scale, rows, row, recorder, writer) {
+                Some(row) => match run_row(room, scale, row, rows.bytes(), recorder, writer) {
                     Ok(()) => count += 1,
                     Err(fault) => return Err(fault),
                 },

@@ -53,32 +53,38 @@ impl<'a> Scale<'a> {
         }
     }
 
-    /// Does a row, and gives what is to be printed of it; a line stands in the room then.
+    /// Does a row, with the bytes that are lent with it, and gives what is to be printed of it; a line stands in the room
+    /// then.
     #[inline(always)]
-    pub(crate) fn take(&mut self, room: &mut Room, row: &Row) -> Result<RowOutput, RunFault>
-        requires in_range { IsDataInRange (data_view row.now.kind) }
-        requires early { row.now.ms < 2 ^ 40 }
-        requires in_order { IsNotBehind self.old row.now.ms }
+    pub(crate) fn take(
+        &mut self,
+        room: &mut Room,
+        row: Row,
+        bytes: &[u8],
+    ) -> Result<RowOutput, RunFault>
+        requires in_range { IsDataInRange (data_view bytes.now row.kind) }
+        requires early { row.ms < 2 ^ 40 }
+        requires in_order { IsNotBehind self.old row.ms }
         ensures stands { OnOk result
             ((plate : PlateData) (logic : Option Logic) (past : Past)
             → Stands self.old plate logic past
-            → Stands self.new plate logic (row_view row.now ∷ past)) }
+            → Stands self.new plate logic (row_view bytes.now row ∷ past)) }
         ensures output { IfOk result
             (λ output. (plate : PlateData) (logic : Option Logic) (past : Past)
             → Stands self.old plate logic past
             → IsOutput output room.new.text.items
-            (lines_of_row plate logic past (row_view row.now))) }
-        ensures in_order { OnOk result (IsNotBehind self.new row.now.ms) }
+            (lines_of_row plate logic past (row_view bytes.now row))) }
+        ensures in_order { OnOk result (IsNotBehind self.new row.ms) }
         ensures memory { IsOkUnless result RunFault.Memory }
     {
-        match &row.kind {
+        match row.kind {
             RowKind::Counts(counts) => {
-                self.take_sample(*counts);
+                self.take_sample(counts);
                 Ok(RowOutput::Nothing)
             }
-            RowKind::Bytes(bytes) => self.take_bytes(room, row.ms, bytes),
+            RowKind::Bytes => self.take_bytes(room, row.ms, bytes),
             RowKind::Inputs(inputs) => {
-                self.take_inputs(*inputs);
+                self.take_inputs(inputs);
                 Ok(RowOutput::Nothing)
             }
             RowKind::Scan => Ok(self.take_scan(row.ms)),

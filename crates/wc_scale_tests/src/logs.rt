@@ -56,12 +56,10 @@ fn rows_of_each_kind(rt: HostRuntime) {
                 assert_eq!(rt; ms, want_ms);
                 match (number, kind) {
                     (2, RowKind::Counts(counts)) => assert_eq!(rt; counts, -8388608),
-                    (3, RowKind::Bytes(bytes)) => {
-                        assert!(rt; bytes.as_slice() == b"\nZ\r".as_slice());
-                    }
+                    (3, RowKind::Bytes) => assert!(rt; rows.bytes() == b"\nZ\r".as_slice()),
                     (4, RowKind::Inputs(inputs)) => assert_eq!(rt; inputs, 0xff01),
                     (5, RowKind::Scan) => {}
-                    (6, RowKind::Bytes(bytes)) => assert!(rt; bytes.is_empty()),
+                    (6, RowKind::Bytes) => assert!(rt; rows.bytes().is_empty()),
                     (7, RowKind::Counts(counts)) => assert_eq!(rt; counts, 0),
                     (8, RowKind::Counts(counts)) => assert_eq!(rt; counts, 8388607),
                     _ => assert!(rt; false, "kind of row {number}"),
@@ -193,7 +191,7 @@ fn row_of_bytes(alloc: Global, count: usize) -> Result<Vec<u8, Global>, AllocErr
 }
 
 #[test]
-fn a_row_that_is_done_gives_its_room(rt: HostRuntime) {
+fn rows_lend_their_bytes(rt: HostRuntime) {
     let alloc = rt.alloc();
     let text = b"ms,kind,data\n0,L,0a5a0d\n0,L,41\n1,S,\n2,L,\n3,L,0d0d0d0d\n";
     let mut device = Device::new(text.as_slice());
@@ -206,14 +204,11 @@ fn a_row_that_is_done_gives_its_room(rt: HostRuntime) {
         Some(b"\r\r\r\r".as_slice()),
     ] {
         match rows.next() {
-            Ok(Some(row)) => {
-                match (&row.kind, want) {
-                    (RowKind::Bytes(bytes), Some(want)) => assert!(rt; bytes.as_slice() == want),
-                    (RowKind::Scan, None) => {}
-                    _ => assert!(rt; false),
-                }
-                rows.recycle(row);
-            }
+            Ok(Some(row)) => match (row.kind, want) {
+                (RowKind::Bytes, Some(want)) => assert!(rt; rows.bytes() == want),
+                (RowKind::Scan, None) => {}
+                _ => assert!(rt; false),
+            },
             _ => assert!(rt; false),
         }
     }
@@ -231,11 +226,11 @@ fn a_row_brings_4096_bytes(rt: HostRuntime) -> Result<(), Fail> {
         Ok(
             Some(
                 Row {
-                    kind: RowKind::Bytes(bytes),
+                    kind: RowKind::Bytes,
                     ..
                 },
             ),
-        ) => assert_eq!(rt; bytes.len(), 4096),
+        ) => assert_eq!(rt; rows.bytes().len(), 4096),
         _ => assert!(rt; false),
     }
     drop(rows);

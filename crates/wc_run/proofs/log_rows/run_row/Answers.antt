@@ -6,6 +6,6 @@ use Rattle.wc_run.proofs.log_rows.run_row.Goals as goal
 pub returns-in-Ok-clause-does : goal.returns-in-Ok-clause-does
 returns-in-Ok-clause-does g c = λ plate logic past number before stands holds.
     let taken = g.W.ByteOut.bytes_taken in
-    does_row c.put.result plate logic number before past (row_view c.args.row) c.take-taken.new.self c.put.new.recorder (taken c.args.writer.now) (taken c.put.new.writer)
+    does_row c.put.result plate logic number before past (row_view c.args.bytes.now c.args.row) c.take.new.self c.put.new.recorder (taken c.args.writer.now) (taken c.put.new.writer)
     (c.in-Ok.ensures.stands plate logic past stands)
-    (c.put.ensures.puts number before (lines_of_row plate logic past (row_view c.args.row)) (c.in-Ok.ensures.output plate logic past stands) holds)
+    (c.put.ensures.puts number before (lines_of_row plate logic past (row_view c.args.bytes.now c.args.row)) (c.in-Ok.ensures.output plate logic past stands) holds)

@@ -12,26 +12,24 @@ returns-in-Err-run_row-clause-reports g c = λ log has plate logic number stands
     at_row g.R.ByteIn.bytes_left c.loop-given.rows c.loop-given.scale c.loop-given.recorder plate logic number log c.loop-given.count
     (taken c.args.writer.now) (taken c.loop-given.writer) r c.next.new.self c.run_row.new.recorder (taken c.run_row.new.writer) c.in-Some.row
     (rw c.in-Some.is at (c.in-Ok.ensures.takes r.left r.has_left)) c.in-Err-run_row.fault
-    (c.in-Err-run_row.ensures.does plate logic r.past number (lines_so_far plate logic r.past) r.stands r.holds)
+    (rw c.bytes.ensures at c.in-Err-run_row.ensures.does plate logic r.past number (lines_so_far plate logic r.past) r.stands r.holds)
 
 pub loop-given-preserved : goal.loop-given-preserved
 loop-given-preserved g c =
     let taken = g.W.ByteOut.bytes_taken in
     let next = rw c.in-Some.is at c.in-Ok.ensures.row in
     let done = c.in-Ok-run_row.ensures in
-    let last = done.same.last ∙ next.kept in
-    let read = done.same.read in
     record {
       running = λ log has plate logic number stands holds.
           let r = c.loop-given.invariant.running log has plate logic number stands holds in
           let takes = rw c.in-Some.is at (c.in-Ok.ensures.takes r.left r.has_left) in
           one_more g.R.ByteIn.bytes_left c.loop-given.rows c.loop-given.scale c.loop-given.recorder plate logic number log c.loop-given.count
-          (taken c.args.writer.now) (taken c.loop-given.writer) r c.run_row.new.rows c.run_row.new.scale c.run_row.new.recorder (taken c.run_row.new.writer) c.in-Some.row {X = Unit {0}} tt
-          (takes.0, takes.1, done.left takes.0 takes.2)
-          (done.does plate logic r.past number (lines_so_far plate logic r.past) r.stands r.holds);
-      in_order = subst (λ ms. IsNotBehind c.run_row.new.scale ms) (sym last) done.in_order;
-      numbered = omega (arith, c.loop-given.invariant.numbered, next.number_is, next.counted, read);
-      few = omega (arith, next.counted, next.few, read);
+          (taken c.args.writer.now) (taken c.loop-given.writer) r c.next.new.self c.run_row.new.scale c.run_row.new.recorder (taken c.run_row.new.writer) c.in-Some.row {X = Unit {0}} tt
+          takes
+          (rw c.bytes.ensures at done.does plate logic r.past number (lines_so_far plate logic r.past) r.stands r.holds);
+      in_order = subst (λ ms. IsNotBehind c.run_row.new.scale ms) (sym next.kept) done.in_order;
+      numbered = omega (arith, c.loop-given.invariant.numbered, next.number_is, next.counted);
+      few = omega (arith, next.counted, next.few);
       steady = done.steady (λ e. cc) ∙ c.loop-given.invariant.steady;
     }
 

@@ -8,22 +8,22 @@ use Rattle.wc_run.proofs.scale.Scale.take.Goals as goal
 
 pub returns-in-Counts-clause-stands : goal.returns-in-Counts-clause-stands
 returns-in-Counts-clause-stands c =
-    let range : IsDataInRange (Counts c.in-Counts.counts) = subst IsDataInRange (ap data_view c.in-Counts.is) c.requires.in_range in
+    let range : IsDataInRange (Counts c.in-Counts.counts) = subst IsDataInRange (ap (data_view c.args.bytes.now) c.in-Counts.is) c.requires.in_range in
     let raw : to_z w32 (of_z w32 c.in-Counts.counts) ≡ c.in-Counts.counts = omega (arith, ints, range.0, range.1) in
-    takes_row c.args.self.now c.take_sample.new.self c.args.row.now (Counts c.in-Counts.counts) (ap data_view c.in-Counts.is)
-    (subst (λ counts. TakesRow c.args.self.now c.take_sample.new.self c.args.row.now.ms (Counts counts)) raw (c.take_sample.ensures.stands c.args.row.now.ms))
+    takes_row c.args.self.now c.take_sample.new.self c.args.bytes.now c.args.row (Counts c.in-Counts.counts) (ap (data_view c.args.bytes.now) c.in-Counts.is)
+    (subst (λ counts. TakesRow c.args.self.now c.take_sample.new.self c.args.row.ms (Counts counts)) raw (c.take_sample.ensures.stands c.args.row.ms))
 
 pub returns-in-Bytes-clause-stands : goal.returns-in-Bytes-clause-stands
 returns-in-Bytes-clause-stands c =
     on_ok_of _ _ c.take_bytes.result
-    (takes_row c.args.self.now c.take_bytes.new.self c.args.row.now (Bytes c.deref.result.now)
-    (ap data_view c.in-Bytes.is ∙ ap Bytes (sym c.deref.ensures.value))) c.take_bytes.ensures.stands
+    (takes_row c.args.self.now c.take_bytes.new.self c.args.bytes.now c.args.row (Bytes c.args.bytes.now) (ap (data_view c.args.bytes.now) c.in-Bytes.is))
+    c.take_bytes.ensures.stands
 
 pub returns-in-Inputs-clause-stands : goal.returns-in-Inputs-clause-stands
 returns-in-Inputs-clause-stands c =
-    takes_row c.args.self.now c.take_inputs.new.self c.args.row.now (Inputs c.in-Inputs.inputs) (ap data_view c.in-Inputs.is)
-    (c.take_inputs.ensures.stands c.args.row.now.ms)
+    takes_row c.args.self.now c.take_inputs.new.self c.args.bytes.now c.args.row (Inputs c.in-Inputs.inputs) (ap (data_view c.args.bytes.now) c.in-Inputs.is)
+    (c.take_inputs.ensures.stands c.args.row.ms)
 
 pub returns-in-Scan-clause-stands : goal.returns-in-Scan-clause-stands
 returns-in-Scan-clause-stands c =
-    takes_row c.args.self.now c.take_scan.new.self c.args.row.now Scan (ap data_view c.in-Scan.is) c.take_scan.ensures.stands
+    takes_row c.args.self.now c.take_scan.new.self c.args.bytes.now c.args.row Scan (ap (data_view c.args.bytes.now) c.in-Scan.is) c.take_scan.ensures.stands
