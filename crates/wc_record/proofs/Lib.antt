@@ -6,3 +6,8 @@ mod RecordEnds
 mod ReadRecords
 mod Sources
 mod LogSteps
+mod Cuts
+mod Standing
+mod CutRecords
+mod Marks
+mod Passing

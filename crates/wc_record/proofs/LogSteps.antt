@@ -2,10 +2,13 @@
 use Rattle.std.proofs.Common.{◌≡◌, ◌≤◌, ◌<◌, ◌+◌, ◌^◌, ◌&&◌, ℕ, suc, Bool, true, false, cond, List, [], ◌∷◌, length, Option, Some, None, Result, Ok, Err, refl, sym, ap, ◌∙◌, arith}
 use Rattle.std.proofs.lemmas.Bool.Decides.{nat_tests}
 use Rattle.std.proofs.lemmas.Slice.Eq.{bytes_eq-Decides}
-use Rattle.std.specs.Prelude.{codes, nat_le, nat_lt, IfSome}
+use Rattle.std.specs.Prelude.{codes, nat_le, nat_lt, IfSome, option_map}
 use Rattle.std.specs.Str.{bytes_eq}
 use Rattle.wc_model.specs.Run.Log.{Record, LogOf, first_row, has_fields, last_moment, log_after, log_of, log_with, moment_of, number_within, refused_at, row_at, row_data_of, row_from, row_of, row_of_fields, where_passes, with_row}
 use Rattle.wc_model.specs.Run.Rows.{LogRow, RowData}
+use Rattle.wc_record.proofs.Marks.{cut_log_is_same}
+use Rattle.wc_record.specs.Cutting.{cut_from}
+use Rattle.wc_record.specs.Places.{log_start}
 use Rattle.wc_record.specs.Left.{Answer, HasLeft, IsLeft, Takes, end_behind, log_behind, moment_or_zero}
 use Rattle.wc_record.specs.Steps.{GivesRecord}
 use Rattle.wc_record.specs.Reading.{records_of}
@@ -115,8 +118,9 @@ taken bytes_left log (Err fault.Memory) given end e h = tt
 pub not_ended : {R : Type 0} (bytes_left : R → Option (List ℕ)) (rows : Rows R) (log : LogOf) (end : Option LogEnd) → end ≡ None → IsLeft bytes_left end rows log → IsLeft bytes_left None rows log
 not_ended bytes_left rows log end e h = rw e at h
 
--- where the bytes are known, their log is left at first
-pub all_left : {R : Type 0} (bytes_left : R → Option (List ℕ)) (rows : Rows R) (known : Option (List ℕ)) → rows.number ≡ 0 → rows.last ≡ 0 → rows.end ≡ None → IfSome known (λ bytes. SourceHas bytes_left rows.source (records_of bytes)) → IfSome known (λ bytes. HasLeft bytes_left rows (log_of (records_of bytes)))
-all_left bytes_left rows None number last end h = tt
-all_left bytes_left rows (Some bytes) number last end h =
-    rw end ([], records_of bytes, record { has = h; number = number; last = last; few = omega arith }, refl)
+-- where the bytes are known, their log is left at first: what is cut off changes none of it
+pub all_left : {R : Type 0} (bytes_left : R → Option (List ℕ)) (rows : Rows R) (known read : Option (List ℕ)) → rows.number ≡ 0 → rows.last ≡ 0 → rows.end ≡ None → read ≡ option_map (cut_from log_start) known
+    → IfSome read (λ bytes. SourceHas bytes_left rows.source (records_of bytes)) → IfSome known (λ bytes. HasLeft bytes_left rows (log_of (records_of bytes)))
+all_left bytes_left rows None read number last end cut h = tt
+all_left bytes_left rows (Some bytes) read number last end cut h =
+    rw end ([], records_of (cut_from log_start bytes), record { has = rw cut at h; number = number; last = last; few = omega arith }, sym (cut_log_is_same bytes))

@@ -2,19 +2,19 @@
 use Rattle.std.proofs.Common.{◌≡◌, ℕ, false, List, Option, Some, None}
 use Rattle.std.specs.Option.{is_some}
 use Rattle.wc_model.specs.Run.Log.{Record}
-use Rattle.wc_record.specs.Reading.{HasRecords, lent, records_of}
+use Rattle.wc_record.specs.Reading.{HasRecords, lent_bytes, records_of}
 use Rattle.wc_record.specs.Source.{AreIn}
 use Rattle.wc_record.specs.declared.bounded.Bounded.{Bounded}
 use Rattle.wc_record.specs.declared.records.Records.{Records}
 
 -- where the bytes are known, the new reader has their records
-made : {R : Type 0} (bytes_left : R → Option (List ℕ)) (bounded : Bounded R) (new : Records R) (unread : Option (Bounded R)) → ((bytes : List ℕ) → bytes_left (lent bounded) ≡ Some bytes → HasRecords bytes_left new (records_of bytes))
+made : {R : Type 0} (bytes_left : R → Option (List ℕ)) (bounded : Bounded R) (new : Records R) (unread : Option (Bounded R)) → ((bytes : List ℕ) → lent_bytes bytes_left bounded ≡ Some bytes → HasRecords bytes_left new (records_of bytes))
     → (left : List Record) → AreIn bytes_left left None (Some bounded) → AreIn bytes_left left (Some new) unread
 made bytes_left bounded new unread has left h = rw h.2 (has h.0 h.1)
 
 -- so it keeps what is left
 pub kept_at_opening : {R : Type 0} (bytes_left : R → Option (List ℕ)) (opened after : Option (Records R)) (unread unread_after : Option (Bounded R)) (bounded : Bounded R) (new : Records R)
-    → false ≡ is_some opened → unread ≡ Some bounded → after ≡ Some new → ((bytes : List ℕ) → bytes_left (lent bounded) ≡ Some bytes → HasRecords bytes_left new (records_of bytes))
+    → false ≡ is_some opened → unread ≡ Some bounded → after ≡ Some new → ((bytes : List ℕ) → lent_bytes bytes_left bounded ≡ Some bytes → HasRecords bytes_left new (records_of bytes))
     → (left : List Record) → AreIn bytes_left left opened unread → AreIn bytes_left left after unread_after
 kept_at_opening bytes_left (Some records) after unread unread_after bounded new none e f has left h = cc
 kept_at_opening bytes_left None after unread unread_after bounded new none e f has left h = rw f (made bytes_left bounded new unread_after has left (rw e at h))

@@ -1,4 +1,6 @@
 pub mod Bound
+pub mod Places
+pub mod Cutting
 pub mod Views
 pub mod Reading
 pub mod Source

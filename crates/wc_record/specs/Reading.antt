@@ -1,8 +1,9 @@
 -- What a reader of records has still to give, where it is known.
-use Rattle.std.specs.Prelude.{◌≡◌, ◌∷◌, [], Bool, true, false, ℕ, List, Option, Some}
+use Rattle.std.specs.Prelude.{◌≡◌, ◌∷◌, [], Bool, true, false, ℕ, List, Option, Some, option_map}
 use Rattle.csv.specs.Reading.{AreRecords, Ready, default_config, is_flexible, reader_config, reader_state, reader_trim, records, source_of, strip_bom}
 use Rattle.csv.specs.declared.reader.Trim.TheVariants as trim
 use Rattle.wc_model.specs.Run.Log.{Record}
+use Rattle.wc_record.specs.Cutting.{cut_from}
 use Rattle.wc_record.specs.declared.bounded.Bounded.{Bounded}
 use Rattle.wc_record.specs.declared.records.Records.{Records}
 
@@ -14,9 +15,9 @@ records_of bytes = records default_config (strip_bom bytes)
 abbrev pub lent : {R : Type 0} → Bounded R → R
 lent bounded = bounded.reader.now
 
--- the bytes behind a reader that is lent
+-- the bytes that are read of a reader that is lent
 abbrev pub lent_bytes : {R : Type 0} → (R → Option (List ℕ)) → Bounded R → Option (List ℕ)
-lent_bytes bytes_left bounded = bytes_left (lent bounded)
+lent_bytes bytes_left bounded = option_map (cut_from bounded.place) (bytes_left (lent bounded))
 
 -- `csv` reads by its defaults, from known bytes, and these records are left
 pub record HasRecords {R : Type 0} (bytes_left : R → Option (List ℕ)) (records : Records R) (left : List Record) : Type 0 where

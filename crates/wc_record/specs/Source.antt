@@ -2,7 +2,7 @@
 use Rattle.std.specs.Prelude.{◌≡◌, ℕ, List, Option, Some, None}
 use Rattle.csv.specs.Reading.{reader_source}
 use Rattle.wc_model.specs.Run.Log.{Record}
-use Rattle.wc_record.specs.Reading.{HasRecords, lent, records_of}
+use Rattle.wc_record.specs.Reading.{HasRecords, lent, lent_bytes, records_of}
 use Rattle.wc_record.specs.declared.bounded.Bounded.{Bounded}
 use Rattle.wc_record.specs.declared.records.Records.{Records}
 use Rattle.wc_record.specs.declared.source.Source.{Source}
@@ -29,7 +29,7 @@ bounded_in source = bound_of source.opened source.unread
 -- these records are left, of a reader that is made or is still to be made
 abbrev pub AreIn : {R : Type 0} → (R → Option (List ℕ)) → List Record → Option (Records R) → Option (Bounded R) → Type 0
 AreIn bytes_left left (Some records) unread = HasRecords bytes_left records left
-AreIn bytes_left left None (Some bounded) = (bytes : List ℕ) × (bytes_left (lent bounded) ≡ Some bytes) × (left ≡ records_of bytes)
+AreIn bytes_left left None (Some bounded) = (bytes : List ℕ) × (lent_bytes bytes_left bounded ≡ Some bytes) × (left ≡ records_of bytes)
 AreIn bytes_left left None None = ⊥
 
 -- these records are left

@@ -1,9 +1,13 @@
-ghost use Rattle.std.specs.Prelude.{◌≡◌, true, false, IsErr};
+ghost use Rattle.std.specs.Prelude.{◌≡◌, true, false, option_map, Ok, IsErr};
 ghost use Rattle.std.specs.Io.{ReadsAtMost};
 ghost use Rattle.std.specs.Io.KnownBytes.{ReadConsumes};
 ghost use Rattle.wc_model.specs.Run.Devices.{failures_after_read, spent_after_read};
 ghost use Rattle.wc_record.specs.Bound.{is_used_up};
+ghost use Rattle.wc_record.specs.Cutting.{cut_from};
+ghost use Rattle.wc_record.specs.Places.{is_cut, log_start};
+ghost use Rattle.wc_record.specs.Reading.{lent, lent_bytes};
 
+use crate::place::Place;
 use std::io;
 use std::io::Read;
 use wc_model::ByteIn;
@@ -37,30 +41,75 @@ fn read_within<R: ByteIn>(reader: &mut R, start: u64, buffer: &mut [u8]) -> io::
     reader.read(buffer)
 }
 
-/// A reader that is lent, and the count at which it was.
+/// A reader that is lent, the count at which it was, and the place at which it stands. It ends in a record that has more
+/// than three fields: such a record is refused, so that nothing behind its third field counts.
 #[derive(Drop)]
 pub(crate) struct Bounded<'r, R> {
     pub(crate) reader: &'r mut R,
     pub(crate) start: u64,
+    place: Place,
 }
 
-impl<'r, R: ByteIn> Read for Bounded<'r, R> {
-    ghost remaining = { λ b. R.bytes_left b.reader.now };
+impl<'r, R: ByteIn> Bounded<'r, R> {
+    /// The reader of a log, of which nothing is read yet.
+    pub(crate) fn new(reader: &'r mut R, start: u64) -> Bounded<'r, R>
+        ensures bytes { lent_bytes R.bytes_left result
+            ≡ option_map (cut_from log_start) (R.bytes_left reader.old) }
+        ensures lent { lent result ≡ reader.old }
+        ensures start { result.start ≡ start }
+    {
+        Bounded {
+            reader,
+            start,
+            place: Place::new(),
+        }
+    }
 
-    fn read(&mut self, buffer: &mut [u8]) -> io::Result<usize>
+    /// Reads, up to the cut, where it is not reached yet.
+    #[inline(always)]
+    fn read_on(&mut self, buffer: &mut [u8]) -> io::Result<usize>
+        requires { is_cut self.old.place ≡ false }
         ensures bound { ReadsAtMost result buffer.new }
-        ensures bytes { ReadConsumes (R.bytes_left self.old.reader.now)
-            (R.bytes_left self.new.reader.now) result buffer.new }
+        ensures bytes { ReadConsumes (lent_bytes R.bytes_left self.old)
+            (lent_bytes R.bytes_left self.new) result buffer.new }
         // What is used up reads no further.
         ensures used_up { is_used_up self.old.start (R.spent_count self.old.reader.now) ≡ true
             → IsErr result × (self.new.reader.now ≡ self.old.reader.now) }
-        ensures passed { is_used_up self.old.start (R.spent_count self.old.reader.now) ≡ false
-            → (R.failure_count self.new.reader.now
-            ≡ failures_after_read (R.failure_count self.old.reader.now) result)
-            × (R.spent_count self.new.reader.now
-            ≡ spent_after_read (R.spent_count self.old.reader.now) result) }
+        ensures failures { is_used_up self.old.start (R.spent_count self.old.reader.now) ≡ false
+            → R.failure_count self.new.reader.now
+            ≡ failures_after_read (R.failure_count self.old.reader.now) result }
         ensures start { self.new.start ≡ self.old.start }
     {
-        read_within(self.reader, self.start, buffer)
+        match read_within(self.reader, self.start, buffer) {
+            Ok(given) => Ok(self.place.walk(&buffer[..given])),
+            Err(fault) => Err(fault),
+        }
+    }
+}
+
+impl<'r, R: ByteIn> Read for Bounded<'r, R> {
+    ghost remaining = { λ b. option_map (cut_from b.place) (R.bytes_left b.reader.now) };
+
+    fn read(&mut self, buffer: &mut [u8]) -> io::Result<usize>
+        ensures bound { ReadsAtMost result buffer.new }
+        ensures bytes { ReadConsumes (lent_bytes R.bytes_left self.old)
+            (lent_bytes R.bytes_left self.new) result buffer.new }
+        // Nothing behind the cut is read.
+        ensures cut { is_cut self.old.place ≡ true
+            → (result ≡ Ok 0) × (self.new.reader.now ≡ self.old.reader.now) }
+        // What is used up reads no further.
+        ensures used_up { is_cut self.old.place ≡ false
+            → is_used_up self.old.start (R.spent_count self.old.reader.now) ≡ true
+            → IsErr result × (self.new.reader.now ≡ self.old.reader.now) }
+        ensures failures { is_cut self.old.place ≡ false
+            → is_used_up self.old.start (R.spent_count self.old.reader.now) ≡ false
+            → R.failure_count self.new.reader.now
+            ≡ failures_after_read (R.failure_count self.old.reader.now) result }
+        ensures start { self.new.start ≡ self.old.start }
+    {
+        if self.place.is_cut() {
+            return Ok(0);
+        }
+        self.read_on(buffer)
     }
 }

@@ -7,6 +7,7 @@ mod hexadecimal;
 mod last_scans;
 mod log;
 mod numbers;
+mod place;
 mod process_image;
 mod records;
 mod row_data;

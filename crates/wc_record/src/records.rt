@@ -2,7 +2,7 @@ ghost use Rattle.std.specs.Prelude.{◌≡◌, ◌∷◌, [], ◌⊎◌, ℕ, Li
 ghost use Rattle.csv.specs.Records.{fields_of};
 ghost use Rattle.csv.specs.Reading.{reader_source};
 ghost use Rattle.wc_model.specs.Run.Log.{Record};
-ghost use Rattle.wc_record.specs.Reading.{HasRecords, TakesFirst, lent, records_of};
+ghost use Rattle.wc_record.specs.Reading.{HasRecords, TakesFirst, lent, lent_bytes, records_of};
 
 use crate::bounded::Bounded;
 use csv::{ByteRecord, Reader, ReaderBuilder};
@@ -22,7 +22,7 @@ pub(crate) struct Records<'r, R> {
 impl<'r, R: ByteIn> Records<'r, R> {
     /// The records that the reader has to give: no header, of any number of fields, which keep their blanks.
     pub(crate) fn new(alloc: Global, bounded: Bounded<'r, R>) -> Records<'r, R>
-        ensures records { (bytes : List ℕ) → R.bytes_left (lent bounded.entry) ≡ Some bytes
+        ensures records { (bytes : List ℕ) → lent_bytes R.bytes_left bounded.entry ≡ Some bytes
             → HasRecords R.bytes_left result (records_of bytes) }
         ensures lent { lent (reader_source result.csv) ≡ lent bounded.entry }
     {

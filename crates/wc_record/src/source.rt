@@ -2,7 +2,7 @@ ghost use Rattle.std.specs.Prelude.{◌≡◌, ◌∷◌, [], ℕ, List, Some, t
 ghost use Rattle.csv.specs.Records.{fields_of};
 ghost use Rattle.wc_model.specs.Run.Log.{Record};
 ghost use Rattle.wc_record.specs.Source.{SourceHas, bounded_in, counted_in};
-ghost use Rattle.wc_record.specs.Reading.{TakesFirst, records_of};
+ghost use Rattle.wc_record.specs.Reading.{TakesFirst, lent_bytes, records_of};
 
 use crate::bounded::Bounded;
 use crate::records::{Records, Unread};
@@ -21,7 +21,7 @@ pub(crate) struct Source<'r, R> {
 impl<'r, R: ByteIn> Source<'r, R> {
     /// The records that the reader has to give, none of which is read yet.
     pub(crate) fn new(alloc: Global, bounded: Bounded<'r, R>) -> Source<'r, R>
-        ensures records { IfSome (R.bytes_left bounded.entry.reader.now)
+        ensures records { IfSome (lent_bytes R.bytes_left bounded.entry)
             (λ bytes. SourceHas R.bytes_left result (records_of bytes)) }
         ensures failures { counted_in R.failure_count result
             ≡ R.failure_count bounded.entry.reader.now }

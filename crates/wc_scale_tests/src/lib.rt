@@ -13,6 +13,8 @@ mod lines;
 #[cfg(test)]
 mod logs;
 #[cfg(test)]
+mod long_rows;
+#[cfg(test)]
 mod plates;
 #[cfg(test)]
 mod requests;

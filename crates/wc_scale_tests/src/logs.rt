@@ -9,7 +9,7 @@ use wc_plate::plate;
 use wc_record::{LogFault, Row, RowKind, Rows, image, is_used_up};
 
 /// How many rows are left, up to so many, and the fault that ends them, if one does.
-fn rows_left<R: ByteIn>(rows: &mut Rows<'_, R>, most: u32) -> (u32, Option<LogFault>) {
+pub(crate) fn rows_left<R: ByteIn>(rows: &mut Rows<'_, R>, most: u32) -> (u32, Option<LogFault>) {
     for count in 0..most {
         match rows.next() {
             Ok(Some(_)) => {}
@@ -30,7 +30,7 @@ fn ending(alloc: Global, text: &[u8]) -> (u32, Option<LogFault>) {
 }
 
 /// A refusal.
-fn refused(number: u16, place: u32) -> Option<LogFault> {
+pub(crate) fn refused(number: u16, place: u32) -> Option<LogFault> {
     Some(LogFault::Refused { number, place })
 }
 

@@ -1,0 +1,79 @@
+-- The place at which a reader stands, as the state machine of `csv` has it.
+use Rattle.std.proofs.Common.{◌≡◌, ◌+◌, ◌==◌, ◌||◌, ℕ, Bool, true, false, cond, refl}
+use Rattle.std.proofs.lemmas.Bool.{eqb-true}
+use Rattle.csv.specs.Machine.{in_field, start_field, start_record, step}
+use Rattle.csv.specs.Reading.{default_config}
+use Rattle.csv.specs.declared.parser.Action.{Action}
+use Rattle.csv.specs.declared.parser.Action.TheVariants as act
+use Rattle.csv.specs.declared.parser.State.{State}
+use Rattle.csv.specs.declared.parser.State.TheVariants as st
+use Rattle.wc_record.specs.Places.{after, after_opening, after_plain, record_start}
+use Rattle.wc_record.specs.declared.place.Place.{Place}
+use Rattle.wc_record.specs.declared.place.Spot.TheVariants as spot
+
+-- where so many fields have ended, a state of the machine stands at this place; the default settings know no escape and
+-- no comment
+abbrev pub StandsAt : State → ℕ → Place → Type 0
+StandsAt st.StartRecord ended place = (place ≡ record_start) × (ended ≡ 0)
+StandsAt st.AfterCr ended place = (place ≡ record_start) × (ended ≡ 0)
+StandsAt st.StartField ended place = place ≡ record { spot = spot.Opening; ended = ended }
+StandsAt st.AfterQuote ended place = place ≡ record { spot = spot.Opening; ended = ended }
+StandsAt st.InField ended place = place ≡ record { spot = spot.Plain; ended = ended }
+StandsAt st.InQuoted ended place = place ≡ record { spot = spot.Quoted; ended = ended }
+StandsAt st.InEscape ended place = ⊥
+StandsAt st.InComment ended place = ⊥
+
+-- a step of the machine leads to this place: the end of a record leads to the start of one
+abbrev pub LeadsTo : ℕ → State × Action → Place → Type 0
+LeadsTo ended (state, act.EndRecord) place = (place ≡ record_start) × StandsAt state 0 record_start
+LeadsTo ended (state, act.EndField) place = StandsAt state (ended + 1) place
+LeadsTo ended (state, act.Copy) place = StandsAt state ended place
+LeadsTo ended (state, act.Skip) place = StandsAt state ended place
+
+-- either of two steps
+either : (ended : ℕ) (b : Bool) (q r : State × Action) (x y : Place) → LeadsTo ended q x → LeadsTo ended r y → LeadsTo ended (cond b q r) (cond b x y)
+either ended true q r x y h k = h
+either ended false q r x y h k = k
+
+-- in a field
+plain_leads : (ended byte : ℕ) → LeadsTo ended (in_field default_config byte) (after_plain ended byte)
+plain_leads ended byte = either ended (byte == 44) _ _ _ _ refl (either ended ((byte == 13) || (byte == 10)) _ _ _ _ (ended_by (byte == 13)) refl)
+  where
+    ended_by : (b : Bool) → LeadsTo ended (cond b st.AfterCr st.StartRecord, act.EndRecord) record_start
+    ended_by true = (refl, (refl, refl))
+    ended_by false = (refl, (refl, refl))
+
+-- at a field's start
+opening_leads : (ended byte : ℕ) → LeadsTo ended (start_field default_config byte) (after_opening ended byte)
+opening_leads ended byte = either ended (byte == 34) _ _ _ _ refl (plain_leads ended byte)
+
+-- at a record's start
+record_leads : (byte : ℕ) → LeadsTo 0 (start_record default_config byte) (after record_start byte)
+record_leads byte = by_end ((byte == 13) || (byte == 10)) refl
+  where
+    at_return : (b : Bool) → (byte == 13) ≡ b → (b || (byte == 10)) ≡ true → LeadsTo 0 (st.StartRecord, act.Skip) (after record_start byte)
+    at_return true e f = rw (eqb-true byte 13 e) (refl, refl)
+    at_return false e f = rw (eqb-true byte 10 f) (refl, refl)
+
+    by_end : (b : Bool) → ((byte == 13) || (byte == 10)) ≡ b → LeadsTo 0 (cond b (st.StartRecord, act.Skip) (start_field default_config byte)) (after record_start byte)
+    by_end true e = at_return (byte == 13) refl e
+    by_end false e = opening_leads 0 byte
+
+-- behind a carriage return
+return_leads : (byte : ℕ) → LeadsTo 0 (step default_config st.AfterCr byte) (after record_start byte)
+return_leads byte = by_feed (byte == 10) refl
+  where
+    by_feed : (b : Bool) → (byte == 10) ≡ b → LeadsTo 0 (cond b (st.StartRecord, act.Skip) (start_record default_config byte)) (after record_start byte)
+    by_feed true f = rw (eqb-true byte 10 f) (refl, refl)
+    by_feed false f = record_leads byte
+
+-- each step leads to the place behind its byte
+pub leads : (state : State) (ended : ℕ) (place : Place) (byte : ℕ) → StandsAt state ended place → LeadsTo ended (step default_config state byte) (after place byte)
+leads st.StartRecord ended place byte h = rw (h.0, h.1) (record_leads byte)
+leads st.AfterCr ended place byte h = rw (h.0, h.1) (return_leads byte)
+leads st.StartField ended place byte h = rw h (opening_leads ended byte)
+leads st.AfterQuote ended place byte h = rw h (either ended (byte == 34) _ _ _ _ refl (plain_leads ended byte))
+leads st.InField ended place byte h = rw h (plain_leads ended byte)
+leads st.InQuoted ended place byte h = rw h (either ended (byte == 34) _ _ _ _ refl refl)
+leads st.InEscape ended place byte h = absurd h
+leads st.InComment ended place byte h = absurd h
