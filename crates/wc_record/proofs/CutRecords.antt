@@ -1,7 +1,7 @@
 -- What is cut off a log changes neither its rows nor its refusal.
-use Rattle.std.proofs.Common.{◌≡◌, ◌≤◌, ◌⊎◌, ◌+◌, ◌&&◌, ℕ, suc, Bool, true, false, cond, List, [], ◌∷◌, ◌++◌, length, Option, Some, None, Err, refl, sym, ap, ◌∙◌, inl, inr, length-append, arith}
+use Rattle.std.proofs.Common.{◌≡◌, ◌≤◌, ◌⊎◌, ◌+◌, ◌&&◌, ℕ, suc, Bool, true, false, cond, List, [], ◌∷◌, ◌++◌, length, min, Option, Some, None, Err, refl, sym, ap, ◌∙◌, inl, inr, length-append, arith}
 use Rattle.std.proofs.lemmas.Bool.Decides.{nat_tests}
-use Rattle.std.specs.Prelude.{⊤, codes, nat_lt}
+use Rattle.std.specs.Prelude.{⊤, codes, nat_le, nat_lt}
 use Rattle.std.specs.Str.{bytes_eq}
 use Rattle.csv.specs.Machine.{Read, ends_at_end, field_after, fields_after, is_end, next_record, step}
 use Rattle.csv.specs.Reading.{AreRecords, Reached, default_config, records}
@@ -84,16 +84,24 @@ AreAlike None (Some q) = ⊥
 AreAlike (Some p) None = ⊥
 AreAlike (Some p) (Some q) = ((p.0 ≡ q.0) × (p.1 ≡ q.1) × (q.2 ≡ cut_from record_start p.2) × StandsAt p.1 0 record_start) ⊎ (IsLong p.0 × IsLong q.0)
 
--- a place tells how many fields have ended
-ended_is : (s : State) (ended : ℕ) (place : Place) → StandsAt s ended place → place.ended ≡ ended
+-- a place tells how many fields have ended, up to three
+ended_is : (s : State) (ended : ℕ) (place : Place) → StandsAt s ended place → place.ended ≡ min 3 ended
 ended_is st.StartRecord ended place h = rw (h.0, h.1) refl
 ended_is st.AfterCr ended place h = rw (h.0, h.1) refl
-ended_is st.StartField ended place h = rw h refl
-ended_is st.AfterQuote ended place h = rw h refl
-ended_is st.InField ended place h = rw h refl
-ended_is st.InQuoted ended place h = rw h refl
+ended_is st.StartField ended place h = rw h.1 refl
+ended_is st.AfterQuote ended place h = rw h.1 refl
+ended_is st.InField ended place h = rw h.1 refl
+ended_is st.InQuoted ended place h = rw h.1 refl
 ended_is st.InEscape ended place h = absurd h
 ended_is st.InComment ended place h = absurd h
+
+-- behind the cut three fields have ended
+three_ended : (place : Place) → is_cut place ≡ true → 3 ≤ place.ended
+three_ended place e = by_test (nat_le 3 place.ended) refl e
+  where
+    by_test : (b : Bool) → nat_le 3 place.ended ≡ b → (b && nat_le 65536 place.size) ≡ true → 3 ≤ place.ended
+    by_test true f h = grind (arith, nat_tests)
+    by_test false f h = cc
 
 -- two long ones
 both_long : (o u : Option Read) → ReadsLong o → ReadsLong u → AreAlike o u
@@ -142,7 +150,8 @@ next_alike s fields field (byte ∷ rest) place h =
     by_cut : (b : Bool) → is_cut place ≡ b → (StandsAt q.0 (length (fields_after q.1 fields field)) (after place byte) → AreAlike (next rest) (next left))
         → AreAlike (next_record default_config s fields field (byte ∷ rest)) (next_record default_config s fields field (cond b [] (byte ∷ left)))
     by_cut true e more =
-        let few : 3 ≤ length fields = grind (arith, nat_tests, e, ended_is s (length fields) place h) in
+        let three : 3 ≤ place.ended = three_ended place e in
+        let few : 3 ≤ length fields = omega (arith, three, ended_is s (length fields) place h) in
         both_long _ _ (long_record s fields field (byte ∷ rest) place h few) (long_record s fields field [] place h few)
     by_cut false e more = by_end (is_end q.1) refl more
 

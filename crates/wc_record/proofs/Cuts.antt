@@ -1,9 +1,9 @@
 -- How the bytes of a log are cut, piece by piece.
-use Rattle.std.proofs.Common.{◌≡◌, ◌<◌, ◌+◌, ℕ, true, false, List, [], ◌∷◌, ◌++◌, length, take, drop, refl, sym, ap, ◌∙◌, append_assoc, add-one, arith}
-use Rattle.std.proofs.lemmas.List.{drop_all}
+use Rattle.std.proofs.Common.{◌≡◌, ◌<◌, ◌+◌, ◌-◌, ℕ, true, false, List, [], ◌∷◌, ◌++◌, length, take, take-add, drop, refl, sym, ap, ◌∙◌, append_assoc, add-one, arith}
+use Rattle.std.proofs.lemmas.List.{drop_all, length-drop, take_all}
 use Rattle.std.proofs.Math.Seq.{drop-cons, take-suc}
 use Rattle.std.specs.Prelude.{slice_index_or}
-use Rattle.wc_record.specs.Cutting.{Cuts, cut_from}
+use Rattle.wc_record.specs.Cutting.{Cuts, Passes, cut_from}
 use Rattle.wc_record.specs.Places.{after, is_cut}
 use Rattle.wc_record.specs.declared.place.Place.{Place}
 
@@ -17,10 +17,6 @@ cut_at_end place (byte ∷ rest) e = rw e refl
 pub cut_next : (place : Place) (byte : ℕ) (rest : List ℕ) → is_cut place ≡ false → cut_from place (byte ∷ rest) ≡ byte ∷ cut_from (after place byte) rest
 unfolding cut_from
 cut_next place byte rest e = rw e refl
-
--- so many bytes were passed, and the others are still to be
-abbrev pub Passes : Place → List ℕ → ℕ → Place → Type 0
-Passes old bytes count new = (following : List ℕ) → cut_from old (bytes ++ following) ≡ take count bytes ++ cut_from new (drop count bytes ++ following)
 
 -- one more is passed
 pub pass_one : (old : Place) (bytes : List ℕ) (count : ℕ) (here new : Place) → is_cut here ≡ false → count < length bytes → new ≡ after here (slice_index_or bytes count 0) → Passes old bytes count here → Passes old bytes (count + 1) new
@@ -45,3 +41,12 @@ passed_to_cut old bytes count new cut h = λ following.
 pub passed_all : (old : Place) (bytes : List ℕ) (count : ℕ) (new : Place) → count ≡ length bytes → Passes old bytes count new → Cuts old bytes (length bytes) new
 passed_all old bytes count new all h = λ following.
     (rw all at h) following ∙ ap (λ (xs : List ℕ). take (length bytes) bytes ++ cut_from new (xs ++ following)) (drop_all (length bytes) bytes (omega arith))
+
+-- some bytes are passed, and the others are cut
+pub passed_and_cut : (old mid : Place) (bytes : List ℕ) (count more : ℕ) (new : Place) → Passes old bytes count mid → Cuts mid (take (length bytes - count) (drop count bytes)) more new → Cuts old bytes (count + more) new
+passed_and_cut old mid bytes count more new h k = λ following.
+    let others : take (length bytes - count) (drop count bytes) ≡ drop count bytes = take_all (length bytes - count) (drop count bytes) (omega (arith, length-drop count bytes)) in
+    let cut : Cuts mid (drop count bytes) more new = rw others at k in
+    h following ∙ ap (λ (xs : List ℕ). take count bytes ++ xs) (cut following)
+    ∙ sym (append_assoc (take count bytes) (take more (drop count bytes)) (cut_from new following))
+    ∙ ap (λ (xs : List ℕ). xs ++ cut_from new following) (sym (take-add count more bytes))

@@ -11,3 +11,4 @@ mod Standing
 mod CutRecords
 mod Marks
 mod Passing
+pub mod WholeLines

@@ -38,31 +38,31 @@ no_mark_third a b c xs e = rw e (none (a == 0xEF) (b == 0xBB))
     none true false = refl
     none false y = refl
 
--- the bytes that are read from a spot on, where no field has ended
-from : Spot → List ℕ → List ℕ
-from at bytes = cut_from (record { spot = at; ended = 0 }) bytes
+-- the bytes that are read from a spot on, where so many bytes were read and no field has ended
+from : Spot → ℕ → List ℕ → List ℕ
+from at size bytes = cut_from (record { spot = at; ended = 0; size = size }) bytes
 
 -- behind two bytes of a mark
-third_kept : (bytes : List ℕ) → strip_bom (0xEF ∷ 0xBB ∷ from spot.ThirdOfMark bytes) ≡ cut_from record_start (strip_bom (0xEF ∷ 0xBB ∷ bytes))
+third_kept : (bytes : List ℕ) → strip_bom (0xEF ∷ 0xBB ∷ from spot.ThirdOfMark 2 bytes) ≡ cut_from record_start (strip_bom (0xEF ∷ 0xBB ∷ bytes))
 unfolding strip_bom cut_from from
 third_kept [] = refl
 third_kept (c ∷ rest) = by_third (c == 0xBF) refl
   where
-    by_third : (x : Bool) → (c == 0xBF) ≡ x → strip_bom (0xEF ∷ 0xBB ∷ c ∷ cut_from (cond x record_start (after_plain 0 c)) rest) ≡ cut_from record_start (strip_bom (0xEF ∷ 0xBB ∷ c ∷ rest))
+    by_third : (x : Bool) → (c == 0xBF) ≡ x → strip_bom (0xEF ∷ 0xBB ∷ c ∷ cut_from (cond x record_start (after_plain 0 3 c)) rest) ≡ cut_from record_start (strip_bom (0xEF ∷ 0xBB ∷ c ∷ rest))
     by_third true e = rw (eqb-true c 0xBF e) refl
     by_third false e = no_mark_third 0xEF 0xBB c _ e ∙ sym (ap (cut_from record_start) (no_mark_third 0xEF 0xBB c rest e))
 
 -- behind one
-second_kept : (bytes : List ℕ) → strip_bom (0xEF ∷ from spot.SecondOfMark bytes) ≡ cut_from record_start (strip_bom (0xEF ∷ bytes))
+second_kept : (bytes : List ℕ) → strip_bom (0xEF ∷ from spot.SecondOfMark 1 bytes) ≡ cut_from record_start (strip_bom (0xEF ∷ bytes))
 unfolding strip_bom cut_from from
 second_kept [] = refl
 second_kept (b ∷ rest) = by_second (b == 0xBB) refl
   where
     third : Place
-    third = record { spot = spot.ThirdOfMark; ended = 0 }
+    third = record { spot = spot.ThirdOfMark; ended = 0; size = 2 }
 
-    by_second : (x : Bool) → (b == 0xBB) ≡ x → strip_bom (0xEF ∷ b ∷ cut_from (cond x third (after_plain 0 b)) rest) ≡ cut_from record_start (strip_bom (0xEF ∷ b ∷ rest))
-    by_second true e = subst (λ y. strip_bom (0xEF ∷ y ∷ from spot.ThirdOfMark rest) ≡ cut_from record_start (strip_bom (0xEF ∷ y ∷ rest))) (sym (eqb-true b 0xBB e)) (third_kept rest)
+    by_second : (x : Bool) → (b == 0xBB) ≡ x → strip_bom (0xEF ∷ b ∷ cut_from (cond x third (after_plain 0 2 b)) rest) ≡ cut_from record_start (strip_bom (0xEF ∷ b ∷ rest))
+    by_second true e = subst (λ y. strip_bom (0xEF ∷ y ∷ from spot.ThirdOfMark 2 rest) ≡ cut_from record_start (strip_bom (0xEF ∷ y ∷ rest))) (sym (eqb-true b 0xBB e)) (third_kept rest)
     by_second false e = no_mark_second 0xEF b _ e ∙ sym (ap (cut_from record_start) (no_mark_second 0xEF b rest e))
 
 -- what is read of a log is, without its mark, what is read of the log without its mark
@@ -72,10 +72,10 @@ mark_kept [] = refl
 mark_kept (a ∷ rest) = by_first (a == 0xEF) refl
   where
     second : Place
-    second = record { spot = spot.SecondOfMark; ended = 0 }
+    second = record { spot = spot.SecondOfMark; ended = 0; size = 1 }
 
-    by_first : (x : Bool) → (a == 0xEF) ≡ x → strip_bom (a ∷ cut_from (cond x second (after_opening 0 a)) rest) ≡ cut_from record_start (strip_bom (a ∷ rest))
-    by_first true e = subst (λ y. strip_bom (y ∷ from spot.SecondOfMark rest) ≡ cut_from record_start (strip_bom (y ∷ rest))) (sym (eqb-true a 0xEF e)) (second_kept rest)
+    by_first : (x : Bool) → (a == 0xEF) ≡ x → strip_bom (a ∷ cut_from (cond x second (after_opening 0 1 a)) rest) ≡ cut_from record_start (strip_bom (a ∷ rest))
+    by_first true e = subst (λ y. strip_bom (y ∷ from spot.SecondOfMark 1 rest) ≡ cut_from record_start (strip_bom (y ∷ rest))) (sym (eqb-true a 0xEF e)) (second_kept rest)
     by_first false e = no_mark_first a _ e ∙ sym (ap (cut_from record_start) (no_mark_first a rest e))
 
 -- what is read of a log has the rows and the refusal of the whole log

@@ -1,5 +1,5 @@
 -- The place at which a reader stands, as the state machine of `csv` has it.
-use Rattle.std.proofs.Common.{◌≡◌, ◌+◌, ◌==◌, ◌||◌, ℕ, Bool, true, false, cond, refl}
+use Rattle.std.proofs.Common.{◌≡◌, ◌+◌, ◌==◌, ◌||◌, ℕ, Bool, true, false, cond, min, refl, ap, arith}
 use Rattle.std.proofs.lemmas.Bool.{eqb-true}
 use Rattle.csv.specs.Machine.{in_field, start_field, start_record, step}
 use Rattle.csv.specs.Reading.{default_config}
@@ -9,17 +9,22 @@ use Rattle.csv.specs.declared.parser.State.{State}
 use Rattle.csv.specs.declared.parser.State.TheVariants as st
 use Rattle.wc_record.specs.Places.{after, after_opening, after_plain, record_start}
 use Rattle.wc_record.specs.declared.place.Place.{Place}
+use Rattle.wc_record.specs.declared.place.Spot.{Spot}
 use Rattle.wc_record.specs.declared.place.Spot.TheVariants as spot
+
+-- a place in a record of which so many fields have ended, and some bytes were read
+abbrev pub IsIn : Spot → ℕ → Place → Type 0
+IsIn at ended place = (size : ℕ) × (place ≡ record { spot = at; ended = min 3 ended; size = size })
 
 -- where so many fields have ended, a state of the machine stands at this place; the default settings know no escape and
 -- no comment
 abbrev pub StandsAt : State → ℕ → Place → Type 0
 StandsAt st.StartRecord ended place = (place ≡ record_start) × (ended ≡ 0)
 StandsAt st.AfterCr ended place = (place ≡ record_start) × (ended ≡ 0)
-StandsAt st.StartField ended place = place ≡ record { spot = spot.Opening; ended = ended }
-StandsAt st.AfterQuote ended place = place ≡ record { spot = spot.Opening; ended = ended }
-StandsAt st.InField ended place = place ≡ record { spot = spot.Plain; ended = ended }
-StandsAt st.InQuoted ended place = place ≡ record { spot = spot.Quoted; ended = ended }
+StandsAt st.StartField ended place = IsIn spot.Opening ended place
+StandsAt st.AfterQuote ended place = IsIn spot.Opening ended place
+StandsAt st.InField ended place = IsIn spot.Plain ended place
+StandsAt st.InQuoted ended place = IsIn spot.Quoted ended place
 StandsAt st.InEscape ended place = ⊥
 StandsAt st.InComment ended place = ⊥
 
@@ -35,17 +40,23 @@ either : (ended : ℕ) (b : Bool) (q r : State × Action) (x y : Place) → Lead
 either ended true q r x y h k = h
 either ended false q r x y h k = k
 
+-- behind a comma
+comma_leads : (ended size : ℕ) → IsIn spot.Opening (ended + 1) (record { spot = spot.Opening; ended = min 3 (min 3 ended + 1); size = size })
+comma_leads ended size =
+    let more : min 3 (min 3 ended + 1) ≡ min 3 (ended + 1) = omega arith in
+    (size, ap (λ n. record { spot = spot.Opening; ended = n; size = size }) more)
+
 -- in a field
-plain_leads : (ended byte : ℕ) → LeadsTo ended (in_field default_config byte) (after_plain ended byte)
-plain_leads ended byte = either ended (byte == 44) _ _ _ _ refl (either ended ((byte == 13) || (byte == 10)) _ _ _ _ (ended_by (byte == 13)) refl)
+plain_leads : (ended size byte : ℕ) → LeadsTo ended (in_field default_config byte) (after_plain (min 3 ended) size byte)
+plain_leads ended size byte = either ended (byte == 44) _ _ _ _ (comma_leads ended size) (either ended ((byte == 13) || (byte == 10)) _ _ _ _ (ended_by (byte == 13)) (size, refl))
   where
     ended_by : (b : Bool) → LeadsTo ended (cond b st.AfterCr st.StartRecord, act.EndRecord) record_start
     ended_by true = (refl, (refl, refl))
     ended_by false = (refl, (refl, refl))
 
 -- at a field's start
-opening_leads : (ended byte : ℕ) → LeadsTo ended (start_field default_config byte) (after_opening ended byte)
-opening_leads ended byte = either ended (byte == 34) _ _ _ _ refl (plain_leads ended byte)
+opening_leads : (ended size byte : ℕ) → LeadsTo ended (start_field default_config byte) (after_opening (min 3 ended) size byte)
+opening_leads ended size byte = either ended (byte == 34) _ _ _ _ (size, refl) (plain_leads ended size byte)
 
 -- at a record's start
 record_leads : (byte : ℕ) → LeadsTo 0 (start_record default_config byte) (after record_start byte)
@@ -57,7 +68,7 @@ record_leads byte = by_end ((byte == 13) || (byte == 10)) refl
 
     by_end : (b : Bool) → ((byte == 13) || (byte == 10)) ≡ b → LeadsTo 0 (cond b (st.StartRecord, act.Skip) (start_field default_config byte)) (after record_start byte)
     by_end true e = at_return (byte == 13) refl e
-    by_end false e = opening_leads 0 byte
+    by_end false e = opening_leads 0 1 byte
 
 -- behind a carriage return
 return_leads : (byte : ℕ) → LeadsTo 0 (step default_config st.AfterCr byte) (after record_start byte)
@@ -67,13 +78,17 @@ return_leads byte = by_feed (byte == 10) refl
     by_feed true f = rw (eqb-true byte 10 f) (refl, refl)
     by_feed false f = record_leads byte
 
+-- one byte more of so many
+abbrev counted : ℕ → ℕ
+counted size = min 65536 (size + 1)
+
 -- each step leads to the place behind its byte
 pub leads : (state : State) (ended : ℕ) (place : Place) (byte : ℕ) → StandsAt state ended place → LeadsTo ended (step default_config state byte) (after place byte)
 leads st.StartRecord ended place byte h = rw (h.0, h.1) (record_leads byte)
 leads st.AfterCr ended place byte h = rw (h.0, h.1) (return_leads byte)
-leads st.StartField ended place byte h = rw h (opening_leads ended byte)
-leads st.AfterQuote ended place byte h = rw h (either ended (byte == 34) _ _ _ _ refl (plain_leads ended byte))
-leads st.InField ended place byte h = rw h (plain_leads ended byte)
-leads st.InQuoted ended place byte h = rw h (either ended (byte == 34) _ _ _ _ refl refl)
+leads st.StartField ended place byte h = rw h.1 (opening_leads ended (counted h.0) byte)
+leads st.AfterQuote ended place byte h = rw h.1 (either ended (byte == 34) _ _ _ _ (counted h.0, refl) (plain_leads ended (counted h.0) byte))
+leads st.InField ended place byte h = rw h.1 (plain_leads ended (counted h.0) byte)
+leads st.InQuoted ended place byte h = rw h.1 (either ended (byte == 34) _ _ _ _ (counted h.0, refl) (counted h.0, refl))
 leads st.InEscape ended place byte h = absurd h
 leads st.InComment ended place byte h = absurd h

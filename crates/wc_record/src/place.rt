@@ -1,6 +1,11 @@
-ghost use Rattle.std.specs.Prelude.{◌≡◌, ◌≤◌, ◌<◌, ◌+◌, length, false, true};
-ghost use Rattle.wc_record.specs.Cutting.{Cuts};
-ghost use Rattle.wc_record.specs.Places.{after, after_opening, after_plain, is_cut, log_start};
+ghost use Rattle.std.specs.Prelude.{◌≡◌, ◌≤◌, ◌<◌, ◌+◌, length, min, false, true};
+ghost use Rattle.wc_record.specs.Cutting.{AreUnquotedLines, Cuts, Passes};
+ghost use Rattle.wc_record.specs.Places.{after, after_opening, after_plain, is_cut, is_outside, log_start, record_start};
+
+use memchr::{memchr, memrchr};
+
+/// How many bytes of a record are read, whatever they are.
+const MOST_READ: u32 = 65536;
 
 /// What the next byte may be.
 #[derive(Clone, Copy, Debug, PartialEq, Eq)]
@@ -24,47 +29,92 @@ pub(crate) enum Spot {
 pub(crate) struct Place {
     /// What the next byte may be.
     pub(crate) spot: Spot,
-    /// How many fields of the record at hand have ended.
+    /// How many fields of the record at hand have ended, 3 where there are more.
     pub(crate) ended: u8,
+    /// How many of its bytes were read, 65536 where there are more.
+    pub(crate) size: u32,
+}
+
+/// One field more, up to three.
+#[inline(always)]
+fn one_field_more(ended: u8) -> u8
+    ensures { result ≡ min 3 (ended + 1) }
+{
+    if ended < 3 { ended + 1 } else { 3 }
+}
+
+/// One byte more, up to as many as are read of each record.
+#[inline(always)]
+fn one_byte_more(size: u32) -> u32
+    ensures { result ≡ min 65536 (size + 1) }
+{
+    if size < MOST_READ {
+        size + 1
+    } else {
+        MOST_READ
+    }
+}
+
+/// The place before the first byte of a record.
+#[inline(always)]
+fn at_record() -> Place
+    ensures { result ≡ record_start }
+{
+    Place {
+        spot: Spot::Opening,
+        ended: 0,
+        size: 0,
+    }
 }
 
 /// The place behind a byte that opens no quotes, outside of them.
 #[inline(always)]
-fn behind_plain(ended: u8, byte: u8) -> Place
-    requires { ended < 3 }
-    ensures { result ≡ after_plain ended byte }
+fn behind_plain(ended: u8, size: u32, byte: u8) -> Place
+    ensures { result ≡ after_plain ended size byte }
 {
     if byte == b',' {
         Place {
             spot: Spot::Opening,
-            ended: ended + 1,
+            ended: one_field_more(ended),
+            size,
         }
     } else if byte == b'\r' || byte == b'\n' {
-        Place {
-            spot: Spot::Opening,
-            ended: 0,
-        }
+        at_record()
     } else {
         Place {
             spot: Spot::Plain,
             ended,
+            size,
         }
     }
 }
 
 /// The place behind a byte that may open quotes.
 #[inline(always)]
-fn behind_opening(ended: u8, byte: u8) -> Place
-    requires { ended < 3 }
-    ensures { result ≡ after_opening ended byte }
+fn behind_opening(ended: u8, size: u32, byte: u8) -> Place
+    ensures { result ≡ after_opening ended size byte }
 {
     if byte == b'"' {
         Place {
             spot: Spot::Quoted,
             ended,
+            size,
         }
     } else {
-        behind_plain(ended, byte)
+        behind_plain(ended, size, byte)
+    }
+}
+
+/// How many bytes stand up to the last line feed, that too, where no quote is among all of them.
+fn unquoted_lines(bytes: &[u8]) -> usize
+    ensures { AreUnquotedLines bytes.now result }
+{
+    if let Some(_) = memchr(b'"', bytes) {
+        return 0;
+    }
+    match memrchr(b'\n', bytes) {
+        Some(last) => last + 1,
+        None => 0,
     }
 }
 
@@ -76,43 +126,67 @@ impl Place {
         Place {
             spot: Spot::LogStart,
             ended: 0,
+            size: 0,
         }
     }
 
-    /// Whether the record at hand has more than three fields, however it goes on.
+    /// Whether no more is read of the record at hand: it has more than three fields, however it goes on.
     #[inline(always)]
     pub(crate) fn is_cut(self) -> bool
         ensures { result ≡ is_cut self }
     {
-        self.ended >= 3
+        self.ended >= 3 && self.size >= MOST_READ
     }
 
     /// The place behind this byte.
     #[inline(always)]
     fn behind(self, byte: u8) -> Place
-        requires { is_cut self ≡ false }
         ensures { result ≡ after self byte }
     {
+        let size = one_byte_more(self.size);
         let spot = match self.spot {
-            Spot::Opening => return behind_opening(self.ended, byte),
-            Spot::Plain => return behind_plain(self.ended, byte),
+            Spot::Opening => return behind_opening(self.ended, size, byte),
+            Spot::Plain => return behind_plain(self.ended, size, byte),
             Spot::Quoted if byte == b'"' => Spot::Opening,
             Spot::Quoted => Spot::Quoted,
             Spot::LogStart if byte == 0xef => Spot::SecondOfMark,
-            Spot::LogStart => return behind_opening(self.ended, byte),
+            Spot::LogStart => return behind_opening(self.ended, size, byte),
             Spot::SecondOfMark if byte == 0xbb => Spot::ThirdOfMark,
-            Spot::SecondOfMark => return behind_plain(self.ended, byte),
-            Spot::ThirdOfMark if byte == 0xbf => Spot::Opening,
-            Spot::ThirdOfMark => return behind_plain(self.ended, byte),
+            Spot::SecondOfMark => return behind_plain(self.ended, size, byte),
+            Spot::ThirdOfMark if byte == 0xbf => return at_record(),
+            Spot::ThirdOfMark => return behind_plain(self.ended, size, byte),
         };
         Place {
             spot,
             ended: self.ended,
+            size,
         }
     }
 
-    /// Goes over these bytes up to the cut, and answers how many they are.
-    pub(crate) fn walk(&mut self, bytes: &[u8]) -> usize
+    /// Whether no quotes are open here, and no byte order mark.
+    #[inline(always)]
+    fn is_outside(self) -> bool
+        ensures { result ≡ is_outside self.spot }
+    {
+        matches!(self.spot, Spot::Opening | Spot::Plain)
+    }
+
+    /// How many of these bytes stand on lines that end in them, where they can neither be cut nor hold a quote: behind
+    /// those a record starts.
+    #[inline(always)]
+    fn whole_lines(self, bytes: &[u8]) -> usize
+        ensures passes { 0 < result → Passes self bytes.now result record_start }
+        ensures bound { result ≤ length bytes.now }
+    {
+        if self.is_outside() && bytes.len() < MOST_READ.saturating_sub(self.size) as usize {
+            unquoted_lines(bytes)
+        } else {
+            0
+        }
+    }
+
+    /// Goes over these bytes up to the cut, one by one, and answers how many they are.
+    fn walk_on(&mut self, bytes: &[u8]) -> usize
         ensures cuts { Cuts self.old bytes.now result self.new }
         ensures bound { result ≤ length bytes.now }
         ensures stops { result < length bytes.now → is_cut self.new ≡ true }
@@ -124,5 +198,19 @@ impl Place {
             *self = self.behind(*byte);
         }
         bytes.len()
+    }
+
+    /// Goes over these bytes up to the cut, and answers how many they are.
+    pub(crate) fn walk(&mut self, bytes: &[u8]) -> usize
+        ensures cuts { Cuts self.old bytes.now result self.new }
+        ensures bound { result ≤ length bytes.now }
+        ensures stops { result < length bytes.now → is_cut self.new ≡ true }
+    {
+        let lines = self.whole_lines(bytes);
+        if lines == 0 {
+            return self.walk_on(bytes);
+        }
+        *self = at_record();
+        lines + self.walk_on(&bytes[lines..])
     }
 }
