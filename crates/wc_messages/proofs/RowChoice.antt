@@ -1,12 +1,12 @@
 -- Which row is shown, line by line.
-use Rattle.std.proofs.Common.{◌≡◌, ◌≢◌, ◌≤◌, ◌<◌, ◌-◌, ◌==◌, ℕ, zero, suc, Bool, true, false, cond, not, ◌&&◌, List, [], ◌∷◌, ◌++◌, length, drop, filter, take_while, Option, Some, None, if◌then◌else◌, refl, sym, ap, ◌∙◌, arith}
+use Rattle.std.proofs.Common.{◌≡◌, ◌≢◌, ◌≤◌, ◌<◌, ◌-◌, ℕ, zero, suc, Bool, true, false, cond, ◌&&◌, List, [], ◌∷◌, ◌++◌, length, drop, filter, take_while, Some, None, if◌then◌else◌, refl, sym, ap, ◌∙◌, arith}
 use Rattle.std.proofs.lemmas.Bool.{le-leb, lt-leb}
 use Rattle.std.proofs.lemmas.List.Sums.{take_while-cons}
 use Rattle.std.specs.List.{list_all}
-use Rattle.std.specs.Prelude.{option_and_then, slice_get}
+use Rattle.std.specs.Prelude.{option_and_then}
 use Rattle.wc_findings.specs.Lines.{item_at}
 use Rattle.wc_messages.proofs.LogLines.{both_hold}
-use Rattle.wc_messages.specs.Rows.{ShownRow, if_short, is_blank, is_ordinary, is_row, is_sure, last_of, line_below, numbered, rows_from, shown_from}
+use Rattle.wc_messages.specs.Rows.{ShownRow, if_short, is_blank, is_ordinary, is_row, is_sure, last_of, line_below, numbered, shown_from}
 
 -- a test joined with one that fails
 and_false : (a : Bool) → (a && false) ≡ false

@@ -1,8 +1,8 @@
 -- A seeker that seeks, and what it stands for.
-use Rattle.std.proofs.Common.{◌≡◌, ◌==◌, ℕ, Bool, true, false, List, [], ◌∷◌, ◌++◌, take, Option, refl, sym, ap, ◌∙◌, append_assoc}
+use Rattle.std.proofs.Common.{◌≡◌, ℕ, true, false, List, [], ◌∷◌, ◌++◌, refl, sym, ap, ◌∙◌, append_assoc}
 use Rattle.std.proofs.lemmas.List.{append-nil}
-use Rattle.wc_messages.specs.Rows.{ShownRow, shown_row}
-use Rattle.wc_messages.specs.Seekers.{FindsLast, HasFound, IsSettled, LeadsOn, Seeks, SeeksOn, found, is_open, shown_behind, shown_in}
+use Rattle.wc_messages.specs.Rows.{shown_row}
+use Rattle.wc_messages.specs.Seekers.{FindsLast, HasFound, IsSettled, LeadsOn, Seeks, SeeksOn, is_open, shown_behind, shown_in}
 use Rattle.wc_messages.specs.declared.seeker.Progress.{Progress}
 use Rattle.wc_messages.specs.declared.seeker.Progress.TheVariants.{Seeking, Found, Lost}
 use Rattle.wc_messages.specs.declared.seeker.RowSeeker.{RowSeeker}

@@ -1,10 +1,10 @@
 -- What each byte does to the row that is shown.
-use Rattle.std.proofs.Common.{◌≡◌, ◌≢◌, ◌≤◌, ◌<◌, ◌-◌, ◌==◌, ℕ, Bool, true, false, not, ◌&&◌, List, [], ◌∷◌, ◌++◌, length, map, Option, Some, None, refl, sym, ap, subst, ◌∙◌, arith, append_assoc, length-append}
+use Rattle.std.proofs.Common.{◌≡◌, ◌≢◌, ◌≤◌, ◌<◌, ◌-◌, ◌==◌, ℕ, Bool, true, false, ◌&&◌, List, [], ◌∷◌, ◌++◌, length, map, Option, Some, None, refl, sym, ap, ◌∙◌, arith, append_assoc, length-append}
 use Rattle.std.proofs.lemmas.List.{append-nil}
 use Rattle.std.proofs.lemmas.List.Splits.{slice_split-cons_no}
 use Rattle.std.specs.List.{list_all, onto_first}
 use Rattle.wc_findings.specs.Lines.{cut_lines, lines_of, without_return}
-use Rattle.wc_messages.proofs.LogLines.{FirstCut, both_hold, ends_nothing, first_cut, line_ends, lines_on, log_ends}
+use Rattle.wc_messages.proofs.LogLines.{FirstCut, first_cut, line_ends, lines_on, log_ends}
 use Rattle.wc_messages.proofs.RowChoice.{blank_last, blank_passes, bytes_pass, empty_first, last_is_other, long_row, none_from, row_is_shown, row_passes, sure_on, unsure_at}
 use Rattle.wc_messages.specs.Rows.{ShownRow, is_ordinary, is_sure, line_below, shown_from}
 use Rattle.wc_messages.specs.Seekers.{return_met}

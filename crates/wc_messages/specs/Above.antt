@@ -1,5 +1,5 @@
 -- How many lines of a job stand above a part of it.
-use Rattle.std.specs.Prelude.{◌≡◌, ℕ, ◌==◌, List, [], ◌∷◌, ◌++◌, Ok, count_by}
+use Rattle.std.specs.Prelude.{◌≡◌, ℕ, ◌==◌, List, [], ◌++◌, Ok, count_by}
 use Rattle.wc_findings.specs.declared.refusal.Part as declared
 use Rattle.wc_findings.specs.declared.refusal.Part.TheVariants.{Job, Plate, Program, Log}
 use Rattle.wc_instrument_laws.specs.Jobs.{IsMadeOf}

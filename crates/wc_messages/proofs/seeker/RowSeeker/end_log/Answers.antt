@@ -1,4 +1,4 @@
-use Rattle.std.proofs.Common.{◌≡◌, ◌<◌, ℕ, true, false, [], arith, ap, sym, ◌∙◌, length, rules}
+use Rattle.std.proofs.Common.{◌≡◌, ◌<◌, true, [], arith, ap, sym, ◌∙◌, length, rules}
 use Rattle.std.proofs.lemmas.Bool.{eqb-false, eqb-true}
 use Rattle.std.specs.Vec.{vec_len}
 use Rattle.wc_messages.proofs.SeekerStates.{open_is}
