@@ -1,13 +1,19 @@
-ghost use Rattle.std.specs.Prelude.{◌≤◌, length};
+ghost use Rattle.std.specs.Prelude.{◌≡◌, ◌≤◌, ◌==◌, ◌∷◌, [], MatchOption, length, min, option_map, slice_get, take, drop, Some};
+ghost use Rattle.std.specs.List.{before_first, position_or_len};
+ghost use Rattle.wc_findings.specs.Lines.{HasBelow, IsOneLine, cut_lines, line_of_number, without_return};
 
 /// What stands behind so many bytes.
-pub(crate) fn behind(text: &[u8], start: usize) -> &[u8] {
+pub(crate) fn behind(text: &[u8], start: usize) -> &[u8]
+    ensures { result.now ≡ drop (min start (length text.now)) text.now }
+{
     let (_, rest) = text.split_at(start.min(text.len()));
     rest
 }
 
 /// The first so many bytes.
-pub(crate) fn front(text: &[u8], end: usize) -> &[u8] {
+pub(crate) fn front(text: &[u8], end: usize) -> &[u8]
+    ensures { result.now ≡ take (min end (length text.now)) text.now }
+{
     let (first, _) = text.split_at(end.min(text.len()));
     first
 }
@@ -18,7 +24,10 @@ pub(crate) fn piece(text: &[u8], start: usize, length: usize) -> &[u8] {
 }
 
 /// How many bytes stand before the first line feed.
-pub(crate) fn line_length(text: &[u8]) -> usize {
+pub(crate) fn line_length(text: &[u8]) -> usize
+    ensures first { result ≡ position_or_len (λ byte. byte == 10) text.now }
+    ensures within { result ≤ length text.now }
+{
     text.iter().take_while(|byte| **byte != b'\n').count()
 }
 
@@ -45,22 +54,53 @@ pub(crate) fn line_start(text: &[u8], number: u32) -> Option<usize> {
 }
 
 /// A line without the CR at its end.
-fn without_return(line: &[u8]) -> &[u8] {
-    match line.split_last() {
-        Some((b'\r', before)) => before,
-        _ => line,
+fn without_return(line: &[u8]) -> &[u8]
+    ensures { result.now ≡ without_return line.now }
+{
+    if line.is_empty() {
+        return line;
+    }
+    let last = line.len() - 1;
+    if line[last] == b'\r' {
+        return front(line, last);
+    }
+    line
+}
+
+/// The first line, without its LF.
+fn first_line(text: &[u8]) -> &[u8]
+    ensures { slice_get (cut_lines text.now) 0 ≡ Some result.now }
+{
+    front(text, line_length(text))
+}
+
+/// What stands below the first line, if it ends with LF.
+fn below_line(text: &[u8]) -> Option<&[u8]>
+    ensures { MatchOption result (IsOneLine text.now) (λ below. HasBelow text.now below.now) }
+{
+    let place = line_length(text);
+    if place < text.len() {
+        Some(behind(text, place + 1))
+    } else {
+        None
     }
 }
 
-/// The line of that number, without its end.
-pub(crate) fn line_at(text: &[u8], number: u32) -> Option<&[u8]> {
-    match line_start(text, number) {
-        Some(start) => {
-            let rest = behind(text, start);
-            Some(without_return(front(rest, line_length(rest))))
-        }
-        None => None,
+/// The line of that number, counted from 1, without its end.
+pub(crate) fn line_at(text: &[u8], number: u32) -> Option<&[u8]>
+    ensures { option_map (λ line. line.now) result ≡ line_of_number number text.now }
+{
+    if number == 0 {
+        return None;
     }
+    let mut rest = text;
+    for _passed in 0..number - 1 {
+        match below_line(rest) {
+            Some(below) => rest = below,
+            None => return None,
+        }
+    }
+    Some(without_return(first_line(rest)))
 }
 
 /// The number of the line on which a place stands, counted from 1.

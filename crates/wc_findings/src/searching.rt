@@ -1,4 +1,5 @@
 ghost use Rattle.std.specs.Prelude.{◌≡◌, ◌≤◌, IfOk, IfSome, None, [], length};
+ghost use Rattle.wc_findings.specs.Showing.{ShowsLine};
 
 use crate::body_faults::find_body_fault;
 use crate::finding::Finding;
@@ -57,12 +58,15 @@ fn first_line(refusal: &Refusal<'_>) -> u32 {
 
 /// Keeps the line that is shown, and no spot outside it.
 fn keep_line(finding: &mut Finding, text: &[u8]) -> Result<(), AllocError>
-    ensures { IfOk result
+    ensures within { IfOk result
         (λ _. IfSome finding.new.spot (λ spot. spot.start ≤ length finding.new.shown.items)) }
+    ensures line { IfOk result
+        (λ _. ShowsLine text.now finding.new.line finding.new.shown.items) }
 {
     finding.shown.clear();
-    if let Some(line) = line_at(text, finding.line) {
-        finding.shown.extend_from_slice(line)?;
+    match line_at(text, finding.line) {
+        Some(line) => finding.shown.extend_from_slice(line)?,
+        None => finding.line = 0,
     }
     if let Some(spot) = finding.spot {
         if spot.start > finding.shown.len() {
@@ -79,6 +83,8 @@ pub fn find(alloc: Global, refusal: &Refusal<'_>) -> Result<Finding, AllocError>
         → IfOk result (λ finding. (finding.spot ≡ None) × (finding.shown.items ≡ [])) }
     ensures within { IfOk result
         (λ finding. IfSome finding.spot (λ spot. spot.start ≤ length finding.shown.items)) }
+    ensures line { IfOk result (λ finding. IfSome refusal.now.text
+        (λ text. ShowsLine text.now finding.line finding.shown.items)) }
 {
     match refusal.text {
         Some(text) => {

@@ -1,3 +1,6 @@
 pub mod Numbers
 pub mod Parts
 pub mod Plain
+pub mod Rows
+pub mod Seekers
+pub mod Above

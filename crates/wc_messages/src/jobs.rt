@@ -1,4 +1,5 @@
-ghost use Rattle.std.specs.Prelude.{◌≡◌, option_map};
+ghost use Rattle.std.specs.Prelude.{◌≡◌, ◌≤◌, ◌+◌, IfSome, length, option_map};
+ghost use Rattle.wc_messages.specs.Above.{StandsBelow, line_ends};
 ghost use Rattle.wc_messages.specs.Parts.{text_of};
 ghost use Rattle.wc_model.specs.Run.JobSections.{sections_of};
 
@@ -15,19 +16,26 @@ pub struct Section<'a> {
 }
 
 /// How many line feeds there are.
-fn line_feeds(text: &[u8]) -> usize {
+fn line_feeds(text: &[u8]) -> usize
+    ensures { result ≡ line_ends text.now }
+{
     text.iter().filter(|byte| **byte == b'\n').count()
 }
 
-/// How many lines a heading ends, with those of the section above it.
-fn behind_heading(above: u32, section: &[u8]) -> u32 {
+/// How many lines stand above what follows a section and the heading behind it.
+fn behind_heading(above: u32, section: &[u8]) -> u32
+    ensures { above ≤ 2097152 → line_ends section.now ≤ 1048576
+        → result ≡ above + line_ends section.now + 1 }
+{
     let feeds = line_feeds(section).min(1048576) as u32;
     above.saturating_add(feeds).saturating_add(1)
 }
 
 /// The section of a job that is this part, where the job has its headings.
 pub fn section_of(job: &[u8], part: Part) -> Option<Section<'_>>
-    ensures { option_map (λ section. section.text.now) result ≡ text_of part (sections_of job.now) }
+    ensures text { option_map (λ section. section.text.now) result
+        ≡ text_of part (sections_of job.now) }
+    ensures above { IfSome result (λ section. StandsBelow job.now part section.above) }
 {
     let Ok(found) = sections(job) else {
         return None;

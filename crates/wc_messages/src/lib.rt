@@ -9,14 +9,13 @@ mod jobs;
 mod message;
 mod page;
 mod pages;
+mod seeker;
 mod seeking;
 mod sentences;
-#[cfg(test)]
-mod tests;
 
 pub use explaining::explained;
 pub use jobs::{Section, section_of};
 pub use message::{Message, shown};
 pub use page::page as page_of;
-pub use seeking::{Row, RowSeeker};
+pub use seeker::{Row, RowSeeker};
 pub use wc_findings::{Part, Refusal};

@@ -1,4 +1,4 @@
-//! Tests of program texts through the public calls: tokens, trees, scans, checks and jobs.
+//! Tests of program texts through the public calls: tokens, trees, scans, checks, jobs and messages.
 #![tactic(auto)]
 
 #[cfg(test)]
@@ -11,6 +11,8 @@ mod declarations;
 mod inputs;
 #[cfg(test)]
 mod jobs;
+#[cfg(test)]
+mod messages;
 #[cfg(test)]
 mod programs;
 #[cfg(test)]

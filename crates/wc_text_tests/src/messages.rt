@@ -1,7 +1,7 @@
 //! Messages as they are printed, and the pages.
-use crate::{Message, Part, Refusal, RowSeeker, explained, page_of, section_of, shown};
 use std::alloc::{AllocError, Global};
 use std::test::Fail;
+use wc_messages::{Message, Part, Refusal, RowSeeker, explained, page_of, section_of, shown};
 
 /// A plate whose sixth line is out of range.
 const PLATE: &[u8] =
@@ -123,15 +123,6 @@ fn a_row_is_found_behind_a_blank_line(rt: HostRuntime) -> Result<(), Fail> {
 }
 
 #[test]
-fn quoted_rows_are_not_sought(rt: HostRuntime) -> Result<(), Fail> {
-    let mut seeker = RowSeeker::new(rt.alloc(), 2);
-    seeker.feed(b"ms,kind,data\n0,S,\"\n\"\n")?;
-    seeker.finish();
-    assert!(rt; seeker.row().is_none());
-    Ok(())
-}
-
-#[test]
 fn bytes_are_shown(rt: HostRuntime) -> Result<(), Fail> {
     let message = shown(rt.alloc(), b"a\tb\x1b[2J\n\xff")?;
     assert!(rt; message.as_bytes() == b"a b\\x1b[2J\\x0a\\xff".as_slice());
@@ -149,5 +140,82 @@ fn a_number_has_its_page(rt: HostRuntime) -> Result<(), Fail> {
             .starts_with(b"403: there is no current result\nmet at: verify\n")
     );
     assert!(rt; page_of(rt.alloc(), 400)?.is_none());
+    Ok(())
+}
+
+/// The row of that number is on that line, and has these bytes.
+fn is_row(alloc: Global, log: &[u8], wanted: u32, line: u32, text: &[u8]) -> bool {
+    let mut seeker = RowSeeker::new(alloc, wanted);
+    let (front, back) = log.split_at(log.len() / 2);
+    let fed = seeker.feed(front).is_ok() && seeker.feed(back).is_ok();
+    seeker.finish();
+    match seeker.row() {
+        Some(row) => fed && row.line == line && row.text == text,
+        None => false,
+    }
+}
+
+/// No row of that number is shown.
+fn is_no_row(alloc: Global, log: &[u8], wanted: u32) -> bool {
+    let mut seeker = RowSeeker::new(alloc, wanted);
+    let fed = seeker.feed(log).is_ok();
+    seeker.finish();
+    fed && seeker.row().is_none() && !seeker.is_seeking()
+}
+
+/// A log whose second row has so many bytes, with no end.
+fn long_row(alloc: Global, length: usize) -> Result<Vec<u8>, AllocError> {
+    let mut log = Vec::new(alloc);
+    log.extend_from_slice(b"a\n")?;
+    for _ in 0..length {
+        log.push(b'x')?;
+    }
+    Ok(log)
+}
+
+#[test]
+fn a_return_at_the_end_ends_the_row(rt: HostRuntime) {
+    assert!(rt; is_row(rt.alloc(), b"a\r\n\r\nb\r", 2, 3, b"b"));
+}
+
+#[test]
+fn a_return_within_a_row_is_unsure(rt: HostRuntime) {
+    assert!(rt; is_no_row(rt.alloc(), b"a\rb\nc\n", 2));
+}
+
+#[test]
+fn a_quote_before_the_row_is_unsure(rt: HostRuntime) {
+    assert!(rt; is_no_row(rt.alloc(), b"a\n\"\n\"\nb\n", 3));
+}
+
+#[test]
+fn a_quote_behind_the_row_is_not_read(rt: HostRuntime) {
+    assert!(rt; is_row(rt.alloc(), b"a\nb\n\"", 2, 2, b"b"));
+}
+
+#[test]
+fn a_log_of_blank_lines_has_an_empty_row(rt: HostRuntime) {
+    assert!(rt; is_row(rt.alloc(), b"\n\r\n", 1, 3, b""));
+}
+
+#[test]
+fn behind_the_last_row_is_none(rt: HostRuntime) {
+    assert!(rt; is_no_row(rt.alloc(), b"a\nb\n", 3));
+}
+
+#[test]
+fn a_row_is_shown_up_to_its_bound(rt: HostRuntime) -> Result<(), Fail> {
+    let log = long_row(rt.alloc(), 16384)?;
+    let mut seeker = RowSeeker::new(rt.alloc(), 2);
+    seeker.feed(log.as_slice())?;
+    seeker.finish();
+    assert!(rt; seeker.row().is_some());
+    Ok(())
+}
+
+#[test]
+fn a_longer_row_is_not_shown(rt: HostRuntime) -> Result<(), Fail> {
+    let log = long_row(rt.alloc(), 16385)?;
+    assert!(rt; is_no_row(rt.alloc(), log.as_slice(), 2));
     Ok(())
 }

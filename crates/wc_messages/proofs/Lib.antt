@@ -1,0 +1,5 @@
+pub mod LogLines
+pub mod RowChoice
+pub mod SeekerSteps
+pub mod SeekerStates
+pub mod LinesAbove
