@@ -1,9 +1,8 @@
-ghost use Rattle.std.specs.Prelude.{◌≡◌, fold};
+ghost use Rattle.std.specs.Prelude.{◌≡◌};
 ghost use Rattle.std.specs.Cmp.{partial_equiv_from_equiv};
-ghost use Rattle.std.specs.Hash as fed;
 ghost use Rattle.wc_model.specs.Language.Declarations.{same_name};
 ghost use Rattle.wc_model.specs.Language.Names.{name_of};
-ghost use Rattle.wc_declare.specs.Keys.{fed_name, name_of_key, same_key, same_key_laws, same_key_fed};
+ghost use Rattle.wc_declare.specs.Keys.{fed_name, mixed, name_number, name_of_key, same_key, same_key_laws, same_key_fed};
 
 use std::hash::{Hash, Hasher};
 
@@ -21,14 +20,22 @@ fn same_name(a: &[u8], b: &[u8]) -> bool
     a.eq_ignore_ascii_case(b)
 }
 
-/// Hashes a name as it stands in small letters.
-fn hash_name<H: Hasher>(text: &[u8], state: &mut H)
-    ensures { state.new ≡ fold H.write state.old (fed.slice fed.u8 (name_of text.now)) }
+/// The number of a name with one byte more (the hash FNV-1a).
+fn mixed(number: u64, byte: u8) -> u64
+    ensures { result ≡ mixed number byte }
 {
-    state.write_usize(text.len());
+    (number ^ u64::from(byte)).wrapping_mul(0x100000001b3)
+}
+
+/// The number of a name as it stands in small letters: what is hashed of it.
+fn name_number(text: &[u8]) -> u64
+    ensures { result ≡ name_number (name_of text.now) }
+{
+    let mut number = 0xcbf29ce484222325_u64;
     for byte in text {
-        state.write_u8(byte.to_ascii_lowercase());
+        number = mixed(number, byte.to_ascii_lowercase());
     }
+    number
 }
 
 impl<'a> PartialEq for Key<'a> {
@@ -51,6 +58,6 @@ impl<'a> Hash for Key<'a> {
     ghost respects_eq = { same_key_fed };
 
     fn hash<H: Hasher>(&self, state: &mut H) {
-        hash_name(self.text, state);
+        state.write_u64(name_number(self.text));
     }
 }

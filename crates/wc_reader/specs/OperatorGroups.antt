@@ -1,5 +1,5 @@
 -- The operators under their words, in groups.
-use Rattle.std.specs.Prelude.{true, false, List, [], ◌∷◌}
+use Rattle.std.specs.Prelude.{true, false, List, [], ◌∷◌, ◌++◌}
 use Rattle.wc_grammar_laws.specs.Words.{Operation, Operates, Negates, Jumps, Calls, Returns, Loads, Stores, Applies, operation_word}
 use Rattle.wc_model.specs.Language.Names.{Name}
 use Rattle.wc_model.specs.declared.operator.Condition.TheVariants.{Always, IfTrue, IfFalse}
@@ -42,3 +42,19 @@ abbrev pub calls_and_returns : List (Name × Operation)
 calls_and_returns =
     worded (Calls Always) ∷ worded (Calls IfTrue) ∷ worded (Calls IfFalse)
     ∷ worded (Returns Always) ∷ worded (Returns IfTrue) ∷ worded (Returns IfFalse) ∷ []
+
+-- NOT, jumps, calls and returns
+abbrev pub negation_and_transfers : List (Name × Operation)
+negation_and_transfers = negation_and_jumps ++ calls_and_returns
+
+-- the comparisons and what stands behind them in the table
+abbrev pub from_comparisons : List (Name × Operation)
+from_comparisons = comparisons ++ negation_and_transfers
+
+-- arithmetic and what stands behind it
+abbrev pub from_arithmetic : List (Name × Operation)
+from_arithmetic = arithmetic ++ from_comparisons
+
+-- logic and what stands behind it
+abbrev pub from_logic : List (Name × Operation)
+from_logic = logic ++ from_arithmetic

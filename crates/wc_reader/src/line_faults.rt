@@ -1,4 +1,4 @@
-ghost use Rattle.std.specs.Prelude.{◌≡◌, ◌∷◌, [], ◌&&◌, List, Option, Some, None, is_some, option_map, if◌then◌else◌};
+ghost use Rattle.std.specs.Prelude.{◌≡◌, ◌∷◌, [], ◌&&◌, List, Option, Some, None, is_some, not, option_map, if◌then◌else◌};
 ghost use Rattle.wc_grammar_laws.specs.Moves as moves;
 ghost use Rattle.wc_grammar_laws.specs.Words as words;
 ghost use Rattle.wc_model.specs.Text.Keywords.{end_word};
@@ -92,6 +92,20 @@ fn is_operator(token: Token) -> bool
     }
 }
 
+/// What is wrong with an operator that begins a line where the unit has as many as it may. A label is none.
+fn full_operator_fault(token: Token, colon: bool) -> Option<Fault>
+    ensures { result
+        ≡ option_map fault_of
+        (moves.met_if (is_some (words.operation_of (symbol_view token.entry)) && not colon)
+        faults.TooMany token.entry.line) }
+{
+    if colon {
+        None
+    } else {
+        refused_if(is_operator(token), 208, token.line)
+    }
+}
+
 /// What is wrong with an operator that begins a line: it is one line too many. A label is none.
 fn operator_fault(body: &Body, token: Token, colon: bool) -> Option<Fault>
     requires { IsCounted body.now }
@@ -101,12 +115,8 @@ fn operator_fault(body: &Body, token: Token, colon: bool) -> Option<Fault>
         (moves.judge_operator (position_view units body.now)
         (symbol_view token.entry) token.entry.line colon) }
 {
-    if is_operator(token) {
-        if colon {
-            None
-        } else {
-            full_fault(body, token.line)
-        }
+    if is_full(body) {
+        full_operator_fault(token, colon)
     } else {
         None
     }

@@ -1,7 +1,7 @@
 ghost use Rattle.std.specs.Prelude.{◌≡◌, option_map};
 ghost use Rattle.wc_grammar_laws.specs.Words as words;
 ghost use Rattle.wc_model.specs.Language.Names.{name_of};
-ghost use Rattle.wc_reader.specs.OperatorGroups.{loads_and_stores, logic, arithmetic, comparisons, negation_and_jumps, calls_and_returns};
+ghost use Rattle.wc_reader.specs.OperatorGroups.{loads_and_stores, logic, arithmetic, comparisons, negation_and_jumps, calls_and_returns, negation_and_transfers, from_comparisons, from_arithmetic, from_logic};
 ghost use Rattle.wc_reader.specs.Words.{operation_view, symbol_view};
 
 use wc_lexer::{Shape, Token};
@@ -155,16 +155,54 @@ fn call_or_return(text: &[u8]) -> Option<Operation>
     }
 }
 
+/// NOT, jumps, calls and returns.
+fn negation_or_transfer(text: &[u8]) -> Option<Operation>
+    ensures { option_map operation_view result ≡ words.found negation_and_transfers (name_of text.now) }
+{
+    match negation_or_jump(text) {
+        Some(operation) => Some(operation),
+        None => call_or_return(text),
+    }
+}
+
+/// Comparisons, NOT and transfers.
+fn comparison_or_later(text: &[u8]) -> Option<Operation>
+    ensures { option_map operation_view result ≡ words.found from_comparisons (name_of text.now) }
+{
+    match comparison(text) {
+        Some(operation) => Some(operation),
+        None => negation_or_transfer(text),
+    }
+}
+
+/// Arithmetic and what stands behind it in the table.
+fn arithmetic_or_later(text: &[u8]) -> Option<Operation>
+    ensures { option_map operation_view result ≡ words.found from_arithmetic (name_of text.now) }
+{
+    match arithmetic(text) {
+        Some(operation) => Some(operation),
+        None => comparison_or_later(text),
+    }
+}
+
+/// Logic and what stands behind it in the table.
+fn logic_or_later(text: &[u8]) -> Option<Operation>
+    ensures { option_map operation_view result ≡ words.found from_logic (name_of text.now) }
+{
+    match logic(text) {
+        Some(operation) => Some(operation),
+        None => arithmetic_or_later(text),
+    }
+}
+
 /// The operator that the word is.
 pub(crate) fn operation_named(text: &[u8]) -> Option<Operation>
     ensures { option_map operation_view result ≡ words.found words.operations (name_of text.now) }
 {
-    load_or_store(text)
-        .or(logic(text))
-        .or(arithmetic(text))
-        .or(comparison(text))
-        .or(negation_or_jump(text))
-        .or(call_or_return(text))
+    match load_or_store(text) {
+        Some(operation) => Some(operation),
+        None => logic_or_later(text),
+    }
 }
 
 /// The operator that the token is.

@@ -1,7 +1,10 @@
 use Rattle.wc_model.specs.Language.Names.{name_of}
-use Rattle.wc_reader.proofs.FoundGroups.{chosen}
+use Rattle.wc_reader.proofs.FoundGroups.{found-first, found-second}
+use Rattle.wc_reader.specs.OperatorGroups.{loads_and_stores, from_logic}
 use Rattle.wc_reader.proofs.operators.operation_named.Goals as goal
 
-pub returns : goal.returns
-returns c = rw (c.or-5.ensures, c.or-4.ensures, c.or-3.ensures, c.or-2.ensures, c.or.ensures)
-    (chosen (name_of c.args.text.now) _ _ _ _ _ _ c.load_or_store.ensures c.logic.ensures c.arithmetic.ensures c.comparison.ensures c.negation_or_jump.ensures c.call_or_return.ensures)
+pub returns-in-Some : goal.returns-in-Some
+returns-in-Some c = found-first loads_and_stores from_logic (name_of c.args.text.now) c.load_or_store.result c.in-Some.operation c.load_or_store.ensures c.in-Some.is
+
+pub returns-in-None : goal.returns-in-None
+returns-in-None c = found-second loads_and_stores from_logic (name_of c.args.text.now) c.load_or_store.result c.logic_or_later.result c.load_or_store.ensures c.in-None.is c.logic_or_later.ensures
