@@ -6,12 +6,7 @@ use wc_model::{ByteIn, FuseIn};
 use wc_record::{LogFault, Rows};
 
 /// How many rows a log has before what ends it, and how often its reader failed, which it does behind these bytes.
-fn ends_with(
-    alloc: Global,
-    head: &[u8],
-    piece: &[u8],
-    times: u32,
-) -> (u32, Option<LogFault>, u64) {
+fn ends_with(alloc: Global, head: &[u8], piece: &[u8], times: u32) -> (u32, Option<LogFault>, u64) {
     let mut device = FuseIn::new(head, piece, times, true);
     let mut rows = Rows::new(alloc, &mut device);
     let (count, fault) = rows_left(&mut rows, 100);
@@ -76,7 +71,12 @@ fn commas_in_quotes(rt: HostRuntime) {
 
 #[test]
 fn commas_behind_quotes(rt: HostRuntime) {
-    let found = ends_with(rt.alloc(), b"ms,kind,data\n0,\"S,\",\"a\"\",\",", b"x", 90000);
+    let found = ends_with(
+        rt.alloc(),
+        b"ms,kind,data\n0,\"S,\",\"a\"\",\",",
+        b"x",
+        90000,
+    );
     assert_eq!(rt; found, (0, refused(601, 2), 0));
 }
 
