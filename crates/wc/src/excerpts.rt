@@ -24,27 +24,26 @@ pub(crate) fn bytes_of(rt: &HostRuntime, path: &str) -> Option<Vec<u8>> {
     read_whole(rt.alloc(), &mut Device::new(file)).ok()
 }
 
-/// Hands the next bytes of a file to the seeker: false at the end, or where it fails.
-fn seek_more(file: &mut File, seeker: &mut RowSeeker) -> bool {
+/// Hands the next bytes of a file to the seeker: whether there were any, and nothing where the read or the seeker failed.
+fn seek_more(file: &mut File, seeker: &mut RowSeeker) -> Option<bool> {
     let mut buffer = [0_u8; PIECE];
-    match file.read(&mut buffer) {
-        Ok(count) => {
-            let (read, _) = buffer.split_at(count.min(PIECE));
-            count > 0 && seeker.feed(read).is_ok()
-        }
-        Err(_) => false,
-    }
+    let count = file.read(&mut buffer).ok()?;
+    let (read, _) = buffer.split_at(count.min(PIECE));
+    seeker.feed(read).ok()?;
+    Some(count > 0)
 }
 
-/// The seeker of a row in a log, behind as many bytes as it takes.
+/// The seeker of a row in a log, behind as many bytes as it takes; nothing where the log could not be read so far.
 pub(crate) fn row_of(rt: &HostRuntime, path: &str, number: u32) -> Option<RowSeeker> {
     let mut seeker = RowSeeker::new(rt.alloc(), number);
     let mut file = open_again(rt, path)?;
     for _ in 0..MOST_READS {
-        if !seeker.is_seeking() || !seek_more(&mut file, &mut seeker) {
-            break;
+        if !seek_more(&mut file, &mut seeker)? {
+            seeker.finish();
+        }
+        if !seeker.is_seeking() {
+            return Some(seeker);
         }
     }
-    seeker.finish();
-    Some(seeker)
+    None
 }

@@ -3,3 +3,4 @@ pub mod RowChoice
 pub mod SeekerSteps
 pub mod SeekerStates
 pub mod LinesAbove
+pub mod Assembled

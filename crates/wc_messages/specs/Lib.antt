@@ -4,3 +4,4 @@ pub mod Plain
 pub mod Rows
 pub mod Seekers
 pub mod Above
+pub mod Explanations

@@ -9,6 +9,7 @@ mod jobs;
 mod message;
 mod page;
 mod pages;
+mod parts;
 mod seeker;
 mod seeking;
 mod sentences;

@@ -1,4 +1,5 @@
 ghost use Rattle.std.specs.Prelude.{◌≡◌, ◌<◌, ◌/◌, ◌%◌, ◌∷◌, ◌++◌, [], IfOk, OnOk, true};
+ghost use Rattle.std.specs.Fmt.{decimal};
 ghost use Rattle.std.specs.List.{list_all};
 ghost use Rattle.wc_messages.specs.Plain.{hex_digit, is_plain, shown_byte, shown_text};
 
@@ -88,12 +89,17 @@ impl Message {
     }
 
     /// Adds words on the line.
-    pub(crate) fn say(&mut self, text: &str) -> Result<(), AllocError> {
+    pub(crate) fn say(&mut self, text: &str) -> Result<(), AllocError>
+        ensures { OnOk result (self.new.bytes.items ≡ self.old.bytes.items ++ shown_text text.now) }
+    {
         self.add(text.as_bytes())
     }
 
     /// Adds a number.
-    pub(crate) fn count(&mut self, number: u32) -> Result<(), AllocError> {
+    pub(crate) fn count(&mut self, number: u32) -> Result<(), AllocError>
+        ensures { OnOk result (self.new.bytes.items
+            ≡ self.old.bytes.items ++ shown_text (decimal number)) }
+    {
         let text = format!(in self.alloc; "{number}")?;
         self.say(&text)
     }
@@ -113,8 +119,18 @@ impl Message {
         Ok(())
     }
 
+    /// Adds all of another message.
+    pub(crate) fn append(&mut self, other: &Message) -> Result<(), AllocError>
+        ensures { OnOk result (self.new.bytes.items
+            ≡ self.old.bytes.items ++ other.now.bytes.items) }
+    {
+        self.bytes.extend_from_slice(&other.bytes)
+    }
+
     /// Ends the line.
-    pub(crate) fn end_line(&mut self) -> Result<(), AllocError> {
+    pub(crate) fn end_line(&mut self) -> Result<(), AllocError>
+        ensures { OnOk result (self.new.bytes.items ≡ self.old.bytes.items ++ 10 ∷ []) }
+    {
         self.put(b'\n')
     }
 }

@@ -1,0 +1,14 @@
+-- Pieces that are written one behind the other.
+use Rattle.std.proofs.Common.{◌≡◌, ℕ, List, [], ◌++◌, append_assoc, refl, Result, Ok, Err, OnOk}
+
+-- four pieces in an empty message
+pub four_pieces : (a b c d start first second third all : List ℕ) → start ≡ [] → first ≡ start ++ a → second ≡ first ++ b → third ≡ second ++ c → all ≡ third ++ d
+    → all ≡ a ++ b ++ c ++ d
+four_pieces a b c d start first second third all none e f g h = rw (h, g, f, e, none) refl
+
+-- four pieces behind what stood there, the last of which may fail
+pub four_behind : {E : Type 0} (r : Result Unit E) (old a b c d first second third all : List ℕ) → first ≡ old ++ a → second ≡ first ++ b → third ≡ second ++ c → OnOk r (all ≡ third ++ d)
+    → OnOk r (all ≡ old ++ (a ++ b ++ c ++ d))
+four_behind (Ok x) old a b c d first second third all e f g h =
+    rw (h, g, f, e, append_assoc old a b, append_assoc old (a ++ b) c, append_assoc old (a ++ b ++ c) d) refl
+four_behind (Err x) old a b c d first second third all e f g h = tt
