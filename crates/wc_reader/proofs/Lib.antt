@@ -8,3 +8,4 @@ mod Openings
 mod Outcomes
 mod ReadingSteps
 pub mod ReadTexts
+mod ShortLines

@@ -3,6 +3,7 @@
 #![tactic(auto)]
 
 mod body;
+mod body_lines;
 mod body_moves;
 mod calls;
 mod declarations;

@@ -1,4 +1,4 @@
-ghost use Rattle.std.specs.Prelude.{◌≡◌, ◌+◌, ◌==◌, ◌≤◌, ◌<◌, ◌∷◌, ℕ, IfErr, IfOk, List, Some, count_by, drop, false, length, option_map};
+ghost use Rattle.std.specs.Prelude.{◌≡◌, ◌+◌, ◌==◌, ◌≤◌, ◌<◌, ◌∷◌, ℕ, IfErr, IfOk, List, OnOk, Some, count_by, drop, false, length, option_map};
 ghost use Rattle.wc_grammar_laws.specs.Moves as moves;
 ghost use Rattle.wc_grammar_laws.specs.Moves.{at_first, colon_next};
 ghost use Rattle.wc_model.specs.Text.Marks.{Mark};
@@ -7,15 +7,17 @@ ghost use Rattle.wc_model.specs.Text.Tokens.{most_bytes};
 ghost use Rattle.wc_model.specs.Language.Views.{text_view};
 ghost use Rattle.wc_lexer.specs.Views.{token_view};
 ghost use Rattle.wc_reader.specs.ReadTexts.{IsRefusedAs};
+ghost use Rattle.wc_reader.specs.Several.{GoesOn};
 ghost use Rattle.wc_reader.specs.TextViews.{IsStateCounted, reading_view};
 ghost use Rattle.wc_reader.specs.Told.{IsUnexpected, TellsReading, TellsFault};
 ghost use Rattle.wc_reader.specs.Words.{marks_of, symbol_view};
 
+use crate::body_lines::take_step;
 use crate::ends::at_text_end;
 use crate::faults::fault_at;
 use crate::moves::text_move;
 use crate::text_state::{Reading, TextState};
-use std::alloc::Global;
+use std::alloc::{AllocError, Global};
 use wc_lexer::{Shape, Token, tokens};
 use wc_model::{Fault, Source};
 
@@ -128,6 +130,72 @@ fn read_at<'a>(
     }
 }
 
+/// Reads the front of the tokens in place where it is a short line, and says how many tokens that takes.
+#[inline(always)]
+fn take_front<'a>(reading: &mut Reading<'a>, tokens: &[Token<'a>]) -> Result<usize, AllocError>
+    requires { IsStateCounted reading.old.state }
+    ensures goes_on { IfOk result
+        (λ taken.
+        GoesOn (reading_view reading.old) (marks_of tokens.now) (reading_view reading.new)
+        (marks_of (drop taken tokens.now))) }
+    ensures counted { OnOk result (IsStateCounted reading.new.state) }
+    ensures within { IfOk result (λ taken. taken ≤ length tokens.now) }
+{
+    match &mut reading.state {
+        TextState::AtLine(body) => take_step(body, tokens),
+        _ => Ok(0),
+    }
+}
+
+/// Reads a short line at that index in place, where one stands there, and says where the next token stands.
+#[inline(always)]
+fn take_at<'a>(
+    reading: &mut Reading<'a>,
+    tokens: &[Token<'a>],
+    index: usize,
+) -> Result<usize, AllocError>
+    requires counted { IsStateCounted reading.old.state }
+    requires within { index ≤ length tokens.now }
+    ensures goes_on { IfOk result
+        (λ next.
+        GoesOn (reading_view reading.old) (marks_of (drop index tokens.now))
+        (reading_view reading.new) (marks_of (drop next tokens.now))) }
+    ensures counted { OnOk result (IsStateCounted reading.new.state) }
+    ensures on { IfOk result (λ next. index ≤ next) }
+    ensures within { IfOk result (λ next. next ≤ length tokens.now) }
+{
+    let (_, left) = tokens.split_at(index);
+    let taken = take_front(reading, left)?;
+    Ok(index + taken)
+}
+
+/// Reads short lines in place from that index on, as many as stand there, and says where the next token stands.
+fn take_lines<'a>(
+    reading: &mut Reading<'a>,
+    tokens: &[Token<'a>],
+    from: usize,
+) -> Result<usize, AllocError>
+    requires counted { IsStateCounted reading.old.state }
+    requires within { from ≤ length tokens.now }
+    ensures goes_on { IfOk result
+        (λ next.
+        GoesOn (reading_view reading.old) (marks_of (drop from tokens.now))
+        (reading_view reading.new) (marks_of (drop next tokens.now))) }
+    ensures counted { OnOk result (IsStateCounted reading.new.state) }
+    ensures on { IfOk result (λ next. from ≤ next) }
+    ensures within { IfOk result (λ next. next ≤ length tokens.now) }
+{
+    let mut place = from;
+    for _index in from..tokens.len() {
+        let next = take_at(reading, tokens, place)?;
+        if next == place {
+            return Ok(place);
+        }
+        place = next;
+    }
+    Ok(place)
+}
+
 /// The text that the tokens spell, or the first fault in them.
 fn read_tokens<'a>(alloc: Global, tokens: &[Token<'a>], last_line: u32) -> Result<Source<'a>, Fault>
     ensures { TellsReading (moves.reading at_first (marks_of tokens.now) last_line) result }
@@ -136,10 +204,15 @@ fn read_tokens<'a>(alloc: Global, tokens: &[Token<'a>], last_line: u32) -> Resul
         units: Vec::new(alloc),
         state: TextState::Outside,
     };
-    for index in 0..tokens.len() {
-        reading = match read_at(alloc, reading, tokens, index) {
+    let mut place = 0;
+    while place < tokens.len() {
+        reading = match read_at(alloc, reading, tokens, place) {
             Ok(next) => next,
             Err(fault) => return Err(fault),
+        };
+        place = match take_lines(&mut reading, tokens, place + 1) {
+            Ok(next) => next,
+            Err(_) => return Err(Fault::Memory),
         };
     }
     at_text_end(reading, last_line)
