@@ -10,8 +10,8 @@ use Rattle.wc_model.specs.Language.Declarations.{same_name}
 use Rattle.wc_model.specs.Language.Names.{Name, name_of}
 use Rattle.wc_model.specs.Language.Tree as tree
 use Rattle.wc_model.specs.Language.Tree.{Term}
-use Rattle.wc_model.specs.Text.Keywords.{end_word}
-use Rattle.wc_model.specs.Text.Marks.{Mark, Symbol, Identifier, Whole, Duration, Truth, Direct, Colon, LineEnd}
+use Rattle.wc_model.specs.Text.Keywords.{end_var, end_word}
+use Rattle.wc_model.specs.Text.Marks.{Mark, Symbol, Identifier, Whole, Duration, Truth, Direct, Colon, Semicolon, LineEnd}
 use Rattle.wc_model.specs.Text.Positions.{Position}
 use Rattle.wc_model.specs.Text.ReadingFaults.{TooMany}
 use Rattle.wc_lexer.specs.Views.{shape_view, token_view}
@@ -19,9 +19,10 @@ use Rattle.wc_lexer.specs.declared.shape.Shape.TheVariants as Shape
 use Rattle.wc_lexer.specs.declared.shape.Token.{Token}
 use Rattle.wc_model.specs.Text.Reading.{mark_of_token, symbol_of}
 use Rattle.wc_reader.proofs.ReadingSteps.{at_move}
+use Rattle.wc_model.specs.declared.source.Section.{Section}
 use Rattle.wc_reader.specs.Several.{Begins, GoesOn, IsLine, Makes, name_or_truth, operand_of}
 use Rattle.wc_reader.specs.TextViews.{fault_of}
-use Rattle.wc_reader.specs.Words.{marks_of, operation_view}
+use Rattle.wc_reader.specs.Words.{marks_of, operation_view, symbol_view}
 use Rattle.wc_reader.specs.declared.operators.Operation.{Operation as CodeOperation}
 
 -- behind one token
@@ -171,3 +172,53 @@ takes_step p next [] other step le end h n = absurd (omega (arith, le))
 takes_step p next (first ∷ []) other step le end h n = absurd (omega (arith, le))
 takes_step p next (first ∷ second ∷ []) other step le end h n = absurd (omega (arith, le))
 takes_step p next (first ∷ second ∷ third ∷ behind) other step le end h n = three_taken p next first second third behind step end h n
+
+-- the tokens of a line with a declaration of one name
+declared_on : (units : List tree.ProgramUnit) (unit : tree.ProgramUnit) (section : Section) (bytes kind : List ℕ) (line colon type_line semicolon end : ℕ) (behind : List Mark)
+    → same_name (name_of bytes) end_var ≡ false
+    → GoesOn (moves.Declaring units unit section moves.Undeclared)
+    (record { symbol = Identifier bytes; line = line } ∷ record { symbol = Colon; line = colon } ∷ record { symbol = Identifier kind; line = type_line }
+    ∷ record { symbol = Semicolon; line = semicolon } ∷ record { symbol = LineEnd; line = end } ∷ behind)
+    (moves.Declaring units (moves.with_declaration unit section (record { line = line; name = name_of bytes } ∷ []) (record { line = type_line; name = name_of kind }) None) section moves.Undeclared) behind
+declared_on units unit section bytes kind line colon type_line semicolon end behind more =
+    let word : tree.Word = record { line = line; name = name_of bytes } in
+    let named : moves.at_first_name units unit section word ≡ moves.Declaring units unit section (moves.BehindNames (word ∷ [])) = rw more refl in
+    record {
+      same = λ last. (one_on (moves.Declaring units unit section moves.Undeclared) (moves.Declaring units unit section (moves.BehindNames (word ∷ []))) (record { symbol = Identifier bytes; line = line })
+          (record { symbol = Colon; line = colon } ∷ record { symbol = Identifier kind; line = type_line } ∷ record { symbol = Semicolon; line = semicolon } ∷ record { symbol = LineEnd; line = end } ∷ behind)
+          true refl refl (ap (λ s. Some s) named)).same last ∙ refl;
+    }
+
+-- a line with a declaration of one name
+five_taken : (units : List tree.ProgramUnit) (unit next : tree.ProgramUnit) (section : Section) (name colon type_name semicolon end : Token) (behind : List Token)
+    → symbol_view name ≡ Identifier name.text.now → same_name (name_of name.text.now) end_var ≡ false → symbol_view colon ≡ Colon → symbol_view type_name ≡ Identifier type_name.text.now
+    → symbol_view semicolon ≡ Semicolon → symbol_view end ≡ LineEnd
+    → next ≡ moves.with_declaration unit section (record { line = name.line; name = name_of name.text.now } ∷ []) (record { line = type_name.line; name = name_of type_name.text.now }) None
+    → GoesOn (moves.Declaring units unit section moves.Undeclared) (marks_of (name ∷ colon ∷ type_name ∷ semicolon ∷ end ∷ behind)) (moves.Declaring units next section moves.Undeclared) (marks_of behind)
+five_taken units unit next section name colon type_name semicolon end behind a more b c d e n =
+    let marked : Symbol → Symbol → Symbol → Symbol → Symbol → List Mark =
+    λ x y z v w. record { symbol = x; line = name.line } ∷ record { symbol = y; line = colon.line } ∷ record { symbol = z; line = type_name.line }
+    ∷ record { symbol = v; line = semicolon.line } ∷ record { symbol = w; line = end.line } ∷ marks_of behind in
+    let start : State = moves.Declaring units unit section moves.Undeclared in
+    let after : State = moves.Declaring units (moves.with_declaration unit section (record { line = name.line; name = name_of name.text.now } ∷ []) (record { line = type_name.line; name = name_of type_name.text.now }) None) section moves.Undeclared in
+    rw n (subst (λ x. GoesOn start (marked x (symbol_view colon) (symbol_view type_name) (symbol_view semicolon) (symbol_view end)) after (marks_of behind)) (sym a)
+    (subst (λ y. GoesOn start (marked (Identifier name.text.now) y (symbol_view type_name) (symbol_view semicolon) (symbol_view end)) after (marks_of behind)) (sym b)
+    (subst (λ z. GoesOn start (marked (Identifier name.text.now) Colon z (symbol_view semicolon) (symbol_view end)) after (marks_of behind)) (sym c)
+    (subst (λ v. GoesOn start (marked (Identifier name.text.now) Colon (Identifier type_name.text.now) v (symbol_view end)) after (marks_of behind)) (sym d)
+    (subst (λ w. GoesOn start (marked (Identifier name.text.now) Colon (Identifier type_name.text.now) Semicolon w) after (marks_of behind)) (sym e)
+    (declared_on units unit section name.text.now type_name.text.now name.line colon.line type_name.line semicolon.line end.line (marks_of behind) more))))))
+
+-- a line with a declaration of one name at the front of the tokens that are left
+pub takes_declaration : (units : List tree.ProgramUnit) (unit next : tree.ProgramUnit) (section : Section) (tokens : List Token) (other : Token) → 5 ≤ length tokens
+    → symbol_view (get_or tokens 0 other) ≡ Identifier (get_or tokens 0 other).text.now → same_name (name_of (get_or tokens 0 other).text.now) end_var ≡ false
+    → symbol_view (get_or tokens 1 other) ≡ Colon → symbol_view (get_or tokens 2 other) ≡ Identifier (get_or tokens 2 other).text.now
+    → symbol_view (get_or tokens 3 other) ≡ Semicolon → symbol_view (get_or tokens 4 other) ≡ LineEnd
+    → next ≡ moves.with_declaration unit section (record { line = (get_or tokens 0 other).line; name = name_of (get_or tokens 0 other).text.now } ∷ [])
+    (record { line = (get_or tokens 2 other).line; name = name_of (get_or tokens 2 other).text.now }) None
+    → GoesOn (moves.Declaring units unit section moves.Undeclared) (marks_of tokens) (moves.Declaring units next section moves.Undeclared) (marks_of (drop 5 tokens))
+takes_declaration units unit next section [] other le = absurd (omega (arith, le))
+takes_declaration units unit next section (name ∷ []) other le = absurd (omega (arith, le))
+takes_declaration units unit next section (name ∷ colon ∷ []) other le = absurd (omega (arith, le))
+takes_declaration units unit next section (name ∷ colon ∷ type_name ∷ []) other le = absurd (omega (arith, le))
+takes_declaration units unit next section (name ∷ colon ∷ type_name ∷ semicolon ∷ []) other le = absurd (omega (arith, le))
+takes_declaration units unit next section (name ∷ colon ∷ type_name ∷ semicolon ∷ end ∷ behind) other le = five_taken units unit next section name colon type_name semicolon end behind

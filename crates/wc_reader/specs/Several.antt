@@ -7,7 +7,11 @@ use Rattle.wc_model.specs.Language.Names.{Name, name_of}
 use Rattle.wc_model.specs.Language.Tree.{Step, Term, Constant, Address, Variable}
 use Rattle.wc_model.specs.Text.Marks.{Mark, Symbol, Identifier, Whole, Duration, Truth, Direct, LineEnd}
 use Rattle.wc_model.specs.Text.Positions.{Position}
+use Rattle.wc_model.specs.declared.source.Section.{Section}
 use Rattle.wc_model.specs.declared.value.Value.TheVariants.{Bool as BoolValue, Dint, Time}
+use Rattle.wc_reader.specs.declared.declarations.DeclarationState.TheVariants.{Undeclared}
+use Rattle.wc_reader.specs.declared.text_state.TextState.{TextState}
+use Rattle.wc_reader.specs.declared.text_state.TextState.TheVariants.{Declaring}
 
 -- A text whose walk stands at one state with these tokens to come is read as if it stood at the other with those.
 pub record GoesOn (state : State) (marks : List Mark) (next : State) (behind : List Mark) : Type 0 where
@@ -44,3 +48,8 @@ operand_of (Whole number) line = Some (Constant (Dint number))
 operand_of (Duration milliseconds) line = Some (Constant (Time milliseconds))
 operand_of (Truth value) line = Some (Constant (BoolValue value))
 operand_of _ line = None
+
+-- the state stands in that section, before a declaration
+abbrev pub IsUndeclared : TextState → Section → Type 0
+IsUndeclared (Declaring unit section Undeclared) expected = section ≡ expected
+IsUndeclared state expected = ⊥

@@ -15,6 +15,7 @@ mod lines;
 mod moves;
 mod operands;
 mod operators;
+mod section_lines;
 mod text;
 mod text_state;
 mod words;

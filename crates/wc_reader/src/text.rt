@@ -1,25 +1,28 @@
-ghost use Rattle.std.specs.Prelude.{◌≡◌, ◌+◌, ◌==◌, ◌≤◌, ◌<◌, ◌∷◌, ℕ, IfErr, IfOk, List, OnOk, Some, count_by, drop, false, length, option_map};
+ghost use Rattle.std.specs.Prelude.{◌≡◌, ◌+◌, ◌==◌, ◌≤◌, ◌<◌, ◌∷◌, ℕ, IfErr, IfOk, IfSome, List, OnOk, Some, count_by, drop, false, length, option_map};
 ghost use Rattle.wc_grammar_laws.specs.Moves as moves;
 ghost use Rattle.wc_grammar_laws.specs.Moves.{at_first, colon_next};
 ghost use Rattle.wc_model.specs.Text.Marks.{Mark};
 ghost use Rattle.wc_model.specs.Text.Reading.{IsRead, last_line, mark_of_token};
 ghost use Rattle.wc_model.specs.Text.Tokens.{most_bytes};
+ghost use Rattle.wc_model.specs.Language.Tree.{ProgramUnit};
 ghost use Rattle.wc_model.specs.Language.Views.{text_view};
 ghost use Rattle.wc_lexer.specs.Views.{token_view};
 ghost use Rattle.wc_reader.specs.ReadTexts.{IsRefusedAs};
-ghost use Rattle.wc_reader.specs.Several.{GoesOn};
-ghost use Rattle.wc_reader.specs.TextViews.{IsStateCounted, reading_view};
+ghost use Rattle.wc_reader.specs.Several.{GoesOn, IsUndeclared};
+ghost use Rattle.wc_reader.specs.TextViews.{IsStateCounted, reading_view, state_view};
 ghost use Rattle.wc_reader.specs.Told.{IsUnexpected, TellsReading, TellsFault};
 ghost use Rattle.wc_reader.specs.Words.{marks_of, symbol_view};
 
 use crate::body_lines::take_step;
+use crate::declarations::DeclarationState;
 use crate::ends::at_text_end;
 use crate::faults::fault_at;
 use crate::moves::text_move;
+use crate::section_lines::take_declaration;
 use crate::text_state::{Reading, TextState};
 use std::alloc::{AllocError, Global};
 use wc_lexer::{Shape, Token, tokens};
-use wc_model::{Fault, Source};
+use wc_model::{Fault, Section, Source};
 
 /// Whether the next token is a colon.
 #[inline(always)]
@@ -130,26 +133,81 @@ fn read_at<'a>(
     }
 }
 
-/// Reads the front of the tokens in place where it is a short line, and says how many tokens that takes.
+/// The section in which a declaration may begin here.
 #[inline(always)]
-fn take_front<'a>(reading: &mut Reading<'a>, tokens: &[Token<'a>]) -> Result<usize, AllocError>
-    requires { IsStateCounted reading.old.state }
+fn section_at(state: &TextState) -> Option<Section>
+    ensures { IfSome result (λ section. IsUndeclared state.now section) }
+{
+    match state {
+        TextState::Declaring(_, section, DeclarationState::Undeclared) => Some(*section),
+        _ => None,
+    }
+}
+
+/// Reads a short line of a section in place, and says how many tokens it has: none where no such line stands here.
+#[inline(always)]
+fn take_in_section<'a>(
+    alloc: Global,
+    state: &mut TextState<'a>,
+    section: Section,
+    tokens: &[Token<'a>],
+) -> Result<usize, AllocError>
+    requires { IsUndeclared state.old section }
     ensures goes_on { IfOk result
-        (λ taken.
-        GoesOn (reading_view reading.old) (marks_of tokens.now) (reading_view reading.new)
+        (λ taken. (units : List ProgramUnit)
+        → GoesOn (state_view units state.old) (marks_of tokens.now) (state_view units state.new)
         (marks_of (drop taken tokens.now))) }
-    ensures counted { OnOk result (IsStateCounted reading.new.state) }
+    ensures counted { OnOk result (IsStateCounted state.new) }
     ensures within { IfOk result (λ taken. taken ≤ length tokens.now) }
 {
-    match &mut reading.state {
+    match state {
+        TextState::Declaring(unit, ..) => take_declaration(alloc, unit, section, tokens),
+        _ => Ok(0),
+    }
+}
+
+/// Reads a short line of a body in place, and says how many tokens it has: none where no such line stands here.
+#[inline(always)]
+fn take_in_body<'a>(state: &mut TextState<'a>, tokens: &[Token<'a>]) -> Result<usize, AllocError>
+    requires { IsStateCounted state.old }
+    ensures goes_on { IfOk result
+        (λ taken. (units : List ProgramUnit)
+        → GoesOn (state_view units state.old) (marks_of tokens.now) (state_view units state.new)
+        (marks_of (drop taken tokens.now))) }
+    ensures counted { OnOk result (IsStateCounted state.new) }
+    ensures within { IfOk result (λ taken. taken ≤ length tokens.now) }
+{
+    match state {
         TextState::AtLine(body) => take_step(body, tokens),
         _ => Ok(0),
+    }
+}
+
+/// Reads a short line in place, and says how many tokens it has: none where no such line stands here.
+#[inline(always)]
+fn take_front<'a>(
+    alloc: Global,
+    state: &mut TextState<'a>,
+    tokens: &[Token<'a>],
+) -> Result<usize, AllocError>
+    requires { IsStateCounted state.old }
+    ensures goes_on { IfOk result
+        (λ taken. (units : List ProgramUnit)
+        → GoesOn (state_view units state.old) (marks_of tokens.now) (state_view units state.new)
+        (marks_of (drop taken tokens.now))) }
+    ensures counted { OnOk result (IsStateCounted state.new) }
+    ensures within { IfOk result (λ taken. taken ≤ length tokens.now) }
+{
+    match section_at(state) {
+        Some(section) => take_in_section(alloc, state, section, tokens),
+        None => take_in_body(state, tokens),
     }
 }
 
 /// Reads a short line at that index in place, where one stands there, and says where the next token stands.
 #[inline(always)]
 fn take_at<'a>(
+    alloc: Global,
     reading: &mut Reading<'a>,
     tokens: &[Token<'a>],
     index: usize,
@@ -165,12 +223,13 @@ fn take_at<'a>(
     ensures within { IfOk result (λ next. next ≤ length tokens.now) }
 {
     let (_, left) = tokens.split_at(index);
-    let taken = take_front(reading, left)?;
+    let taken = take_front(alloc, &mut reading.state, left)?;
     Ok(index + taken)
 }
 
 /// Reads short lines in place from that index on, as many as stand there, and says where the next token stands.
 fn take_lines<'a>(
+    alloc: Global,
     reading: &mut Reading<'a>,
     tokens: &[Token<'a>],
     from: usize,
@@ -187,7 +246,7 @@ fn take_lines<'a>(
 {
     let mut place = from;
     for _index in from..tokens.len() {
-        let next = take_at(reading, tokens, place)?;
+        let next = take_at(alloc, reading, tokens, place)?;
         if next == place {
             return Ok(place);
         }
@@ -210,7 +269,7 @@ fn read_tokens<'a>(alloc: Global, tokens: &[Token<'a>], last_line: u32) -> Resul
             Ok(next) => next,
             Err(fault) => return Err(fault),
         };
-        place = match take_lines(&mut reading, tokens, place + 1) {
+        place = match take_lines(alloc, &mut reading, tokens, place + 1) {
             Ok(next) => next,
             Err(_) => return Err(Fault::Memory),
         };
