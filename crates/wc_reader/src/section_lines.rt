@@ -5,7 +5,9 @@ ghost use Rattle.wc_model.specs.Language.Names.{name_of};
 ghost use Rattle.wc_model.specs.Language.Tree.{ProgramUnit};
 ghost use Rattle.wc_model.specs.Language.Views.{unit_view, word_view};
 ghost use Rattle.wc_model.specs.Text.Keywords.{end_var};
-ghost use Rattle.wc_model.specs.Text.Marks.{Colon, Identifier, LineEnd, Semicolon};
+ghost use Rattle.wc_model.specs.Text.Marks.{Colon, Identifier, Semicolon};
+ghost use Rattle.wc_model.specs.Text.Positions.{Position};
+ghost use Rattle.wc_model.specs.declared.source.Section.{Section};
 ghost use Rattle.wc_reader.specs.Several.{GoesOn};
 ghost use Rattle.wc_reader.specs.Words.{marks_of, symbol_view};
 
@@ -37,15 +39,31 @@ fn is_typed(colon: Token, type_name: Token) -> bool
     )
 }
 
-/// Whether the tokens are a semicolon and then a line's end.
-fn is_line_end(semicolon: Token, end: Token) -> bool
-    ensures semicolon { IsTrue result → symbol_view semicolon.entry ≡ Semicolon }
-    ensures end { IsTrue result → symbol_view end.entry ≡ LineEnd }
+/// Whether the token is a semicolon.
+fn is_semicolon(token: Token) -> bool
+    ensures { IsTrue result → symbol_view token.entry ≡ Semicolon }
 {
-    matches!(
-        (semicolon.shape, end.shape),
-        (Shape::Semicolon, Shape::LineEnd)
-    )
+    matches!(token.shape, Shape::Semicolon)
+}
+
+/// How many tokens an empty line has: none where the tokens do not begin with a line's end.
+#[inline(always)]
+pub(crate) fn empty_line(tokens: &[Token]) -> usize
+    ensures at_line { (p : Position)
+        → GoesOn (moves.AtLine p) (marks_of tokens.now) (moves.AtLine p)
+        (marks_of (drop result tokens.now)) }
+    ensures declaring { (units : List ProgramUnit) (unit : ProgramUnit) (section : Section)
+        → GoesOn (moves.Declaring units unit section moves.Undeclared) (marks_of tokens.now)
+        (moves.Declaring units unit section moves.Undeclared) (marks_of (drop result tokens.now)) }
+    ensures within { result ≤ length tokens.now }
+{
+    let [first, ..] = tokens else {
+        return 0;
+    };
+    match first.shape {
+        Shape::LineEnd => 1,
+        _ => 0,
+    }
 }
 
 /// Adds a declaration of one name with no value behind a unit's others.
@@ -72,8 +90,34 @@ fn add_plain<'a>(
     Ok(())
 }
 
-/// Reads a line of a declaration of one name with no value, and says how many tokens it has: none where no such line
+/// Reads a declaration of one name with no value, and says how many tokens it has: none where no such declaration
 /// stands here.
+#[inline(always)]
+fn take_plain<'a>(
+    alloc: Global,
+    unit: &mut Unit<'a>,
+    section: Section,
+    tokens: &[Token<'a>],
+) -> Result<usize, AllocError>
+    ensures goes_on { IfOk result
+        (λ taken. (units : List ProgramUnit)
+        → GoesOn (moves.Declaring units (unit_view unit.old) section moves.Undeclared)
+        (marks_of tokens.now) (moves.Declaring units (unit_view unit.new) section moves.Undeclared)
+        (marks_of (drop taken tokens.now))) }
+    ensures within { IfOk result (λ taken. taken ≤ length tokens.now) }
+{
+    let [name, colon, type_name, end, ..] = tokens else {
+        return Ok(0);
+    };
+    if !is_name(*name) || !is_typed(*colon, *type_name) || !is_semicolon(*end) {
+        return Ok(0);
+    }
+    add_plain(alloc, unit, section, word(*name), word(*type_name))?;
+    Ok(4)
+}
+
+/// Reads a declaration of one name with no value and a line's end, where each stands here, and says how many tokens
+/// they have.
 #[inline(always)]
 pub(crate) fn take_declaration<'a>(
     alloc: Global,
@@ -88,12 +132,7 @@ pub(crate) fn take_declaration<'a>(
         (marks_of (drop taken tokens.now))) }
     ensures within { IfOk result (λ taken. taken ≤ length tokens.now) }
 {
-    let [name, colon, type_name, semicolon, end, ..] = tokens else {
-        return Ok(0);
-    };
-    if !is_name(*name) || !is_typed(*colon, *type_name) || !is_line_end(*semicolon, *end) {
-        return Ok(0);
-    }
-    add_plain(alloc, unit, section, word(*name), word(*type_name))?;
-    Ok(5)
+    let taken = take_plain(alloc, unit, section, tokens)?;
+    let (_, behind) = tokens.split_at(taken);
+    Ok(taken + empty_line(behind))
 }
