@@ -20,6 +20,7 @@ use Rattle.wc_lexer.specs.declared.shape.Shape.TheVariants as Shape
 use Rattle.wc_lexer.specs.declared.shape.Token.{Token}
 use Rattle.wc_model.specs.Text.Reading.{mark_of_token, symbol_of}
 use Rattle.wc_reader.proofs.ReadingSteps.{at_move}
+use Rattle.wc_model.specs.declared.operator.Condition.{Condition}
 use Rattle.wc_model.specs.declared.source.Section.{Section}
 use Rattle.wc_reader.specs.Several.{Begins, GoesOn, IsLine, Makes, name_or_truth, operand_of}
 use Rattle.wc_reader.specs.TextViews.{fault_of}
@@ -122,6 +123,12 @@ pub then_on : (a b c : State) (tokens behind : List Token) (n m : ℕ) → behin
 then_on a b c tokens behind n m e g h =
     subst (λ xs. GoesOn a (marks_of tokens) c (marks_of xs)) (drop-drop m n tokens)
     (and_on a b c (marks_of tokens) (marks_of (drop n tokens)) (marks_of (drop m (drop n tokens))) g (subst (λ xs. GoesOn b (marks_of xs) c (marks_of (drop m xs))) e h))
+
+-- a jump with its label
+pub makes_jump : (condition : Condition) (token : Token) → token.shape ≡ Shape.Identifier → Makes (words.Jumps condition) (mark_of_token (token_view token)) (tree.Jump condition (name_of token.text.now))
+makes_jump condition token e =
+    subst (λ s. Makes (words.Jumps condition) (record { symbol = symbol_of (shape_view s) token.text.now; line = token.line }) (tree.Jump condition (name_of token.text.now))) (sym e)
+    (record { no_colon = refl; ends = λ p first end behind. record { same = λ last. refl } })
 
 -- an operator with its operand
 pub makes_operated : (operating : Operating) (mark : Mark) (term : Term) → operand_of mark.symbol mark.line ≡ Some term → Makes (words.Operates operating) mark (step_of operating term)
@@ -261,3 +268,51 @@ pub takes_end_in_section : (units : List tree.ProgramUnit) (unit : tree.ProgramU
 takes_end_in_section units unit section [] other le end = absurd (omega (arith, le))
 takes_end_in_section units unit section (first ∷ behind) other le end =
     end_taken (moves.Declaring units unit section moves.Undeclared) first behind end (λ line others. record { same = λ last. refl })
+
+-- a label is no line too many
+unasked : (p : Position) (line : ℕ) (o : Option Operation) → met_if (is_some o && not true && is_full p) TooMany line ≡ None
+unasked p line None = refl
+unasked p line (Some operation) = refl
+
+-- a label alone on its line
+label_on : (p : Position) (bytes : List ℕ) (line colon end : ℕ) (behind : List Mark) → p.openings ≡ []
+    → GoesOn (moves.AtLine p) (record { symbol = Identifier bytes; line = line } ∷ record { symbol = Colon; line = colon } ∷ record { symbol = LineEnd; line = end } ∷ behind)
+    (moves.AtLine (behind_line p (lines.LabelAlone (record { line = line; name = name_of bytes })))) behind
+label_on p bytes line colon end behind opened =
+    let word : tree.Word = record { line = line; name = name_of bytes } in
+    let passes : judge (moves.AtLine p) (Identifier bytes) line true ≡ None =
+    subst (λ os. judge_line p os (Identifier bytes) line true ≡ None) (sym opened) (unasked p line (found operations (name_of bytes))) in
+    let leads : move (moves.AtLine p) (Identifier bytes) line true ≡ Some (moves.OnLine p (lines.Worded word)) =
+    subst (λ os. start_move p os (Identifier bytes) line true ≡ Some (moves.OnLine p (lines.Worded word))) (sym opened) refl in
+    record {
+      same = λ last.
+          (one_on (moves.AtLine p) (moves.OnLine p (lines.Worded word)) (record { symbol = Identifier bytes; line = line })
+          (record { symbol = Colon; line = colon } ∷ record { symbol = LineEnd; line = end } ∷ behind) true refl passes leads).same
+          last
+          ∙ refl;
+    }
+
+-- the tokens of a label alone
+label_taken : (p next : Position) (label colon end : Token) (behind : List Token) → p.openings ≡ []
+    → symbol_view label ≡ Identifier label.text.now → symbol_view colon ≡ Colon → symbol_view end ≡ LineEnd
+    → next ≡ behind_line p (lines.LabelAlone (record { line = label.line; name = name_of label.text.now }))
+    → GoesOn (moves.AtLine p) (marks_of (label ∷ colon ∷ end ∷ behind)) (moves.AtLine next) (marks_of behind)
+label_taken p next label colon end behind opened a b c n =
+    let marked : Symbol → Symbol → Symbol → List Mark =
+    λ x y z. record { symbol = x; line = label.line } ∷ record { symbol = y; line = colon.line } ∷ record { symbol = z; line = end.line } ∷ marks_of behind in
+    let after : State = moves.AtLine (behind_line p (lines.LabelAlone (record { line = label.line; name = name_of label.text.now }))) in
+    rw n (subst (λ x. GoesOn (moves.AtLine p) (marked x (symbol_view colon) (symbol_view end)) after (marks_of behind)) (sym a)
+    (subst (λ y. GoesOn (moves.AtLine p) (marked (Identifier label.text.now) y (symbol_view end)) after (marks_of behind)) (sym b)
+    (subst (λ z. GoesOn (moves.AtLine p) (marked (Identifier label.text.now) Colon z) after (marks_of behind)) (sym c)
+    (label_on p label.text.now label.line colon.line end.line (marks_of behind) opened))))
+
+-- a label alone at the front of the tokens that are left
+pub takes_label : (p next : Position) (tokens : List Token) (other : Token) (word : tree.Word) → 3 ≤ length tokens → p.openings ≡ []
+    → symbol_view (get_or tokens 0 other) ≡ Identifier (get_or tokens 0 other).text.now → symbol_view (get_or tokens 1 other) ≡ Colon → symbol_view (get_or tokens 2 other) ≡ LineEnd
+    → word ≡ record { line = (get_or tokens 0 other).line; name = name_of (get_or tokens 0 other).text.now } → next ≡ behind_line p (lines.LabelAlone word)
+    → GoesOn (moves.AtLine p) (marks_of tokens) (moves.AtLine next) (marks_of (drop 3 tokens))
+takes_label p next [] other word le opened a b c w n = absurd (omega (arith, le))
+takes_label p next (label ∷ []) other word le opened a b c w n = absurd (omega (arith, le))
+takes_label p next (label ∷ colon ∷ []) other word le opened a b c w n = absurd (omega (arith, le))
+takes_label p next (label ∷ colon ∷ end ∷ behind) other word le opened a b c w n =
+    label_taken p next label colon end behind opened a b c (n ∙ ap (λ it. behind_line p (lines.LabelAlone it)) w)

@@ -185,6 +185,21 @@ fn one_more(count: usize) -> usize
     }
 }
 
+/// Adds a label alone behind a body's lines.
+#[inline(always)]
+pub(crate) fn add_label<'a>(body: &mut Body<'a>, label: Word<'a>) -> Result<(), AllocError>
+    requires { IsCounted body.old }
+    ensures behind { OnOk result
+        ((units : List ProgramUnit)
+        → position_view units body.new
+        ≡ moves.behind_line (position_view units body.old)
+        (lines.LabelAlone (word_view label.entry))) }
+    ensures counted { OnOk result (IsCounted body.new) }
+{
+    body.done.push(label_line(label))?;
+    Ok(())
+}
+
 /// The body behind a label alone.
 #[inline(always)]
 fn behind_label<'a>(body: Body<'a>, label: Word<'a>) -> Result<Body<'a>, AllocError>
@@ -197,7 +212,7 @@ fn behind_label<'a>(body: Body<'a>, label: Word<'a>) -> Result<Body<'a>, AllocEr
     ensures counted { IfOk result (λ next. IsCounted next) }
 {
     let mut body = body;
-    body.done.push(label_line(label))?;
+    add_label(&mut body, label)?;
     Ok(body)
 }
 

@@ -15,6 +15,7 @@ ghost use Rattle.wc_reader.specs.Words.{marks_of, operating_view, operation_view
 
 use crate::body::{Body, add_step};
 use crate::body_moves::section_begun;
+use crate::label_lines::take_empty;
 use crate::line_faults::is_full;
 use crate::line_state::{Begun, Step};
 use crate::operands::step_of;
@@ -22,7 +23,7 @@ use crate::operators::{Operating, Operation, operation_named};
 use crate::words::{ends_unit, truth, word};
 use std::alloc::AllocError;
 use wc_lexer::{Shape, Token};
-use wc_model::{Operand, Value};
+use wc_model::{Condition, Operand, Value};
 
 /// The operand that the token is by itself.
 fn operand_of<'a>(token: Token<'a>) -> Option<Operand<'a>>
@@ -55,6 +56,18 @@ fn operated<'a>(operating: Operating, token: Token<'a>) -> Option<Step<'a>>
     }
 }
 
+/// The jump to the label that the token is.
+fn jumped<'a>(condition: Condition, token: Token<'a>) -> Option<Step<'a>>
+    ensures { IfSome result
+        (λ step.
+        Makes (words.Jumps condition) (mark_of_token (token_view token.entry)) (step_view step)) }
+{
+    match token.shape {
+        Shape::Identifier => Some(Step::Jump(condition, word(token))),
+        _ => None,
+    }
+}
+
 /// The instruction that the operator and the token behind it are, where the line ends there.
 fn step_with<'a>(operation: Operation, token: Token<'a>) -> Option<Step<'a>>
     ensures { IfSome result
@@ -64,6 +77,7 @@ fn step_with<'a>(operation: Operation, token: Token<'a>) -> Option<Step<'a>>
 {
     match operation {
         Operation::Operates(operating) => operated(operating, token),
+        Operation::Jumps(condition) => jumped(condition, token),
         _ => None,
     }
 }
@@ -120,9 +134,9 @@ fn step_at<'a>(body: &Body<'a>, first: Token<'a>, second: Token<'a>) -> Option<S
     }
 }
 
-/// Reads a line of an operator with its operand, and says how many tokens it has: none where no such line stands here.
+/// Reads a line of an operator with its operand or its label, and says how many tokens it has: none where no such line stands here.
 #[inline(always)]
-pub(crate) fn take_step<'a>(body: &mut Body<'a>, tokens: &[Token<'a>]) -> Result<usize, AllocError>
+fn take_step<'a>(body: &mut Body<'a>, tokens: &[Token<'a>]) -> Result<usize, AllocError>
     requires { IsCounted body.old }
     ensures goes_on { IfOk result
         (λ taken. (units : List ProgramUnit)
@@ -148,4 +162,22 @@ pub(crate) fn take_step<'a>(body: &mut Body<'a>, tokens: &[Token<'a>]) -> Result
         }
         None => Ok(0),
     }
+}
+
+/// Reads a short line in place, behind an empty one and a label alone where each stands here, and says how many tokens
+/// they have.
+#[inline(always)]
+pub(crate) fn take_line<'a>(body: &mut Body<'a>, tokens: &[Token<'a>]) -> Result<usize, AllocError>
+    requires { IsCounted body.old }
+    ensures goes_on { IfOk result
+        (λ taken. (units : List ProgramUnit)
+        → GoesOn (moves.AtLine (position_view units body.old)) (marks_of tokens.now)
+        (moves.AtLine (position_view units body.new)) (marks_of (drop taken tokens.now))) }
+    ensures counted { OnOk result (IsCounted body.new) }
+    ensures within { IfOk result (λ taken. taken ≤ length tokens.now) }
+{
+    let before = take_empty(body, tokens)?;
+    let (_, behind) = tokens.split_at(before);
+    let taken = take_step(body, behind)?;
+    Ok(before + taken)
 }

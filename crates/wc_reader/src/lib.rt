@@ -9,6 +9,7 @@ mod calls;
 mod declarations;
 mod ends;
 mod faults;
+mod label_lines;
 mod line_faults;
 mod line_state;
 mod lines;

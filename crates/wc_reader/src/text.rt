@@ -13,7 +13,7 @@ ghost use Rattle.wc_reader.specs.TextViews.{IsStateCounted, reading_view, state_
 ghost use Rattle.wc_reader.specs.Told.{IsUnexpected, TellsReading, TellsFault};
 ghost use Rattle.wc_reader.specs.Words.{marks_of, symbol_view};
 
-use crate::body_lines::take_step;
+use crate::body_lines::take_line;
 use crate::declarations::DeclarationState;
 use crate::ends::at_text_end;
 use crate::faults::fault_at;
@@ -178,7 +178,7 @@ fn take_in_body<'a>(state: &mut TextState<'a>, tokens: &[Token<'a>]) -> Result<u
     ensures within { IfOk result (λ taken. taken ≤ length tokens.now) }
 {
     match state {
-        TextState::AtLine(body) => take_step(body, tokens),
+        TextState::AtLine(body) => take_line(body, tokens),
         _ => Ok(0),
     }
 }
