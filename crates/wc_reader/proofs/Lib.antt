@@ -1,4 +1,5 @@
 mod AnyProgram
+mod CallLists
 mod Counting
 mod FirstTokens
 mod FoundGroups

@@ -26,7 +26,7 @@ use wc_lexer::{Shape, Token};
 use wc_model::{Condition, Operand, Value};
 
 /// The operand that the token is by itself.
-fn operand_of<'a>(token: Token<'a>) -> Option<Operand<'a>>
+pub(crate) fn operand_of<'a>(token: Token<'a>) -> Option<Operand<'a>>
     ensures { option_map term_view result
         ≡ operand_of (symbol_view token.entry) token.entry.line }
 {
@@ -102,7 +102,7 @@ fn is_plain_start(body: &Body, text: &[u8]) -> bool
 
 /// The operator that the word is at the start of a line with no parenthesis open, where it is
 /// neither a line too many nor the start of a section.
-fn operation_at<'a>(body: &Body<'a>, text: &[u8]) -> Option<Operation>
+pub(crate) fn operation_at<'a>(body: &Body<'a>, text: &[u8]) -> Option<Operation>
     requires { IsCounted body.now }
     ensures { IfSome result
         (λ operation. (units : List ProgramUnit)

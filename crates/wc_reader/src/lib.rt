@@ -5,6 +5,7 @@
 mod body;
 mod body_lines;
 mod body_moves;
+mod call_lines;
 mod calls;
 mod declarations;
 mod ends;

@@ -13,7 +13,7 @@ ghost use Rattle.wc_reader.specs.TextViews.{IsStateCounted, reading_view, state_
 ghost use Rattle.wc_reader.specs.Told.{IsUnexpected, TellsReading, TellsFault};
 ghost use Rattle.wc_reader.specs.Words.{marks_of, symbol_view};
 
-use crate::body_lines::take_line;
+use crate::call_lines::take_line_and_call;
 use crate::declarations::DeclarationState;
 use crate::ends::at_text_end;
 use crate::faults::fault_at;
@@ -168,7 +168,11 @@ fn take_in_section<'a>(
 
 /// Reads a short line of a body in place, and says how many tokens it has: none where no such line stands here.
 #[inline(always)]
-fn take_in_body<'a>(state: &mut TextState<'a>, tokens: &[Token<'a>]) -> Result<usize, AllocError>
+fn take_in_body<'a>(
+    alloc: Global,
+    state: &mut TextState<'a>,
+    tokens: &[Token<'a>],
+) -> Result<usize, AllocError>
     requires { IsStateCounted state.old }
     ensures goes_on { IfOk result
         (λ taken. (units : List ProgramUnit)
@@ -178,7 +182,7 @@ fn take_in_body<'a>(state: &mut TextState<'a>, tokens: &[Token<'a>]) -> Result<u
     ensures within { IfOk result (λ taken. taken ≤ length tokens.now) }
 {
     match state {
-        TextState::AtLine(body) => take_line(body, tokens),
+        TextState::AtLine(body) => take_line_and_call(alloc, body, tokens),
         _ => Ok(0),
     }
 }
@@ -200,7 +204,7 @@ fn take_front<'a>(
 {
     match section_at(state) {
         Some(section) => take_in_section(alloc, state, section, tokens),
-        None => take_in_body(state, tokens),
+        None => take_in_body(alloc, state, tokens),
     }
 }
 
