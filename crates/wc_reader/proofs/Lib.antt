@@ -1,4 +1,5 @@
 mod AnyProgram
+mod CallLists
 mod Counting
 mod FirstTokens
 mod FoundGroups
@@ -8,3 +9,4 @@ mod Openings
 mod Outcomes
 mod ReadingSteps
 pub mod ReadTexts
+mod ShortLines

@@ -1,5 +1,5 @@
 -- What is said of a result, or of its error.
-use Rattle.std.proofs.Common.{Result, Ok, Err, IfErr, IfOk}
+use Rattle.std.proofs.Common.{Result, Ok, Err, Option, Some, None, IfErr, IfOk, IfSome}
 
 -- what follows from what is said
 pub ok-map : {A E : Type 0} {P Q : A → Type 0} (r : Result A E) → ((x : A) → P x → Q x) → IfOk r P → IfOk r Q
@@ -10,3 +10,8 @@ ok-map (Err e) f h = h
 pub err-map : {A E : Type 0} {P Q : E → Type 0} (r : Result A E) → ((x : E) → P x → Q x) → IfErr r P → IfErr r Q
 err-map (Ok x) f h = h
 err-map (Err e) f h = f e h
+
+-- what follows from what is said of what may be there
+pub some-map : {A : Type 0} {P Q : A → Type 0} (o : Option A) → ((x : A) → P x → Q x) → IfSome o P → IfSome o Q
+some-map (Some x) f h = f x h
+some-map None f h = h

@@ -1,4 +1,4 @@
-ghost use Rattle.std.specs.Prelude.{◌≡◌, ◌==◌, ◌+◌, ◌∷◌, [], length, min, IfOk, MatchOption, IfSome, List, Some, map, option_map};
+ghost use Rattle.std.specs.Prelude.{◌≡◌, ◌==◌, ◌+◌, ◌∷◌, [], length, min, IfOk, OnOk, MatchOption, IfSome, List, Some, map, option_map};
 ghost use Rattle.wc_grammar_laws.specs.LineMoves as lines;
 ghost use Rattle.wc_grammar_laws.specs.Moves as moves;
 ghost use Rattle.wc_model.specs.Text.Limits.{most_lines};
@@ -185,6 +185,21 @@ fn one_more(count: usize) -> usize
     }
 }
 
+/// Adds a label alone behind a body's lines.
+#[inline(always)]
+pub(crate) fn add_label<'a>(body: &mut Body<'a>, label: Word<'a>) -> Result<(), AllocError>
+    requires { IsCounted body.old }
+    ensures behind { OnOk result
+        ((units : List ProgramUnit)
+        → position_view units body.new
+        ≡ moves.behind_line (position_view units body.old)
+        (lines.LabelAlone (word_view label.entry))) }
+    ensures counted { OnOk result (IsCounted body.new) }
+{
+    body.done.push(label_line(label))?;
+    Ok(())
+}
+
 /// The body behind a label alone.
 #[inline(always)]
 fn behind_label<'a>(body: Body<'a>, label: Word<'a>) -> Result<Body<'a>, AllocError>
@@ -197,8 +212,29 @@ fn behind_label<'a>(body: Body<'a>, label: Word<'a>) -> Result<Body<'a>, AllocEr
     ensures counted { IfOk result (λ next. IsCounted next) }
 {
     let mut body = body;
-    body.done.push(label_line(label))?;
+    add_label(&mut body, label)?;
     Ok(body)
+}
+
+/// Adds an instruction behind a body's lines.
+#[inline(always)]
+pub(crate) fn add_step<'a>(
+    body: &mut Body<'a>,
+    begun: Begun<'a>,
+    step: Step<'a>,
+) -> Result<(), AllocError>
+    requires { IsCounted body.old }
+    ensures behind { OnOk result
+        ((units : List ProgramUnit)
+        → position_view units body.new
+        ≡ moves.behind_line (position_view units body.old)
+        (lines.Instructs (option_map word_view begun.entry.label) begun.entry.line
+        (step_view step.entry))) }
+    ensures counted { OnOk result (IsCounted body.new) }
+{
+    body.done.push(step_line(begun, step))?;
+    body.count = one_more(body.count);
+    Ok(())
 }
 
 /// The body behind an instruction.
@@ -214,8 +250,7 @@ fn behind_step<'a>(body: Body<'a>, begun: Begun<'a>, step: Step<'a>) -> Result<B
     ensures counted { IfOk result (λ next. IsCounted next) }
 {
     let mut body = body;
-    body.done.push(step_line(begun, step))?;
-    body.count = one_more(body.count);
+    add_step(&mut body, begun, step)?;
     Ok(body)
 }
 

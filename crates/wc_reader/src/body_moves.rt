@@ -67,7 +67,7 @@ fn on_line<'a>(
 }
 
 /// The section that a word begins, where no line of the body has come.
-fn section_begun(done: &[Line], text: &[u8]) -> Option<Section>
+pub(crate) fn section_begun(done: &[Line], text: &[u8]) -> Option<Section>
     requires { moves.are_no_lines (lines_view done.now) ≡ (length done.now == 0) }
     ensures { result ≡ moves.section_begun (lines_view done.now) (name_of text.now) }
 {

@@ -26,7 +26,7 @@ pub(crate) fn refused_if(test: bool, number: u16, place: u32) -> Option<Fault>
 }
 
 /// Whether the unit has as many lines as it may.
-fn is_full(body: &Body) -> bool
+pub(crate) fn is_full(body: &Body) -> bool
     requires { IsCounted body.now }
     ensures { (units : List ProgramUnit)
         → result ≡ moves.is_full (position_view units body.now) }

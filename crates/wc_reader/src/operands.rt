@@ -16,7 +16,7 @@ use wc_lexer::{Shape, Token};
 use wc_model::{Argument, Operand, Operator, Value, Word};
 
 /// The instruction of an operator with its operand.
-fn step_of<'a>(operating: Operating, operand: Operand<'a>) -> Step<'a>
+pub(crate) fn step_of<'a>(operating: Operating, operand: Operand<'a>) -> Step<'a>
     ensures { step_view result
         ≡ words.step_of (operating_view operating) (term_view operand.entry) }
 {

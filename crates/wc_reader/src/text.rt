@@ -1,23 +1,28 @@
-ghost use Rattle.std.specs.Prelude.{◌≡◌, ◌+◌, ◌==◌, ◌≤◌, ◌<◌, ◌∷◌, ℕ, IfErr, IfOk, List, Some, count_by, drop, false, length, option_map};
+ghost use Rattle.std.specs.Prelude.{◌≡◌, ◌+◌, ◌==◌, ◌≤◌, ◌<◌, ◌∷◌, ℕ, IfErr, IfOk, IfSome, List, OnOk, Some, count_by, drop, false, length, option_map};
 ghost use Rattle.wc_grammar_laws.specs.Moves as moves;
 ghost use Rattle.wc_grammar_laws.specs.Moves.{at_first, colon_next};
 ghost use Rattle.wc_model.specs.Text.Marks.{Mark};
 ghost use Rattle.wc_model.specs.Text.Reading.{IsRead, last_line, mark_of_token};
 ghost use Rattle.wc_model.specs.Text.Tokens.{most_bytes};
+ghost use Rattle.wc_model.specs.Language.Tree.{ProgramUnit};
 ghost use Rattle.wc_model.specs.Language.Views.{text_view};
 ghost use Rattle.wc_lexer.specs.Views.{token_view};
 ghost use Rattle.wc_reader.specs.ReadTexts.{IsRefusedAs};
-ghost use Rattle.wc_reader.specs.TextViews.{IsStateCounted, reading_view};
+ghost use Rattle.wc_reader.specs.Several.{GoesOn, IsUndeclared};
+ghost use Rattle.wc_reader.specs.TextViews.{IsStateCounted, reading_view, state_view};
 ghost use Rattle.wc_reader.specs.Told.{IsUnexpected, TellsReading, TellsFault};
 ghost use Rattle.wc_reader.specs.Words.{marks_of, symbol_view};
 
+use crate::call_lines::take_line_and_call;
+use crate::declarations::DeclarationState;
 use crate::ends::at_text_end;
 use crate::faults::fault_at;
 use crate::moves::text_move;
+use crate::section_lines::take_declaration;
 use crate::text_state::{Reading, TextState};
-use std::alloc::Global;
+use std::alloc::{AllocError, Global};
 use wc_lexer::{Shape, Token, tokens};
-use wc_model::{Fault, Source};
+use wc_model::{Fault, Section, Source};
 
 /// Whether the next token is a colon.
 #[inline(always)]
@@ -128,6 +133,132 @@ fn read_at<'a>(
     }
 }
 
+/// The section in which a declaration may begin here.
+#[inline(always)]
+fn section_at(state: &TextState) -> Option<Section>
+    ensures { IfSome result (λ section. IsUndeclared state.now section) }
+{
+    match state {
+        TextState::Declaring(_, section, DeclarationState::Undeclared) => Some(*section),
+        _ => None,
+    }
+}
+
+/// Reads a short line of a section in place, and says how many tokens it has: none where no such line stands here.
+#[inline(always)]
+fn take_in_section<'a>(
+    alloc: Global,
+    state: &mut TextState<'a>,
+    section: Section,
+    tokens: &[Token<'a>],
+) -> Result<usize, AllocError>
+    requires { IsUndeclared state.old section }
+    ensures goes_on { IfOk result
+        (λ taken. (units : List ProgramUnit)
+        → GoesOn (state_view units state.old) (marks_of tokens.now) (state_view units state.new)
+        (marks_of (drop taken tokens.now))) }
+    ensures counted { OnOk result (IsStateCounted state.new) }
+    ensures within { IfOk result (λ taken. taken ≤ length tokens.now) }
+{
+    match state {
+        TextState::Declaring(unit, ..) => take_declaration(alloc, unit, section, tokens),
+        _ => Ok(0),
+    }
+}
+
+/// Reads a short line of a body in place, and says how many tokens it has: none where no such line stands here.
+#[inline(always)]
+fn take_in_body<'a>(
+    alloc: Global,
+    state: &mut TextState<'a>,
+    tokens: &[Token<'a>],
+) -> Result<usize, AllocError>
+    requires { IsStateCounted state.old }
+    ensures goes_on { IfOk result
+        (λ taken. (units : List ProgramUnit)
+        → GoesOn (state_view units state.old) (marks_of tokens.now) (state_view units state.new)
+        (marks_of (drop taken tokens.now))) }
+    ensures counted { OnOk result (IsStateCounted state.new) }
+    ensures within { IfOk result (λ taken. taken ≤ length tokens.now) }
+{
+    match state {
+        TextState::AtLine(body) => take_line_and_call(alloc, body, tokens),
+        _ => Ok(0),
+    }
+}
+
+/// Reads a short line in place, and says how many tokens it has: none where no such line stands here.
+#[inline(always)]
+fn take_front<'a>(
+    alloc: Global,
+    state: &mut TextState<'a>,
+    tokens: &[Token<'a>],
+) -> Result<usize, AllocError>
+    requires { IsStateCounted state.old }
+    ensures goes_on { IfOk result
+        (λ taken. (units : List ProgramUnit)
+        → GoesOn (state_view units state.old) (marks_of tokens.now) (state_view units state.new)
+        (marks_of (drop taken tokens.now))) }
+    ensures counted { OnOk result (IsStateCounted state.new) }
+    ensures within { IfOk result (λ taken. taken ≤ length tokens.now) }
+{
+    match section_at(state) {
+        Some(section) => take_in_section(alloc, state, section, tokens),
+        None => take_in_body(alloc, state, tokens),
+    }
+}
+
+/// Reads a short line at that index in place, where one stands there, and says where the next token stands.
+#[inline(always)]
+fn take_at<'a>(
+    alloc: Global,
+    reading: &mut Reading<'a>,
+    tokens: &[Token<'a>],
+    index: usize,
+) -> Result<usize, AllocError>
+    requires counted { IsStateCounted reading.old.state }
+    requires within { index ≤ length tokens.now }
+    ensures goes_on { IfOk result
+        (λ next.
+        GoesOn (reading_view reading.old) (marks_of (drop index tokens.now))
+        (reading_view reading.new) (marks_of (drop next tokens.now))) }
+    ensures counted { OnOk result (IsStateCounted reading.new.state) }
+    ensures on { IfOk result (λ next. index ≤ next) }
+    ensures within { IfOk result (λ next. next ≤ length tokens.now) }
+{
+    let (_, left) = tokens.split_at(index);
+    let taken = take_front(alloc, &mut reading.state, left)?;
+    Ok(index + taken)
+}
+
+/// Reads short lines in place from that index on, as many as stand there, and says where the next token stands.
+fn take_lines<'a>(
+    alloc: Global,
+    reading: &mut Reading<'a>,
+    tokens: &[Token<'a>],
+    from: usize,
+) -> Result<usize, AllocError>
+    requires counted { IsStateCounted reading.old.state }
+    requires within { from ≤ length tokens.now }
+    ensures goes_on { IfOk result
+        (λ next.
+        GoesOn (reading_view reading.old) (marks_of (drop from tokens.now))
+        (reading_view reading.new) (marks_of (drop next tokens.now))) }
+    ensures counted { OnOk result (IsStateCounted reading.new.state) }
+    ensures on { IfOk result (λ next. from ≤ next) }
+    ensures within { IfOk result (λ next. next ≤ length tokens.now) }
+{
+    let mut place = from;
+    for _index in from..tokens.len() {
+        let next = take_at(alloc, reading, tokens, place)?;
+        if next == place {
+            return Ok(place);
+        }
+        place = next;
+    }
+    Ok(place)
+}
+
 /// The text that the tokens spell, or the first fault in them.
 fn read_tokens<'a>(alloc: Global, tokens: &[Token<'a>], last_line: u32) -> Result<Source<'a>, Fault>
     ensures { TellsReading (moves.reading at_first (marks_of tokens.now) last_line) result }
@@ -136,10 +267,15 @@ fn read_tokens<'a>(alloc: Global, tokens: &[Token<'a>], last_line: u32) -> Resul
         units: Vec::new(alloc),
         state: TextState::Outside,
     };
-    for index in 0..tokens.len() {
-        reading = match read_at(alloc, reading, tokens, index) {
+    let mut place = 0;
+    while place < tokens.len() {
+        reading = match read_at(alloc, reading, tokens, place) {
             Ok(next) => next,
             Err(fault) => return Err(fault),
+        };
+        place = match take_lines(alloc, &mut reading, tokens, place + 1) {
+            Ok(next) => next,
+            Err(_) => return Err(Fault::Memory),
         };
     }
     at_text_end(reading, last_line)

@@ -1,4 +1,4 @@
 use Rattle.wc_reader.proofs.text.read_tokens.Goals as goal
 
 pub returns-in-Err : goal.returns-in-Err
-returns-in-Err c = rw c.loop-index.invariant.0 (c.in-Err.ensures.stops c.args.last_line)
+returns-in-Err c = rw c.loop-place.invariant.goes_on (c.in-Err.ensures.stops c.args.last_line)

@@ -1,9 +1,15 @@
-use Rattle.std.proofs.Common.{◌≡◌, drop}
+use Rattle.std.proofs.Common.{◌≡◌, ◌≤◌, ◌-◌, drop, length}
 use Rattle.wc_grammar_laws.specs.Moves.{at_first, reading}
 use Rattle.wc_reader.specs.TextViews.{IsStateCounted, reading_view}
 use Rattle.wc_reader.specs.Words.{marks_of}
 use Rattle.wc_reader.proofs.text.read_tokens.Given as goal
 
-abbrev pub invariant-loop-index : goal.invariant-loop-index
-invariant-loop-index l =
-    (reading at_first (marks_of l.tokens) l.last_line ≡ reading (reading_view l.reading) (marks_of (drop l.index l.tokens)) l.last_line) × IsStateCounted l.reading.state
+abbrev pub invariant-loop-place : goal.invariant-loop-place
+invariant-loop-place l = record {
+  goes_on : reading at_first (marks_of l.tokens) l.last_line ≡ reading (reading_view l.reading) (marks_of (drop l.place l.tokens)) l.last_line;
+  counted : IsStateCounted l.reading.state;
+  within : l.place ≤ length l.tokens;
+}
+
+abbrev pub decreases-loop-place : goal.decreases-loop-place
+decreases-loop-place l = length l.tokens - l.place
