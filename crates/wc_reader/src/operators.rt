@@ -157,7 +157,8 @@ fn call_or_return(text: &[u8]) -> Option<Operation>
 
 /// NOT, jumps, calls and returns.
 fn negation_or_transfer(text: &[u8]) -> Option<Operation>
-    ensures { option_map operation_view result ≡ words.found negation_and_transfers (name_of text.now) }
+    ensures { option_map operation_view result
+        ≡ words.found negation_and_transfers (name_of text.now) }
 {
     match negation_or_jump(text) {
         Some(operation) => Some(operation),
