@@ -39,6 +39,7 @@ impl Ctu {
     }
 
     /// The count behind a call with these inputs.
+    #[inline(always)]
     fn count(&self) -> i32
         ensures { result ≡ ctu_count (ctu_view self.now) }
     {
@@ -52,6 +53,7 @@ impl Ctu {
     }
 
     /// One call, with the inputs as they are set.
+    #[inline(always)]
     pub fn call(&mut self)
         ensures step { ctu_view self.new ≡ ctu_step (ctu_view self.old) }
         ensures history { (calls : List CtuCall) → FitsCtu calls (ctu_view self.old)

@@ -5,6 +5,7 @@ ghost use Rattle.wc_model.specs.Language.Blocks.{elapsed, preset};
 pub const LAST_MOMENT: u64 = 1099511627775;
 
 /// The preset time: PT, or 0 where it is negative.
+#[inline(always)]
 pub(crate) fn preset(pt: i32) -> u64
     ensures { result ≡ preset pt }
 {
@@ -12,6 +13,7 @@ pub(crate) fn preset(pt: i32) -> u64
 }
 
 /// The time since a moment, up to the preset time.
+#[inline(always)]
 pub(crate) fn elapsed(pt: i32, start: u64, now: u64) -> i32
     requires { start ≤ now }
     ensures { result ≡ elapsed pt start now }

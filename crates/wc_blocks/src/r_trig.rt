@@ -28,6 +28,7 @@ impl RTrig {
     }
 
     /// One call, with the input as it is set.
+    #[inline(always)]
     pub fn call(&mut self)
         ensures step { r_trig_view self.new ≡ r_trig_step (r_trig_view self.old) }
         ensures history { (clks : List Bool) → FitsRTrig clks (r_trig_view self.old)

@@ -29,6 +29,7 @@ impl Sr {
     }
 
     /// One call, with the inputs as they are set.
+    #[inline(always)]
     pub fn call(&mut self)
         ensures step { sr_view self.new ≡ sr_step (sr_view self.old) }
         ensures history { (calls : List SrCall) → FitsSr calls (sr_view self.old)

@@ -42,6 +42,7 @@ impl Tof {
     }
 
     /// IN is FALSE, since the moment `start`.
+    #[inline(always)]
     fn fall_from(&mut self, now: u64, start: u64)
         requires { start ≤ now }
         ensures { tof_view self.new ≡ tof_falling (tof_view self.old) now start }
@@ -53,6 +54,7 @@ impl Tof {
     }
 
     /// A call with IN FALSE.
+    #[inline(always)]
     fn release(&mut self, now: u64)
         requires { self.old.start ≤ now }
         ensures { tof_view self.new ≡ tof_released self.old.phase (tof_view self.old) now }
@@ -68,6 +70,7 @@ impl Tof {
     }
 
     /// One call at a moment, with the inputs as they are set.
+    #[inline(always)]
     pub fn call(&mut self, now: u64)
         requires moment { now ≤ LAST_MOMENT }
         requires forward { self.old.start ≤ now }

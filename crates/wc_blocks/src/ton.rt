@@ -42,6 +42,7 @@ impl Ton {
     }
 
     /// IN is TRUE, since the moment `start`.
+    #[inline(always)]
     fn run_from(&mut self, now: u64, start: u64)
         requires { start ≤ now }
         ensures { ton_view self.new ≡ ton_running (ton_view self.old) now start }
@@ -53,6 +54,7 @@ impl Ton {
     }
 
     /// One call at a moment, with the inputs as they are set.
+    #[inline(always)]
     pub fn call(&mut self, now: u64)
         requires moment { now ≤ LAST_MOMENT }
         requires forward { self.old.start ≤ now }

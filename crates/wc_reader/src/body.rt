@@ -14,7 +14,7 @@ use std::alloc::{AllocError, Global};
 use wc_model::{Instr, Line, Operand, Operator, Unit, Word};
 
 /// A parenthesis that is open.
-#[derive(Debug, Drop)]
+#[derive(Drop)]
 pub(crate) struct Opening<'a> {
     /// The lines before it in the list where it stands.
     pub before: Vec<Line<'a>, Global>,
@@ -26,7 +26,7 @@ pub(crate) struct Opening<'a> {
 }
 
 /// How far a unit's body has been read: the start of a line.
-#[derive(Debug, Drop)]
+#[derive(Drop)]
 pub(crate) struct Body<'a> {
     /// The unit, whose body is empty still.
     pub unit: Unit<'a>,

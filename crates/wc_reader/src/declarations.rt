@@ -13,7 +13,7 @@ use wc_lexer::{Shape, Token};
 use wc_model::{Decl, Initial, Section, Unit, Word, is_word};
 
 /// How far a section of declarations has been read.
-#[derive(Debug, Drop)]
+#[derive(Drop)]
 pub(crate) enum DeclarationState<'a> {
     /// Before a declaration.
     Undeclared,
@@ -32,7 +32,7 @@ pub(crate) enum DeclarationState<'a> {
 }
 
 /// A unit and how far one of its sections has been read.
-#[derive(Debug, Drop)]
+#[derive(Drop)]
 pub(crate) struct Declaring<'a> {
     pub unit: Unit<'a>,
     pub section: Section,

@@ -3,14 +3,14 @@ use std::alloc::Global;
 use wc_model::{Argument, Condition, Operand, Operator, Storing, Word};
 
 /// An instruction that has begun: its label, and the line of its first token.
-#[derive(Clone, Copy, Debug)]
+#[derive(Clone, Copy)]
 pub(crate) struct Begun<'a> {
     pub label: Option<Word<'a>>,
     pub line: u32,
 }
 
 /// A call whose list has begun, with the arguments so far.
-#[derive(Debug, Drop)]
+#[derive(Drop)]
 pub(crate) struct Listed<'a> {
     pub condition: Condition,
     pub instance: Word<'a>,
@@ -18,7 +18,7 @@ pub(crate) struct Listed<'a> {
 }
 
 /// An instruction that opens no parenthesis.
-#[derive(Debug, Drop)]
+#[derive(Drop)]
 pub(crate) enum Step<'a> {
     Load(bool, Operand<'a>),
     Store(Storing, Operand<'a>),
@@ -30,7 +30,7 @@ pub(crate) enum Step<'a> {
 }
 
 /// Whose operand stands here.
-#[derive(Debug, Drop)]
+#[derive(Drop)]
 pub(crate) enum OperandOf<'a> {
     /// An instruction's.
     OfStep(Operating),
@@ -41,7 +41,7 @@ pub(crate) enum OperandOf<'a> {
 }
 
 /// Where a call's list stands.
-#[derive(Clone, Copy, Debug)]
+#[derive(Clone, Copy)]
 pub(crate) enum InList<'a> {
     /// Behind its bracket.
     AtFirst,
@@ -56,7 +56,7 @@ pub(crate) enum InList<'a> {
 }
 
 /// What a whole line is.
-#[derive(Debug, Drop)]
+#[derive(Drop)]
 pub(crate) enum LineForm<'a> {
     /// A label alone.
     LabelAlone(Word<'a>),
@@ -67,7 +67,7 @@ pub(crate) enum LineForm<'a> {
 }
 
 /// How far a line of a body has been read.
-#[derive(Debug, Drop)]
+#[derive(Drop)]
 pub(crate) enum LineState<'a> {
     /// Behind an identifier that is a label if anything is.
     Worded(Word<'a>),

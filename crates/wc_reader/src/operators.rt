@@ -8,7 +8,7 @@ use wc_lexer::{Shape, Token};
 use wc_model::{Condition, Operator, Storing, is_word};
 
 /// An operator that takes an operand.
-#[derive(Clone, Copy, Debug, PartialEq, Eq)]
+#[derive(Clone, Copy)]
 pub(crate) enum Operating {
     /// LD, or LDN where negated.
     Loads(bool),
@@ -19,7 +19,7 @@ pub(crate) enum Operating {
 }
 
 /// An operator (IEC 61131-3:2003, table 52).
-#[derive(Clone, Copy, Debug, PartialEq, Eq)]
+#[derive(Clone, Copy)]
 pub(crate) enum Operation {
     /// With an operand.
     Operates(Operating),

@@ -5,7 +5,7 @@ use std::alloc::Global;
 use wc_model::{Section, Unit, UnitKind};
 
 /// How far a text has been read, behind its whole units.
-#[derive(Debug, Drop)]
+#[derive(Drop)]
 pub(crate) enum TextState<'a> {
     /// In no unit.
     Outside,
@@ -22,7 +22,7 @@ pub(crate) enum TextState<'a> {
 }
 
 /// The whole units, and how far the text behind them has been read.
-#[derive(Debug, Drop)]
+#[derive(Drop)]
 pub(crate) struct Reading<'a> {
     pub units: Vec<Unit<'a>, Global>,
     pub state: TextState<'a>,

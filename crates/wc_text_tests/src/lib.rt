@@ -18,6 +18,8 @@ mod programs;
 #[cfg(test)]
 mod runs;
 #[cfg(test)]
+mod short_lines;
+#[cfg(test)]
 mod texts;
 #[cfg(test)]
 mod tokens;
