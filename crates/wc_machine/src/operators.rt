@@ -72,7 +72,7 @@ pub(crate) fn combined(operator: Operator, a: i32, b: i32) -> i32
     ensures { combined operator a b ≡ Some result }
 {
     if is_logic(operator) {
-        bit(logic(operator, truth(a), truth(b)))
+        logic(operator, a, b)
     } else {
         counted(operator, a, b)
     }
