@@ -124,7 +124,7 @@ one_more_way bounds small code ways i line sources steps few below is count behi
 
 -- the lines of the text on a line's way
 pub then_lines : (bounds : List ℕ) (source : ℕ) (line : Code) (way : Worst) → (and_then bounds source line way).lines ≡ own_source line source ++ way.lines
-then_lines bounds source (ArgumentNumber n target) way = refl
+then_lines bounds source (ArgumentNumber target n) way = refl
 then_lines bounds source (ArgumentPlace place target) way = refl
 then_lines bounds source (Standard block at) way = refl
 then_lines bounds source (Body unit at) way = refl

@@ -23,7 +23,7 @@ AreSmall bounds = (unit : ℕ) → slice_index bounds unit ≤ MOST_STEPS
 
 -- a line of the body itself, executed: arguments and what is called are none
 abbrev pub is_own : Code → Bool
-is_own (ArgumentNumber n target) = false
+is_own (ArgumentNumber target n) = false
 is_own (ArgumentPlace place target) = false
 is_own (Standard block at) = false
 is_own (Body unit at) = false
@@ -36,7 +36,7 @@ own_steps bounds line = 1
 
 -- a line at a line of the text, and then a way
 abbrev pub and_then : List ℕ → ℕ → Code → Worst → Worst
-and_then bounds source (ArgumentNumber n target) way = some_more 1 way
+and_then bounds source (ArgumentNumber target n) way = some_more 1 way
 and_then bounds source (ArgumentPlace place target) way = some_more 1 way
 and_then bounds source (Standard block at) way = some_more 1 way
 and_then bounds source (Body unit at) way = some_more (slice_index bounds unit) way

@@ -37,7 +37,7 @@ parenthesis_ran = record { result = Some (pos 1); numbers = []; steps = 7 }
 
 -- a call of a TON with two arguments at the moment 50
 abbrev pub timer_code : List Code
-timer_code = Call Always 3 ∷ ArgumentNumber (pos 1) (place 0) ∷ ArgumentNumber (pos 100) (place 1) ∷ Standard Ton (place 0) ∷ []
+timer_code = Call Always 3 ∷ ArgumentNumber (place 0) (pos 1) ∷ ArgumentNumber (place 1) (pos 100) ∷ Standard Ton (place 0) ∷ []
 
 abbrev pub timer_slots : List SlotKind
 timer_slots = slots.Bool ∷ slots.Time ∷ slots.Bool ∷ slots.Time ∷ slots.Bool ∷ slots.Moment ∷ []
@@ -53,7 +53,7 @@ abbrev pub negating_code : List Code
 negating_code = LoadPlace false (place 0) ∷ Store Negation (place 1) ∷ []
 
 abbrev pub calling_code : List Code
-calling_code = Call Always 2 ∷ ArgumentNumber (pos 1) (place 3) ∷ Body 0 (place 3) ∷ LoadPlace false (place 4) ∷ []
+calling_code = Call Always 2 ∷ ArgumentNumber (place 3) (pos 1) ∷ Body 0 (place 3) ∷ LoadPlace false (place 4) ∷ []
 
 abbrev pub call_slots : List SlotKind
 call_slots = slots.Dint ∷ slots.Dint ∷ slots.Dint ∷ slots.Bool ∷ slots.Bool ∷ []

@@ -64,7 +64,7 @@ short_line (Number n) = OpenNumber n
 short_line (At place) = OpenPlace place
 
 abbrev pub argument_line : Operand → Place → Code
-argument_line (Number n) target = ArgumentNumber n target
+argument_line (Number n) target = ArgumentNumber target n
 argument_line (At place) target = ArgumentPlace place target
 
 -- how many flat lines a step has, and how many lines have

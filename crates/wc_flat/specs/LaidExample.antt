@@ -45,4 +45,4 @@ laid_scope = record {
 abbrev pub laid_code : List Code
 laid_code =
     LoadPlace false (place 45) ∷ Jump IfTrue 2 ∷ OpenNumber (pos 1) ∷ Close And ∷ Store Result (place 45)
-    ∷ Call Always 3 ∷ ArgumentPlace (place 45) (place 46) ∷ ArgumentNumber (pos 5) (place 47) ∷ Standard Ton (place 46) ∷ []
+    ∷ Call Always 3 ∷ ArgumentPlace (place 45) (place 46) ∷ ArgumentNumber (place 47) (pos 5) ∷ Standard Ton (place 46) ∷ []

@@ -82,10 +82,10 @@ pub enum Code {
     },
     /// A literal as an argument of the call that is being made.
     ArgumentNumber {
+        /// The input's place. It stands before the number, so that a line takes 8 bytes.
+        target: Place,
         /// What is assigned.
         number: i32,
-        /// The input's place.
-        target: Place,
     },
     /// What stands at a place as an argument of the call that is being made.
     ArgumentPlace {

@@ -33,7 +33,7 @@ returns c = record {
           others = [];
           whole = refl;
           step = (
-            ArgumentPlace (place 45) (place 46) ∷ ArgumentNumber (pos 5) (place 47) ∷ [],
+            ArgumentPlace (place 45) (place 46) ∷ ArgumentNumber (place 47) (pos 5) ∷ [],
             Standard Ton (place 46),
             ((At (place 45), place 46, refl, refl, refl), ((Number (pos 5), place 47, refl, refl, refl), tt)),
             (place 46, refl, refl),
