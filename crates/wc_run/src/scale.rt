@@ -102,6 +102,7 @@ impl<'a> Scale<'a> {
     }
 
     /// Takes bytes on the line, and gives the line of what was answered, if anything was.
+    #[inline(always)]
     fn take_bytes(&mut self, room: &mut Room, ms: u64, bytes: &[u8]) -> Result<RowOutput, RunFault>
         ensures stands { OnOk result (TakesRow self.old self.new ms (Bytes bytes.now)) }
         ensures output { IfOk result
@@ -129,6 +130,7 @@ impl<'a> Scale<'a> {
     }
 
     /// Does a scan where there is a machine, and gives its record. It takes no memory.
+    #[inline(always)]
     fn take_scan(&mut self, ms: u64) -> RowOutput
         requires early { ms < 2 ^ 40 }
         requires in_order { IsNotBehind self.old ms }
