@@ -1,4 +1,4 @@
-use Rattle.std.proofs.Common.{◌≡◌, [], sym, subst}
+use Rattle.std.proofs.Common.{[], sym, subst}
 use Rattle.wc_declare.specs.StandsFor.{Stands}
 use Rattle.wc_declare.proofs.ScopeTables.{at_unit, from_0}
 use Rattle.wc_declare.proofs.kept.Tables.entity.Goals as goal

@@ -1,4 +1,4 @@
-use Rattle.std.proofs.Common.{◌≡◌, [], Some, map, ap, ◌∙◌}
+use Rattle.std.proofs.Common.{[], Some, map, ap, ◌∙◌}
 use Rattle.std.specs.Prelude.{slice_get}
 use Rattle.wc_declare.specs.Numbered.{plain_of_field}
 use Rattle.wc_declare.specs.declared.unit_table.UnitTable.{UnitTable}

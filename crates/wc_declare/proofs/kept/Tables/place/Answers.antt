@@ -1,4 +1,4 @@
-use Rattle.std.proofs.Common.{◌≡◌, [], map, ap, sym, subst, ◌∙◌}
+use Rattle.std.proofs.Common.{[], map, ap, sym, subst, ◌∙◌}
 use Rattle.wc_model.specs.Language.Frames.{number_of_path}
 use Rattle.wc_model.specs.Language.Names.{name_of}
 use Rattle.wc_declare.specs.StandsFor.{Stands}

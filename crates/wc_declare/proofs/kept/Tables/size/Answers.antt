@@ -1,4 +1,4 @@
-use Rattle.std.proofs.Common.{◌≡◌, [], ap, ◌∙◌}
+use Rattle.std.proofs.Common.{[], ap, ◌∙◌}
 use Rattle.std.specs.Prelude.{slice_get}
 use Rattle.wc_declare.specs.declared.unit_table.UnitTable.{UnitTable}
 use Rattle.wc_declare.proofs.Lists.{not_past, same_found}
