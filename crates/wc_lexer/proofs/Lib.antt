@@ -6,3 +6,4 @@ pub mod FirstParts
 pub mod Fractions
 pub mod PartSums
 pub mod Steps
+pub mod Feeds

@@ -12,8 +12,10 @@ use crate::spaces::{from_bracket, opens_comment, starts_space};
 /// What stands at a place of a text.
 #[derive(Clone, Copy, Debug, PartialEq, Eq)]
 pub(crate) enum Piece {
-    /// A blank of that many bytes.
-    Blank(usize),
+    /// A space, a tab, or a CR before LF.
+    Space,
+    /// A comment of that many bytes.
+    Comment(usize),
     /// A token of that many bytes.
     Lexeme(usize, Shape),
     /// The fault of that number.
@@ -27,7 +29,7 @@ fn comment(inside: &[u8]) -> Piece
 {
     match from_bracket(inside) {
         [] => Piece::Fault(102),
-        [b'*', after @ ..] => Piece::Blank(2 + (inside.len() - after.len()) + 1),
+        [b'*', after @ ..] => Piece::Comment(2 + (inside.len() - after.len()) + 1),
         _ => Piece::Fault(103),
     }
 }
@@ -56,7 +58,7 @@ pub(crate) fn first_piece(text: &[u8]) -> Piece
     if opens_comment(text) {
         comment(&text[2..])
     } else if starts_space(text) {
-        Piece::Blank(1)
+        Piece::Space
     } else {
         lexeme(text)
     }

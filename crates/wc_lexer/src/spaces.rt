@@ -1,7 +1,7 @@
-ghost use Rattle.std.specs.Prelude.{◌≡◌, ◌≤◌, count_by, length};
+ghost use Rattle.std.specs.Prelude.{◌≡◌, ◌≤◌, count_by, if◌then◌else◌, length, take};
 ghost use Rattle.wc_token_laws.specs.Sights.{opens_comment, starts_space};
 ghost use Rattle.wc_model.specs.Text.Blanks.{from_bracket, starts_with_bracket};
-ghost use Rattle.wc_model.specs.Text.Characters.{is_line_feed};
+ghost use Rattle.wc_model.specs.Text.Characters.{begins, is_line_feed};
 
 /// A comment opens here.
 pub(crate) fn opens_comment(text: &[u8]) -> bool
@@ -36,6 +36,17 @@ pub(crate) fn from_bracket(text: &[u8]) -> &[u8]
         rest = after;
     }
     rest
+}
+
+/// How many line feeds stand at the front, 1 or none.
+#[inline(always)]
+pub(crate) fn first_feeds(text: &[u8]) -> usize
+    ensures { result ≡ (if begins is_line_feed text.now then 1 else 0) }
+{
+    match text {
+        [b'\n', ..] => 1,
+        _ => 0,
+    }
 }
 
 /// How many line feeds the text has.
