@@ -7,3 +7,4 @@ pub mod Fractions
 pub mod PartSums
 pub mod Steps
 pub mod Feeds
+pub mod BracketBytes

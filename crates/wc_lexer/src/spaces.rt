@@ -3,6 +3,8 @@ ghost use Rattle.wc_token_laws.specs.Sights.{opens_comment, starts_space};
 ghost use Rattle.wc_model.specs.Text.Blanks.{from_bracket, starts_with_bracket};
 ghost use Rattle.wc_model.specs.Text.Characters.{begins, is_line_feed};
 
+use memchr::{memchr_iter, memchr2};
+
 /// A comment opens here.
 pub(crate) fn opens_comment(text: &[u8]) -> bool
     ensures { result ≡ opens_comment text.now }
@@ -24,6 +26,22 @@ fn starts_with_bracket(text: &[u8]) -> bool
     text.starts_with(b"(*") || text.starts_with(b"*)")
 }
 
+/// What is left from the first byte on that may begin a `(*` or a `*)`.
+fn from_bracket_byte(text: &[u8]) -> &[u8]
+    ensures kept { from_bracket result.now ≡ from_bracket text.now }
+    ensures within { length result.now ≤ length text.now }
+{
+    if let [b'(' | b'*', ..] = text {
+        return text;
+    }
+    let place = match memchr2(b'(', b'*', text) {
+        Some(place) => place,
+        None => text.len(),
+    };
+    let (_, rest) = text.split_at(place);
+    rest
+}
+
 /// What is left from the first `(*` or `*)` on.
 pub(crate) fn from_bracket(text: &[u8]) -> &[u8]
     ensures { result.now ≡ from_bracket text.now }
@@ -33,7 +51,7 @@ pub(crate) fn from_bracket(text: &[u8]) -> &[u8]
         if starts_with_bracket(rest) {
             return rest;
         }
-        rest = after;
+        rest = from_bracket_byte(after);
     }
     rest
 }
@@ -54,5 +72,5 @@ pub(crate) fn line_feeds(text: &[u8]) -> usize
     ensures counted { result ≡ count_by is_line_feed text.now }
     ensures within { result ≤ length text.now }
 {
-    text.iter().filter(|byte| **byte == b'\n').count()
+    memchr_iter(b'\n', text).count()
 }
