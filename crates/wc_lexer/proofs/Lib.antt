@@ -8,3 +8,5 @@ pub mod PartSums
 pub mod Steps
 pub mod Feeds
 pub mod BracketBytes
+pub mod NameFronts
+pub mod WordSights
