@@ -6,3 +6,7 @@ pub mod FirstParts
 pub mod Fractions
 pub mod PartSums
 pub mod Steps
+pub mod Feeds
+pub mod BracketBytes
+pub mod NameFronts
+pub mod WordSights

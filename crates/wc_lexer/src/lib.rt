@@ -4,6 +4,7 @@
 mod characters;
 mod durations;
 mod fronts;
+mod identifiers;
 mod lengths;
 mod marks;
 mod numbers;

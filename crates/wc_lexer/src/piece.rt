@@ -1,19 +1,25 @@
-ghost use Rattle.std.specs.Prelude.{◌≡◌, ◌+◌, ◌≤◌, length};
+ghost use Rattle.std.specs.Prelude.{◌≡◌, ◌+◌, ◌≤◌, length, true};
 ghost use Rattle.wc_lexer.specs.Sights.{IsWithin, said_sight};
 ghost use Rattle.wc_token_laws.specs.Sights.{sight, sight_by_reach, sight_in_comment};
 ghost use Rattle.wc_token_laws.specs.Reaches.{reach};
 ghost use Rattle.wc_model.specs.Text.Blanks.{from_bracket};
+ghost use Rattle.wc_model.specs.Text.Characters.{begins, starts_identifier};
 
 use crate::Shape;
+use crate::characters::begins_identifier;
+use crate::fronts::begins_with;
+use crate::identifiers::identifier_front;
 use crate::lengths::lexeme_length;
-use crate::shapes::shape;
+use crate::shapes::{identifier_shape, shape};
 use crate::spaces::{from_bracket, opens_comment, starts_space};
 
 /// What stands at a place of a text.
 #[derive(Clone, Copy, Debug, PartialEq, Eq)]
 pub(crate) enum Piece {
-    /// A blank of that many bytes.
-    Blank(usize),
+    /// A space, a tab, or a CR before LF.
+    Space,
+    /// A comment of that many bytes.
+    Comment(usize),
     /// A token of that many bytes.
     Lexeme(usize, Shape),
     /// The fault of that number.
@@ -27,13 +33,14 @@ fn comment(inside: &[u8]) -> Piece
 {
     match from_bracket(inside) {
         [] => Piece::Fault(102),
-        [b'*', after @ ..] => Piece::Blank(2 + (inside.len() - after.len()) + 1),
+        [b'*', after @ ..] => Piece::Comment(2 + (inside.len() - after.len()) + 1),
         _ => Piece::Fault(103),
     }
 }
 
-/// The longest lexeme that stands here.
-fn lexeme(text: &[u8]) -> Piece
+/// The longest lexeme that stands here, by its length and its shape.
+#[inline(never)]
+fn any_lexeme(text: &[u8]) -> Piece
     ensures stands { said_sight result ≡ sight_by_reach (reach text.now) text.now }
     ensures within { IsWithin (length text.now) result }
 {
@@ -47,6 +54,37 @@ fn lexeme(text: &[u8]) -> Piece
     }
 }
 
+/// The identifier or the typed literal that stands here.
+#[inline(always)]
+fn word(text: &[u8]) -> Piece
+    requires { begins starts_identifier text.now ≡ true }
+    ensures stands { said_sight result ≡ sight_by_reach (reach text.now) text.now }
+    ensures within { IsWithin (length text.now) result }
+{
+    let (count, has_single) = identifier_front(text);
+    let (_, rest) = text.split_at(count);
+    if begins_with(rest, b'#') {
+        return any_lexeme(text);
+    }
+    match identifier_shape(count, has_single) {
+        Ok(shape) => Piece::Lexeme(count, shape),
+        Err(number) => Piece::Fault(number),
+    }
+}
+
+/// The longest lexeme that stands here.
+#[inline(always)]
+fn lexeme(text: &[u8]) -> Piece
+    ensures stands { said_sight result ≡ sight_by_reach (reach text.now) text.now }
+    ensures within { IsWithin (length text.now) result }
+{
+    if begins_identifier(text) {
+        word(text)
+    } else {
+        any_lexeme(text)
+    }
+}
+
 /// What stands here.
 pub(crate) fn first_piece(text: &[u8]) -> Piece
     requires { 1 ≤ length text.now }
@@ -56,7 +94,7 @@ pub(crate) fn first_piece(text: &[u8]) -> Piece
     if opens_comment(text) {
         comment(&text[2..])
     } else if starts_space(text) {
-        Piece::Blank(1)
+        Piece::Space
     } else {
         lexeme(text)
     }

@@ -1,6 +1,6 @@
 ghost use Rattle.std.specs.Prelude.{◌≡◌, if◌then◌else◌, ok_or};
 ghost use Rattle.std.specs.List.{list_any};
-ghost use Rattle.wc_lexer.specs.Views.{judgement_view};
+ghost use Rattle.wc_lexer.specs.Views.{identifier_judged, judgement_view};
 ghost use Rattle.wc_model.specs.Text.Characters.{is_hash};
 ghost use Rattle.wc_model.specs.Language.Names.{name_of};
 ghost use Rattle.wc_model.specs.Text.Shapes.{duration_shape, identifier_shape, literal_shape, number_shape, shape_of, truth_shape, typed_shape, mark_of};
@@ -17,10 +17,11 @@ use wc_model::is_word;
 const LONGEST_NAME: usize = 32;
 
 /// An identifier is no longer than a name, and has single underscores.
-fn identifier_shape(lexeme: &[u8]) -> Result<Shape, u16>
-    ensures { judgement_view result ≡ identifier_shape lexeme.now }
+#[inline(always)]
+pub(crate) fn identifier_shape(length: usize, has_single: bool) -> Result<Shape, u16>
+    ensures { judgement_view result ≡ identifier_judged length has_single }
 {
-    if lexeme.len() <= LONGEST_NAME && has_single_underscores(lexeme) {
+    if length <= LONGEST_NAME && has_single {
         Ok(Shape::Identifier)
     } else {
         Err(104)
@@ -80,7 +81,7 @@ fn word_shape(lexeme: &[u8]) -> Result<Shape, u16>
 {
     match cut_at(lexeme, b'#') {
         Some((name, value)) => typed_shape(name, value),
-        None => identifier_shape(lexeme),
+        None => identifier_shape(lexeme.len(), has_single_underscores(lexeme)),
     }
 }
 

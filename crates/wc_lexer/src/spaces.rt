@@ -1,7 +1,9 @@
-ghost use Rattle.std.specs.Prelude.{◌≡◌, ◌≤◌, count_by, length};
+ghost use Rattle.std.specs.Prelude.{◌≡◌, ◌≤◌, count_by, if◌then◌else◌, length, take};
 ghost use Rattle.wc_token_laws.specs.Sights.{opens_comment, starts_space};
 ghost use Rattle.wc_model.specs.Text.Blanks.{from_bracket, starts_with_bracket};
-ghost use Rattle.wc_model.specs.Text.Characters.{is_line_feed};
+ghost use Rattle.wc_model.specs.Text.Characters.{begins, is_line_feed};
+
+use memchr::{memchr_iter, memchr2};
 
 /// A comment opens here.
 pub(crate) fn opens_comment(text: &[u8]) -> bool
@@ -24,6 +26,22 @@ fn starts_with_bracket(text: &[u8]) -> bool
     text.starts_with(b"(*") || text.starts_with(b"*)")
 }
 
+/// What is left from the first byte on that may begin a `(*` or a `*)`.
+fn from_bracket_byte(text: &[u8]) -> &[u8]
+    ensures kept { from_bracket result.now ≡ from_bracket text.now }
+    ensures within { length result.now ≤ length text.now }
+{
+    if let [b'(' | b'*', ..] = text {
+        return text;
+    }
+    let place = match memchr2(b'(', b'*', text) {
+        Some(place) => place,
+        None => text.len(),
+    };
+    let (_, rest) = text.split_at(place);
+    rest
+}
+
 /// What is left from the first `(*` or `*)` on.
 pub(crate) fn from_bracket(text: &[u8]) -> &[u8]
     ensures { result.now ≡ from_bracket text.now }
@@ -33,9 +51,20 @@ pub(crate) fn from_bracket(text: &[u8]) -> &[u8]
         if starts_with_bracket(rest) {
             return rest;
         }
-        rest = after;
+        rest = from_bracket_byte(after);
     }
     rest
+}
+
+/// How many line feeds stand at the front, 1 or none.
+#[inline(always)]
+pub(crate) fn first_feeds(text: &[u8]) -> usize
+    ensures { result ≡ (if begins is_line_feed text.now then 1 else 0) }
+{
+    match text {
+        [b'\n', ..] => 1,
+        _ => 0,
+    }
 }
 
 /// How many line feeds the text has.
@@ -43,5 +72,5 @@ pub(crate) fn line_feeds(text: &[u8]) -> usize
     ensures counted { result ≡ count_by is_line_feed text.now }
     ensures within { result ≤ length text.now }
 {
-    text.iter().filter(|byte| **byte == b'\n').count()
+    memchr_iter(b'\n', text).count()
 }

@@ -5,7 +5,7 @@ ghost use Rattle.wc_model.specs.Text.Tokens.{IsCut, most_bytes};
 
 use crate::Token;
 use crate::piece::{Piece, first_piece};
-use crate::spaces::line_feeds;
+use crate::spaces::{first_feeds, line_feeds};
 use std::alloc::Global;
 use wc_model::Fault;
 
@@ -29,12 +29,16 @@ pub fn tokens<'a>(alloc: Global, text: &'a [u8]) -> Result<Vec<Token<'a>>, Fault
     let mut line = 1_u32;
     while start < text.len() {
         let (_, rest) = text.split_at(start);
-        let count = match first_piece(rest) {
+        let (count, feeds) = match first_piece(rest) {
             Piece::Fault(number) => return Err(Fault::Refused {
                 number,
                 place: line,
             }),
-            Piece::Blank(count) => count,
+            Piece::Space => (1, 0),
+            Piece::Comment(count) => {
+                let (comment, _) = rest.split_at(count);
+                (count, line_feeds(comment))
+            }
             Piece::Lexeme(count, shape) => {
                 let (lexeme, _) = rest.split_at(count);
                 let token = Token {
@@ -46,11 +50,10 @@ pub fn tokens<'a>(alloc: Global, text: &'a [u8]) -> Result<Vec<Token<'a>>, Fault
                 if tokens.push(token).is_err() {
                     return Err(Fault::Memory);
                 }
-                count
+                (count, first_feeds(rest))
             }
         };
-        let (piece, _) = rest.split_at(count);
-        line += line_feeds(piece) as u32;
+        line += feeds as u32;
         start += count;
     }
     Ok(tokens)
