@@ -1,16 +1,16 @@
 -- Which directly represented variable an address names.
 use Rattle.std.proofs.Common.{◌≡◌, ℕ, zero, suc, ◌+◌, ◌-◌, ◌<◌, Bool, true, false, List, [], ◌∷◌, Option, Some, None, cond, map, true≢false, option_map, refl, sym, ap, ◌∙◌, arith}
-use Rattle.std.proofs.lemmas.Bool.Decides.{nat_tests}
 use Rattle.std.proofs.lemmas.Bool.{and_parts, eqb-true, false_from_ne_true}
-use Rattle.std.proofs.lemmas.List.Folds.{find-append, list_all-append}
+use Rattle.std.proofs.lemmas.List.Folds.{find-append}
 use Rattle.std.proofs.lemmas.Slice.Eq.{bytes_eq-Decides}
-use Rattle.std.specs.Prelude.{find, nat_eq, ◌&&◌, ◌||◌}
+use Rattle.std.specs.Prelude.{find, nat_eq, ◌||◌}
 use Rattle.std.specs.Option.{option_or}
 use Rattle.std.specs.List.{list_all, list_any}
 use Rattle.std.specs.Str.{bytes_eq}
 use Rattle.wc_model.specs.Language.DirectVariables.{direct_variables, numbers_below, spellings, variable_at}
 use Rattle.wc_model.specs.Language.Names.{Name}
 use Rattle.wc_declare.specs.Direct.{direct_at, only_number}
+use Rattle.wc_declare.proofs.Below.{each_below}
 
 -- a number that does not pass leaves none found
 none_more : (p : ℕ → Bool) (i : ℕ) → find p (numbers_below i) ≡ None → p i ≡ false → find p (numbers_below (i + 1)) ≡ None
@@ -67,19 +67,6 @@ is_own n = list_all (λ name. nat_eq (only_number name) n) (spellings (direct_at
 all_own : list_all is_own (numbers_below 45) ≡ true
 all_own = refl
 
--- what holds of all numbers holds of each
-each_own : (p : ℕ → Bool) (n i : ℕ) → list_all p (numbers_below n) ≡ true → i < n → p i ≡ true
-each_own p zero i all below = absurd (omega arith)
-each_own p (suc n) i all below =
-    let parts = and_parts (list_all p (numbers_below n)) (p n && true) (sym (list_all-append p (numbers_below n) (n ∷ [])) ∙ all) in
-    by (nat_eq i n) refl (and_parts (p n) true parts.1).0 (each_own p n i parts.0)
-  where
-    by : (b : Bool) → nat_eq i n ≡ b → p n ≡ true → (i < n → p i ≡ true) → p i ≡ true
-    by true same last rest = ap p (eqb-true i n same) ∙ last
-    by false other last rest =
-        let less : i < n = grind (arith, nat_tests) in
-        rest less
-
 -- a name that is spelled as one of these has their number
 own_among : (name : Name) (n : ℕ) (names : List Name) → list_all (λ s. nat_eq (only_number s) n) names ≡ true → list_any (bytes_eq name) names ≡ true → only_number name ≡ n
 own_among name n [] all any = absurd (true≢false (sym any))
@@ -93,7 +80,7 @@ own_among name n (first ∷ names) all any =
 
 -- an address has no number but the one that is read
 only_spelled : (name : Name) (i : ℕ) → i < 45 → spelled name i ≡ true → only_number name ≡ i
-only_spelled name i below any = own_among name i (spellings (direct_at i)) (each_own is_own 45 i all_own below) any
+only_spelled name i below any = own_among name i (spellings (direct_at i)) (each_below is_own 45 i all_own below) any
 
 -- no smaller number passes than the one that is read
 none_before : (name : Name) (number : ℕ) → number ≡ only_number name → number < 45 → (i : ℕ) → i < number → spelled name i ≡ true → ⊥

@@ -6,6 +6,7 @@ pub mod Judging
 pub mod Typing
 pub mod RowsSoFar
 pub mod DeclaredSoFar
+pub mod Below
 pub mod Addresses
 pub mod LineViews
 pub mod Positions

@@ -1,5 +1,5 @@
 -- The name that a key of a set names. (No rule of the language.)
-use Rattle.std.specs.Prelude.{◌≡◌, ℕ, ◌*◌, ◌%◌, ◌^◌, Bool, IsTrue, List, map, fold, bit_xor}
+use Rattle.std.specs.Prelude.{◌≡◌, ℕ, ◌*◌, ◌%◌, ◌^◌, Bool, IsTrue, List, map, fold, bit_or, bit_xor}
 use Rattle.std.proofs.Common.{sym, ap}
 use Rattle.std.proofs.lemmas.Slice.Eq.{bytes_eq-Decides}
 use Rattle.std.specs.Cmp.{IsEquivalence, decided}
@@ -20,13 +20,17 @@ names_of_keys keys = map name_of_key keys
 abbrev pub same_key : Key → Key → Bool
 same_key a b = same_name (name_of_key b) (name_of_key a)
 
+-- a byte as it is hashed: a letter is the same in either case
+abbrev pub caseless : ℕ → ℕ
+caseless byte = bit_or byte 32
+
 -- the number of a name with one byte more (the hash FNV-1a)
 abbrev pub mixed : ℕ → ℕ → ℕ
 mixed number byte = (bit_xor number byte * 0x100000001b3) % 2 ^ 64
 
 -- the number of a name, by all of its bytes
 abbrev pub name_number : Name → ℕ
-name_number name = fold mixed 0xcbf29ce484222325 name
+name_number name = fold (λ number byte. mixed number (caseless byte)) 0xcbf29ce484222325 name
 
 -- what is hashed of a name: its number alone
 abbrev pub fed_name : Name → fed.HashWrites
