@@ -6,7 +6,6 @@ ghost use Rattle.wc_model.specs.Text.Blanks.{from_bracket};
 ghost use Rattle.wc_model.specs.Text.Characters.{begins, starts_identifier};
 
 use crate::Shape;
-use crate::characters::begins_identifier;
 use crate::fronts::begins_with;
 use crate::identifiers::identifier_front;
 use crate::lengths::lexeme_length;
@@ -39,7 +38,6 @@ fn comment(inside: &[u8]) -> Piece
 }
 
 /// The longest lexeme that stands here, by its length and its shape.
-#[inline(never)]
 fn any_lexeme(text: &[u8]) -> Piece
     ensures stands { said_sight result ≡ sight_by_reach (reach text.now) text.now }
     ensures within { IsWithin (length text.now) result }
@@ -72,21 +70,9 @@ fn word(text: &[u8]) -> Piece
     }
 }
 
-/// The longest lexeme that stands here.
-#[inline(always)]
-fn lexeme(text: &[u8]) -> Piece
-    ensures stands { said_sight result ≡ sight_by_reach (reach text.now) text.now }
-    ensures within { IsWithin (length text.now) result }
-{
-    if begins_identifier(text) {
-        word(text)
-    } else {
-        any_lexeme(text)
-    }
-}
-
-/// What stands here.
-pub(crate) fn first_piece(text: &[u8]) -> Piece
+/// What stands here, whatever it is.
+#[inline(never)]
+fn any_piece(text: &[u8]) -> Piece
     requires { 1 ≤ length text.now }
     ensures stands { said_sight result ≡ sight text.now }
     ensures within { IsWithin (length text.now) result }
@@ -96,6 +82,26 @@ pub(crate) fn first_piece(text: &[u8]) -> Piece
     } else if starts_space(text) {
         Piece::Space
     } else {
-        lexeme(text)
+        any_lexeme(text)
+    }
+}
+
+/// What stands here. The first byte decides most of it at once.
+#[inline(always)]
+pub(crate) fn first_piece(text: &[u8]) -> Piece
+    requires { 1 ≤ length text.now }
+    ensures stands { said_sight result ≡ sight text.now }
+    ensures within { IsWithin (length text.now) result }
+{
+    match text {
+        [b' ' | b'\t', ..] => Piece::Space,
+        [b'\n', ..] => Piece::Lexeme(1, Shape::LineEnd),
+        [b':', b'=', ..] => Piece::Lexeme(2, Shape::Assign),
+        [b')', ..] => Piece::Lexeme(1, Shape::Closing),
+        [b',', ..] => Piece::Lexeme(1, Shape::Comma),
+        [b'.', ..] => Piece::Lexeme(1, Shape::Point),
+        [b';', ..] => Piece::Lexeme(1, Shape::Semicolon),
+        [b'_' | b'A'..=b'Z' | b'a'..=b'z', ..] => word(text),
+        _ => any_piece(text),
     }
 }
