@@ -9,7 +9,10 @@ ghost use Rattle.wc_model.specs.Text.Digits.{has_single_underscores};
 fn begins_plain(text: &[u8]) -> bool
     ensures { result ≡ begins is_ascii_alphanumeric text.now }
 {
-    matches!(text, [b'A'..=b'Z' | b'a'..=b'z' | b'0'..=b'9', ..])
+    match text {
+        [first, ..] => first.is_ascii_alphabetic() || first.is_ascii_digit(),
+        [] => false,
+    }
 }
 
 /// How many characters of an identifier stand at the front, and whether their underscores are single.

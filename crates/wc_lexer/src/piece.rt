@@ -9,7 +9,7 @@ use crate::Shape;
 use crate::fronts::begins_with;
 use crate::identifiers::identifier_front;
 use crate::lengths::lexeme_length;
-use crate::shapes::{identifier_shape, shape};
+use crate::shapes::{is_name, shape};
 use crate::spaces::{from_bracket, opens_comment, starts_space};
 
 /// What stands at a place of a text.
@@ -38,6 +38,7 @@ fn comment(inside: &[u8]) -> Piece
 }
 
 /// The longest lexeme that stands here, by its length and its shape.
+#[inline(never)]
 fn any_lexeme(text: &[u8]) -> Piece
     ensures stands { said_sight result ≡ sight_by_reach (reach text.now) text.now }
     ensures within { IsWithin (length text.now) result }
@@ -52,6 +53,16 @@ fn any_lexeme(text: &[u8]) -> Piece
     }
 }
 
+/// The same, with room of its own for the answer, which is then not made ready where it is not called.
+#[inline(always)]
+fn other_lexeme(text: &[u8]) -> Piece
+    ensures stands { said_sight result ≡ sight_by_reach (reach text.now) text.now }
+    ensures within { IsWithin (length text.now) result }
+{
+    let found = any_lexeme(text);
+    found
+}
+
 /// The identifier or the typed literal that stands here.
 #[inline(always)]
 fn word(text: &[u8]) -> Piece
@@ -62,12 +73,12 @@ fn word(text: &[u8]) -> Piece
     let (count, has_single) = identifier_front(text);
     let (_, rest) = text.split_at(count);
     if begins_with(rest, b'#') {
-        return any_lexeme(text);
+        return other_lexeme(text);
     }
-    match identifier_shape(count, has_single) {
-        Ok(shape) => Piece::Lexeme(count, shape),
-        Err(number) => Piece::Fault(number),
+    if !is_name(count, has_single) {
+        return other_lexeme(text);
     }
+    Piece::Lexeme(count, Shape::Identifier)
 }
 
 /// What stands here, whatever it is.
@@ -86,6 +97,17 @@ fn any_piece(text: &[u8]) -> Piece
     }
 }
 
+/// The same, with room of its own for the answer, which is then not made ready where it is not called.
+#[inline(always)]
+fn other_piece(text: &[u8]) -> Piece
+    requires { 1 ≤ length text.now }
+    ensures stands { said_sight result ≡ sight text.now }
+    ensures within { IsWithin (length text.now) result }
+{
+    let found = any_piece(text);
+    found
+}
+
 /// What stands here. The first byte decides most of it at once.
 #[inline(always)]
 pub(crate) fn first_piece(text: &[u8]) -> Piece
@@ -102,6 +124,6 @@ pub(crate) fn first_piece(text: &[u8]) -> Piece
         [b'.', ..] => Piece::Lexeme(1, Shape::Point),
         [b';', ..] => Piece::Lexeme(1, Shape::Semicolon),
         [b'_' | b'A'..=b'Z' | b'a'..=b'z', ..] => word(text),
-        _ => any_piece(text),
+        _ => other_piece(text),
     }
 }
