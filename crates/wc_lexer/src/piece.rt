@@ -1,4 +1,4 @@
-ghost use Rattle.std.specs.Prelude.{◌≡◌, ◌+◌, ◌≤◌, length, true};
+ghost use Rattle.std.specs.Prelude.{◌≡◌, ◌+◌, ◌≤◌, ◌==◌, length, true};
 ghost use Rattle.wc_lexer.specs.Sights.{IsWithin, said_sight};
 ghost use Rattle.wc_token_laws.specs.Sights.{sight, sight_by_reach, sight_in_comment};
 ghost use Rattle.wc_token_laws.specs.Reaches.{reach};
@@ -6,7 +6,7 @@ ghost use Rattle.wc_model.specs.Text.Blanks.{from_bracket};
 ghost use Rattle.wc_model.specs.Text.Characters.{begins, starts_identifier};
 
 use crate::Shape;
-use crate::fronts::begins_with;
+use crate::fronts::{begins_with, behind_first};
 use crate::identifiers::identifier_front;
 use crate::lengths::lexeme_length;
 use crate::shapes::{is_name, shape};
@@ -108,6 +108,21 @@ fn other_piece(text: &[u8]) -> Piece
     found
 }
 
+/// A `:=` or a `:`.
+#[inline(always)]
+fn colon(text: &[u8]) -> Piece
+    requires { begins (λ byte. byte == 58) text.now ≡ true }
+    ensures stands { said_sight result ≡ sight text.now }
+    ensures within { IsWithin (length text.now) result }
+{
+    let after = behind_first(text);
+    if begins_with(after, b'=') {
+        Piece::Lexeme(2, Shape::Assign)
+    } else {
+        Piece::Lexeme(1, Shape::Colon)
+    }
+}
+
 /// What stands here. The first byte decides most of it at once.
 #[inline(always)]
 pub(crate) fn first_piece(text: &[u8]) -> Piece
@@ -118,7 +133,7 @@ pub(crate) fn first_piece(text: &[u8]) -> Piece
     match text {
         [b' ' | b'\t', ..] => Piece::Space,
         [b'\n', ..] => Piece::Lexeme(1, Shape::LineEnd),
-        [b':', b'=', ..] => Piece::Lexeme(2, Shape::Assign),
+        [b':', ..] => colon(text),
         [b')', ..] => Piece::Lexeme(1, Shape::Closing),
         [b',', ..] => Piece::Lexeme(1, Shape::Comma),
         [b'.', ..] => Piece::Lexeme(1, Shape::Point),
