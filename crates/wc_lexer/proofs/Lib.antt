@@ -10,3 +10,4 @@ pub mod Feeds
 pub mod BracketBytes
 pub mod NameFronts
 pub mod WordSights
+pub mod Colons

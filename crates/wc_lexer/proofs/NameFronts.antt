@@ -1,5 +1,7 @@
 -- The front of a text that may be an identifier, byte by byte.
-use Rattle.std.proofs.Common.{◌≡◌, ℕ, ◌+◌, Bool, true, false, cond, not, ◌&&◌, ◌||◌, List, [], ◌∷◌, ◌-◌, ◌≤◌, drop, length, slice_index, subst, take, take_all, refl, sym, ap, ◌∙◌, one-add, arith}
+use Rattle.std.proofs.Common.{◌≡◌, ℕ, ◌+◌, Bool, true, false, cond, not, ◌&&◌, ◌||◌, List, [], ◌∷◌, ◌-◌, ◌≤◌, drop, length, slice_index, subst, take, take_all, refl, sym, ap, ◌∙◌, one-add, arith, true≢false}
+use Rattle.std.proofs.lemmas.Bool.{ne_eqb}
+use Rattle.std.specs.Char.{is_ascii_alphanumeric}
 use Rattle.std.specs.List.{prefix_len}
 use Rattle.wc_model.specs.Text.Characters.{begins, is_identifier_character, is_underscore}
 use Rattle.wc_model.specs.Text.Digits.{has_single_underscores}
@@ -8,9 +10,9 @@ use Rattle.wc_model.specs.Text.Digits.{has_single_underscores}
 abbrev pub name_front : List ℕ → List ℕ
 name_front text = take (prefix_len is_identifier_character text) text
 
--- a letter or a digit
-abbrev pub is_plain : ℕ → Bool
-is_plain b = not (is_underscore b) && is_identifier_character b
+-- a letter or a digit is no underscore
+plain_is_other : (b : ℕ) → is_ascii_alphanumeric b ≡ true → is_underscore b ≡ false
+plain_is_other b h = ne_eqb b 95 (λ e. true≢false (sym h ∙ ap is_ascii_alphanumeric e))
 
 -- so many and so judged characters stand before the rest
 pub record Passed (text rest : List ℕ) (count : ℕ) (single : Bool) : Type 0 where
@@ -22,24 +24,19 @@ front_goes_on : (b : ℕ) (rest : List ℕ) → is_identifier_character b ≡ tr
 front_goes_on b rest h = ap (λ v. take (cond v (1 + prefix_len is_identifier_character rest) 0) (b ∷ rest)) h ∙ ap (λ n. take n (b ∷ rest)) (one-add (prefix_len is_identifier_character rest))
 
 -- the front of what follows starts with a letter or a digit, or not
-front_starts_plain : (rest : List ℕ) → begins (λ b. not (is_underscore b)) (name_front rest) ≡ begins is_plain rest
+front_starts_plain : (rest : List ℕ) → begins (λ b. not (is_underscore b)) (name_front rest) ≡ begins is_ascii_alphanumeric rest
 front_starts_plain [] = refl
-front_starts_plain (b ∷ rest) =
-    elim (is_identifier_character b) as (λ v. begins (λ b. not (is_underscore b)) (take (cond v (1 + prefix_len is_identifier_character rest) 0) (b ∷ rest)) ≡ (not (is_underscore b) && v))
-    [ true ↦ rw one-add (and_true (not (is_underscore b))) | false ↦ and_false (not (is_underscore b)) ]
+front_starts_plain (b ∷ rest) = go (is_ascii_alphanumeric b) (is_underscore b) refl refl
   where
-    and_true : (v : Bool) → v ≡ (v && true)
-    and_true true = refl
-    and_true false = refl
-
-    and_false : (v : Bool) → false ≡ (v && false)
-    and_false true = refl
-    and_false false = refl
+    go : (plain underscore : Bool) → is_ascii_alphanumeric b ≡ plain → is_underscore b ≡ underscore → begins (λ b. not (is_underscore b)) (name_front (b ∷ rest)) ≡ is_ascii_alphanumeric b
+    go true underscore p u = ap (begins (λ b. not (is_underscore b))) (front_goes_on b rest (ap (λ v. v || is_underscore b) p)) ∙ ap not (plain_is_other b p) ∙ sym p
+    go false true p u = ap (begins (λ b. not (is_underscore b))) (front_goes_on b rest (ap (λ v. is_ascii_alphanumeric b || v) u ∙ ap (λ v. v || true) p)) ∙ ap not u ∙ sym p
+    go false false p u = ap (λ v. begins (λ b. not (is_underscore b)) (take (cond v (1 + prefix_len is_identifier_character rest) 0) (b ∷ rest))) (ap (λ v. v || is_underscore b) p ∙ u) ∙ sym p
 
 -- one byte more
-judged_more : (single : Bool) (b : ℕ) (rest : List ℕ) → is_identifier_character b ≡ true → ((single && not (is_underscore b && not (begins is_plain rest))) && has_single_underscores (name_front rest)) ≡ (single && has_single_underscores (name_front (b ∷ rest)))
+judged_more : (single : Bool) (b : ℕ) (rest : List ℕ) → is_identifier_character b ≡ true → ((single && not (is_underscore b && not (begins is_ascii_alphanumeric rest))) && has_single_underscores (name_front rest)) ≡ (single && has_single_underscores (name_front (b ∷ rest)))
 judged_more single b rest h =
-    by_cases single (is_underscore b) (begins is_plain rest) (has_single_underscores (name_front rest))
+    by_cases single (is_underscore b) (begins is_ascii_alphanumeric rest) (has_single_underscores (name_front rest))
     ∙ ap (λ v. single && ((not (is_underscore b) || v) && has_single_underscores (name_front rest))) (sym (front_starts_plain rest))
     ∙ ap (λ l. single && has_single_underscores l) (sym (front_goes_on b rest h))
   where
@@ -50,18 +47,11 @@ judged_more single b rest h =
     by_cases false u n t = refl
 
 -- one character more is passed
-pub passed_more : (text rest : List ℕ) (b count : ℕ) (single next : Bool) → is_identifier_character b ≡ true → next ≡ (single && not (is_underscore b && not (begins is_plain rest))) → Passed text (b ∷ rest) count single → Passed text rest (count + 1) next
+pub passed_more : (text rest : List ℕ) (b count : ℕ) (single next : Bool) → is_identifier_character b ≡ true → next ≡ (single && not (is_underscore b && not (begins is_ascii_alphanumeric rest))) → Passed text (b ∷ rest) count single → Passed text rest (count + 1) next
 passed_more text rest b count single next h e passed = record {
   counted = omega (arith, passed.counted, ap (λ v. cond v (1 + prefix_len is_identifier_character rest) 0) h);
   judged = ap (λ v. v && has_single_underscores (name_front rest)) e ∙ judged_more single b rest h ∙ passed.judged;
 }
-
--- the first byte of the rest is passed
-pub passed_step : (text rest : List ℕ) (count : ℕ) (single next : Bool) → 1 ≤ length rest → is_identifier_character (slice_index rest 0) ≡ true → next ≡ (single && not (is_underscore (slice_index rest 0) && not (begins is_plain (take (length rest - 1) (drop 1 rest))))) → Passed text rest count single → Passed text (take (length rest - 1) (drop 1 rest)) (count + 1) next
-passed_step text [] count single next long h e passed = absurd (omega arith)
-passed_step text (b ∷ rest) count single next long h e passed =
-    let whole : take (length (b ∷ rest) - 1) rest ≡ rest = take_all _ rest (omega arith) in
-    subst (λ l. Passed text l (count + 1) next) (sym whole) (passed_more text rest b count single next h (e ∙ ap (λ l. single && not (is_underscore b && not (begins is_plain l))) whole) passed)
 
 -- behind a loose underscore they are not single
 pub is_loosened : (single loose : Bool) → loose ≡ true → false ≡ (single && not loose)
@@ -72,3 +62,36 @@ is_loosened false loose h = refl
 pub stays_single : (single loose : Bool) → loose ≡ false → single ≡ (single && not loose)
 stays_single true loose h = sym (ap not h)
 stays_single false loose h = refl
+
+-- the first byte of the rest is passed, and its underscore is judged
+pub record Step (rest : List ℕ) (single next : Bool) : Type 0 where
+  pub passes : is_identifier_character (slice_index rest 0) ≡ true
+  pub judges : next ≡ (single && not (is_underscore (slice_index rest 0) && not (begins is_ascii_alphanumeric (take (length rest - 1) (drop 1 rest)))))
+
+-- a letter or a digit
+pub plain_step : (rest : List ℕ) (single next : Bool) → begins is_ascii_alphanumeric rest ≡ true → next ≡ single → Step rest single next
+plain_step [] single next h e = absurd (true≢false (sym h))
+plain_step (b ∷ rest) single next h e = record {
+  passes = ap (λ v. v || is_underscore b) h;
+  judges = e ∙ stays_single single _ (ap (λ v. v && not (begins is_ascii_alphanumeric (take (length (b ∷ rest) - 1) rest))) (plain_is_other b h));
+}
+
+-- an underscore
+pub underscore_step : (rest : List ℕ) (single next plain : Bool) → slice_index rest 0 ≡ 95 → plain ≡ begins is_ascii_alphanumeric (take (length rest - 1) (drop 1 rest)) → next ≡ (single && plain) → Step rest single next
+underscore_step rest single next plain h p e =
+    let here : is_underscore (slice_index rest 0) ≡ true = ap is_underscore h in
+    record {
+      passes = ap is_identifier_character h;
+      judges = e ∙ ap (λ v. single && v) (p ∙ twice (begins is_ascii_alphanumeric (take (length rest - 1) (drop 1 rest)))) ∙ ap (λ v. single && not (v && not (begins is_ascii_alphanumeric (take (length rest - 1) (drop 1 rest))))) (sym here);
+    }
+  where
+    twice : (v : Bool) → v ≡ not (true && not v)
+    twice true = refl
+    twice false = refl
+
+-- one step
+pub passed_step : (text rest : List ℕ) (count : ℕ) (single next : Bool) → 1 ≤ length rest → Step rest single next → Passed text rest count single → Passed text (take (length rest - 1) (drop 1 rest)) (count + 1) next
+passed_step text [] count single next long step passed = absurd (omega arith)
+passed_step text (b ∷ rest) count single next long step passed =
+    let whole : take (length (b ∷ rest) - 1) rest ≡ rest = take_all _ rest (omega arith) in
+    subst (λ l. Passed text l (count + 1) next) (sym whole) (passed_more text rest b count single next step.passes (step.judges ∙ ap (λ l. single && not (is_underscore b && not (begins is_ascii_alphanumeric l))) whole) passed)

@@ -1,5 +1,5 @@
 -- What the lexer's shapes and tokens say.
-use Rattle.std.specs.Prelude.{ℕ, Bool, ◌&&◌, if◌then◌else◌, Result, Ok, Err}
+use Rattle.std.specs.Prelude.{ℕ, Bool, ◌&&◌, Result, Ok, Err}
 use Rattle.std.specs.Bool.{nat_le}
 use Rattle.wc_lexer.specs.declared.shape.Shape.{Shape}
 use Rattle.wc_lexer.specs.declared.shape.Shape.TheVariants.{Identifier, Whole, Duration, Truth, Address, And, AndNot, Opening, Closing, Comma, Colon, Semicolon, Point, Assign, Arrow, LineEnd}
@@ -35,6 +35,6 @@ judgement_view (Err number) = Err number
 abbrev pub token_view : Token → tokens.Token
 token_view token = record { shape = shape_view token.shape; text = token.text.now; start = token.start; line = token.line }
 
--- the shape of an identifier of that length, with single underscores or not
-abbrev pub identifier_judged : ℕ → Bool → Result shapes.Shape ℕ
-identifier_judged length has_single = if nat_le length shapes.longest_name && has_single then Ok shapes.Identifier else Err 104
+-- an identifier of that length, with single underscores or not, is a name
+abbrev pub is_name_so : ℕ → Bool → Bool
+is_name_so length has_single = nat_le length shapes.longest_name && has_single

@@ -1,19 +1,11 @@
 ghost use Rattle.std.specs.Prelude.{◌≡◌};
-ghost use Rattle.wc_model.specs.Text.Characters.{begins, is_address_character, is_identifier_character, is_number_character, is_sign, starts_identifier};
+ghost use Rattle.wc_model.specs.Text.Characters.{is_address_character, is_identifier_character, is_number_character, is_sign, starts_identifier};
 
 /// An identifier starts with a letter or an underscore.
 pub(crate) fn starts_identifier(byte: u8) -> bool
     ensures { result ≡ starts_identifier byte }
 {
     byte.is_ascii_alphabetic() || byte == b'_'
-}
-
-/// An identifier starts here.
-#[inline(always)]
-pub(crate) fn begins_identifier(text: &[u8]) -> bool
-    ensures { result ≡ begins starts_identifier text.now }
-{
-    matches!(text, [first, ..] if starts_identifier(*first))
 }
 
 /// An identifier goes on with letters, digits and underscores.

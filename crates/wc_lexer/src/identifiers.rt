@@ -1,20 +1,18 @@
-ghost use Rattle.std.specs.Prelude.{◌≡◌, ◌≤◌, ◌&&◌, length, not, take};
+ghost use Rattle.std.specs.Prelude.{◌≡◌, ◌≤◌, length, take};
+ghost use Rattle.std.specs.Char.{is_ascii_alphanumeric};
 ghost use Rattle.std.specs.List.{prefix_len};
-ghost use Rattle.wc_model.specs.Text.Characters.{begins, is_identifier_character, is_underscore};
+ghost use Rattle.wc_model.specs.Text.Characters.{begins, is_identifier_character};
 ghost use Rattle.wc_model.specs.Text.Digits.{has_single_underscores};
 
-use crate::characters::is_identifier_character;
-
-/// The byte is an underscore, and no letter or digit stands behind it.
+/// A letter or a digit stands here.
 #[inline(always)]
-fn is_loose_underscore(first: u8, after: &[u8]) -> bool
-    ensures { result
-        ≡
-        (is_underscore first
-        && not
-        (begins (λ next. not (is_underscore next) && is_identifier_character next) after.now)) }
+fn begins_plain(text: &[u8]) -> bool
+    ensures { result ≡ begins is_ascii_alphanumeric text.now }
 {
-    first == b'_' && !matches!(after, [next, ..] if *next != b'_' && is_identifier_character(*next))
+    match text {
+        [first, ..] => first.is_ascii_alphabetic() || first.is_ascii_digit(),
+        [] => false,
+    }
 }
 
 /// How many characters of an identifier stand at the front, and whether their underscores are single.
@@ -28,11 +26,13 @@ pub(crate) fn identifier_front(text: &[u8]) -> (usize, bool)
     let mut single = true;
     let mut rest = text;
     while let [first, after @ ..] = rest {
-        if !is_identifier_character(*first) {
-            return (count, single);
-        }
-        if is_loose_underscore(*first, after) {
-            single = false;
+        if !begins_plain(rest) {
+            if *first != b'_' {
+                return (count, single);
+            }
+            if !begins_plain(after) {
+                single = false;
+            }
         }
         count += 1;
         rest = after;

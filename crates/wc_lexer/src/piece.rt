@@ -1,4 +1,4 @@
-ghost use Rattle.std.specs.Prelude.{◌≡◌, ◌+◌, ◌≤◌, length, true};
+ghost use Rattle.std.specs.Prelude.{◌≡◌, ◌+◌, ◌≤◌, ◌==◌, length, true};
 ghost use Rattle.wc_lexer.specs.Sights.{IsWithin, said_sight};
 ghost use Rattle.wc_token_laws.specs.Sights.{sight, sight_by_reach, sight_in_comment};
 ghost use Rattle.wc_token_laws.specs.Reaches.{reach};
@@ -6,11 +6,10 @@ ghost use Rattle.wc_model.specs.Text.Blanks.{from_bracket};
 ghost use Rattle.wc_model.specs.Text.Characters.{begins, starts_identifier};
 
 use crate::Shape;
-use crate::characters::begins_identifier;
-use crate::fronts::begins_with;
+use crate::fronts::{begins_with, behind_first};
 use crate::identifiers::identifier_front;
 use crate::lengths::lexeme_length;
-use crate::shapes::{identifier_shape, shape};
+use crate::shapes::{is_name, shape};
 use crate::spaces::{from_bracket, opens_comment, starts_space};
 
 /// What stands at a place of a text.
@@ -54,6 +53,16 @@ fn any_lexeme(text: &[u8]) -> Piece
     }
 }
 
+/// The same, with room of its own for the answer, which is then not made ready where it is not called.
+#[inline(always)]
+fn other_lexeme(text: &[u8]) -> Piece
+    ensures stands { said_sight result ≡ sight_by_reach (reach text.now) text.now }
+    ensures within { IsWithin (length text.now) result }
+{
+    let found = any_lexeme(text);
+    found
+}
+
 /// The identifier or the typed literal that stands here.
 #[inline(always)]
 fn word(text: &[u8]) -> Piece
@@ -64,29 +73,17 @@ fn word(text: &[u8]) -> Piece
     let (count, has_single) = identifier_front(text);
     let (_, rest) = text.split_at(count);
     if begins_with(rest, b'#') {
-        return any_lexeme(text);
+        return other_lexeme(text);
     }
-    match identifier_shape(count, has_single) {
-        Ok(shape) => Piece::Lexeme(count, shape),
-        Err(number) => Piece::Fault(number),
+    if !is_name(count, has_single) {
+        return other_lexeme(text);
     }
+    Piece::Lexeme(count, Shape::Identifier)
 }
 
-/// The longest lexeme that stands here.
-#[inline(always)]
-fn lexeme(text: &[u8]) -> Piece
-    ensures stands { said_sight result ≡ sight_by_reach (reach text.now) text.now }
-    ensures within { IsWithin (length text.now) result }
-{
-    if begins_identifier(text) {
-        word(text)
-    } else {
-        any_lexeme(text)
-    }
-}
-
-/// What stands here.
-pub(crate) fn first_piece(text: &[u8]) -> Piece
+/// What stands here, whatever it is.
+#[inline(never)]
+fn any_piece(text: &[u8]) -> Piece
     requires { 1 ≤ length text.now }
     ensures stands { said_sight result ≡ sight text.now }
     ensures within { IsWithin (length text.now) result }
@@ -96,6 +93,52 @@ pub(crate) fn first_piece(text: &[u8]) -> Piece
     } else if starts_space(text) {
         Piece::Space
     } else {
-        lexeme(text)
+        any_lexeme(text)
+    }
+}
+
+/// The same, with room of its own for the answer, which is then not made ready where it is not called.
+#[inline(always)]
+fn other_piece(text: &[u8]) -> Piece
+    requires { 1 ≤ length text.now }
+    ensures stands { said_sight result ≡ sight text.now }
+    ensures within { IsWithin (length text.now) result }
+{
+    let found = any_piece(text);
+    found
+}
+
+/// A `:=` or a `:`.
+#[inline(always)]
+fn colon(text: &[u8]) -> Piece
+    requires { begins (λ byte. byte == 58) text.now ≡ true }
+    ensures stands { said_sight result ≡ sight text.now }
+    ensures within { IsWithin (length text.now) result }
+{
+    let after = behind_first(text);
+    if begins_with(after, b'=') {
+        Piece::Lexeme(2, Shape::Assign)
+    } else {
+        Piece::Lexeme(1, Shape::Colon)
+    }
+}
+
+/// What stands here. The first byte decides most of it at once.
+#[inline(always)]
+pub(crate) fn first_piece(text: &[u8]) -> Piece
+    requires { 1 ≤ length text.now }
+    ensures stands { said_sight result ≡ sight text.now }
+    ensures within { IsWithin (length text.now) result }
+{
+    match text {
+        [b' ' | b'\t', ..] => Piece::Space,
+        [b'\n', ..] => Piece::Lexeme(1, Shape::LineEnd),
+        [b':', ..] => colon(text),
+        [b')', ..] => Piece::Lexeme(1, Shape::Closing),
+        [b',', ..] => Piece::Lexeme(1, Shape::Comma),
+        [b'.', ..] => Piece::Lexeme(1, Shape::Point),
+        [b';', ..] => Piece::Lexeme(1, Shape::Semicolon),
+        [b'_' | b'A'..=b'Z' | b'a'..=b'z', ..] => word(text),
+        _ => other_piece(text),
     }
 }

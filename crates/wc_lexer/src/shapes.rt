@@ -1,6 +1,6 @@
 ghost use Rattle.std.specs.Prelude.{◌≡◌, if◌then◌else◌, ok_or};
 ghost use Rattle.std.specs.List.{list_any};
-ghost use Rattle.wc_lexer.specs.Views.{identifier_judged, judgement_view};
+ghost use Rattle.wc_lexer.specs.Views.{is_name_so, judgement_view};
 ghost use Rattle.wc_model.specs.Text.Characters.{is_hash};
 ghost use Rattle.wc_model.specs.Language.Names.{name_of};
 ghost use Rattle.wc_model.specs.Text.Shapes.{duration_shape, identifier_shape, literal_shape, number_shape, shape_of, truth_shape, typed_shape, mark_of};
@@ -16,12 +16,19 @@ use wc_model::is_word;
 /// The greatest length of a name, in characters.
 const LONGEST_NAME: usize = 32;
 
-/// An identifier is no longer than a name, and has single underscores.
+/// An identifier of that length, with single underscores or not, is a name.
 #[inline(always)]
-pub(crate) fn identifier_shape(length: usize, has_single: bool) -> Result<Shape, u16>
-    ensures { judgement_view result ≡ identifier_judged length has_single }
+pub(crate) fn is_name(length: usize, has_single: bool) -> bool
+    ensures { result ≡ is_name_so length has_single }
 {
-    if length <= LONGEST_NAME && has_single {
+    length <= LONGEST_NAME && has_single
+}
+
+/// An identifier is no longer than a name, and has single underscores.
+fn identifier_shape(lexeme: &[u8]) -> Result<Shape, u16>
+    ensures { judgement_view result ≡ identifier_shape lexeme.now }
+{
+    if is_name(lexeme.len(), has_single_underscores(lexeme)) {
         Ok(Shape::Identifier)
     } else {
         Err(104)
@@ -81,7 +88,7 @@ fn word_shape(lexeme: &[u8]) -> Result<Shape, u16>
 {
     match cut_at(lexeme, b'#') {
         Some((name, value)) => typed_shape(name, value),
-        None => identifier_shape(lexeme.len(), has_single_underscores(lexeme)),
+        None => identifier_shape(lexeme),
     }
 }
 

@@ -1,0 +1,15 @@
+use Rattle.std.proofs.Common.{sym, ◌∙◌}
+use Rattle.wc_lexer.proofs.Colons.{assign_sight, colon_sight}
+use Rattle.wc_lexer.proofs.piece.colon.Goals as goal
+
+pub returns-then-begins_with-clause-stands : goal.returns-then-begins_with-clause-stands
+returns-then-begins_with-clause-stands c =
+    (assign_sight c.args.text.now c.behind_first-after.result.now c.requires c.behind_first-after.ensures (sym c.begins_with.ensures ∙ c.if-begins_with.true)).0
+
+pub returns-then-begins_with-clause-within : goal.returns-then-begins_with-clause-within
+returns-then-begins_with-clause-within c =
+    (assign_sight c.args.text.now c.behind_first-after.result.now c.requires c.behind_first-after.ensures (sym c.begins_with.ensures ∙ c.if-begins_with.true)).1
+
+pub returns-else-begins_with-clause-stands : goal.returns-else-begins_with-clause-stands
+returns-else-begins_with-clause-stands c =
+    colon_sight c.args.text.now c.behind_first-after.result.now c.requires c.behind_first-after.ensures (sym c.begins_with.ensures ∙ c.if-begins_with.false)
