@@ -290,7 +290,9 @@ impl<'r, R: ByteIn> Rows<'r, R> {
             Some(end) => answer_at(end),
             None => {
                 let answer = self.told_row();
-                self.end = end_behind(&answer);
+                if let Some(end) = end_behind(&answer) {
+                    self.end = Some(end);
+                }
                 answer
             }
         }
