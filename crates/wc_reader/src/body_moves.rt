@@ -5,19 +5,67 @@ ghost use Rattle.wc_model.specs.Language.Names.{name_of};
 ghost use Rattle.wc_model.specs.Text.Positions as positions;
 ghost use Rattle.wc_model.specs.Language.Tree.{ProgramUnit};
 ghost use Rattle.wc_model.specs.Language.Views.{lines_view, unit_view};
-ghost use Rattle.wc_reader.specs.LineViews.{line_state_view};
+ghost use Rattle.wc_reader.specs.LineViews.{begun_view, in_line_view, line_state_view};
 ghost use Rattle.wc_reader.specs.TextViews.{IsCounted, IsStateCounted, position_view, state_view};
 ghost use Rattle.wc_reader.specs.Words.{symbol_view};
 
-use crate::body::{Body, behind_closing, behind_line};
+use crate::body::{Body, behind_closing, behind_form, behind_label};
 use crate::declarations::{DeclarationState, Declaring};
-use crate::line_state::LineState;
+use crate::line_state::{Begun, InLine, LineForm, LineState};
 use crate::lines::{at_start, at_start_inside, line_move};
 use crate::text_state::TextState;
 use crate::words::{ends_unit, section, word};
 use std::alloc::{AllocError, Global};
 use wc_lexer::{Shape, Token};
 use wc_model::{Line, Section, Unit};
+
+/// On a line that an instruction may be the whole of, or behind its end.
+#[inline(always)]
+fn form_state<'a>(
+    alloc: Global,
+    body: Body<'a>,
+    begun: Begun<'a>,
+    form: LineForm<'a>,
+    ended: bool,
+) -> Result<TextState<'a>, AllocError>
+    requires { IsCounted body }
+    ensures behind { IfOk result
+        (λ next. (units : List ProgramUnit)
+        → state_view units next
+        ≡ moves.on_line (position_view units body.entry)
+        (in_line_view (begun_view begun.entry) (InLine.Formed form.entry ended))) }
+    ensures counted { IfOk result (λ next. IsStateCounted next) }
+{
+    if ended {
+        let body = behind_form(alloc, body, begun, form)?;
+        Ok(TextState::AtLine(body))
+    } else {
+        let state = InLine::Formed(form, false);
+        Ok(TextState::OnLine(body, LineState::Instructing(begun, state)))
+    }
+}
+
+/// On the line of an instruction, or behind its end.
+#[inline(always)]
+fn in_line_state<'a>(
+    alloc: Global,
+    body: Body<'a>,
+    begun: Begun<'a>,
+    state: InLine<'a>,
+) -> Result<TextState<'a>, AllocError>
+    requires { IsCounted body }
+    ensures behind { IfOk result
+        (λ next. (units : List ProgramUnit)
+        → state_view units next
+        ≡ moves.on_line (position_view units body.entry)
+        (in_line_view (begun_view begun.entry) state.entry)) }
+    ensures counted { IfOk result (λ next. IsStateCounted next) }
+{
+    match state {
+        InLine::Formed(form, ended) => form_state(alloc, body, begun, form, ended),
+        state => Ok(TextState::OnLine(body, LineState::Instructing(begun, state))),
+    }
+}
 
 /// On a line, or behind its end.
 #[inline(always)]
@@ -34,10 +82,11 @@ fn line_state<'a>(
     ensures counted { IfOk result (λ next. IsStateCounted next) }
 {
     match line {
-        LineState::Ended(form) => {
-            let body = behind_line(alloc, body, form)?;
+        LineState::LabelAlone(label) => {
+            let body = behind_label(body, label)?;
             Ok(TextState::AtLine(body))
         }
+        LineState::Instructing(begun, state) => in_line_state(alloc, body, begun, state),
         line => Ok(TextState::OnLine(body, line)),
     }
 }
