@@ -1,4 +1,4 @@
-ghost use Rattle.std.specs.Prelude.{◌≡◌, ◌==◌, ◌∷◌, [], ℕ, length, Bool, IfOk, IfSome, List, OnOk, map, option_map};
+ghost use Rattle.std.specs.Prelude.{◌≡◌, ◌==◌, ◌∷◌, [], ℕ, length, Bool, IfOk, IfSome, List, OnOk, Some, map, option_map};
 ghost use Rattle.wc_grammar_laws.specs.Moves as moves;
 ghost use Rattle.wc_model.specs.Text.Marks as marks;
 ghost use Rattle.wc_model.specs.Language.Names.{name_of};
@@ -27,21 +27,22 @@ fn form_state<'a>(
     begun: Begun<'a>,
     form: LineForm<'a>,
     ended: bool,
-) -> Result<TextState<'a>, AllocError>
+) -> Result<Option<TextState<'a>>, AllocError>
     requires { IsCounted body }
     ensures behind { IfOk result
         (λ next. (units : List ProgramUnit)
-        → state_view units next
-        ≡ moves.on_line (position_view units body.entry)
-        (in_line_view (begun_view begun.entry) (InLine.Formed form.entry ended))) }
-    ensures counted { IfOk result (λ next. IsStateCounted next) }
+        → option_map (state_view units) next
+        ≡ Some
+        (moves.on_line (position_view units body.entry)
+        (in_line_view (begun_view begun.entry) (InLine.Formed form.entry ended)))) }
+    ensures counted { IfOk result (λ next. IfSome next (λ it. IsStateCounted it)) }
 {
     if ended {
         let body = behind_form(alloc, body, begun, form)?;
-        Ok(TextState::AtLine(body))
+        Ok(Some(TextState::AtLine(body)))
     } else {
         let state = InLine::Formed(form, false);
-        Ok(TextState::OnLine(body, LineState::Instructing(begun, state)))
+        Ok(Some(TextState::OnLine(body, LineState::Instructing(begun, state))))
     }
 }
 
@@ -52,18 +53,19 @@ fn in_line_state<'a>(
     body: Body<'a>,
     begun: Begun<'a>,
     state: InLine<'a>,
-) -> Result<TextState<'a>, AllocError>
+) -> Result<Option<TextState<'a>>, AllocError>
     requires { IsCounted body }
     ensures behind { IfOk result
         (λ next. (units : List ProgramUnit)
-        → state_view units next
-        ≡ moves.on_line (position_view units body.entry)
-        (in_line_view (begun_view begun.entry) state.entry)) }
-    ensures counted { IfOk result (λ next. IsStateCounted next) }
+        → option_map (state_view units) next
+        ≡ Some
+        (moves.on_line (position_view units body.entry)
+        (in_line_view (begun_view begun.entry) state.entry))) }
+    ensures counted { IfOk result (λ next. IfSome next (λ it. IsStateCounted it)) }
 {
     match state {
         InLine::Formed(form, ended) => form_state(alloc, body, begun, form, ended),
-        state => Ok(TextState::OnLine(body, LineState::Instructing(begun, state))),
+        state => Ok(Some(TextState::OnLine(body, LineState::Instructing(begun, state)))),
     }
 }
 
@@ -73,21 +75,21 @@ fn line_state<'a>(
     alloc: Global,
     body: Body<'a>,
     line: LineState<'a>,
-) -> Result<TextState<'a>, AllocError>
+) -> Result<Option<TextState<'a>>, AllocError>
     requires { IsCounted body }
     ensures behind { IfOk result
         (λ next. (units : List ProgramUnit)
-        → state_view units next
-        ≡ moves.on_line (position_view units body.entry) (line_state_view line.entry)) }
-    ensures counted { IfOk result (λ next. IsStateCounted next) }
+        → option_map (state_view units) next
+        ≡ Some (moves.on_line (position_view units body.entry) (line_state_view line.entry))) }
+    ensures counted { IfOk result (λ next. IfSome next (λ it. IsStateCounted it)) }
 {
     match line {
         LineState::LabelAlone(label) => {
             let body = behind_label(body, label)?;
-            Ok(TextState::AtLine(body))
+            Ok(Some(TextState::AtLine(body)))
         }
         LineState::Instructing(begun, state) => in_line_state(alloc, body, begun, state),
-        line => Ok(TextState::OnLine(body, line)),
+        line => Ok(Some(TextState::OnLine(body, line))),
     }
 }
 
@@ -107,10 +109,7 @@ fn on_line<'a>(
     ensures counted { IfOk result (λ next. IfSome next (λ it. IsStateCounted it)) }
 {
     match line {
-        Some(line) => {
-            let state = line_state(alloc, body, line)?;
-            Ok(Some(state))
-        }
+        Some(line) => line_state(alloc, body, line),
         None => Ok(None),
     }
 }
@@ -368,6 +367,8 @@ pub(crate) fn along_line<'a>(
         (symbol_view token.entry) token.entry.line colon) }
     ensures counted { IfOk result (λ next. IfSome next (λ it. IsStateCounted it)) }
 {
-    let line = line_move(alloc, line, token)?;
-    on_line(alloc, body, line)
+    match line_move(alloc, line, token) {
+        Ok(line) => on_line(alloc, body, line),
+        Err(error) => Err(error),
+    }
 }

@@ -130,9 +130,8 @@ fn open_at_end<'a>(state: &TextState<'a>) -> Option<Fault>
         TextState::Outside => None,
         TextState::Unnamed(_, line) => unit_open(*line),
         TextState::Declaring(unit, ..) => unit_open(unit.line),
-        TextState::AtLine(body) => Some(open_in(body)),
+        TextState::AtLine(body) | TextState::Closed(body) => Some(open_in(body)),
         TextState::OnLine(body, line) => Some(open_on(body, line)),
-        TextState::Closed(body) => Some(open_in(body)),
     }
 }
 

@@ -331,8 +331,10 @@ pub(crate) fn line_move<'a>(
         LineState::Labelled(label) => Ok(at_labelled(label, token)),
         LineState::LabelAlone(_) => Ok(None),
         LineState::Instructing(begun, state) => {
-            let next = in_line_move(alloc, state, token)?;
-            Ok(instructing(begun, next))
+            match in_line_move(alloc, state, token) {
+                Ok(next) => Ok(instructing(begun, next)),
+                Err(error) => Err(error),
+            }
         }
     }
 }

@@ -35,25 +35,27 @@ fn with_argument<'a>(
 }
 
 /// Behind a whole operand.
-fn behind_operand<'a>(owner: OperandOf<'a>, operand: Operand<'a>) -> Result<InLine<'a>, AllocError>
+fn behind_operand<'a>(
+    owner: OperandOf<'a>,
+    operand: Operand<'a>,
+) -> Result<Option<InLine<'a>>, AllocError>
     ensures { IfOk result
         (λ next. (begun : lines.Begun)
-        → in_line_view begun next
-        ≡ lines.behind_operand begun (owner_view owner.entry)
-        (term_view operand.entry)) }
+        → option_map (in_line_view begun) next
+        ≡ Some (lines.behind_operand begun (owner_view owner.entry) (term_view operand.entry))) }
 {
     match owner {
-        OperandOf::OfStep(operating) => Ok(InLine::Formed(
-            LineForm::Instructs(Step::Operate(operating, operand)),
-            false,
-        )),
-        OperandOf::OfOpening(operator) => Ok(InLine::Formed(
-            LineForm::Opens(operator, Some(operand)),
-            false,
-        )),
+        OperandOf::OfStep(operating) => {
+            let step = Step::Operate(operating, operand);
+            Ok(Some(InLine::Formed(LineForm::Instructs(step), false)))
+        }
+        OperandOf::OfOpening(operator) => {
+            let form = LineForm::Opens(operator, Some(operand));
+            Ok(Some(InLine::Formed(form, false)))
+        }
         OperandOf::OfArgument(call, input) => {
             let call = with_argument(call, input, operand)?;
-            Ok(InLine::Listing(call, InList::AtEnd))
+            Ok(Some(InLine::Listing(call, InList::AtEnd)))
         }
     }
 }
@@ -63,12 +65,9 @@ fn behind_literal<'a>(owner: OperandOf<'a>, value: Value) -> Result<Option<InLin
     ensures { IfOk result
         (λ next. (begun : lines.Begun)
         → option_map (in_line_view begun) next
-        ≡ Some
-        (lines.behind_operand begun (owner_view owner.entry)
-        (tree.Constant value))) }
+        ≡ Some (lines.behind_operand begun (owner_view owner.entry) (tree.Constant value))) }
 {
-    let next = behind_operand(owner, Operand::Literal(value))?;
-    Ok(Some(next))
+    behind_operand(owner, Operand::Literal(value))
 }
 
 /// Behind the first token of an operand; none where none begins so.
@@ -90,10 +89,7 @@ pub(crate) fn at_operand<'a>(
         Shape::Whole(number) => behind_literal(owner, Value::Dint(number)),
         Shape::Duration(milliseconds) => behind_literal(owner, Value::Time(milliseconds)),
         Shape::Truth(value) => behind_literal(owner, Value::Bool(value)),
-        Shape::Address => {
-            let next = behind_operand(owner, Operand::Address(word(token)))?;
-            Ok(Some(next))
-        }
+        Shape::Address => behind_operand(owner, Operand::Address(word(token))),
         _ => Ok(None),
     }
 }
@@ -239,8 +235,7 @@ fn at_field<'a>(
                 instance: instance.text,
                 field: token.text,
             };
-            let next = behind_operand(owner, operand)?;
-            Ok(Some(next))
+            behind_operand(owner, operand)
         }
         Shape::LineEnd => Ok(behind_point(owner, instance)),
         _ => Ok(None),
