@@ -3,6 +3,7 @@ mod CallLists
 mod Counting
 mod FirstTokens
 mod FoundGroups
+mod LaterTokens
 mod LineLists
 mod MetIf
 mod Openings

@@ -1,21 +1,24 @@
 -- What the reader's states on a line stand for.
-use Rattle.std.specs.Prelude.{map, option_map}
+use Rattle.std.specs.Prelude.{Some, None, true, false, map, option_map}
 use Rattle.wc_grammar_laws.specs.LineMoves as lines
+use Rattle.wc_grammar_laws.specs.Words.{step_of}
 use Rattle.wc_model.specs.Language.Tree as tree
 use Rattle.wc_model.specs.Language.Views.{assignment_view, name_view, term_view, word_view}
 use Rattle.wc_reader.specs.Words.{operating_view}
 use Rattle.wc_reader.specs.declared.line_state.Begun.{Begun}
 use Rattle.wc_reader.specs.declared.line_state.InList.{InList}
 use Rattle.wc_reader.specs.declared.line_state.InList.TheVariants.{AtFirst, AtNext, AtAssign, AtValue, AtEnd}
+use Rattle.wc_reader.specs.declared.line_state.InLine.{InLine}
+use Rattle.wc_reader.specs.declared.line_state.InLine.TheVariants.{Operated, Jumped, Called, Instanced, Listing, Named, Formed}
 use Rattle.wc_reader.specs.declared.line_state.LineForm.{LineForm}
-use Rattle.wc_reader.specs.declared.line_state.LineForm.TheVariants.{LabelAlone, Instructs, Opens}
+use Rattle.wc_reader.specs.declared.line_state.LineForm.TheVariants.{Instructs, Opens}
 use Rattle.wc_reader.specs.declared.line_state.LineState.{LineState}
-use Rattle.wc_reader.specs.declared.line_state.LineState.TheVariants.{Worded, Labelled, Operated, Jumped, Called, Instanced, Listing, Bracketed, Named, Pointed, Stepped, BracketedWith, Ended}
+use Rattle.wc_reader.specs.declared.line_state.LineState.TheVariants.{Worded, Labelled, LabelAlone, Instructing}
 use Rattle.wc_reader.specs.declared.line_state.Listed.{Listed}
 use Rattle.wc_reader.specs.declared.line_state.OperandOf.{OperandOf}
 use Rattle.wc_reader.specs.declared.line_state.OperandOf.TheVariants.{OfStep, OfOpening, OfArgument}
 use Rattle.wc_reader.specs.declared.line_state.Step.{Step}
-use Rattle.wc_reader.specs.declared.line_state.Step.TheVariants.{Load, Store, Apply, Negate, Jump, Call, Return}
+use Rattle.wc_reader.specs.declared.line_state.Step.TheVariants.{Operate, Negate, Jump, Call, Return}
 
 -- an instruction that has begun
 abbrev pub begun_view : Begun → lines.Begun
@@ -27,9 +30,7 @@ listed_view call = record { condition = call.condition; instance = name_view cal
 
 -- an instruction
 abbrev pub step_view : Step → tree.Step
-step_view (Load negated operand) = tree.Load negated (term_view operand)
-step_view (Store storing target) = tree.Store storing (term_view target)
-step_view (Apply operator operand) = tree.Apply operator (term_view operand)
+step_view (Operate operating operand) = step_of (operating_view operating) (term_view operand)
 step_view Negate = tree.Negate
 step_view (Jump condition label) = tree.Jump condition (name_view label)
 step_view (Call call) = tree.Call call.condition (name_view call.instance) (map assignment_view call.arguments.items)
@@ -49,24 +50,32 @@ item_view (AtAssign input) = lines.AtAssign (name_view input)
 item_view (AtValue input) = lines.AtValue (name_view input)
 item_view AtEnd = lines.AtEnd
 
--- what a whole line is
-abbrev pub form_view : LineForm → lines.LineForm
-form_view (LabelAlone label) = lines.LabelAlone (word_view label)
-form_view (Instructs begun step) = lines.Instructs (option_map word_view begun.label) begun.line (step_view step)
-form_view (Opens begun operator operand) = lines.Opens (option_map word_view begun.label) begun.line operator (option_map term_view operand)
+-- what a whole line with an instruction is
+abbrev pub form_view : lines.Begun → LineForm → lines.LineForm
+form_view begun (Instructs step) = lines.Instructs begun.label begun.line (step_view step)
+form_view begun (Opens operator operand) = lines.Opens begun.label begun.line operator (option_map term_view operand)
+
+-- what may be a whole line, before its end
+abbrev pub whole_view : lines.Begun → LineForm → lines.LineState
+whole_view begun (Instructs step) = lines.Stepped begun (step_view step)
+whole_view begun (Opens operator None) = lines.Bracketed begun operator
+whole_view begun (Opens operator (Some operand)) = lines.BracketedWith begun operator (term_view operand)
+
+-- how far an instruction has been read that has begun
+abbrev pub in_line_view : lines.Begun → InLine → lines.LineState
+in_line_view begun (Operated operating) = lines.Operated begun (operating_view operating)
+in_line_view begun (Jumped condition) = lines.Jumped begun condition
+in_line_view begun (Called condition) = lines.Called begun condition
+in_line_view begun (Instanced condition instance) = lines.Instanced begun condition (name_view instance)
+in_line_view begun (Listing call item) = lines.Listing begun (listed_view call) (item_view item)
+in_line_view begun (Named owner name false) = lines.Named begun (owner_view owner) (name_view name)
+in_line_view begun (Named owner name true) = lines.Pointed begun (owner_view owner) (name_view name)
+in_line_view begun (Formed form false) = whole_view begun form
+in_line_view begun (Formed form true) = lines.Ended (form_view begun form)
 
 -- how far a line has been read
 abbrev pub line_state_view : LineState → lines.LineState
 line_state_view (Worded label) = lines.Worded (word_view label)
 line_state_view (Labelled label) = lines.Labelled (word_view label)
-line_state_view (Operated begun operating) = lines.Operated (begun_view begun) (operating_view operating)
-line_state_view (Jumped begun condition) = lines.Jumped (begun_view begun) condition
-line_state_view (Called begun condition) = lines.Called (begun_view begun) condition
-line_state_view (Instanced begun condition instance) = lines.Instanced (begun_view begun) condition (name_view instance)
-line_state_view (Listing begun call item) = lines.Listing (begun_view begun) (listed_view call) (item_view item)
-line_state_view (Bracketed begun operator) = lines.Bracketed (begun_view begun) operator
-line_state_view (Named begun owner name) = lines.Named (begun_view begun) (owner_view owner) (name_view name)
-line_state_view (Pointed begun owner name) = lines.Pointed (begun_view begun) (owner_view owner) (name_view name)
-line_state_view (Stepped begun step) = lines.Stepped (begun_view begun) (step_view step)
-line_state_view (BracketedWith begun operator operand) = lines.BracketedWith (begun_view begun) operator (term_view operand)
-line_state_view (Ended form) = lines.Ended (form_view form)
+line_state_view (LabelAlone label) = lines.Ended (lines.LabelAlone (word_view label))
+line_state_view (Instructing begun at) = in_line_view (begun_view begun) at

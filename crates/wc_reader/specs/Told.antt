@@ -29,3 +29,7 @@ TellsReading outcome (Err fault) = TellsFault outcome fault
 abbrev pub IsUnexpected : Option State → (line : ℕ) → Fault → Type 0
 IsUnexpected next line Memory = Unit {0}
 IsUnexpected next line (Refused number place) = (next ≡ None) × (number ≡ 201) × (place ≡ line)
+
+-- the fault says that a token of that line is unexpected
+abbrev pub IsUnexpectedAt : (line : ℕ) → Fault → Type 0
+IsUnexpectedAt line fault = fault ≡ Refused 201 line

@@ -1,15 +1,18 @@
 ghost use Rattle.std.specs.Prelude.{◌≡◌, ◌==◌, ◌+◌, ◌∷◌, [], length, min, IfOk, OnOk, MatchOption, IfSome, List, Some, map, option_map};
 ghost use Rattle.wc_grammar_laws.specs.LineMoves as lines;
 ghost use Rattle.wc_grammar_laws.specs.Moves as moves;
+ghost use Rattle.wc_grammar_laws.specs.Words.{step_of};
 ghost use Rattle.wc_model.specs.Text.Limits.{most_lines};
 ghost use Rattle.wc_model.specs.Text.Positions as positions;
 ghost use Rattle.wc_model.specs.Language.Tree as tree;
 ghost use Rattle.wc_model.specs.Language.Tree.{Lines, ProgramUnit};
 ghost use Rattle.wc_model.specs.Language.Views.{assignment_view, line_view, lines_view, name_view, term_view, unit_view, word_view};
-ghost use Rattle.wc_reader.specs.LineViews.{form_view, step_view};
+ghost use Rattle.wc_reader.specs.LineViews.{begun_view, form_view, step_view};
 ghost use Rattle.wc_reader.specs.TextViews.{IsCounted, position_view, opening_view, openings_view};
+ghost use Rattle.wc_reader.specs.Words.{operating_view};
 
 use crate::line_state::{Begun, LineForm, Listed, Step};
+use crate::operators::Operating;
 use std::alloc::{AllocError, Global};
 use wc_model::{Instr, Line, Operand, Operator, Unit, Word};
 
@@ -98,6 +101,38 @@ fn call_line<'a>(label: Option<Word<'a>>, call: Listed<'a>, line: u32) -> Line<'
     )
 }
 
+/// The line of an operator with its operand.
+fn operated_line<'a>(
+    label: Option<Word<'a>>,
+    line: u32,
+    operating: Operating,
+    operand: Operand<'a>,
+) -> Line<'a>
+    ensures { (rest : Lines)
+        → line_view result rest
+        ≡ tree.Plain (option_map word_view label.entry) line
+        (step_of (operating_view operating) (term_view operand.entry)) rest }
+{
+    let instr = match operating {
+        Operating::Loads(negated) => Instr::Load {
+            negated,
+            operand,
+            line,
+        },
+        Operating::Stores(storing) => Instr::Store {
+            storing,
+            target: operand,
+            line,
+        },
+        Operating::Applies(operator) => Instr::Apply {
+            operator,
+            operand,
+            line,
+        },
+    };
+    line_with(label, instr)
+}
+
 /// The line of an instruction.
 #[inline(always)]
 fn step_line<'a>(begun: Begun<'a>, step: Step<'a>) -> Line<'a>
@@ -108,30 +143,7 @@ fn step_line<'a>(begun: Begun<'a>, step: Step<'a>) -> Line<'a>
 {
     let Begun { label, line } = begun;
     match step {
-        Step::Load(negated, operand) => line_with(
-            label,
-            Instr::Load {
-                negated,
-                operand,
-                line,
-            },
-        ),
-        Step::Store(storing, target) => line_with(
-            label,
-            Instr::Store {
-                storing,
-                target,
-                line,
-            },
-        ),
-        Step::Apply(operator, operand) => line_with(
-            label,
-            Instr::Apply {
-                operator,
-                operand,
-                line,
-            },
-        ),
+        Step::Operate(operating, operand) => operated_line(label, line, operating, operand),
         Step::Negate => line_with(label, Instr::Not { line }),
         Step::Jump(condition, target) => line_with(
             label,
@@ -202,7 +214,7 @@ pub(crate) fn add_label<'a>(body: &mut Body<'a>, label: Word<'a>) -> Result<(), 
 
 /// The body behind a label alone.
 #[inline(always)]
-fn behind_label<'a>(body: Body<'a>, label: Word<'a>) -> Result<Body<'a>, AllocError>
+pub(crate) fn behind_label<'a>(body: Body<'a>, label: Word<'a>) -> Result<Body<'a>, AllocError>
     requires { IsCounted body }
     ensures behind { IfOk result
         (λ next. (units : List ProgramUnit)
@@ -291,26 +303,25 @@ fn behind_opening<'a>(
     })
 }
 
-/// The body behind a line.
+/// The body behind the line of an instruction.
 #[inline(always)]
-pub(crate) fn behind_line<'a>(
+pub(crate) fn behind_form<'a>(
     alloc: Global,
     body: Body<'a>,
+    begun: Begun<'a>,
     form: LineForm<'a>,
 ) -> Result<Body<'a>, AllocError>
     requires { IsCounted body }
     ensures behind { IfOk result
         (λ next. (units : List ProgramUnit)
         → position_view units next
-        ≡ moves.behind_line (position_view units body.entry) (form_view form.entry)) }
+        ≡ moves.behind_line (position_view units body.entry)
+        (form_view (begun_view begun.entry) form.entry)) }
     ensures counted { IfOk result (λ next. IsCounted next) }
 {
     match form {
-        LineForm::LabelAlone(label) => behind_label(body, label),
-        LineForm::Instructs(begun, step) => behind_step(body, begun, step),
-        LineForm::Opens(begun, operator, operand) => behind_opening(
-            alloc, body, begun, operator, operand,
-        ),
+        LineForm::Instructs(step) => behind_step(body, begun, step),
+        LineForm::Opens(operator, operand) => behind_opening(alloc, body, begun, operator, operand),
     }
 }
 

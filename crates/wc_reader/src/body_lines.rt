@@ -18,7 +18,6 @@ use crate::body_moves::section_begun;
 use crate::label_lines::take_empty;
 use crate::line_faults::is_full;
 use crate::line_state::{Begun, Step};
-use crate::operands::step_of;
 use crate::operators::{Operating, Operation, operation_named};
 use crate::words::{ends_unit, truth, word};
 use std::alloc::AllocError;
@@ -51,7 +50,7 @@ fn operated<'a>(operating: Operating, token: Token<'a>) -> Option<Step<'a>>
         (step_view step)) }
 {
     match operand_of(token) {
-        Some(operand) => Some(step_of(operating, operand)),
+        Some(operand) => Some(Step::Operate(operating, operand)),
         None => None,
     }
 }

@@ -1,23 +1,73 @@
-ghost use Rattle.std.specs.Prelude.{◌≡◌, ◌==◌, ◌∷◌, [], ℕ, length, Bool, IfOk, IfSome, List, map, option_map};
+ghost use Rattle.std.specs.Prelude.{◌≡◌, ◌==◌, ◌∷◌, [], ℕ, length, Bool, IfOk, IfSome, List, OnOk, Some, map, option_map};
 ghost use Rattle.wc_grammar_laws.specs.Moves as moves;
 ghost use Rattle.wc_model.specs.Text.Marks as marks;
 ghost use Rattle.wc_model.specs.Language.Names.{name_of};
 ghost use Rattle.wc_model.specs.Text.Positions as positions;
 ghost use Rattle.wc_model.specs.Language.Tree.{ProgramUnit};
 ghost use Rattle.wc_model.specs.Language.Views.{lines_view, unit_view};
-ghost use Rattle.wc_reader.specs.LineViews.{line_state_view};
-ghost use Rattle.wc_reader.specs.TextViews.{IsCounted, IsStateCounted, position_view, state_view, reading_view};
+ghost use Rattle.wc_reader.specs.LineViews.{begun_view, in_line_view, line_state_view};
+ghost use Rattle.wc_reader.specs.TextViews.{IsCounted, IsStateCounted, position_view, state_view};
 ghost use Rattle.wc_reader.specs.Words.{symbol_view};
 
-use crate::body::{Body, behind_closing, behind_line};
+use crate::body::{Body, behind_closing, behind_form, behind_label};
 use crate::declarations::{DeclarationState, Declaring};
-use crate::line_state::LineState;
+use crate::line_state::{Begun, InLine, LineForm, LineState};
 use crate::lines::{at_start, at_start_inside, line_move};
-use crate::text_state::{Reading, TextState};
+use crate::text_state::TextState;
 use crate::words::{ends_unit, section, word};
 use std::alloc::{AllocError, Global};
 use wc_lexer::{Shape, Token};
 use wc_model::{Line, Section, Unit};
+
+/// On a line that an instruction may be the whole of, or behind its end.
+#[inline(always)]
+fn form_state<'a>(
+    alloc: Global,
+    body: Body<'a>,
+    begun: Begun<'a>,
+    form: LineForm<'a>,
+    ended: bool,
+) -> Result<Option<TextState<'a>>, AllocError>
+    requires { IsCounted body }
+    ensures behind { IfOk result
+        (λ next. (units : List ProgramUnit)
+        → option_map (state_view units) next
+        ≡ Some
+        (moves.on_line (position_view units body.entry)
+        (in_line_view (begun_view begun.entry) (InLine.Formed form.entry ended)))) }
+    ensures counted { IfOk result (λ next. IfSome next (λ it. IsStateCounted it)) }
+{
+    if ended {
+        let body = behind_form(alloc, body, begun, form)?;
+        Ok(Some(TextState::AtLine(body)))
+    } else {
+        let state = InLine::Formed(form, false);
+        Ok(Some(TextState::OnLine(body, LineState::Instructing(begun, state))))
+    }
+}
+
+/// On the line of an instruction, or behind its end.
+#[inline(always)]
+fn in_line_state<'a>(
+    alloc: Global,
+    body: Body<'a>,
+    begun: Begun<'a>,
+    state: InLine<'a>,
+) -> Result<Option<TextState<'a>>, AllocError>
+    requires { IsCounted body }
+    ensures behind { IfOk result
+        (λ next. (units : List ProgramUnit)
+        → option_map (state_view units) next
+        ≡ Some
+        (moves.on_line (position_view units body.entry)
+        (in_line_view (begun_view begun.entry) state.entry))) }
+    ensures counted { IfOk result (λ next. IfSome next (λ it. IsStateCounted it)) }
+{
+    match state {
+        InLine::Formed(form, ended) => form_state(alloc, body, begun, form, ended),
+        state => Ok(Some(TextState::OnLine(body, LineState::Instructing(begun, state)))),
+    }
+}
 
 /// On a line, or behind its end.
 #[inline(always)]
@@ -25,20 +75,21 @@ fn line_state<'a>(
     alloc: Global,
     body: Body<'a>,
     line: LineState<'a>,
-) -> Result<TextState<'a>, AllocError>
+) -> Result<Option<TextState<'a>>, AllocError>
     requires { IsCounted body }
     ensures behind { IfOk result
         (λ next. (units : List ProgramUnit)
-        → state_view units next
-        ≡ moves.on_line (position_view units body.entry) (line_state_view line.entry)) }
-    ensures counted { IfOk result (λ next. IsStateCounted next) }
+        → option_map (state_view units) next
+        ≡ Some (moves.on_line (position_view units body.entry) (line_state_view line.entry))) }
+    ensures counted { IfOk result (λ next. IfSome next (λ it. IsStateCounted it)) }
 {
     match line {
-        LineState::Ended(form) => {
-            let body = behind_line(alloc, body, form)?;
-            Ok(TextState::AtLine(body))
+        LineState::LabelAlone(label) => {
+            let body = behind_label(body, label)?;
+            Ok(Some(TextState::AtLine(body)))
         }
-        line => Ok(TextState::OnLine(body, line)),
+        LineState::Instructing(begun, state) => in_line_state(alloc, body, begun, state),
+        line => Ok(Some(TextState::OnLine(body, line))),
     }
 }
 
@@ -58,10 +109,7 @@ fn on_line<'a>(
     ensures counted { IfOk result (λ next. IfSome next (λ it. IsStateCounted it)) }
 {
     match line {
-        Some(line) => {
-            let state = line_state(alloc, body, line)?;
-            Ok(Some(state))
-        }
+        Some(line) => line_state(alloc, body, line),
         None => Ok(None),
     }
 }
@@ -118,15 +166,12 @@ pub(crate) fn at_closed<'a>(body: Body<'a>, token: Token<'a>) -> Option<TextStat
     }
 }
 
-/// The units with one more, whose body is done.
-fn behind_unit<'a>(units: Vec<Unit<'a>, Global>, body: Body<'a>) -> Result<Reading<'a>, AllocError>
-    ensures behind { IfOk result
-        (λ next.
-        reading_view next
-        ≡ moves.behind_unit (position_view (map unit_view units.entry.items) body.entry)) }
-    ensures counted { IfOk result (λ next. IsStateCounted next.state) }
+/// Adds the unit whose body is done to the whole ones.
+fn end_unit<'a>(units: &mut Vec<Unit<'a>, Global>, body: Body<'a>) -> Result<(), AllocError>
+    ensures { OnOk result
+        (moves.Outside (map unit_view units.new.items)
+        ≡ moves.behind_unit (position_view (map unit_view units.old.items) body.entry)) }
 {
-    let mut units = units;
     let Body { unit, done, .. } = body;
     let Unit {
         kind,
@@ -142,53 +187,32 @@ fn behind_unit<'a>(units: Vec<Unit<'a>, Global>, body: Body<'a>) -> Result<Readi
         declarations,
         body: done,
     })?;
-    Ok(Reading {
-        units,
-        state: TextState::Outside,
-    })
-}
-
-/// The units, where the token is inside the text that they begin.
-#[inline(always)]
-pub(crate) fn with_units<'a>(
-    units: Vec<Unit<'a>, Global>,
-    state: Option<TextState<'a>>,
-) -> Option<Reading<'a>>
-    requires { IfSome state (λ it. IsStateCounted it) }
-    ensures behind { option_map reading_view result
-        ≡ option_map (state_view (map unit_view units.entry.items)) state.entry }
-    ensures counted { IfSome result (λ it. IsStateCounted it.state) }
-{
-    match state {
-        Some(state) => Some(Reading { units, state }),
-        None => None,
-    }
+    Ok(())
 }
 
 /// Behind the first word of a line of a body with no parenthesis open, which no colon follows: it may end the unit.
 #[inline(always)]
 fn at_body_word<'a>(
     alloc: Global,
-    units: Vec<Unit<'a>, Global>,
+    units: &mut Vec<Unit<'a>, Global>,
     body: Body<'a>,
     token: Token<'a>,
-) -> Result<Option<Reading<'a>>, AllocError>
+) -> Result<Option<TextState<'a>>, AllocError>
     requires counted { IsCounted body }
     requires identifier { symbol_view token ≡ marks.Identifier token.text.now }
     ensures behind { IfOk result
         (λ next.
-        option_map reading_view next
+        option_map (state_view (map unit_view units.new.items)) next
         ≡ moves.word_move
-        (position_view (map unit_view units.entry.items) body.entry)
+        (position_view (map unit_view units.old.items) body.entry)
         token.entry.text.now token.entry.line) }
-    ensures counted { IfOk result (λ next. IfSome next (λ it. IsStateCounted it.state)) }
+    ensures counted { IfOk result (λ next. IfSome next (λ it. IsStateCounted it)) }
 {
     if ends_unit(token.text, body.unit.kind) {
-        let reading = behind_unit(units, body)?;
-        Ok(Some(reading))
+        end_unit(units, body)?;
+        Ok(Some(TextState::Outside))
     } else {
-        let state = at_word(alloc, body, token)?;
-        Ok(with_units(units, state))
+        at_word(alloc, body, token)
     }
 }
 
@@ -196,23 +220,22 @@ fn at_body_word<'a>(
 #[inline(always)]
 fn at_body_identifier<'a>(
     alloc: Global,
-    units: Vec<Unit<'a>, Global>,
+    units: &mut Vec<Unit<'a>, Global>,
     body: Body<'a>,
     token: Token<'a>,
     colon: bool,
-) -> Result<Option<Reading<'a>>, AllocError>
+) -> Result<Option<TextState<'a>>, AllocError>
     requires counted { IsCounted body }
     requires identifier { symbol_view token ≡ marks.Identifier token.text.now }
     ensures behind { IfOk result
         (λ next.
-        option_map reading_view next
-        ≡ moves.body_move (position_view (map unit_view units.entry.items) body.entry)
+        option_map (state_view (map unit_view units.new.items)) next
+        ≡ moves.body_move (position_view (map unit_view units.old.items) body.entry)
         (marks.Identifier token.entry.text.now) token.entry.line colon) }
-    ensures counted { IfOk result (λ next. IfSome next (λ it. IsStateCounted it.state)) }
+    ensures counted { IfOk result (λ next. IfSome next (λ it. IsStateCounted it)) }
 {
     if colon {
-        let state = on_line(alloc, body, at_start(token, true))?;
-        Ok(with_units(units, state))
+        on_line(alloc, body, at_start(token, true))
     } else {
         at_body_word(alloc, units, body, token)
     }
@@ -222,25 +245,22 @@ fn at_body_identifier<'a>(
 #[inline(always)]
 fn at_body_line<'a>(
     alloc: Global,
-    units: Vec<Unit<'a>, Global>,
+    units: &mut Vec<Unit<'a>, Global>,
     body: Body<'a>,
     token: Token<'a>,
     colon: bool,
-) -> Result<Option<Reading<'a>>, AllocError>
+) -> Result<Option<TextState<'a>>, AllocError>
     requires { IsCounted body }
     ensures behind { IfOk result
         (λ next.
-        option_map reading_view next
-        ≡ moves.body_move (position_view (map unit_view units.entry.items) body.entry)
+        option_map (state_view (map unit_view units.new.items)) next
+        ≡ moves.body_move (position_view (map unit_view units.old.items) body.entry)
         (symbol_view token.entry) token.entry.line colon) }
-    ensures counted { IfOk result (λ next. IfSome next (λ it. IsStateCounted it.state)) }
+    ensures counted { IfOk result (λ next. IfSome next (λ it. IsStateCounted it)) }
 {
     match token.shape {
         Shape::Identifier => at_body_identifier(alloc, units, body, token, colon),
-        _ => {
-            let state = on_line(alloc, body, at_start(token, colon))?;
-            Ok(with_units(units, state))
-        }
+        _ => on_line(alloc, body, at_start(token, colon)),
     }
 }
 
@@ -288,24 +308,23 @@ fn at_inside_line<'a>(
 #[inline(always)]
 fn at_line_start<'a>(
     alloc: Global,
-    units: Vec<Unit<'a>, Global>,
+    units: &mut Vec<Unit<'a>, Global>,
     body: Body<'a>,
     token: Token<'a>,
     colon: bool,
-) -> Result<Option<Reading<'a>>, AllocError>
+) -> Result<Option<TextState<'a>>, AllocError>
     requires { IsCounted body }
     ensures behind { IfOk result
         (λ next.
-        option_map reading_view next
-        ≡ moves.start_move (position_view (map unit_view units.entry.items) body.entry)
+        option_map (state_view (map unit_view units.new.items)) next
+        ≡ moves.start_move (position_view (map unit_view units.old.items) body.entry)
         (position_view [] body.entry).openings (symbol_view token.entry) token.entry.line colon) }
-    ensures counted { IfOk result (λ next. IfSome next (λ it. IsStateCounted it.state)) }
+    ensures counted { IfOk result (λ next. IfSome next (λ it. IsStateCounted it)) }
 {
     if body.openings.is_empty() {
         at_body_line(alloc, units, body, token, colon)
     } else {
-        let state = at_inside_line(alloc, body, token)?;
-        Ok(with_units(units, state))
+        at_inside_line(alloc, body, token)
     }
 }
 
@@ -313,24 +332,21 @@ fn at_line_start<'a>(
 #[inline(always)]
 pub(crate) fn at_line<'a>(
     alloc: Global,
-    units: Vec<Unit<'a>, Global>,
+    units: &mut Vec<Unit<'a>, Global>,
     body: Body<'a>,
     token: Token<'a>,
     colon: bool,
-) -> Result<Option<Reading<'a>>, AllocError>
+) -> Result<Option<TextState<'a>>, AllocError>
     requires { IsCounted body }
     ensures behind { IfOk result
         (λ next.
-        option_map reading_view next
-        ≡ moves.move (moves.AtLine (position_view (map unit_view units.entry.items) body.entry))
+        option_map (state_view (map unit_view units.new.items)) next
+        ≡ moves.move (moves.AtLine (position_view (map unit_view units.old.items) body.entry))
         (symbol_view token.entry) token.entry.line colon) }
-    ensures counted { IfOk result (λ next. IfSome next (λ it. IsStateCounted it.state)) }
+    ensures counted { IfOk result (λ next. IfSome next (λ it. IsStateCounted it)) }
 {
     match token.shape {
-        Shape::LineEnd => Ok(Some(Reading {
-            units,
-            state: TextState::AtLine(body),
-        })),
+        Shape::LineEnd => Ok(Some(TextState::AtLine(body))),
         _ => at_line_start(alloc, units, body, token, colon),
     }
 }
@@ -351,6 +367,8 @@ pub(crate) fn along_line<'a>(
         (symbol_view token.entry) token.entry.line colon) }
     ensures counted { IfOk result (λ next. IfSome next (λ it. IsStateCounted it)) }
 {
-    let line = line_move(alloc, line, token)?;
-    on_line(alloc, body, line)
+    match line_move(alloc, line, token) {
+        Ok(line) => on_line(alloc, body, line),
+        Err(error) => Err(error),
+    }
 }

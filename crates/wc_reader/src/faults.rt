@@ -10,13 +10,13 @@ ghost use Rattle.wc_model.specs.Language.Tree.{ProgramUnit, Word};
 ghost use Rattle.wc_model.specs.Language.Views.{unit_view};
 ghost use Rattle.wc_model.specs.declared.operator.Operator.{Operator};
 ghost use Rattle.wc_reader.specs.Programs.{is_program};
-ghost use Rattle.wc_reader.specs.LineViews.{begun_view, line_state_view};
+ghost use Rattle.wc_reader.specs.LineViews.{begun_view, in_line_view, line_state_view};
 ghost use Rattle.wc_reader.specs.TextViews.{IsCounted, IsStateCounted, fault_of, position_view, openings_view, reading_view};
 ghost use Rattle.wc_reader.specs.Words.{operating_view, symbol_view};
 
 use crate::body::{Body, Opening};
 use crate::line_faults::{labelled_fault, refused_if, start_fault};
-use crate::line_state::{Begun, LineState};
+use crate::line_state::{Begun, InLine, LineState};
 use crate::operators::Operating;
 use crate::text_state::{Reading, TextState};
 use crate::words::unit_kind;
@@ -143,6 +143,26 @@ fn operated_fault<'a>(
     }
 }
 
+/// What is wrong with a token of an instruction that has begun: a bracket behind its operator.
+fn in_line_fault<'a>(
+    body: &Body<'a>,
+    begun: &Begun<'a>,
+    state: &InLine<'a>,
+    token: Token<'a>,
+) -> Option<Fault>
+    ensures { (units : List ProgramUnit)
+        → result
+        ≡ option_map fault_of
+        (moves.judge_on_line (position_view units body.now)
+        (in_line_view (begun_view begun.now) state.now)
+        (symbol_view token.entry) token.entry.line) }
+{
+    match state {
+        InLine::Operated(operating) => operated_fault(body, begun, *operating, token),
+        _ => None,
+    }
+}
+
 /// What is wrong with a token of a line that has begun: an operator behind a label, or a bracket behind an operator.
 fn state_fault<'a>(body: &Body<'a>, line: &LineState<'a>, token: Token<'a>) -> Option<Fault>
     requires { IsCounted body.now }
@@ -154,7 +174,7 @@ fn state_fault<'a>(body: &Body<'a>, line: &LineState<'a>, token: Token<'a>) -> O
 {
     match line {
         LineState::Labelled(_) => labelled_fault(body, token),
-        LineState::Operated(begun, operating) => operated_fault(body, begun, *operating, token),
+        LineState::Instructing(begun, state) => in_line_fault(body, begun, state, token),
         _ => None,
     }
 }

@@ -1,6 +1,6 @@
 use crate::operators::Operating;
 use std::alloc::Global;
-use wc_model::{Argument, Condition, Operand, Operator, Storing, Word};
+use wc_model::{Argument, Condition, Operand, Operator, Word};
 
 /// An instruction that has begun: its label, and the line of its first token.
 #[derive(Clone, Copy)]
@@ -20,9 +20,8 @@ pub(crate) struct Listed<'a> {
 /// An instruction that opens no parenthesis.
 #[derive(Drop)]
 pub(crate) enum Step<'a> {
-    Load(bool, Operand<'a>),
-    Store(Storing, Operand<'a>),
-    Apply(Operator, Operand<'a>),
+    /// An operator with its operand.
+    Operate(Operating, Operand<'a>),
     Negate,
     Jump(Condition, Word<'a>),
     Call(Listed<'a>),
@@ -55,15 +54,32 @@ pub(crate) enum InList<'a> {
     AtEnd,
 }
 
-/// What a whole line is.
+/// What a whole line with an instruction is.
 #[derive(Drop)]
 pub(crate) enum LineForm<'a> {
-    /// A label alone.
-    LabelAlone(Word<'a>),
     /// An instruction.
-    Instructs(Begun<'a>, Step<'a>),
+    Instructs(Step<'a>),
     /// The opening of a parenthesis, with its operand where it has one.
-    Opens(Begun<'a>, Operator, Option<Operand<'a>>),
+    Opens(Operator, Option<Operand<'a>>),
+}
+
+/// How far an instruction has been read that has begun.
+#[derive(Drop)]
+pub(crate) enum InLine<'a> {
+    /// Behind an operator that takes an operand.
+    Operated(Operating),
+    /// Behind a jump's operator.
+    Jumped(Condition),
+    /// Behind a call's operator.
+    Called(Condition),
+    /// Behind a call's instance.
+    Instanced(Condition, Word<'a>),
+    /// In a call's list.
+    Listing(Listed<'a>, InList<'a>),
+    /// Behind a name where an operand stands, and whether behind the point after it too.
+    Named(OperandOf<'a>, Word<'a>, bool),
+    /// Behind what may be the whole line, and whether behind the line's end too.
+    Formed(LineForm<'a>, bool),
 }
 
 /// How far a line of a body has been read.
@@ -73,26 +89,8 @@ pub(crate) enum LineState<'a> {
     Worded(Word<'a>),
     /// Behind a label's colon.
     Labelled(Word<'a>),
-    /// Behind an operator that takes an operand.
-    Operated(Begun<'a>, Operating),
-    /// Behind a jump's operator.
-    Jumped(Begun<'a>, Condition),
-    /// Behind a call's operator.
-    Called(Begun<'a>, Condition),
-    /// Behind a call's instance.
-    Instanced(Begun<'a>, Condition, Word<'a>),
-    /// In a call's list.
-    Listing(Begun<'a>, Listed<'a>, InList<'a>),
-    /// Behind an operator's bracket.
-    Bracketed(Begun<'a>, Operator),
-    /// Behind a name where an operand stands.
-    Named(Begun<'a>, OperandOf<'a>, Word<'a>),
-    /// Behind the point after that name.
-    Pointed(Begun<'a>, OperandOf<'a>, Word<'a>),
-    /// Behind a whole instruction.
-    Stepped(Begun<'a>, Step<'a>),
-    /// Behind the operand of an opening line.
-    BracketedWith(Begun<'a>, Operator, Operand<'a>),
-    /// Behind the line's end.
-    Ended(LineForm<'a>),
+    /// Behind the line's end, where a label stands alone.
+    LabelAlone(Word<'a>),
+    /// Behind an operator, with what has begun there.
+    Instructing(Begun<'a>, InLine<'a>),
 }

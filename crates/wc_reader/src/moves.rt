@@ -1,16 +1,16 @@
-ghost use Rattle.std.specs.Prelude.{◌≡◌, Bool, IfOk, IfSome, List, option_map};
+ghost use Rattle.std.specs.Prelude.{◌≡◌, Bool, IfOk, IfSome, List, map, option_map};
 ghost use Rattle.wc_grammar_laws.specs.Moves as moves;
 ghost use Rattle.wc_grammar_laws.specs.Words.{found, unit_kinds};
 ghost use Rattle.wc_model.specs.Language.Names.{name_of};
 ghost use Rattle.wc_model.specs.Language.Tree.{ProgramUnit};
 ghost use Rattle.wc_model.specs.Language.Views.{unit_view};
-ghost use Rattle.wc_reader.specs.TextViews.{IsStateCounted, declaring_view, state_view, reading_view, section_view};
+ghost use Rattle.wc_reader.specs.TextViews.{IsStateCounted, declaring_view, state_view, section_view};
 ghost use Rattle.wc_reader.specs.Words.{symbol_view};
 
 use crate::body::body_start;
-use crate::body_moves::{along_line, at_closed, at_line, with_units};
+use crate::body_moves::{along_line, at_closed, at_line};
 use crate::declarations::{DeclarationState, Declaring, declaration_move};
-use crate::text_state::{Reading, TextState};
+use crate::text_state::TextState;
 use crate::words::{section, unit_kind, word};
 use std::alloc::{AllocError, Global};
 use wc_lexer::{Shape, Token};
@@ -108,35 +108,32 @@ fn in_section<'a>(
     }
 }
 
-/// Behind one more token; none where no text goes on so. `colon` says whether a colon follows it.
+/// Behind one more token; none where no text goes on so. `colon` says whether a colon follows it. A unit that the token
+/// ends is added to the whole ones.
 #[inline(always)]
 pub(crate) fn text_move<'a>(
     alloc: Global,
-    reading: Reading<'a>,
+    units: &mut Vec<Unit<'a>, Global>,
+    state: TextState<'a>,
     token: Token<'a>,
     colon: bool,
-) -> Result<Option<Reading<'a>>, AllocError>
-    requires { IsStateCounted reading.state }
+) -> Result<Option<TextState<'a>>, AllocError>
+    requires { IsStateCounted state }
     ensures behind { IfOk result
         (λ next.
-        option_map reading_view next
-        ≡ moves.move (reading_view reading.entry)
+        option_map (state_view (map unit_view units.new.items)) next
+        ≡ moves.move (state_view (map unit_view units.old.items) state.entry)
         (symbol_view token.entry) token.entry.line colon) }
-    ensures counted { IfOk result (λ next. IfSome next (λ it. IsStateCounted it.state)) }
+    ensures counted { IfOk result (λ next. IfSome next (λ it. IsStateCounted it)) }
 {
-    let Reading { units, state } = reading;
     match state {
-        TextState::Outside => Ok(with_units(units, outside(token))),
-        TextState::Unnamed(kind, line) => Ok(with_units(units, at_name(alloc, kind, line, token))),
-        TextState::Declaring(unit, section, state) => {
-            let state = in_section(alloc, unit, section, state, token)?;
-            Ok(with_units(units, state))
-        }
+        TextState::Outside => Ok(outside(token)),
+        TextState::Unnamed(kind, line) => Ok(at_name(alloc, kind, line, token)),
+        TextState::Declaring(unit, section, state) => in_section(
+            alloc, unit, section, state, token,
+        ),
         TextState::AtLine(body) => at_line(alloc, units, body, token, colon),
-        TextState::OnLine(body, line) => {
-            let state = along_line(alloc, body, line, token)?;
-            Ok(with_units(units, state))
-        }
-        TextState::Closed(body) => Ok(with_units(units, at_closed(body, token))),
+        TextState::OnLine(body, line) => along_line(alloc, body, line, token),
+        TextState::Closed(body) => Ok(at_closed(body, token)),
     }
 }

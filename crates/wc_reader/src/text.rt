@@ -1,4 +1,4 @@
-ghost use Rattle.std.specs.Prelude.{◌≡◌, ◌+◌, ◌==◌, ◌≤◌, ◌<◌, ◌∷◌, ℕ, IfErr, IfOk, IfSome, List, OnOk, Some, count_by, drop, false, length, option_map};
+ghost use Rattle.std.specs.Prelude.{◌≡◌, ◌+◌, ◌==◌, ◌≤◌, ◌<◌, ◌∷◌, ℕ, IfErr, IfOk, IfSome, List, None, OnOk, Some, count_by, drop, false, length};
 ghost use Rattle.wc_grammar_laws.specs.Moves as moves;
 ghost use Rattle.wc_grammar_laws.specs.Moves.{at_first, colon_next};
 ghost use Rattle.wc_model.specs.Text.Marks.{Mark};
@@ -10,7 +10,7 @@ ghost use Rattle.wc_lexer.specs.Views.{token_view};
 ghost use Rattle.wc_reader.specs.ReadTexts.{IsRefusedAs};
 ghost use Rattle.wc_reader.specs.Several.{GoesOn, IsUndeclared};
 ghost use Rattle.wc_reader.specs.TextViews.{IsStateCounted, reading_view, state_view};
-ghost use Rattle.wc_reader.specs.Told.{IsUnexpected, TellsReading, TellsFault};
+ghost use Rattle.wc_reader.specs.Told.{IsUnexpected, IsUnexpectedAt, TellsReading, TellsFault};
 ghost use Rattle.wc_reader.specs.Words.{marks_of, symbol_view};
 
 use crate::call_lines::take_line_and_call;
@@ -21,6 +21,7 @@ use crate::moves::text_move;
 use crate::section_lines::take_declaration;
 use crate::text_state::{Reading, TextState};
 use std::alloc::{AllocError, Global};
+use std::mem;
 use wc_lexer::{Shape, Token, tokens};
 use wc_model::{Fault, Section, Source};
 
@@ -35,15 +36,17 @@ fn is_colon_next(tokens: &[Token]) -> bool
     }
 }
 
-/// What stands behind a token of that line, which is unexpected where there is nothing.
+/// Takes what stands behind a token of that line, which is unexpected where there is nothing.
 #[inline(always)]
-fn or_unexpected<'a>(next: Option<Reading<'a>>, line: u32) -> Result<Reading<'a>, Fault>
-    ensures there { IfOk result (λ reading. next.entry ≡ Some reading) }
-    ensures nothing { IfErr result
-        (λ fault. IsUnexpected (option_map reading_view next.entry) line fault) }
+fn go_on<'a>(state: &mut TextState<'a>, next: Option<TextState<'a>>, line: u32) -> Result<(), Fault>
+    ensures there { OnOk result (next.entry ≡ Some state.new) }
+    ensures nothing { IfErr result (λ fault. (next.entry ≡ None) × IsUnexpectedAt line fault) }
 {
     match next {
-        Some(reading) => Ok(reading),
+        Some(next) => {
+            *state = next;
+            Ok(())
+        }
         None => Err(Fault::Refused {
             number: 201,
             place: line,
@@ -51,84 +54,84 @@ fn or_unexpected<'a>(next: Option<Reading<'a>>, line: u32) -> Result<Reading<'a>
     }
 }
 
-/// Behind a token with which nothing else is wrong, or that it is unexpected.
+/// Goes on behind a token with which nothing else is wrong, or says that it is unexpected.
 #[inline(always)]
-fn moved<'a>(
+fn move_on<'a>(
     alloc: Global,
-    reading: Reading<'a>,
+    reading: &mut Reading<'a>,
     token: Token<'a>,
     colon: bool,
-) -> Result<Reading<'a>, Fault>
-    requires { IsStateCounted reading.state }
-    ensures goes_on { IfOk result
-        (λ next.
-        Some (reading_view next)
-        ≡ moves.move (reading_view reading.entry)
+) -> Result<(), Fault>
+    requires { IsStateCounted reading.old.state }
+    ensures goes_on { OnOk result
+        (Some (reading_view reading.new)
+        ≡ moves.move (reading_view reading.old)
         (symbol_view token.entry) token.entry.line colon) }
     ensures stops { IfErr result
         (λ fault.
         IsUnexpected
-        (moves.move (reading_view reading.entry) (symbol_view token.entry) token.entry.line colon)
+        (moves.move (reading_view reading.old) (symbol_view token.entry) token.entry.line colon)
         token.entry.line fault) }
-    ensures counted { IfOk result (λ next. IsStateCounted next.state) }
+    ensures counted { OnOk result (IsStateCounted reading.new.state) }
 {
-    match text_move(alloc, reading, token, colon) {
-        Ok(next) => or_unexpected(next, token.line),
+    let state = mem::replace(&mut reading.state, TextState::Outside);
+    match text_move(alloc, &mut reading.units, state, token, colon) {
+        Ok(next) => go_on(&mut reading.state, next, token.line),
         Err(_) => Err(Fault::Memory),
     }
 }
 
-/// Behind one more token, or what is wrong with it. `colon` says whether a colon follows it.
+/// Goes on behind one more token, or says what is wrong with it. `colon` says whether a colon follows it.
 #[inline(always)]
-fn next_reading<'a>(
+fn read_token<'a>(
     alloc: Global,
-    reading: Reading<'a>,
+    reading: &mut Reading<'a>,
     token: Token<'a>,
     colon: bool,
-) -> Result<Reading<'a>, Fault>
-    requires { IsStateCounted reading.state }
-    ensures goes_on { IfOk result
-        (λ next. (behind : List Mark) (last : ℕ) → colon_next behind false ≡ colon
-        → moves.reading (reading_view reading.entry)
+) -> Result<(), Fault>
+    requires { IsStateCounted reading.old.state }
+    ensures goes_on { OnOk result
+        ((behind : List Mark) (last : ℕ) → colon_next behind false ≡ colon
+        → moves.reading (reading_view reading.old)
         (mark_of_token (token_view token.entry) ∷ behind) last
-        ≡ moves.reading (reading_view next) behind last) }
+        ≡ moves.reading (reading_view reading.new) behind last) }
     ensures stops { IfErr result
         (λ fault. (behind : List Mark) (last : ℕ) → colon_next behind false ≡ colon
         → TellsFault
-        (moves.reading (reading_view reading.entry)
+        (moves.reading (reading_view reading.old)
         (mark_of_token (token_view token.entry) ∷ behind) last) fault) }
-    ensures counted { IfOk result (λ next. IsStateCounted next.state) }
+    ensures counted { OnOk result (IsStateCounted reading.new.state) }
 {
-    match fault_at(&reading, token, colon) {
+    match fault_at(reading, token, colon) {
         Some(fault) => Err(fault),
-        None => moved(alloc, reading, token, colon),
+        None => move_on(alloc, reading, token, colon),
     }
 }
 
-/// Behind the token at that index, or what is wrong with it.
+/// Goes on behind the token at that index, or says what is wrong with it.
 #[inline(always)]
 fn read_at<'a>(
     alloc: Global,
-    reading: Reading<'a>,
+    reading: &mut Reading<'a>,
     tokens: &[Token<'a>],
     index: usize,
-) -> Result<Reading<'a>, Fault>
-    requires counted { IsStateCounted reading.state }
+) -> Result<(), Fault>
+    requires counted { IsStateCounted reading.old.state }
     requires within { index < length tokens.now }
-    ensures goes_on { IfOk result
-        (λ next. (last : ℕ)
-        → moves.reading (reading_view reading.entry) (marks_of (drop index tokens.now)) last
-        ≡ moves.reading (reading_view next) (marks_of (drop (index + 1) tokens.now)) last) }
+    ensures goes_on { OnOk result
+        ((last : ℕ)
+        → moves.reading (reading_view reading.old) (marks_of (drop index tokens.now)) last
+        ≡ moves.reading (reading_view reading.new) (marks_of (drop (index + 1) tokens.now)) last) }
     ensures stops { IfErr result
         (λ fault. (last : ℕ)
         → TellsFault
-        (moves.reading (reading_view reading.entry) (marks_of (drop index tokens.now)) last)
+        (moves.reading (reading_view reading.old) (marks_of (drop index tokens.now)) last)
         fault) }
-    ensures counted { IfOk result (λ next. IsStateCounted next.state) }
+    ensures counted { OnOk result (IsStateCounted reading.new.state) }
 {
     let (_, left) = tokens.split_at(index);
     match left.split_first() {
-        Some((token, behind)) => next_reading(alloc, reading, *token, is_colon_next(behind)),
+        Some((token, behind)) => read_token(alloc, reading, *token, is_colon_next(behind)),
         None => Err(Fault::Memory),
     }
 }
@@ -259,6 +262,30 @@ fn take_lines<'a>(
     Ok(place)
 }
 
+/// The text that goes on from here with these tokens, or the first fault in them.
+fn read_on<'a>(
+    alloc: Global,
+    reading: &mut Reading<'a>,
+    tokens: &[Token<'a>],
+    last_line: u32,
+) -> Result<Source<'a>, Fault>
+    requires { IsStateCounted reading.old.state }
+    ensures { TellsReading
+        (moves.reading (reading_view reading.old) (marks_of tokens.now) last_line) result }
+{
+    let mut place = 0;
+    while place < tokens.len() {
+        if let Err(fault) = read_at(alloc, reading, tokens, place) {
+            return Err(fault);
+        }
+        place = match take_lines(alloc, reading, tokens, place + 1) {
+            Ok(next) => next,
+            Err(_) => return Err(Fault::Memory),
+        };
+    }
+    at_text_end(alloc, reading, last_line)
+}
+
 /// The text that the tokens spell, or the first fault in them.
 fn read_tokens<'a>(alloc: Global, tokens: &[Token<'a>], last_line: u32) -> Result<Source<'a>, Fault>
     ensures { TellsReading (moves.reading at_first (marks_of tokens.now) last_line) result }
@@ -267,18 +294,7 @@ fn read_tokens<'a>(alloc: Global, tokens: &[Token<'a>], last_line: u32) -> Resul
         units: Vec::new(alloc),
         state: TextState::Outside,
     };
-    let mut place = 0;
-    while place < tokens.len() {
-        reading = match read_at(alloc, reading, tokens, place) {
-            Ok(next) => next,
-            Err(fault) => return Err(fault),
-        };
-        place = match take_lines(alloc, &mut reading, tokens, place + 1) {
-            Ok(next) => next,
-            Err(_) => return Err(Fault::Memory),
-        };
-    }
-    at_text_end(reading, last_line)
+    read_on(alloc, &mut reading, tokens, last_line)
 }
 
 /// How many line feeds the text has.

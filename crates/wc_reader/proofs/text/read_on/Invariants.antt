@@ -1,12 +1,12 @@
 use Rattle.std.proofs.Common.{◌≡◌, ◌≤◌, ◌-◌, drop, length}
-use Rattle.wc_grammar_laws.specs.Moves.{at_first, reading}
+use Rattle.wc_grammar_laws.specs.Moves.{reading}
 use Rattle.wc_reader.specs.TextViews.{IsStateCounted, reading_view}
 use Rattle.wc_reader.specs.Words.{marks_of}
-use Rattle.wc_reader.proofs.text.read_tokens.Given as goal
+use Rattle.wc_reader.proofs.text.read_on.Given as goal
 
 abbrev pub invariant-loop-place : goal.invariant-loop-place
 invariant-loop-place l = record {
-  goes_on : reading at_first (marks_of l.tokens) l.last_line ≡ reading (reading_view l.reading) (marks_of (drop l.place l.tokens)) l.last_line;
+  goes_on : reading (reading_view l.fn.reading) (marks_of l.tokens) l.last_line ≡ reading (reading_view l.reading) (marks_of (drop l.place l.tokens)) l.last_line;
   counted : IsStateCounted l.reading.state;
   within : l.place ≤ length l.tokens;
 }

@@ -1,7 +1,4 @@
-use Rattle.wc_reader.proofs.body.behind_line.Goals as goal
-
-pub returns-in-LabelAlone-clause-behind : goal.returns-in-LabelAlone-clause-behind
-returns-in-LabelAlone-clause-behind c = rw c.in-LabelAlone.is c.behind_label.ensures.behind
+use Rattle.wc_reader.proofs.body.behind_form.Goals as goal
 
 pub returns-in-Instructs-clause-behind : goal.returns-in-Instructs-clause-behind
 returns-in-Instructs-clause-behind c = rw c.in-Instructs.is c.behind_step.ensures.behind
