@@ -1,7 +1,8 @@
 -- The front of a text that may be an identifier, byte by byte.
 use Rattle.std.proofs.Common.{◌≡◌, ℕ, ◌+◌, Bool, true, false, cond, not, ◌&&◌, ◌||◌, List, [], ◌∷◌, ◌-◌, ◌≤◌, drop, length, slice_index, subst, take, take_all, refl, sym, ap, ◌∙◌, one-add, arith, true≢false}
 use Rattle.std.proofs.lemmas.Bool.{ne_eqb}
-use Rattle.std.specs.Char.{is_ascii_alphanumeric}
+use Rattle.std.specs.Char.{is_ascii_alphabetic, is_ascii_alphanumeric, is_ascii_digit}
+use Rattle.std.specs.Int.{is_in_range}
 use Rattle.std.specs.List.{prefix_len}
 use Rattle.wc_model.specs.Text.Characters.{begins, is_identifier_character, is_underscore}
 use Rattle.wc_model.specs.Text.Digits.{has_single_underscores}
@@ -69,12 +70,23 @@ pub record Step (rest : List ℕ) (single next : Bool) : Type 0 where
   pub judges : next ≡ (single && not (is_underscore (slice_index rest 0) && not (begins is_ascii_alphanumeric (take (length rest - 1) (drop 1 rest)))))
 
 -- a letter or a digit
-pub plain_step : (rest : List ℕ) (single next : Bool) → begins is_ascii_alphanumeric rest ≡ true → next ≡ single → Step rest single next
-plain_step [] single next h e = absurd (true≢false (sym h))
-plain_step (b ∷ rest) single next h e = record {
-  passes = ap (λ v. v || is_underscore b) h;
-  judges = e ∙ stays_single single _ (ap (λ v. v && not (begins is_ascii_alphanumeric (take (length (b ∷ rest) - 1) rest))) (plain_is_other b h));
+plain_step : (rest : List ℕ) (single next : Bool) → is_ascii_alphanumeric (slice_index rest 0) ≡ true → next ≡ single → Step rest single next
+plain_step rest single next h e = record {
+  passes = ap (λ v. v || is_underscore (slice_index rest 0)) h;
+  judges = e ∙ stays_single single _ (ap (λ v. v && not (begins is_ascii_alphanumeric (take (length rest - 1) (drop 1 rest)))) (plain_is_other (slice_index rest 0) h));
 }
+
+-- a letter
+pub letter_step : (rest : List ℕ) (single next : Bool) → is_ascii_alphabetic (slice_index rest 0) ≡ true → next ≡ single → Step rest single next
+letter_step rest single next h e = plain_step rest single next (with_digits (is_in_range 48 57 (slice_index rest 0)) (is_in_range 65 90 (slice_index rest 0)) (is_in_range 97 122 (slice_index rest 0)) h) e
+  where
+    with_digits : (digit upper lower : Bool) → (upper || lower) ≡ true → ((digit || upper) || lower) ≡ true
+    with_digits true upper lower h = refl
+    with_digits false upper lower h = h
+
+-- a digit
+pub digit_step : (rest : List ℕ) (single next : Bool) → is_ascii_digit (slice_index rest 0) ≡ true → next ≡ single → Step rest single next
+digit_step rest single next h e = plain_step rest single next (ap (λ v. (v || is_in_range 65 90 (slice_index rest 0)) || is_in_range 97 122 (slice_index rest 0)) h) e
 
 -- an underscore
 pub underscore_step : (rest : List ℕ) (single next plain : Bool) → slice_index rest 0 ≡ 95 → plain ≡ begins is_ascii_alphanumeric (take (length rest - 1) (drop 1 rest)) → next ≡ (single && plain) → Step rest single next

@@ -10,7 +10,7 @@ fn begins_plain(text: &[u8]) -> bool
     ensures { result ≡ begins is_ascii_alphanumeric text.now }
 {
     match text {
-        [first, ..] => first.is_ascii_alphabetic() || first.is_ascii_digit(),
+        [first, ..] => first.is_ascii_alphanumeric(),
         [] => false,
     }
 }
@@ -26,12 +26,13 @@ pub(crate) fn identifier_front(text: &[u8]) -> (usize, bool)
     let mut single = true;
     let mut rest = text;
     while let [first, after @ ..] = rest {
-        if !begins_plain(rest) {
-            if *first != b'_' {
+        if !first.is_ascii_alphabetic() {
+            if *first == b'_' {
+                if !begins_plain(after) {
+                    single = false;
+                }
+            } else if !first.is_ascii_digit() {
                 return (count, single);
-            }
-            if !begins_plain(after) {
-                single = false;
             }
         }
         count += 1;

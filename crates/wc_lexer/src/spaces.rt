@@ -1,4 +1,4 @@
-ghost use Rattle.std.specs.Prelude.{◌≡◌, ◌≤◌, count_by, if◌then◌else◌, length, take};
+ghost use Rattle.std.specs.Prelude.{◌≡◌, ◌≤◌, count_by, if◌then◌else◌, length};
 ghost use Rattle.wc_token_laws.specs.Sights.{opens_comment, starts_space};
 ghost use Rattle.wc_model.specs.Text.Blanks.{from_bracket, starts_with_bracket};
 ghost use Rattle.wc_model.specs.Text.Characters.{begins, is_line_feed};
