@@ -1,4 +1,4 @@
-ghost use Rattle.std.specs.Prelude.{◌≡◌, ◌++◌, List, map, option_map};
+ghost use Rattle.std.specs.Prelude.{◌≡◌, ◌++◌, List, IfErr, map, option_map};
 ghost use Rattle.std.specs.List.{flat_map};
 ghost use Rattle.wc_model.specs.Language.Checks.{Check, first_broken};
 ghost use Rattle.wc_model.specs.Language.DeclarationRules.{body_name_checks, label_checks, operand_checks, term_checks};
@@ -14,9 +14,11 @@ use wc_model::{Argument, Fault, Instr, Line, Operand, Word};
 
 /// Judges a label by 307.
 fn judge_label<'a>(label: Option<Word<'a>>) -> Result<(), Fault>
-    ensures { (rest : List Check)
+    ensures judged { (rest : List Check)
         → Judges (first_broken (label_checks (option_map word_view label.entry) ++ rest))
         (first_broken rest) result }
+    // It takes no memory, so a refusal is not told as want of it.
+    ensures refuses { IfErr result (λ fault. fault ≡ Fault.Memory → ⊥) }
 {
     match label {
         Some(word) => {
@@ -32,9 +34,11 @@ fn judge_label<'a>(label: Option<Word<'a>>) -> Result<(), Fault>
 
 /// Judges an operand: an address by 305 in a block, by 304 elsewhere.
 fn judge_operand<'a>(in_block: bool, operand: &Operand<'a>) -> Result<(), Fault>
-    ensures { (unit : ProgramUnit) (rest : List Check) → in_block ≡ is_block unit
+    ensures judged { (unit : ProgramUnit) (rest : List Check) → in_block ≡ is_block unit
         → Judges (first_broken (term_checks unit (term_view operand.now) ++ rest))
         (first_broken rest) result }
+    // It takes no memory, so a refusal is not told as want of it.
+    ensures refuses { IfErr result (λ fault. fault ≡ Fault.Memory → ⊥) }
 {
     let Operand::Address(word) = operand else {
         return Ok(());

@@ -1,4 +1,4 @@
-ghost use Rattle.std.specs.Prelude.{◌≡◌, ℕ, ◌≤◌, [], ◌∷◌, ◌++◌, List, Some, option_map, OnOk, IfOk, map, length, true, false};
+ghost use Rattle.std.specs.Prelude.{◌≡◌, ℕ, ◌≤◌, [], ◌∷◌, ◌++◌, List, Some, option_map, OnOk, IfOk, IfErr, map, length, true, false};
 ghost use Rattle.wc_model.specs.Language.Checks.{Check, first_broken};
 ghost use Rattle.wc_model.specs.Language.DeclarationRules.{Taken, and_more, declaration_checks, initial_checks, is_among, is_closed_before, is_new, is_own, name_of_word, names_are_new, not_reserved, places_of_type, room_checks, suits_kind, type_checks, unit_declaration_checks};
 ghost use Rattle.wc_model.specs.Language.Declarations.{Variable as Declared, declared_by};
@@ -101,6 +101,8 @@ fn judge_type<'a>(units: &Units<'a>, declaration: &Decl<'a>) -> Result<DeclaredT
         (λ declared. (text : Text) (before : List ProgramUnit) → AreUnitsOf text before units.now
         → type_at before (name_view declaration.now.type_name) ≡ Some declared) }
     ensures stands { IfOk result (λ declared. stands_in declaration.now.section declared ≡ true) }
+    // It takes no memory, so a refusal is not told as want of it.
+    ensures refuses { IfErr result (λ fault. fault ≡ Fault.Memory → ⊥) }
 {
     let word = declaration.type_name;
     if !is_closed_before(units, word.text) {
@@ -149,10 +151,12 @@ fn suits(declared: DeclaredType, value: Value) -> bool
 
 /// Judges the value after `:=` of a declaration by 303.
 fn judge_initial<'a>(declaration: &Decl<'a>, declared: DeclaredType) -> Result<(), Fault>
-    ensures { (before : List ProgramUnit) (rest : List Check)
+    ensures judged { (before : List ProgramUnit) (rest : List Check)
         → type_at before (name_view declaration.now.type_name) ≡ Some declared
         → Judges (first_broken (initial_checks before (declaration_view declaration.now) ++ rest))
         (first_broken rest) result }
+    // It takes no memory, so a refusal is not told as want of it.
+    ensures refuses { IfErr result (λ fault. fault ≡ Fault.Memory → ⊥) }
 {
     let Some(initial) = declaration.initial else {
         return Ok(());

@@ -25,6 +25,8 @@ impl<'r, R: ByteIn> Records<'r, R> {
         ensures records { (bytes : List ℕ) → lent_bytes R.bytes_left bounded.entry ≡ Some bytes
             → HasRecords R.bytes_left result (records_of bytes) }
         ensures lent { lent (reader_source result.csv) ≡ lent bounded.entry }
+        // The bound on what is read is measured from the same count, and the cut from the same place.
+        ensures whole { reader_source result.csv ≡ bounded.entry }
     {
         Records {
             csv: ReaderBuilder::new()

@@ -42,6 +42,10 @@ impl<'r, R: ByteIn> Source<'r, R> {
     fn open(&mut self)
         ensures records { (left : List Record) → SourceHas R.bytes_left self.old left
             → SourceHas R.bytes_left self.new left }
+        ensures bound { bounded_in self.new ≡ bounded_in self.old }
+        ensures failures { counted_in R.failure_count self.new
+            ≡ counted_in R.failure_count self.old }
+        ensures spent { counted_in R.spent_count self.new ≡ counted_in R.spent_count self.old }
     {
         if self.opened.is_some() {
             return;

@@ -13,7 +13,7 @@ pub returns-in-Err : goal.returns-in-Err
 returns-in-Err t c = λ unit others rest block.
     let h = label_first unit c.args.line.now others rest in
     judges_err (Unit {0}) (Unit {0}) (first_broken (body_name_checks unit (line_view c.args.line.now others) ++ rest)) (first_broken (label_checks (option_map word_view c.args.line.now.label) ++ h.behind)) (first_broken h.behind)
-    (first_broken (body_name_checks unit others ++ rest)) c.in-Err.fault h.is (c.in-Err.ensures h.behind)
+    (first_broken (body_name_checks unit others ++ rest)) c.in-Err.fault h.is (c.in-Err.ensures.judged h.behind)
 
 pub returns-in-Load : goal.returns-in-Load
 returns-in-Load t c = λ unit others rest block.
@@ -21,8 +21,8 @@ returns-in-Load t c = λ unit others rest block.
     let own = term_checks unit (term_view c.in-Load.operand) ++ behind in
     judges_same (first_broken (body_name_checks unit (line_view c.args.line.now others) ++ rest)) (first_broken own) (first_broken behind) c.judge_operand.result
     (load_at unit c.args.line.now c.in-Load.negated c.in-Load.operand c.in-Load.line others rest (c.in-Some.is ∙ ap Some c.in-Load.is)
-    ∙ judges_ok (first_broken (label_checks (option_map word_view c.args.line.now.label) ++ own)) (first_broken own) c.judge_label.result c.in_default.field-0 c.in_default.is (c.judge_label.ensures own))
-    (c.judge_operand.ensures unit behind block)
+    ∙ judges_ok (first_broken (label_checks (option_map word_view c.args.line.now.label) ++ own)) (first_broken own) c.judge_label.result c.in_default.field-0 c.in_default.is (c.judge_label.ensures.judged own))
+    (c.judge_operand.ensures.judged unit behind block)
 
 pub returns-in-Store : goal.returns-in-Store
 returns-in-Store t c = λ unit others rest block.
@@ -30,8 +30,8 @@ returns-in-Store t c = λ unit others rest block.
     let own = term_checks unit (term_view c.in-Store.target) ++ behind in
     judges_same (first_broken (body_name_checks unit (line_view c.args.line.now others) ++ rest)) (first_broken own) (first_broken behind) c.judge_operand-in-Store.result
     (store_at unit c.args.line.now c.in-Store.storing c.in-Store.target c.in-Store.line others rest (c.in-Some.is ∙ ap Some c.in-Store.is)
-    ∙ judges_ok (first_broken (label_checks (option_map word_view c.args.line.now.label) ++ own)) (first_broken own) c.judge_label.result c.in_default.field-0 c.in_default.is (c.judge_label.ensures own))
-    (c.judge_operand-in-Store.ensures unit behind block)
+    ∙ judges_ok (first_broken (label_checks (option_map word_view c.args.line.now.label) ++ own)) (first_broken own) c.judge_label.result c.in_default.field-0 c.in_default.is (c.judge_label.ensures.judged own))
+    (c.judge_operand-in-Store.ensures.judged unit behind block)
 
 pub returns-in-Apply : goal.returns-in-Apply
 returns-in-Apply t c = λ unit others rest block.
@@ -39,8 +39,8 @@ returns-in-Apply t c = λ unit others rest block.
     let own = term_checks unit (term_view c.in-Apply.operand) ++ behind in
     judges_same (first_broken (body_name_checks unit (line_view c.args.line.now others) ++ rest)) (first_broken own) (first_broken behind) c.judge_operand-in-Apply.result
     (apply_at unit c.args.line.now c.in-Apply.operator c.in-Apply.operand c.in-Apply.line others rest (c.in-Some.is ∙ ap Some c.in-Apply.is)
-    ∙ judges_ok (first_broken (label_checks (option_map word_view c.args.line.now.label) ++ own)) (first_broken own) c.judge_label.result c.in_default.field-0 c.in_default.is (c.judge_label.ensures own))
-    (c.judge_operand-in-Apply.ensures unit behind block)
+    ∙ judges_ok (first_broken (label_checks (option_map word_view c.args.line.now.label) ++ own)) (first_broken own) c.judge_label.result c.in_default.field-0 c.in_default.is (c.judge_label.ensures.judged own))
+    (c.judge_operand-in-Apply.ensures.judged unit behind block)
 
 pub returns-in-Call : goal.returns-in-Call
 returns-in-Call t c = λ unit others rest block.
@@ -48,7 +48,7 @@ returns-in-Call t c = λ unit others rest block.
     let own = flat_map (λ a. term_checks unit a.value) (map assignment_view c.in-Call.arguments.items) ++ behind in
     judges_same (first_broken (body_name_checks unit (line_view c.args.line.now others) ++ rest)) (first_broken (flat_map (λ a. term_checks unit a.value) (map assignment_view c.deref.result.now) ++ behind)) (first_broken behind) c.judge_arguments.result
     (call_at unit c.args.line.now c.in-Call.condition c.in-Call.instance c.in-Call.arguments c.in-Call.line others rest (c.in-Some.is ∙ ap Some c.in-Call.is)
-    ∙ judges_ok (first_broken (label_checks (option_map word_view c.args.line.now.label) ++ own)) (first_broken own) c.judge_label.result c.in_default.field-0 c.in_default.is (c.judge_label.ensures own)
+    ∙ judges_ok (first_broken (label_checks (option_map word_view c.args.line.now.label) ++ own)) (first_broken own) c.judge_label.result c.in_default.field-0 c.in_default.is (c.judge_label.ensures.judged own)
     ∙ ap (λ xs. first_broken (flat_map (λ a. term_checks unit a.value) (map assignment_view xs) ++ behind)) (sym c.deref.ensures.value))
     (c.judge_arguments.ensures unit behind block)
 
@@ -59,7 +59,7 @@ returns-in-Err-judge_first t c = λ unit others rest block.
     let own = operand_checks unit (option_map term_view c.in-Defer.operand) ++ inside in
     judges_err (Unit {0}) (Unit {0}) (first_broken (body_name_checks unit (line_view c.args.line.now others) ++ rest)) (first_broken own) (first_broken inside) (first_broken behind) c.in-Err-judge_first.fault
     (defer_at unit c.args.line.now c.in-Defer.operator c.in-Defer.operand c.in-Defer.inside c.in-Defer.line c.in-Defer.close others rest (c.in-Some.is ∙ ap Some c.in-Defer.is)
-    ∙ judges_ok (first_broken (label_checks (option_map word_view c.args.line.now.label) ++ own)) (first_broken own) c.judge_label.result c.in_default.field-0 c.in_default.is (c.judge_label.ensures own))
+    ∙ judges_ok (first_broken (label_checks (option_map word_view c.args.line.now.label) ++ own)) (first_broken own) c.judge_label.result c.in_default.field-0 c.in_default.is (c.judge_label.ensures.judged own))
     (c.in-Err-judge_first.ensures unit inside block)
 
 pub returns-in-Err-judge_line : goal.returns-in-Err-judge_line
@@ -74,7 +74,7 @@ returns-in-Err-judge_line t c = λ unit others rest block.
     judges_err (Unit {0}) (Unit {0}) (first_broken (body_name_checks unit (line_view c.args.line.now others) ++ rest)) (first_broken (body_name_checks unit (line_view c.inner-item.result left) ++ behind))
     (first_broken (body_name_checks unit left ++ behind)) (first_broken behind) c.in-Err-judge_line.fault
     (defer_at unit c.args.line.now c.in-Defer.operator c.in-Defer.operand c.in-Defer.inside c.in-Defer.line c.in-Defer.close others rest (c.in-Some.is ∙ ap Some c.in-Defer.is)
-    ∙ judges_ok (first_broken (label_checks (option_map word_view c.args.line.now.label) ++ own)) (first_broken own) c.judge_label.result c.in_default.field-0 c.in_default.is (c.judge_label.ensures own)
+    ∙ judges_ok (first_broken (label_checks (option_map word_view c.args.line.now.label) ++ own)) (first_broken own) c.judge_label.result c.in_default.field-0 c.in_default.is (c.judge_label.ensures.judged own)
     ∙ judges_ok (first_broken own) (first_broken inside) c.judge_first.result c.in_default-judge_first.field-0 c.in_default-judge_first.is (c.judge_first.ensures unit inside block)
     ∙ ap (λ xs. first_broken (body_name_checks unit (lines_view xs) ++ behind)) (sym c.deref-inner-items.ensures.value) ∙ c.loop-inner.invariant unit behind block
     ∙ ap (λ xs. first_broken (body_name_checks unit (lines_view xs) ++ behind)) cut)
@@ -97,7 +97,7 @@ returns-after-loop-inner t c = λ unit others rest block.
     let own = operand_checks unit (option_map term_view c.in-Defer.operand) ++ inside in
     let end : drop c.loop-inner.inner-index c.deref-inner-items.result.now ≡ [] = drop_all c.loop-inner.inner-index c.deref-inner-items.result.now c.loop-inner-test.false in
     defer_at unit c.args.line.now c.in-Defer.operator c.in-Defer.operand c.in-Defer.inside c.in-Defer.line c.in-Defer.close others rest (c.in-Some.is ∙ ap Some c.in-Defer.is)
-    ∙ judges_ok (first_broken (label_checks (option_map word_view c.args.line.now.label) ++ own)) (first_broken own) c.judge_label.result c.in_default.field-0 c.in_default.is (c.judge_label.ensures own)
+    ∙ judges_ok (first_broken (label_checks (option_map word_view c.args.line.now.label) ++ own)) (first_broken own) c.judge_label.result c.in_default.field-0 c.in_default.is (c.judge_label.ensures.judged own)
     ∙ judges_ok (first_broken own) (first_broken inside) c.judge_first.result c.in_default-judge_first.field-0 c.in_default-judge_first.is (c.judge_first.ensures unit inside block)
     ∙ ap (λ xs. first_broken (body_name_checks unit (lines_view xs) ++ behind)) (sym c.deref-inner-items.ensures.value) ∙ c.loop-inner.invariant unit behind block
     ∙ ap (λ xs. first_broken (body_name_checks unit (lines_view xs) ++ behind)) end

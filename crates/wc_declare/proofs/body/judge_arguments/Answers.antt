@@ -29,7 +29,7 @@ returns-in-Err c = λ unit rest block.
     let cut = from_index_or items i no_argument c.loop-argument-test.true in
     judges_err (Unit {0}) (Unit {0}) (first_broken (asked unit (map assignment_view items) ++ rest)) (first_broken (term_checks unit (term_view argument.value) ++ behind)) (first_broken behind) (first_broken rest) c.in-Err.fault
     (c.loop-argument.invariant unit rest block ∙ ap (λ xs. first_broken (asked unit (map assignment_view xs) ++ rest)) cut ∙ ap first_broken (append_assoc (term_checks unit (term_view argument.value)) (asked unit left) rest))
-    (c.in-Err.ensures unit behind block)
+    (c.in-Err.ensures.judged unit behind block)
 
 pub loop-argument-preserved : goal.loop-argument-preserved
 loop-argument-preserved c = λ unit rest block.
@@ -40,7 +40,7 @@ loop-argument-preserved c = λ unit rest block.
     let behind = asked unit left ++ rest in
     let cut = from_index_or items i no_argument c.loop-argument-test.true in
     c.loop-argument.invariant unit rest block ∙ ap (λ xs. first_broken (asked unit (map assignment_view xs) ++ rest)) cut ∙ ap first_broken (append_assoc (term_checks unit (term_view argument.value)) (asked unit left) rest)
-    ∙ judges_ok (first_broken (term_checks unit (term_view argument.value) ++ behind)) (first_broken behind) c.judge_operand.result c.in_default.field-0 c.in_default.is (c.judge_operand.ensures unit behind block)
+    ∙ judges_ok (first_broken (term_checks unit (term_view argument.value) ++ behind)) (first_broken behind) c.judge_operand.result c.in_default.field-0 c.in_default.is (c.judge_operand.ensures.judged unit behind block)
 
 pub returns : goal.returns
 returns c = λ unit rest block.

@@ -34,7 +34,7 @@ returns-in-Err-judge_initial-clause-judged c = λ text before known t rest units
     (pieces text before known t d rest
     ∙ judges_ok (first_broken (names_are_new known d.names ++ behind_names)) (first_broken behind_names) c.declare_names.result c.in_default.field-0 c.in_default.is (c.declare_names.ensures.judged known behind_names same)
     ∙ judges_ok (first_broken behind_names) (first_broken behind_type) c.judge_type.result c.in-Ok.declared c.in-Ok.is (c.judge_type.ensures.judged text before behind_type units))
-    (c.in-Err-judge_initial.ensures before behind_initial (c.in-Ok.ensures.declared text before units))
+    (c.in-Err-judge_initial.ensures.judged before behind_initial (c.in-Ok.ensures.declared text before units))
 
 pub returns-clause-judged : goal.returns-clause-judged
 returns-clause-judged c = λ text before known t rest units same taken.
@@ -47,7 +47,7 @@ returns-clause-judged c = λ text before known t rest units same taken.
     (pieces text before known t d rest
     ∙ judges_ok (first_broken (names_are_new known d.names ++ behind_names)) (first_broken behind_names) c.declare_names.result c.in_default.field-0 c.in_default.is (c.declare_names.ensures.judged known behind_names same)
     ∙ judges_ok (first_broken behind_names) (first_broken behind_type) c.judge_type.result c.in-Ok.declared c.in-Ok.is (c.judge_type.ensures.judged text before behind_type units)
-    ∙ judges_ok (first_broken behind_type) (first_broken behind_initial) c.judge_initial.result c.in_default-judge_initial.field-0 c.in_default-judge_initial.is (c.judge_initial.ensures before behind_initial typed)
+    ∙ judges_ok (first_broken behind_type) (first_broken behind_initial) c.judge_initial.result c.in_default-judge_initial.field-0 c.in_default-judge_initial.is (c.judge_initial.ensures.judged before behind_initial typed)
     ∙ ap (λ w. first_broken (room_checks t w d.names ++ rest)) (sym (c.width.ensures text before d.type_name.name units typed)))
     (c.declare_variables.ensures.judged t rest (record { variables = taken.variables; places = taken.places }))
 

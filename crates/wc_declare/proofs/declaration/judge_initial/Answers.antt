@@ -5,13 +5,13 @@ use Rattle.wc_model.specs.Language.Views.{declaration_view}
 use Rattle.wc_declare.proofs.Typing.{initial_found}
 use Rattle.wc_declare.proofs.declaration.judge_initial.Goals as goal
 
-pub returns-then-suits : goal.returns-then-suits
-returns-then-suits c = λ before rest e.
+pub returns-then-suits-clause-judged : goal.returns-then-suits-clause-judged
+returns-then-suits-clause-judged c = λ before rest e.
     initial_found before (declaration_view c.args.declaration.now) c.in-Some.initial c.args.declared rest c.in-Some.is e
     ∙ ap (λ b. if b then first_broken rest else Some (record { number = 303; line = c.in-Some.initial.line })) (sym c.suits.ensures ∙ c.if-suits.true)
 
-pub returns-else-suits : goal.returns-else-suits
-returns-else-suits c = λ before rest e.
+pub returns-else-suits-clause-judged : goal.returns-else-suits-clause-judged
+returns-else-suits-clause-judged c = λ before rest e.
     rw c.refused.ensures (
     initial_found before (declaration_view c.args.declaration.now) c.in-Some.initial c.args.declared rest c.in-Some.is e
     ∙ ap (λ b. if b then first_broken rest else Some (record { number = 303; line = c.in-Some.initial.line })) (sym c.suits.ensures ∙ c.if-suits.false))

@@ -21,3 +21,6 @@ returns-clause-records g c =
 
 pub returns-clause-lent : goal.returns-clause-lent
 returns-clause-lent g c = ap lent c.from_reader.ensures.rdr
+
+pub returns-clause-whole : goal.returns-clause-whole
+returns-clause-whole g c = c.from_reader.ensures.rdr
