@@ -1,4 +1,6 @@
 //! Short lines, which the reader takes in place, beside the same behind a label, which it goes over token by token.
+ghost use Rattle.std.specs.Prelude.{◌≤◌};
+
 use wc_model::{Condition, Instr, Operand, Operator, Storing, Value};
 use wc_reader::read;
 
@@ -17,7 +19,9 @@ fn operand_numbers(operand: &Operand<'_>) -> (u8, i64) {
 }
 
 /// A number for a condition.
-fn condition_number(condition: Condition) -> u8 {
+fn condition_number(condition: Condition) -> u8
+    ensures { result ≤ 2 }
+{
     match condition {
         Condition::Always => 0,
         Condition::IfTrue => 1,
@@ -26,7 +30,9 @@ fn condition_number(condition: Condition) -> u8 {
 }
 
 /// A number for what is stored.
-fn storing_number(storing: Storing) -> u8 {
+fn storing_number(storing: Storing) -> u8
+    ensures { result ≤ 3 }
+{
     match storing {
         Storing::Result => 0,
         Storing::Negation => 1,
@@ -47,23 +53,39 @@ fn numbers(instr: &Instr<'_>) -> (u8, (u8, i64), u32) {
             storing,
             target,
             line,
-        } => (20 + storing_number(*storing), operand_numbers(target), *line),
+        } => (
+            20 + storing_number(*storing),
+            operand_numbers(target),
+            *line,
+        ),
         Instr::Apply {
             operator,
             operand,
             line,
-        } => (30 + u8::from(*operator == Operator::Add), operand_numbers(operand), *line),
+        } => (
+            30 + u8::from(*operator == Operator::Add),
+            operand_numbers(operand),
+            *line,
+        ),
         Instr::Jump {
             condition,
             label,
             line,
-        } => (40 + condition_number(*condition), (5, label.len() as i64), *line),
+        } => (
+            40 + condition_number(*condition),
+            (5, label.len() as i64),
+            *line,
+        ),
         Instr::Call {
             condition,
             arguments,
             line,
             ..
-        } => (50 + condition_number(*condition), (7, arguments.len() as i64), *line),
+        } => (
+            50 + condition_number(*condition),
+            (7, arguments.len() as i64),
+            *line,
+        ),
         _ => (0, (0, 0), 0),
     }
 }
@@ -115,20 +137,46 @@ fn declaration_at(rt: HostRuntime, text: &[u8], place: usize) -> (usize, u32, us
     };
     let type_name = declaration.type_name;
     match declaration.names.first() {
-        Some(name) => (name.text.len(), name.line, type_name.text.len(), type_name.line),
+        Some(name) => (
+            name.text.len(),
+            name.line,
+            type_name.text.len(),
+            type_name.line,
+        ),
         None => (0, 4, 0, 0),
     }
 }
 
 #[test]
 fn an_operator_and_its_operand_are_a_line(rt: HostRuntime) {
-    assert_eq!(rt; instruction_at(rt, b"PROGRAM P\nLDN abc\nEND_PROGRAM", 0), (11, (5, 3), 2));
-    assert_eq!(rt; instruction_at(rt, b"PROGRAM P\nL: LDN abc\nEND_PROGRAM", 0), (11, (5, 3), 2));
-    assert_eq!(rt; instruction_at(rt, b"PROGRAM P\nLD %IX0.7\nEND_PROGRAM", 0), (10, (4, 6), 2));
-    assert_eq!(rt; instruction_at(rt, b"PROGRAM P\nL: LD %IX0.7\nEND_PROGRAM", 0), (10, (4, 6), 2));
-    assert_eq!(rt; instruction_at(rt, b"PROGRAM P\nLD 1\nADD -5\nEND_PROGRAM", 1), (31, (2, -5), 3));
-    assert_eq!(rt; instruction_at(rt, b"PROGRAM P\nLD T#2s\nAND TRUE\nEND_PROGRAM", 0), (10, (3, 2000), 2));
-    assert_eq!(rt; instruction_at(rt, b"PROGRAM P\nLD T#2s\nAND TRUE\nEND_PROGRAM", 1), (30, (1, 1), 3));
+    assert_eq!(rt;
+        instruction_at(rt, b"PROGRAM P\nLDN abc\nEND_PROGRAM", 0),
+        (11, (5, 3), 2)
+    );
+    assert_eq!(rt;
+        instruction_at(rt, b"PROGRAM P\nL: LDN abc\nEND_PROGRAM", 0),
+        (11, (5, 3), 2)
+    );
+    assert_eq!(rt;
+        instruction_at(rt, b"PROGRAM P\nLD %IX0.7\nEND_PROGRAM", 0),
+        (10, (4, 6), 2)
+    );
+    assert_eq!(rt;
+        instruction_at(rt, b"PROGRAM P\nL: LD %IX0.7\nEND_PROGRAM", 0),
+        (10, (4, 6), 2)
+    );
+    assert_eq!(rt;
+        instruction_at(rt, b"PROGRAM P\nLD 1\nADD -5\nEND_PROGRAM", 1),
+        (31, (2, -5), 3)
+    );
+    assert_eq!(rt;
+        instruction_at(rt, b"PROGRAM P\nLD T#2s\nAND TRUE\nEND_PROGRAM", 0),
+        (10, (3, 2000), 2)
+    );
+    assert_eq!(rt;
+        instruction_at(rt, b"PROGRAM P\nLD T#2s\nAND TRUE\nEND_PROGRAM", 1),
+        (30, (1, 1), 3)
+    );
 }
 
 #[test]
@@ -171,7 +219,8 @@ fn a_call_and_its_list_are_a_line(rt: HostRuntime) {
 
 #[test]
 fn a_name_and_its_type_are_a_declaration(rt: HostRuntime) {
-    let text = b"PROGRAM P\nVAR abc : BOOL;\nde : DINT;\nf\n: TON; g : BOOL := TRUE;\nEND_VAR\nEND_PROGRAM";
+    let text =
+        b"PROGRAM P\nVAR abc : BOOL;\nde : DINT;\nf\n: TON; g : BOOL := TRUE;\nEND_VAR\nEND_PROGRAM";
     assert_eq!(rt; declaration_at(rt, text, 0), (3, 2, 4, 2));
     assert_eq!(rt; declaration_at(rt, text, 1), (2, 3, 4, 3));
     assert_eq!(rt; declaration_at(rt, text, 2), (1, 4, 3, 5));
