@@ -59,7 +59,8 @@ fn open_behind_form<'a>(body: &Body<'a>, begun: &Begun<'a>, form: &LineForm<'a>)
     ensures { (units : List ProgramUnit)
         → result
         ≡ fault_of
-        (moves.open_on (position_view units body.now) (whole_view (begun_view begun.now) form.now)) }
+        (moves.open_on (position_view units body.now)
+        (whole_view (begun_view begun.now) form.now)) }
 {
     match form {
         LineForm::Opens(..) => open_since(begun.line),
