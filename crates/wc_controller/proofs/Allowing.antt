@@ -1,5 +1,6 @@
--- Which answers are allowed, from the program to the whole job and to the files that a command names.
-use Rattle.std.proofs.Common.{◌≡◌, ℕ, ◌<◌, ◌≤◌, List, true, length, nat_lt, Result, Ok, Err, refl, ap, sym, ◌∙◌, subst, arith, inl, inr}
+-- Which answers are allowed, from the program to the whole job and to the files that a command
+-- names.
+use Rattle.std.proofs.Common.{◌≡◌, ℕ, ◌<◌, ◌≤◌, List, true, length, nat_lt, Ok, Err, refl, ap, sym, subst, arith, inl, inr}
 use Rattle.std.proofs.KnownBytes.{Keeps-refl}
 use Rattle.std.proofs.lemmas.Bool.Decides.{nat_tests}
 use Rattle.std.specs.Prelude.{◌⊎◌, Option, Some, None, IfSome, if◌then◌else◌}
@@ -68,7 +69,7 @@ job_refused bytes number old e =
     only_refused (Allows bytes) number 0 old (subst (λ cut. AnswersSections table_read records_of cut (refusing number 0)) e refl)
 
 -- a job that is too long has no sections
-long_job : (bytes : List ℕ) → longest_job < length bytes → Err 702 ≡ sections_of bytes
+pub long_job : (bytes : List ℕ) → longest_job < length bytes → Err 702 ≡ sections_of bytes
 long_job bytes h =
     let longer : nat_lt longest_job (length bytes) ≡ true = grind (arith, nat_tests) in
     sym (ap (λ b. if b then Err 702 else sections_or_refusal (sections_in (whole_lines bytes))) longer)

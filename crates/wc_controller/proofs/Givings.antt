@@ -106,7 +106,8 @@ last_first number plate logic first left =
           ∙ append_assoc (line_report plate first) lines.0 behind,
     )
 
--- what a run of a log writes, by how it ended: a whole text, and as the rows come another that is a front of it
+-- what a run of a log writes, by how it ended: a whole text, and as the rows come another that is a
+-- front of it
 module _ (whole coming : List LogRow → List ℕ) (log : LogOf) (old new : Option (List ℕ)) where
   abbrev pub IsRun : JobAnswer → Type 0
   IsRun answer = answer ≡ behind_report (whole log.rows) log.refusal

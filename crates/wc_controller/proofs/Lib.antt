@@ -5,3 +5,4 @@ pub mod UnitReports
 pub mod Givings
 pub mod Allowing
 pub mod Blaming
+pub mod BlamingParts

@@ -3,10 +3,13 @@ use Rattle.std.specs.Prelude.{◌≡◌, ⊤, ℕ, ◌<◌, ◌≤◌, ◌⊎◌
 use Rattle.wc_controller.specs.declared.ending.Ending.{Ending}
 use Rattle.wc_controller.specs.declared.ending.Ending.TheVariants as ended
 use Rattle.wc_controller.specs.declared.input.Input.{Input}
+use Rattle.wc_controller.specs.declared.input.Input.TheVariants as input
 use Rattle.wc_controller.specs.declared.input.Stopped.{Stopped}
+use Rattle.wc_model.specs.Instrument.PlateTable.{plate_of}
 use Rattle.wc_model.specs.Language.Loading.{IsRefused}
-use Rattle.wc_model.specs.Run.JobSections.{longest_job}
+use Rattle.wc_model.specs.Run.JobSections.{Sections, longest_job}
 use Rattle.wc_model.specs.Run.Log.{log_of}
+use Rattle.wc_plate.specs.TomlTable.{table_read}
 use Rattle.wc_record.specs.Reading.{records_of}
 use Rattle.wc_run.specs.declared.fault.RunFault.{RunFault}
 use Rattle.wc_run.specs.declared.fault.RunFault.TheVariants.{Refused, Read, Write, Memory}
@@ -45,3 +48,32 @@ Blames input refuses known (ended.Refused at number place) = at ≡ input → If
 Blames input refuses known (ended.ReadFault at) = ⊤
 Blames input refuses known ended.WriteFault = ⊤
 Blames input refuses known ended.NoMemory = ⊤
+
+-- What a refusal says of the part of a job that it names: the job has not its sections; the plate
+-- breaks that rule first; the program has that first fault; the log has that first refused row.
+abbrev pub RefusesPart : Result Sections ℕ → Input → ℕ → ℕ → Type 0
+RefusesPart (Err missing) at number place = (at ≡ input.Job) × (number ≡ missing) × (place ≡ 0)
+RefusesPart (Ok sections) input.Job number place = ⊥
+RefusesPart (Ok sections) input.Plate number place = (place ≡ 0) × (plate_of (table_read sections.plate) ≡ Err number)
+RefusesPart (Ok sections) input.Program number place = IsRefused sections.program number place
+RefusesPart (Ok sections) input.Log number place = (log_of (records_of sections.log)).refusal ≡ Some (record { number = number; row = place })
+
+-- what stopped at a part of a job is a refusal of that part, where it is one
+abbrev pub StopsAsPart : Result Sections ℕ → Input → RunFault → Type 0
+StopsAsPart parts at (Refused number place) = RefusesPart parts at number place
+StopsAsPart parts at Read = ⊤
+StopsAsPart parts at Write = ⊤
+StopsAsPart parts at Memory = ⊤
+
+-- the same of whatever is answered
+abbrev pub StopsForPart : {X : Type 0} → Result Sections ℕ → Result X Stopped → Type 0
+StopsForPart parts (Ok done) = ⊤
+StopsForPart parts (Err stopped) = StopsAsPart parts stopped.input stopped.fault
+
+-- an ending of a job that names a part with a refusal says what that part breaks
+abbrev pub BlamesPart : Result Sections ℕ → Ending → Type 0
+BlamesPart parts ended.Done = ⊤
+BlamesPart parts (ended.Refused at number place) = RefusesPart parts at number place
+BlamesPart parts (ended.ReadFault at) = ⊤
+BlamesPart parts ended.WriteFault = ⊤
+BlamesPart parts ended.NoMemory = ⊤

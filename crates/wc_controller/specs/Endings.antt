@@ -1,5 +1,5 @@
 -- How far an answer was written when a command stopped, and how it ended. (The profile's own.)
-use Rattle.std.specs.Prelude.{◌≡◌, ⊤, ℕ, ◌<◌, ◌≤◌, ◌⊎◌, List, ◌++◌, length, Option, Some, None, IfSome, Result, Ok, Err}
+use Rattle.std.specs.Prelude.{◌≡◌, ⊤, ℕ, ◌<◌, ◌≤◌, ◌⊎◌, List, ◌++◌, length, Option, Some, None, IfSome, IsSome, Result, Ok, Err}
 use Rattle.std.specs.Io.KnownBytes.{Appends, Keeps}
 use Rattle.wc_controller.specs.declared.ending.Ending.{Ending}
 use Rattle.wc_controller.specs.declared.ending.Ending.TheVariants as ended
@@ -12,9 +12,12 @@ use Rattle.wc_model.specs.declared.fault.Fault.TheVariants as fault
 use Rattle.wc_model.specs.Instrument.PlateTable.{plate_of}
 use Rattle.wc_model.specs.Instrument.Plates.{PlateData}
 use Rattle.wc_model.specs.Run.JobSections.{longest_job}
+use Rattle.wc_model.specs.Run.Log.{log_of}
 use Rattle.wc_model.specs.Run.Writing.{HasFailedSince, TakesFront}
 use Rattle.wc_model.specs.Say.Job.{JobAnswer, refused_text}
 use Rattle.wc_plate.specs.TomlTable.{table_read}
+use Rattle.wc_record.specs.Left.{HasCause}
+use Rattle.wc_record.specs.Reading.{records_of}
 use Rattle.wc_run.specs.Runs.{AppendsFront}
 use Rattle.wc_run.specs.declared.fault.RunFault.{RunFault}
 use Rattle.wc_run.specs.declared.fault.RunFault.TheVariants.{Refused, Read, Write, Memory}
@@ -33,7 +36,8 @@ fault_met (Err fault) = Some fault
 abbrev pub WritesFront : (JobAnswer → Type 0) → Option (List ℕ) → Option (List ℕ) → Type 0
 WritesFront allowed old new = Keeps old new ⊎ ((answer : JobAnswer) × allowed answer × AppendsFront old new answer.output)
 
--- an answer that is allowed was written: all of it; all but its refusal; at a fault a front of it, or nothing
+-- an answer that is allowed was written: all of it; all but its refusal; at a fault a front of it,
+-- or nothing
 abbrev pub WritesUpTo : (JobAnswer → Type 0) → Option RunFault → Option (List ℕ) → Option (List ℕ) → Type 0
 WritesUpTo allowed None old new = (answer : JobAnswer) × allowed answer × (answer.status ≡ 0) × Appends old new answer.output
 WritesUpTo allowed (Some (Refused number place)) old new =
@@ -89,7 +93,8 @@ IsFailing (ended.ReadFault input) = ⊤
 IsFailing ended.WriteFault = ⊤
 IsFailing ended.NoMemory = ⊤
 
--- what an ending tells of an answer that was written whole: that nothing is refused, or the refusal in its last line
+-- what an ending tells of an answer that was written whole: that nothing is refused, or the refusal
+-- in its last line
 abbrev pub IsEndingOf : JobAnswer → Ending → Type 0
 IsEndingOf answer ended.Done = answer.status ≡ 0
 IsEndingOf answer (ended.Refused input number place) =
@@ -98,13 +103,14 @@ IsEndingOf answer (ended.ReadFault input) = ⊥
 IsEndingOf answer ended.WriteFault = ⊥
 IsEndingOf answer ended.NoMemory = ⊥
 
--- An answer that is allowed was written whole, and the ending tells how it ends; or something failed, and a front of such an
--- answer was written, or nothing.
+-- An answer that is allowed was written whole, and the ending tells how it ends; or something
+-- failed, and a front of such an answer was written, or nothing.
 pub data EndsAs (allowed : JobAnswer → Type 0) (ending : Ending) (old new : Option (List ℕ)) : Type 0 where
   answered : (answer : JobAnswer) → allowed answer → IsEndingOf answer ending → Appends old new answer.output → EndsAs allowed ending old new
   failed : IsFailing ending → WritesFront allowed old new → EndsAs allowed ending old new
 
--- a refusal's line was written; at a write fault a front of it, and not all; for want of memory nothing
+-- a refusal's line was written; at a write fault a front of it, and not all; for want of memory
+-- nothing
 abbrev pub WritesRefusal : {X : Type 0} → ℕ → ℕ → Result X RunFault → Option (List ℕ) → Option (List ℕ) → Type 0
 WritesRefusal number place (Ok done) old new = Appends old new (refused_text number place)
 WritesRefusal number place (Err (Refused other at)) old new = ⊥
@@ -177,3 +183,11 @@ IsAt input (ended.Refused at number place) = at ≡ input
 IsAt input (ended.ReadFault at) = at ≡ input
 IsAt input ended.WriteFault = ⊥
 IsAt input ended.NoMemory = ⊥
+
+-- Why want of memory may be told of a command that has a log: nothing of the log was read; or its
+-- reader has no cause to be told as a fault; or the log is refused, and the line that says so was
+-- not made.
+pub data TellsMemory (known : Option (List ℕ)) (failures_before failures start spent : ℕ) : Type 0 where
+  of_unread_log : spent ≡ start → TellsMemory known failures_before failures start spent
+  of_no_cause : (HasCause failures_before failures start spent → ⊥) → TellsMemory known failures_before failures start spent
+  of_refused_log : IfSome known (λ bytes. IsSome (log_of (records_of bytes)).refusal) → TellsMemory known failures_before failures start spent

@@ -1,5 +1,5 @@
--- What a command answers for the files that it names: its output and its exit status. A plate or a program is read whole and
--- judged before the next file is read. (The profile's own.)
+-- What a command answers for the files that it names: its output and its exit status. A plate or a
+-- program is read whole and judged before the next file is read. (The profile's own.)
 use Rattle.std.specs.Prelude.{◌≡◌, ℕ, ◌<◌, ◌≤◌, Bool, List, length, Option, Some, None, Result, Ok, Err}
 use Rattle.wc_model.specs.Instrument.PlateTable.{plate_of}
 use Rattle.wc_model.specs.Instrument.Plates.{PlateData}

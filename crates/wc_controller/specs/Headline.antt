@@ -1,4 +1,5 @@
--- The headline, told of the definitions: the meaning of the text, its bound, and the report. (The profile's own.)
+-- The headline, told of the definitions: the meaning of the text, its bound, and the report. (The
+-- profile's own.)
 use Rattle.std.specs.Prelude.{◌≡◌, ◌≤◌, ℕ, List, length}
 use Rattle.wc_model.specs.Instrument.Independence.{IsFreeOfPrograms}
 use Rattle.wc_model.specs.Language.Loading.{IsLoaded}
@@ -18,8 +19,8 @@ abbrev pub EndsWithin : ℕ → Outcome → Type 0
 EndsWithin bound (Done result store trace) = length trace ≤ bound
 EndsWithin bound (Stuck reason) = ⊥
 
--- what a scan's line shows is the length of the outcome's trace and the outputs of the store that it leaves, from which the
--- next scan goes on; no line is that of a stuck scan
+-- what a scan's line shows is the length of the outcome's trace and the outputs of the store that
+-- it leaves, from which the next scan goes on; no line is that of a stuck scan
 abbrev pub ShowsOutcome : Outcome → ScanResult Store → Type 0
 ShowsOutcome (Done result store trace) shown =
     (shown.steps ≡ length trace) × (shown.outputs ≡ outputs_of store) × (shown.after ≡ store)

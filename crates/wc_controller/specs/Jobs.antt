@@ -24,8 +24,8 @@ IsFailure status = (status ≡ 3) ⊎ (status ≡ 4)
 abbrev pub IsStatus : ℕ → Type 0
 IsStatus status = (status ≡ 0) ⊎ (status ≡ 1) ⊎ (status ≡ 3) ⊎ (status ≡ 4)
 
--- An answer that is allowed was written whole, and the status is its own; or something failed, and a front of such an
--- answer was written, or nothing.
+-- An answer that is allowed was written whole, and the status is its own; or something failed, and
+-- a front of such an answer was written, or nothing.
 pub data Gives (allowed : JobAnswer → Type 0) (status : ℕ) (old new : Option (List ℕ)) : Type 0 where
   answered : (answer : JobAnswer) → allowed answer → status ≡ answer.status → Appends old new answer.output → Gives allowed status old new
   cut_short : (answer : JobAnswer) → allowed answer → IsFailure status → AppendsFront old new answer.output → Gives allowed status old new

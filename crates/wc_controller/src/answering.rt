@@ -1,9 +1,10 @@
-ghost use Rattle.std.specs.Prelude.{◌≡◌, ◌⊎◌, ◌+◌, Some, IfSome};
+ghost use Rattle.std.specs.Prelude.{◌≡◌, ◌⊎◌, ◌+◌, Some, IfSome, Ok};
+ghost use Rattle.wc_controller.specs.Blames.{BlamesPart, StopsForPart};
 ghost use Rattle.wc_controller.specs.Endings.{EndsAs, IsReadFaultAt, TellsFailures, TellsReadEndings, TellsReadFaults, TellsWriteFaults, WritesUpTo, fault_in_memory, met};
 ghost use Rattle.wc_controller.specs.Jobs.{Allows, AllowsSections, Gives, IsStatus};
 ghost use Rattle.wc_job.specs.Reads.{TakesAtMost};
 ghost use Rattle.wc_job.specs.Views.{sections_view};
-ghost use Rattle.wc_model.specs.Run.JobSections.{longest_job};
+ghost use Rattle.wc_model.specs.Run.JobSections.{longest_job, sections_of};
 ghost use Rattle.wc_model.specs.Run.Writing.{HasFailedSince};
 
 use crate::ending::{Ending, end};
@@ -39,6 +40,7 @@ fn answer_sections<W: ByteOut>(
 ) -> Result<(), Stopped>
     ensures writes { WritesUpTo (AllowsSections (sections_view sections.entry)) (met result)
         (W.bytes_taken writer.old) (W.bytes_taken writer.new) }
+    ensures blames { StopsForPart (Ok (sections_view sections.entry)) result }
     ensures held { ¬ (met result ≡ Some RunFault.Read) }
     ensures failures { TellsWriteFaults (met result) (W.failure_count writer.old)
         (W.failure_count writer.new) }
@@ -61,6 +63,7 @@ fn answer_sections<W: ByteOut>(
 fn answer_bytes<W: ByteOut>(alloc: Global, bytes: &[u8], writer: &mut W) -> Result<(), Stopped>
     ensures writes { WritesUpTo (Allows bytes.now) (met result)
         (W.bytes_taken writer.old) (W.bytes_taken writer.new) }
+    ensures blames { StopsForPart (sections_of bytes.now) result }
     ensures held { ¬ (met result ≡ Some RunFault.Read) }
     ensures failures { TellsWriteFaults (met result) (W.failure_count writer.old)
         (W.failure_count writer.new) }
@@ -83,6 +86,8 @@ fn answer_input<R: ByteIn, W: ByteOut>(
     ensures writes { IfSome (R.bytes_left reader.old)
         (λ bytes. WritesUpTo (Allows bytes) (met result)
         (W.bytes_taken writer.old) (W.bytes_taken writer.new)) }
+    ensures blames { IfSome (R.bytes_left reader.old)
+        (λ bytes. StopsForPart (sections_of bytes) result) }
     ensures reads { TellsReadFaults Input.Job result (R.failure_count reader.old)
         (R.failure_count reader.new) }
     ensures own { (input : Input) → IsReadFaultAt input result → input ≡ Input.Job }
@@ -97,14 +102,19 @@ fn answer_input<R: ByteIn, W: ByteOut>(
     }
 }
 
-/// Reads a job, of at most 1048576 bytes, and answers it: its plate, its program and its log are read, the log is run row by
-/// row, and each line is written as its row comes. Where something is refused, the refusal with its number and its place is
-/// written behind the lines of the rows before it. A read fault comes where the reader failed in this call and only there, a
-/// write fault where the writer did; at such a fault, and for want of memory, a front of the output is written, or nothing.
+/// Reads a job, of at most 1048576 bytes, and answers it: its plate, its program and its log are
+/// read, the log is run row by row, and each line is written as its row comes. Where something is
+/// refused, the refusal with its number and its place is written behind the lines of the rows
+/// before it. A read fault comes where the reader failed in this call and only there, a write fault
+/// where the writer did; at such a fault, and for want of memory, a front of the output is written,
+/// or nothing.
 pub fn answer_job<R: ByteIn, W: ByteOut>(alloc: Global, reader: &mut R, writer: &mut W) -> Ending
     ensures ends { IfSome (R.bytes_left reader.old)
         (λ bytes.
         EndsAs (Allows bytes) result (W.bytes_taken writer.old) (W.bytes_taken writer.new)) }
+    // The part that a refusal names is the one that breaks the rule.
+    ensures blames { IfSome (R.bytes_left reader.old)
+        (λ bytes. BlamesPart (sections_of bytes) result) }
     ensures reads { TellsReadEndings Input.Job result (R.failure_count reader.old)
         (R.failure_count reader.new) }
     ensures own { (input : Input) → result ≡ Ending.ReadFault input → input ≡ Input.Job }
@@ -118,8 +128,8 @@ pub fn answer_job<R: ByteIn, W: ByteOut>(alloc: Global, reader: &mut R, writer: 
     end(alloc, answer, writer)
 }
 
-/// Answers a job as `answer_job` does. The status is 0 where all rows ran, 1 where something was refused, 3 where the reader or
-/// the writer failed in this call, and 4 for want of memory.
+/// Answers a job as `answer_job` does. The status is 0 where all rows ran, 1 where something was
+/// refused, 3 where the reader or the writer failed in this call, and 4 for want of memory.
 pub fn job<R: ByteIn, W: ByteOut>(alloc: Global, reader: &mut R, writer: &mut W) -> u8
     ensures gives { IfSome (R.bytes_left reader.old)
         (λ bytes.

@@ -1,8 +1,10 @@
-ghost use Rattle.std.specs.Prelude.{◌≡◌, IfErr, IfSome, IsErrOf};
+ghost use Rattle.std.specs.Prelude.{◌≡◌, ◌+◌, IfErr, IfSome, IsErrOf};
 ghost use Rattle.wc_controller.specs.Checking.{Checks, WritesReport};
 ghost use Rattle.wc_controller.specs.Endings.{EndsAs, IsAt, IsReadFaultAt, TellsFailures, TellsReadEndings, TellsReadFaults, TellsWriteFaults, WritesUpTo, met};
 ghost use Rattle.wc_controller.specs.Files.{AnswersCheck, AnswersCheckFile};
+ghost use Rattle.wc_job.specs.Reads.{TakesAtMost};
 ghost use Rattle.wc_model.specs.Language.Views.{text_view};
+ghost use Rattle.wc_model.specs.Run.JobSections.{longest_job};
 ghost use Rattle.wc_model.specs.Run.Writing.{HasFailedSince};
 
 use crate::ending::{Ending, end};
@@ -39,10 +41,11 @@ fn write_report<W: ByteOut>(
     }
 }
 
-/// Checks a program text, and writes for each unit, in the text's order, a line with its name and the number of steps that
-/// it takes at most; with `paths` the lines of its worst path behind it. `Refused` names the fault by which the text is not loaded, and nothing is written. `Write` comes only
-/// where the writer failed in this call; a front of the report is then written. `Memory` is want of memory, before anything
-/// is written. `Read` never comes.
+/// Checks a program text, and writes for each unit, in the text's order, a line with its name and
+/// the number of steps that it takes at most; with `paths` the lines of its worst path behind it.
+/// `Refused` names the fault by which the text is not loaded, and nothing is written. `Write` comes
+/// only where the writer failed in this call; a front of the report is then written. `Memory` is
+/// want of memory, before anything is written. `Read` never comes.
 pub fn check<W: ByteOut>(
     alloc: Global,
     text: &[u8],
@@ -103,6 +106,8 @@ fn check_input<T: ByteIn, W: ByteOut>(
         (T.failure_count program.new) }
     ensures failures { TellsWriteFaults (met result) (W.failure_count writer.old)
         (W.failure_count writer.new) }
+    ensures taken { TakesAtMost (longest_job + 1) (T.bytes_left program.old)
+        (T.bytes_left program.new) }
 {
     match read_input(alloc, Input::Program, program) {
         Ok(text) => check_text(alloc, paths, &text, writer),
@@ -110,8 +115,9 @@ fn check_input<T: ByteIn, W: ByteOut>(
     }
 }
 
-/// Checks a program as `check` does, and writes the line of its refusal. A read fault comes where the reader failed in this call
-/// and only there, a write fault where the writer did; a front of the output is then written, or nothing, as for want of memory.
+/// Checks a program as `check` does, and writes the line of its refusal. A read fault comes where
+/// the reader failed in this call and only there, a write fault where the writer did; a front of
+/// the output is then written, or nothing, as for want of memory.
 pub fn check_file<T: ByteIn, W: ByteOut>(
     alloc: Global,
     paths: bool,
@@ -129,6 +135,9 @@ pub fn check_file<T: ByteIn, W: ByteOut>(
         (T.failure_count program.new) }
     ensures failures { TellsFailures result (W.failure_count writer.old)
         (W.failure_count writer.new) }
+    // It reads no further than the byte that makes a program too long.
+    ensures taken { TakesAtMost (longest_job + 1) (T.bytes_left program.old)
+        (T.bytes_left program.new) }
 {
     let answer = check_input(alloc, paths, program, writer);
     end(alloc, answer, writer)

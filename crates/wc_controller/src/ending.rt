@@ -21,7 +21,7 @@ pub enum Ending {
         /// The line or row that breaks it, counted from 1; 0 where no line does.
         place: u32,
     },
-    /// An input's reader failed, or more of the log was read than may be.
+    /// An input's reader failed, or as much of the log was read as may be.
     ReadFault {
         /// The input.
         input: Input,
@@ -33,7 +33,8 @@ pub enum Ending {
 }
 
 impl Ending {
-    /// The exit status: 0 where all was done, 1 where something was refused, 3 where a device failed, 4 for want of memory.
+    /// The exit status: 0 where all was done, 1 where something was refused, 3 where a device
+    /// failed, 4 for want of memory.
     pub fn status(&self) -> u8
         ensures { result ≡ status_of self.now }
     {
@@ -73,7 +74,8 @@ fn end_refused<W: ByteOut>(
     }
 }
 
-/// The ending of what was done, or of what stopped it: a refusal's line is written behind what stands.
+/// The ending of what was done, or of what stopped it: a refusal's line is written behind what
+/// stands.
 pub(crate) fn end<W: ByteOut>(alloc: Global, answer: Result<(), Stopped>, writer: &mut W) -> Ending
     ensures ends { EndsBehind answer result (W.bytes_taken writer.old)
         (W.bytes_taken writer.new) }

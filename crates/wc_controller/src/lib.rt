@@ -1,4 +1,5 @@
-//! The whole of a job and of a check: a program text loaded for the machine, its units' bounds written, and a job answered.
+//! What each word of the program does with its inputs: a program text is loaded and its units'
+//! bounds are written, a log is run, a job is answered.
 #![tactic(auto)]
 
 mod answering;

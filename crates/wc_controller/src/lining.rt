@@ -1,7 +1,9 @@
-ghost use Rattle.std.specs.Prelude.{◌≡◌, IfErr, IfSome, None};
+ghost use Rattle.std.specs.Prelude.{◌≡◌, ◌+◌, IfErr, IfSome, Some, None};
 ghost use Rattle.wc_controller.specs.Blames.{Blames, RefusesLog, StopsFor};
-ghost use Rattle.wc_controller.specs.Endings.{EndsAs, IsAt, IsReadFaultAt, RefusesPlate, StopsAt, TellsFailures, TellsReadEndings, TellsReadFaults, TellsWriteFaults, WritesUpTo, met};
+ghost use Rattle.wc_controller.specs.Endings.{EndsAs, IsAt, IsReadFaultAt, RefusesPlate, StopsAt, TellsFailures, TellsMemory, TellsReadEndings, TellsReadFaults, TellsWriteFaults, WritesUpTo, met};
 ghost use Rattle.wc_controller.specs.Files.{AnswersLine, line_answer};
+ghost use Rattle.wc_job.specs.Reads.{TakesAtMost};
+ghost use Rattle.wc_model.specs.Run.JobSections.{longest_job};
 ghost use Rattle.wc_model.specs.Run.Log.{log_of};
 ghost use Rattle.wc_record.specs.Left.{HasCause};
 ghost use Rattle.wc_record.specs.Reading.{records_of};
@@ -12,7 +14,7 @@ use crate::reading::read_plate;
 use std::alloc::Global;
 use wc_model::{ByteIn, ByteOut};
 use wc_plate::Plate;
-use wc_run::run;
+use wc_run::{RunFault, run};
 
 /// Runs a log with no program.
 fn line_plate<L: ByteIn, W: ByteOut>(
@@ -29,6 +31,9 @@ fn line_plate<L: ByteIn, W: ByteOut>(
     ensures input { IfErr result (λ stopped. stopped.input ≡ Input.Log) }
     ensures read { IsReadFaultAt Input.Log result
         → HasCause (L.failure_count log.old) (L.failure_count log.new)
+        (L.spent_count log.old) (L.spent_count log.new) }
+    ensures memory { met result ≡ Some RunFault.Memory
+        → ¬ HasCause (L.failure_count log.old) (L.failure_count log.new)
         (L.spent_count log.old) (L.spent_count log.new) }
     ensures failures { TellsWriteFaults (met result) (W.failure_count writer.old)
         (W.failure_count writer.new) }
@@ -63,8 +68,13 @@ fn line_inputs<P: ByteIn, L: ByteIn, W: ByteOut>(
     ensures log { IsReadFaultAt Input.Log result
         → HasCause (L.failure_count log.old) (L.failure_count log.new)
         (L.spent_count log.old) (L.spent_count log.new) }
+    ensures memory { met result ≡ Some RunFault.Memory
+        → TellsMemory (L.bytes_left log.old) (L.failure_count log.old) (L.failure_count log.new)
+        (L.spent_count log.old) (L.spent_count log.new) }
     ensures failures { TellsWriteFaults (met result) (W.failure_count writer.old)
         (W.failure_count writer.new) }
+    ensures taken { TakesAtMost (longest_job + 1) (P.bytes_left plate.old)
+        (P.bytes_left plate.new) }
 {
     match read_plate(alloc, plate) {
         Ok(plate) => line_plate(alloc, &plate, log, writer),
@@ -72,8 +82,9 @@ fn line_inputs<P: ByteIn, L: ByteIn, W: ByteOut>(
     }
 }
 
-/// Runs a log with no program, so that the answers of the line alone are written: the plate is read and judged first, and the
-/// log is not read where it is refused. All else is as `run_files` has it.
+/// Runs a log with no program, so that the answers of the line alone are written: the plate is read
+/// and judged first, and the log is not read where it is refused. All else is as `run_files` has
+/// it.
 pub fn line_files<P: ByteIn, L: ByteIn, W: ByteOut>(
     alloc: Global,
     plate: &mut P,
@@ -96,8 +107,15 @@ pub fn line_files<P: ByteIn, L: ByteIn, W: ByteOut>(
     ensures log { result ≡ Ending.ReadFault Input.Log
         → HasCause (L.failure_count log.old) (L.failure_count log.new)
         (L.spent_count log.old) (L.spent_count log.new) }
+    // A fault of the log's reader, or the bound that was met, is not told as want of memory.
+    ensures memory { result ≡ Ending.NoMemory
+        → TellsMemory (L.bytes_left log.old) (L.failure_count log.old) (L.failure_count log.new)
+        (L.spent_count log.old) (L.spent_count log.new) }
     ensures failures { TellsFailures result (W.failure_count writer.old)
         (W.failure_count writer.new) }
+    // Of the plate it reads no further than the byte that makes it too long.
+    ensures taken { TakesAtMost (longest_job + 1) (P.bytes_left plate.old)
+        (P.bytes_left plate.new) }
 {
     let answer = line_inputs(alloc, plate, log, writer);
     end(alloc, answer, writer)

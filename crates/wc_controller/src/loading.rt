@@ -12,9 +12,10 @@ use wc_model::Fault;
 use wc_reader::read;
 use wc_verify::verify;
 
-/// Loads a program text in five passes: tokens, reading, declarations, bodies, cost. `Err(Refused)` has the number and the
-/// line of the first fault of the first pass that has one, by the list of refusals. `Err(Memory)` is want of memory. With what
-/// is loaded every scan ends, within the program's bound, and leaves the line as it is with no program.
+/// Loads a program text in five passes: tokens, reading, declarations, bodies, cost. `Err(Refused)`
+/// has the number and the line of the first fault of the first pass that has one, by the list of
+/// refusals. `Err(Memory)` is want of memory. With what is loaded every scan ends, within the
+/// program's bound, and leaves the line as it is with no program.
 pub fn load<'a>(alloc: Global, text: &'a [u8]) -> Result<Loaded<'a>, Fault>
     ensures loaded { IfOk result (λ loaded. IsLoaded text.now (text_view loaded.source)) }
     ensures headline { IfOk result

@@ -66,6 +66,8 @@ pub(crate) fn read_plate<R: ByteIn>(alloc: Global, reader: &mut R) -> Result<Pla
     ensures silent { (count : ℕ) → TellsWriteFaults (met result) count count }
     ensures failures { TellsReadFaults Input.Plate result (R.failure_count reader.old)
         (R.failure_count reader.new) }
+    ensures taken { TakesAtMost (longest_job + 1) (R.bytes_left reader.old)
+        (R.bytes_left reader.new) }
 {
     let bytes = match read_input(alloc, Input::Plate, reader) {
         Ok(bytes) => bytes,

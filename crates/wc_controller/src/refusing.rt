@@ -5,8 +5,9 @@ use wc_model::{ByteOut, write_whole};
 use wc_report::refused_line;
 use wc_run::RunFault;
 
-/// Writes the line of a refusal behind what stands. `Write` comes only where the writer failed in this call, which then took
-/// a front of the line; at `Memory` nothing was written; there is no other fault.
+/// Writes the line of a refusal behind what stands. `Write` comes only where the writer failed in
+/// this call, which then took a front of the line; at `Memory` nothing was written; there is no
+/// other fault.
 pub(crate) fn write_refusal<W: ByteOut>(
     alloc: Global,
     number: u16,

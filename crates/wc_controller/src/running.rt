@@ -1,11 +1,13 @@
-ghost use Rattle.std.specs.Prelude.{◌≡◌, ◌≤◌, Some, None, IfErr, IfSome};
+ghost use Rattle.std.specs.Prelude.{◌≡◌, ◌≤◌, ◌+◌, Some, None, IfErr, IfSome};
 ghost use Rattle.wc_controller.specs.Blames.{Blames, RefusesLog, RefusesProgram, RefusesText, StopsFor};
-ghost use Rattle.wc_controller.specs.Endings.{EndsAs, IsAt, IsReadFaultAt, RefusesPlate, StopsAt, TellsFailures, TellsReadEndings, TellsReadFaults, TellsWriteFaults, WritesUpTo, met};
+ghost use Rattle.wc_controller.specs.Endings.{EndsAs, IsAt, IsReadFaultAt, RefusesPlate, StopsAt, TellsFailures, TellsMemory, TellsReadEndings, TellsReadFaults, TellsWriteFaults, WritesUpTo, met};
 ghost use Rattle.wc_controller.specs.Files.{AnswersFile, AnswersRun, AnswersText, answer_printing};
+ghost use Rattle.wc_job.specs.Reads.{TakesAtMost};
 ghost use Rattle.wc_machine.specs.Machines.{StandsFor};
 ghost use Rattle.wc_model.specs.Language.Scans.{initial_of};
 ghost use Rattle.wc_model.specs.Language.Tree.{Text};
 ghost use Rattle.wc_model.specs.Language.Views.{text_view};
+ghost use Rattle.wc_model.specs.Run.JobSections.{longest_job};
 ghost use Rattle.wc_model.specs.Run.Log.{log_of};
 ghost use Rattle.wc_model.specs.Run.Writing.{HasFailedSince};
 ghost use Rattle.wc_record.specs.Left.{HasCause};
@@ -44,6 +46,9 @@ fn run_every<L: ByteIn, W: ByteOut>(
     ensures read { IsReadFaultAt Input.Log result
         → HasCause (L.failure_count log.old) (L.failure_count log.new)
         (L.spent_count log.old) (L.spent_count log.new) }
+    ensures memory { met result ≡ Some RunFault.Memory
+        → ¬ HasCause (L.failure_count log.old) (L.failure_count log.new)
+        (L.spent_count log.old) (L.spent_count log.new) }
     ensures failures { TellsWriteFaults (met result) (W.failure_count writer.old)
         (W.failure_count writer.new) }
 {
@@ -80,6 +85,9 @@ fn run_latest<L: ByteIn, W: ByteOut>(
     ensures read { IsReadFaultAt Input.Log result
         → HasCause (L.failure_count log.old) (L.failure_count log.new)
         (L.spent_count log.old) (L.spent_count log.new) }
+    ensures memory { met result ≡ Some RunFault.Memory
+        → ¬ HasCause (L.failure_count log.old) (L.failure_count log.new)
+        (L.spent_count log.old) (L.spent_count log.new) }
     ensures failures { TellsWriteFaults (met result) (W.failure_count writer.old)
         (W.failure_count writer.new) }
 {
@@ -115,6 +123,9 @@ fn run_machine<L: ByteIn, W: ByteOut>(
     ensures read { IsReadFaultAt Input.Log result
         → HasCause (L.failure_count log.old) (L.failure_count log.new)
         (L.spent_count log.old) (L.spent_count log.new) }
+    ensures memory { met result ≡ Some RunFault.Memory
+        → ¬ HasCause (L.failure_count log.old) (L.failure_count log.new)
+        (L.spent_count log.old) (L.spent_count log.new) }
     ensures failures { TellsWriteFaults (met result) (W.failure_count writer.old)
         (W.failure_count writer.new) }
 {
@@ -145,6 +156,9 @@ fn run_loaded<L: ByteIn, W: ByteOut>(
     ensures input { IfErr result (λ stopped. stopped.input ≡ Input.Log) }
     ensures read { IsReadFaultAt Input.Log result
         → HasCause (L.failure_count log.old) (L.failure_count log.new)
+        (L.spent_count log.old) (L.spent_count log.new) }
+    ensures memory { met result ≡ Some RunFault.Memory
+        → TellsMemory (L.bytes_left log.old) (L.failure_count log.old) (L.failure_count log.new)
         (L.spent_count log.old) (L.spent_count log.new) }
     ensures failures { TellsWriteFaults (met result) (W.failure_count writer.old)
         (W.failure_count writer.new) }
@@ -182,6 +196,9 @@ pub(crate) fn run_text<L: ByteIn, W: ByteOut>(
     ensures held { ¬ IsReadFaultAt Input.Program result }
     ensures read { IsReadFaultAt Input.Log result
         → HasCause (L.failure_count log.old) (L.failure_count log.new)
+        (L.spent_count log.old) (L.spent_count log.new) }
+    ensures memory { met result ≡ Some RunFault.Memory
+        → TellsMemory (L.bytes_left log.old) (L.failure_count log.old) (L.failure_count log.new)
         (L.spent_count log.old) (L.spent_count log.new) }
     ensures failures { TellsWriteFaults (met result) (W.failure_count writer.old)
         (W.failure_count writer.new) }
@@ -221,8 +238,13 @@ fn run_program<T: ByteIn, L: ByteIn, W: ByteOut>(
     ensures log { IsReadFaultAt Input.Log result
         → HasCause (L.failure_count log.old) (L.failure_count log.new)
         (L.spent_count log.old) (L.spent_count log.new) }
+    ensures memory { met result ≡ Some RunFault.Memory
+        → TellsMemory (L.bytes_left log.old) (L.failure_count log.old) (L.failure_count log.new)
+        (L.spent_count log.old) (L.spent_count log.new) }
     ensures failures { TellsWriteFaults (met result) (W.failure_count writer.old)
         (W.failure_count writer.new) }
+    ensures taken_program { TakesAtMost (longest_job + 1) (T.bytes_left program.old)
+        (T.bytes_left program.new) }
 {
     match read_input(alloc, Input::Program, program) {
         Ok(text) => run_text(alloc, last, plate, &text, log, writer),
@@ -261,8 +283,15 @@ fn run_inputs<P: ByteIn, T: ByteIn, L: ByteIn, W: ByteOut>(
     ensures log { IsReadFaultAt Input.Log result
         → HasCause (L.failure_count log.old) (L.failure_count log.new)
         (L.spent_count log.old) (L.spent_count log.new) }
+    ensures memory { met result ≡ Some RunFault.Memory
+        → TellsMemory (L.bytes_left log.old) (L.failure_count log.old) (L.failure_count log.new)
+        (L.spent_count log.old) (L.spent_count log.new) }
     ensures failures { TellsWriteFaults (met result) (W.failure_count writer.old)
         (W.failure_count writer.new) }
+    ensures taken_plate { TakesAtMost (longest_job + 1) (P.bytes_left plate.old)
+        (P.bytes_left plate.new) }
+    ensures taken_program { TakesAtMost (longest_job + 1) (T.bytes_left program.old)
+        (T.bytes_left program.new) }
 {
     match read_plate(alloc, plate) {
         Ok(plate) => run_program(alloc, last, &plate, program, log, writer),
@@ -270,11 +299,13 @@ fn run_inputs<P: ByteIn, T: ByteIn, L: ByteIn, W: ByteOut>(
     }
 }
 
-/// Runs a log with a program, and prints every scan, or the last so many alone, 1 to 1000: the plate is read and judged first, then the program, then the log is run row by row, and each
-/// line is written as its row comes. The first input that breaks a rule is refused, behind the lines of the rows before, and what
-/// follows it is not read. A read fault names the input whose reader failed in this call, or the log where as much was read as
-/// may be; a write fault comes where the writer failed in this call and only there. At such a fault, and for want of memory, a
-/// front of the output is written, or nothing.
+/// Runs a log with a program, and prints every scan, or the last so many alone, 1 to 1000: the
+/// plate is read and judged first, then the program, then the log is run row by row, and each line
+/// is written as its row comes. The first input that breaks a rule is refused, behind the lines of
+/// the rows before, and what follows it is not read. A read fault names the input whose reader
+/// failed in this call, or the log where as much was read as may be; a write fault comes where the
+/// writer failed in this call and only there. At such a fault, and for want of memory, a front of
+/// the output is written, or nothing.
 pub fn run_files<P: ByteIn, T: ByteIn, L: ByteIn, W: ByteOut>(
     alloc: Global,
     last: Option<u16>,
@@ -307,8 +338,17 @@ pub fn run_files<P: ByteIn, T: ByteIn, L: ByteIn, W: ByteOut>(
     ensures log { result ≡ Ending.ReadFault Input.Log
         → HasCause (L.failure_count log.old) (L.failure_count log.new)
         (L.spent_count log.old) (L.spent_count log.new) }
+    // A fault of the log's reader, or the bound that was met, is not told as want of memory.
+    ensures memory { result ≡ Ending.NoMemory
+        → TellsMemory (L.bytes_left log.old) (L.failure_count log.old) (L.failure_count log.new)
+        (L.spent_count log.old) (L.spent_count log.new) }
     ensures failures { TellsFailures result (W.failure_count writer.old)
         (W.failure_count writer.new) }
+    // It reads no further than the byte that makes a plate or a program too long.
+    ensures taken_plate { TakesAtMost (longest_job + 1) (P.bytes_left plate.old)
+        (P.bytes_left plate.new) }
+    ensures taken_program { TakesAtMost (longest_job + 1) (T.bytes_left program.old)
+        (T.bytes_left program.new) }
 {
     let answer = run_inputs(alloc, last, plate, program, log, writer);
     end(alloc, answer, writer)

@@ -1,12 +1,12 @@
 -- A text cut in lines, one after another.
-use Rattle.std.proofs.Common.{◌≡◌, ◌≤◌, ◌<◌, ◌+◌, ◌-◌, ◌==◌, ltb, ℕ, zero, suc, Bool, true, false, cond, not, min, List, [], ◌∷◌, ◌++◌, length, drop, take, map, get_or, zero-add, add-zero, Option, Some, None, if◌then◌else◌, refl, sym, ap, ◌∙◌, subst, arith}
+use Rattle.std.proofs.Common.{◌≡◌, ◌≤◌, ◌<◌, ◌+◌, ◌-◌, ◌==◌, ltb, ℕ, zero, suc, Bool, true, false, cond, not, min, List, [], ◌∷◌, length, drop, take, get_or, zero-add, add-zero, Some, None, if◌then◌else◌, refl, sym, ap, ◌∙◌, arith}
 use Rattle.std.proofs.lemmas.Bool.{ltb-false, ltb-true, ne_eqb}
 use Rattle.std.proofs.lemmas.List.{drop-drop}
-use Rattle.std.proofs.lemmas.List.Splits.{slice_split_none, slice_split_first}
+use Rattle.std.proofs.lemmas.List.Splits.{slice_split_first}
 use Rattle.std.proofs.lemmas.Option.{slice_get-map}
-use Rattle.std.specs.List.{All, after_first, before_first, onto_first, position_or_len, slice_split}
+use Rattle.std.specs.List.{after_first, before_first, onto_first, position_or_len}
 use Rattle.std.specs.Prelude.{option_map, slice_get}
-use Rattle.wc_findings.specs.Lines.{HasBelow, IsOneLine, cut_lines, item_at, line_of_number, lines_of, without_return}
+use Rattle.wc_findings.specs.Lines.{HasBelow, IsOneLine, cut_lines, line_of_number, lines_of, without_return}
 
 -- an LF
 abbrev pub is_end : ℕ → Bool

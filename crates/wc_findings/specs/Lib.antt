@@ -1,2 +1,4 @@
 pub mod Lines
 pub mod Showing
+pub mod Meant
+pub mod Finds

@@ -1,6 +1,7 @@
--- The lines of a text, as a message numbers and shows them. A line ends with LF or CR LF; the rule is the profile's own.
-use Rattle.std.specs.Prelude.{◌≡◌, ℕ, zero, suc, ◌==◌, List, [], ◌∷◌, map, Option, None, slice_get, if◌then◌else◌}
-use Rattle.std.specs.List.{slice_split}
+-- The lines of a text, as a message numbers and shows them. A line ends with LF or CR LF; the rule is
+-- the profile's own.
+use Rattle.std.specs.Prelude.{◌≡◌, ℕ, zero, suc, ◌==◌, List, [], ◌∷◌, map, Option, None, slice_get, not, take, if◌then◌else◌}
+use Rattle.std.specs.List.{slice_split, suffix_len}
 
 -- a line without the CR at its end
 abbrev pub without_return : List ℕ → List ℕ
@@ -32,3 +33,7 @@ item_at (suc before) items = slice_get items before
 -- the line of that number, counted from 1; nothing where the text has none
 abbrev pub line_of_number : ℕ → List ℕ → Option (List ℕ)
 line_of_number number text = item_at number (lines_of text)
+
+-- how many bytes of its line stand before a place: those behind the last LF
+abbrev pub column_at : List ℕ → ℕ → ℕ
+column_at text place = suffix_len (λ byte. not (byte == 10)) (take place text)

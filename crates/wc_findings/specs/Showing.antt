@@ -1,8 +1,27 @@
 -- Which line of a text a finding shows.
-use Rattle.std.specs.Prelude.{◌≡◌, ◌≤◌, ℕ, List, [], Option, Some, None, length, unwrap_or}
+use Rattle.std.specs.Prelude.{◌≡◌, ◌≤◌, ℕ, List, [], is_some, length, unwrap_or, if◌then◌else◌}
 use Rattle.wc_findings.specs.Lines.{line_of_number, lines_of}
+use Rattle.wc_findings.specs.declared.refusal.Part.{Part}
+use Rattle.wc_findings.specs.declared.refusal.Part.TheVariants.{Job, Plate, Program, Log}
 
--- these are the bytes of the line of that number, without its end: 0 is no line, and no line has no bytes
+-- these are the bytes of the line of that number, without its end: 0 is no line, and no line has no
+-- bytes
 pub record ShowsLine (text : List ℕ) (line : ℕ) (shown : List ℕ) : Type 0 where
   pub bytes : shown ≡ unwrap_or (line_of_number line text) []
   pub within : line ≤ length (lines_of text)
+
+-- the number, where the text has that line; else 0
+abbrev pub known_line : List ℕ → ℕ → ℕ
+known_line text number = if is_some (line_of_number number text) then number else 0
+
+-- the line that is shown: of a program the one that is refused, of a row its own, of a job none; of a
+-- plate, whose refusals name no line, one that is found
+abbrev pub line_of_part : Part → ℕ → ℕ → ℕ
+line_of_part Job place found = 0
+line_of_part Plate place found = found
+line_of_part Program place found = place
+line_of_part Log place found = 1
+
+-- the line that is shown is that of its part, where the text has it
+abbrev pub IsLineOf : Part → ℕ → List ℕ → ℕ → Type 0
+IsLineOf part place text line = (found : ℕ) × (line ≡ known_line text (line_of_part part place found))

@@ -1,7 +1,10 @@
+ghost use Rattle.std.specs.Prelude.{◌≡◌, IfOk, None};
+ghost use Rattle.wc_findings.specs.Meant.{PointsToOne};
+
 use crate::finding::Finding;
-use crate::lines::{line_start, piece};
+use crate::lines::{column_at, piece};
 use crate::names::{Names, names_at, shape_at, shape_behind};
-use crate::reading_faults::point_to;
+use crate::reading_faults::{tell_of, token_at};
 use std::alloc::{AllocError, Global};
 use wc_lexer::{Shape, Token};
 
@@ -103,12 +106,13 @@ fn tell_token(
     tokens: &[Token<'_>],
     index: usize,
     says: &'static str,
-) -> Result<(), AllocError> {
-    match tokens.get(index) {
-        Some(token) => {
-            point_to(finding, text, token);
-            finding.tell(token.text, says)
-        }
+) -> Result<(), AllocError>
+    requires { finding.old.spot ≡ None }
+    ensures meant { IfOk result (λ _. PointsToOne text.now tokens.now finding.new) }
+    ensures line { finding.new.line ≡ finding.old.line }
+{
+    match token_at(tokens, index) {
+        Some(token) => tell_of(finding, text, token, says),
         None => Ok(()),
     }
 }
@@ -149,27 +153,24 @@ fn tell_operand(
     text: &[u8],
     tokens: &[Token<'_>],
     number: u16,
-) -> Result<(), AllocError> {
+) -> Result<(), AllocError>
+    requires { finding.old.spot ≡ None }
+    ensures meant { IfOk result (λ _. PointsToOne text.now tokens.now finding.new) }
+    ensures line { finding.new.line ≡ finding.old.line }
+{
     let index = operator_at(tokens, first_on(tokens, finding.line)).saturating_add(1);
     let length = operand_length(tokens, index);
     let last = tokens.get(index.saturating_add(length).saturating_sub(1));
-    let (Some(first), Some(last), Some(start)) = (
-        tokens.get(index),
-        last,
-        line_start(text, finding.line),
-    ) else {
+    let (Some(first), Some(last)) = (token_at(tokens, index), last) else {
         return Ok(());
     };
     if length == 0 || first.line != finding.line || last.line != finding.line {
         return Ok(());
     }
+    let start = first.start as usize;
     let end = (last.start as usize).saturating_add(last.text.len());
-    let operand = piece(
-        text,
-        first.start as usize,
-        end.saturating_sub(first.start as usize),
-    );
-    finding.point((first.start as usize).saturating_sub(start), operand.len());
+    let operand = piece(text, start, end.saturating_sub(start));
+    finding.point(column_at(text, start), operand.len());
     finding.tell(operand, says_of(number))
 }
 
@@ -179,7 +180,11 @@ fn tell_unknown(
     text: &[u8],
     tokens: &[Token<'_>],
     names: &Names<'_>,
-) -> Result<(), AllocError> {
+) -> Result<(), AllocError>
+    requires { finding.old.spot ≡ None }
+    ensures meant { IfOk result (λ _. PointsToOne text.now tokens.now finding.new) }
+    ensures line { finding.new.line ≡ finding.old.line }
+{
     match (names.unknown, names.only_field()) {
         (Some(index), _) => tell_token(finding, text, tokens, index, says_of(401)),
         (None, Some(index)) => {
@@ -205,7 +210,11 @@ fn tell_declared(
     tokens: &[Token<'_>],
     names: &Names<'_>,
     number: u16,
-) -> Result<(), AllocError> {
+) -> Result<(), AllocError>
+    requires { finding.old.spot ≡ None }
+    ensures meant { IfOk result (λ _. PointsToOne text.now tokens.now finding.new) }
+    ensures line { finding.new.line ≡ finding.old.line }
+{
     match (number, names.twice, names.beyond) {
         (301, Some(index), _) => tell_token(finding, text, tokens, index, says_of(301)),
         (306, _, Some(index)) => tell_token(finding, text, tokens, index, says_of(306)),
@@ -224,7 +233,11 @@ pub(crate) fn find_body_fault(
     text: &[u8],
     tokens: &[Token<'_>],
     number: u16,
-) -> Result<(), AllocError> {
+) -> Result<(), AllocError>
+    requires { finding.old.spot ≡ None }
+    ensures meant { IfOk result (λ _. PointsToOne text.now tokens.now finding.new) }
+    ensures line { finding.new.line ≡ finding.old.line }
+{
     match number {
         301 | 306 => {
             let names = names_at(alloc, tokens, finding.line)?;

@@ -1,4 +1,4 @@
-ghost use Rattle.std.specs.Prelude.{◌≡◌, None, []};
+ghost use Rattle.std.specs.Prelude.{◌≡◌, None, OnOk, Some, []};
 
 use std::alloc::{AllocError, Global};
 
@@ -37,7 +37,8 @@ pub struct Finding {
 impl Finding {
     /// Nothing beyond what the number says, on that line.
     pub(crate) fn new(alloc: Global, line: u32) -> Finding
-        ensures { (result.spot ≡ None) × (result.shown.items ≡ []) }
+        ensures nothing { (result.spot ≡ None) × (result.shown.items ≡ []) }
+        ensures line { result.line ≡ line }
     {
         Finding {
             line,
@@ -53,12 +54,31 @@ impl Finding {
     }
 
     /// Points to bytes of the line.
-    pub(crate) fn point(&mut self, start: usize, length: usize) {
+    pub(crate) fn point(&mut self, start: usize, length: usize)
+        ensures spot { self.new.spot ≡ Some (record { start = start; length = length }) }
+        ensures line { self.new.line ≡ self.old.line }
+        ensures subject { self.new.subject.items ≡ self.old.subject.items }
+        ensures shown { self.new.shown.items ≡ self.old.shown.items }
+    {
         self.spot = Some(Spot { start, length });
     }
 
+    /// Points to nothing, and quotes nothing.
+    pub(crate) fn forget(&mut self)
+        ensures spot { self.new.spot ≡ None }
+        ensures line { self.new.line ≡ self.old.line }
+        ensures subject { self.new.subject.items ≡ [] }
+    {
+        self.spot = None;
+        self.subject.clear();
+    }
+
     /// Says this of a piece of the text.
-    pub(crate) fn tell(&mut self, subject: &[u8], says: &'static str) -> Result<(), AllocError> {
+    pub(crate) fn tell(&mut self, subject: &[u8], says: &'static str) -> Result<(), AllocError>
+        ensures spot { self.new.spot ≡ self.old.spot }
+        ensures line { self.new.line ≡ self.old.line }
+        ensures subject { OnOk result (self.new.subject.items ≡ subject.now) }
+    {
         self.subject.clear();
         self.says = Some(says);
         self.subject.extend_from_slice(subject)?;

@@ -1,6 +1,7 @@
 ghost use Rattle.std.specs.Prelude.{◌≡◌, ◌≤◌, ◌==◌, ◌∷◌, [], MatchOption, length, min, option_map, slice_get, take, drop, Some};
 ghost use Rattle.std.specs.List.{before_first, position_or_len};
-ghost use Rattle.wc_findings.specs.Lines.{HasBelow, IsOneLine, cut_lines, line_of_number, without_return};
+ghost use Rattle.wc_findings.specs.Meant.{StandsAt};
+ghost use Rattle.wc_findings.specs.Lines.{HasBelow, IsOneLine, column_at, cut_lines, line_of_number, without_return};
 
 /// What stands behind so many bytes.
 pub(crate) fn behind(text: &[u8], start: usize) -> &[u8]
@@ -19,7 +20,9 @@ pub(crate) fn front(text: &[u8], end: usize) -> &[u8]
 }
 
 /// The bytes from a place on, so many.
-pub(crate) fn piece(text: &[u8], start: usize, length: usize) -> &[u8] {
+pub(crate) fn piece(text: &[u8], start: usize, length: usize) -> &[u8]
+    ensures { StandsAt text.now start result.now }
+{
     front(behind(text, start), length)
 }
 
@@ -107,4 +110,17 @@ pub(crate) fn line_at(text: &[u8], number: u32) -> Option<&[u8]>
 pub(crate) fn line_of(text: &[u8], place: usize) -> u32 {
     let number = line_feeds(front(text, place)).saturating_add(1);
     number.min(1048577) as u32
+}
+
+/// How many bytes of its line stand before a place.
+pub(crate) fn column_at(text: &[u8], place: usize) -> usize
+    ensures { result ≡ column_at text.now place }
+{
+    let above = front(text, place);
+    for count in 0..above.len() {
+        if above[above.len() - count - 1] == b'\n' {
+            return count;
+        }
+    }
+    above.len()
 }

@@ -1,6 +1,9 @@
+ghost use Rattle.std.specs.Prelude.{◌≡◌, IfOk, IfSome, None};
+ghost use Rattle.wc_findings.specs.Meant.{IsToken, PointsTo, PointsToOne};
+
 use crate::expected::{expected, verdict};
 use crate::finding::Finding;
-use crate::lines::{front, line_start};
+use crate::lines::{column_at, front};
 use std::alloc::{AllocError, Global};
 use wc_lexer::{Shape, Token};
 
@@ -73,46 +76,102 @@ fn unit_words(tokens: &[Token<'_>], line: u32) -> usize {
         .count()
 }
 
+/// The token of that index.
+pub(crate) fn token_at<'a, 't>(tokens: &'t [Token<'a>], index: usize) -> Option<&'t Token<'a>>
+    ensures { IfSome result (λ token. IsToken tokens.now token.now) }
+{
+    tokens.get(index)
+}
+
 /// The token before the one of that index.
-fn token_before<'a, 't>(tokens: &'t [Token<'a>], index: usize) -> Option<&'t Token<'a>> {
-    tokens.get(index.checked_sub(1)?)
+fn token_before<'a, 't>(tokens: &'t [Token<'a>], index: usize) -> Option<&'t Token<'a>>
+    ensures { IfSome result (λ token. IsToken tokens.now token.now) }
+{
+    token_at(tokens, index.checked_sub(1)?)
 }
 
-/// Points to a token, if it stands on the line that is shown.
-pub(crate) fn point_to(finding: &mut Finding, text: &[u8], token: &Token<'_>) {
-    if let Some(start) = line_start(text, finding.line) {
-        if token.line == finding.line {
-            let length = match token.shape {
-                Shape::LineEnd => 1,
-                _ => token.text.len(),
-            };
-            finding.point((token.start as usize).saturating_sub(start), length);
-        }
+/// Points to a token, if it stands on the line that is shown, and quotes nothing.
+pub(crate) fn point_to(finding: &mut Finding, text: &[u8], token: &Token<'_>)
+    ensures meant { PointsTo text.now token.now finding.new }
+    ensures line { finding.new.line ≡ finding.old.line }
+{
+    finding.forget();
+    if token.line == finding.line {
+        let length = match token.shape {
+            Shape::LineEnd => 1,
+            _ => token.text.len(),
+        };
+        finding.point(column_at(text, token.start as usize), length);
     }
 }
 
-/// Says that a word in front of what is unexpected is no operator, where only a colon could follow it.
-fn tell_operator(finding: &mut Finding, text: &[u8], token: &Token<'_>) -> Result<(), AllocError> {
-    finding.expected.clear();
-    if is_one_of(token, b"END_PROGRAM", b"END_FUNCTION_BLOCK") {
-        finding.help = Some("nothing stands behind the END_PROGRAM of the program");
-        return Ok(());
-    }
-    finding.spot = None;
+/// Points to a token, if it stands on the line that is shown, and says this of it.
+pub(crate) fn tell_of(
+    finding: &mut Finding,
+    text: &[u8],
+    token: &Token<'_>,
+    says: &'static str,
+) -> Result<(), AllocError>
+    ensures meant { IfOk result (λ _. PointsTo text.now token.now finding.new) }
+    ensures line { finding.new.line ≡ finding.old.line }
+{
     point_to(finding, text, token);
+    finding.tell(token.text, says)
+}
+
+/// Says that a word begins no line, where only a colon could follow it.
+fn tell_operator(finding: &mut Finding, text: &[u8], token: &Token<'_>) -> Result<(), AllocError>
+    ensures meant { IfOk result (λ _. PointsTo text.now token.now finding.new) }
+    ensures line { finding.new.line ≡ finding.old.line }
+{
     if is_one_of(token, b"VAR", b"VAR_INPUT") || is_one_of(token, b"VAR_OUTPUT", b"END_VAR") {
         finding.help = Some("declarations stand before the first line of a body");
-        return finding.tell(token.text, "begins no line of a body");
+        return tell_of(finding, text, token, "begins no line of a body");
     }
     finding.help = Some(
         "the operators are LD, ST, S, R, AND, OR, XOR, NOT, ADD, SUB, MUL, DIV, MOD, GT, GE, EQ, NE, LE, LT, JMP, CAL and RET; a label has `:` behind it",
     );
-    finding.tell(token.text, "is no operator")
+    tell_of(finding, text, token, "is no operator")
 }
 
 /// Only a colon could stand there.
 fn is_colon_alone(expected: &[&'static str]) -> bool {
     expected.len() == 1 && expected.first() == Some(&"`:`")
+}
+
+/// Says that a token can't stand where it does.
+fn tell_met(finding: &mut Finding, text: &[u8], token: &Token<'_>) -> Result<(), AllocError>
+    ensures meant { IfOk result (λ _. PointsTo text.now token.now finding.new) }
+    ensures line { finding.new.line ≡ finding.old.line }
+{
+    if token.shape == Shape::LineEnd {
+        point_to(finding, text, token);
+        finding.says = Some("the line can't end here");
+        return Ok(());
+    }
+    tell_of(finding, text, token, "can't stand here")
+}
+
+/// The word in front of an unexpected token, where only a colon could follow it: it is no operator.
+/// Nothing at all follows END_PROGRAM.
+fn no_operator<'a, 't>(
+    finding: &mut Finding,
+    tokens: &'t [Token<'a>],
+    index: usize,
+) -> Option<&'t Token<'a>>
+    ensures token { IfSome result (λ token. IsToken tokens.now token.now) }
+    ensures line { finding.new.line ≡ finding.old.line }
+{
+    let before = token_before(tokens, index)?;
+    if !is_colon_alone(&finding.expected) {
+        return None;
+    }
+    finding.expected.clear();
+    if is_one_of(before, b"END_PROGRAM", b"END_FUNCTION_BLOCK") {
+        finding.help = Some("nothing stands behind the END_PROGRAM of the program");
+        return None;
+    }
+    Some(before)
 }
 
 /// Says of an unexpected token what could stand in its place.
@@ -122,19 +181,44 @@ fn tell_unexpected(
     text: &[u8],
     tokens: &[Token<'_>],
     index: usize,
-) -> Result<(), AllocError> {
-    let Some(token) = tokens.get(index) else {
-        return Ok(());
-    };
+    token: &Token<'_>,
+) -> Result<(), AllocError>
+    requires { IsToken tokens.now token.now }
+    ensures meant { IfOk result (λ _. PointsToOne text.now tokens.now finding.new) }
+    ensures line { finding.new.line ≡ finding.old.line }
+{
     finding.expected = expected(alloc, front(text, token.start as usize), token.line)?;
-    match token.shape {
-        Shape::LineEnd => finding.says = Some("the line can't end here"),
-        _ => finding.tell(token.text, "can't stand here")?,
+    match no_operator(finding, tokens, index) {
+        Some(word) => tell_operator(finding, text, word),
+        None => tell_met(finding, text, token),
     }
-    match token_before(tokens, index) {
-        Some(before) if is_colon_alone(&finding.expected) => tell_operator(finding, text, before),
-        _ => Ok(()),
+}
+
+/// Whether a fault of pass 2 at a token means the name before it: a label in a parenthesis is met at its colon.
+fn means_label(token: &Token<'_>, number: u16) -> bool {
+    number == 205 && token.shape == Shape::Colon
+}
+
+/// Points to the token that a fault of pass 2 means, where it is met at that one.
+fn point_to_meant(
+    finding: &mut Finding,
+    text: &[u8],
+    tokens: &[Token<'_>],
+    index: usize,
+    token: &Token<'_>,
+    number: u16,
+)
+    requires { IsToken tokens.now token.now }
+    ensures meant { PointsToOne text.now tokens.now finding.new }
+    ensures line { finding.new.line ≡ finding.old.line }
+{
+    if means_label(token, number) {
+        if let Some(label) = token_before(tokens, index) {
+            point_to(finding, text, label);
+            return;
+        }
     }
+    point_to(finding, text, token);
 }
 
 /// Which of the rules of its number a token of pass 2 breaks, where it has more than one.
@@ -156,28 +240,27 @@ pub(crate) fn find_reading_fault(
     text: &[u8],
     tokens: &[Token<'_>],
     number: u16,
-) -> Result<(), AllocError> {
+) -> Result<(), AllocError>
+    requires { finding.old.spot ≡ None }
+    ensures meant { IfOk result (λ _. PointsToOne text.now tokens.now finding.new) }
+    ensures line { finding.new.line ≡ finding.old.line }
+{
     if number == 202 && unit_words(tokens, finding.line) != 1 {
         return Ok(());
     }
     let Some(index) = met_at(alloc, text, tokens, number, finding.line) else {
         return Ok(());
     };
-    let Some(token) = tokens.get(index) else {
+    let Some(token) = token_at(tokens, index) else {
         return Ok(());
     };
     if number == 203 && !is_unit_word(token) {
         return Ok(());
     }
-    match token_before(tokens, index) {
-        Some(label) if number == 205 && token.shape == Shape::Colon => {
-            point_to(finding, text, label)
-        }
-        _ => point_to(finding, text, token),
-    }
     if number == 201 {
-        return tell_unexpected(alloc, finding, text, tokens, index);
+        return tell_unexpected(alloc, finding, text, tokens, index, token);
     }
+    point_to_meant(finding, text, tokens, index, token, number);
     finding.says = rule_of(number, token);
     Ok(())
 }

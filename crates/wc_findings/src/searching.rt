@@ -1,5 +1,7 @@
-ghost use Rattle.std.specs.Prelude.{◌≡◌, ◌≤◌, IfOk, IfSome, None, [], length};
-ghost use Rattle.wc_findings.specs.Showing.{ShowsLine};
+ghost use Rattle.std.specs.Prelude.{◌≡◌, ◌≤◌, IfOk, IfSome, None, Some, [], length};
+ghost use Rattle.wc_findings.specs.Finds.{Finds};
+ghost use Rattle.wc_findings.specs.Meant.{HasToken, IsKept, PointsToOne};
+ghost use Rattle.wc_findings.specs.Showing.{ShowsLine, known_line, line_of_part};
 
 use crate::body_faults::find_body_fault;
 use crate::finding::Finding;
@@ -10,7 +12,25 @@ use crate::refusal::{Part, Refusal};
 use crate::rows::find_row_fault;
 use crate::token_faults::find_token_fault;
 use std::alloc::{AllocError, Global};
-use wc_lexer::tokens;
+use wc_lexer::{Token, tokens};
+
+/// Finds what a refusal of pass 2, 3 or 4 means among the tokens of a program's text.
+fn find_meant(
+    alloc: Global,
+    finding: &mut Finding,
+    text: &[u8],
+    tokens: &[Token<'_>],
+    number: u16,
+) -> Result<(), AllocError>
+    requires { finding.old.spot ≡ None }
+    ensures meant { IfOk result (λ _. PointsToOne text.now tokens.now finding.new) }
+    ensures line { finding.new.line ≡ finding.old.line }
+{
+    if number < 300 {
+        return find_reading_fault(alloc, finding, text, tokens, number);
+    }
+    find_body_fault(alloc, finding, text, tokens, number)
+}
 
 /// Finds the fault of a program's text on its line.
 fn find_program_fault(
@@ -18,7 +38,11 @@ fn find_program_fault(
     finding: &mut Finding,
     text: &[u8],
     number: u16,
-) -> Result<(), AllocError> {
+) -> Result<(), AllocError>
+    requires { finding.old.spot ≡ None }
+    ensures { 200 ≤ number
+        → IfOk result (λ _. HasToken text.now finding.old.line finding.new) }
+{
     if finding.line == 0 {
         return Ok(());
     }
@@ -26,8 +50,7 @@ fn find_program_fault(
         return find_token_fault(alloc, finding, text, number);
     }
     match tokens(alloc, text) {
-        Ok(tokens) if number < 300 => find_reading_fault(alloc, finding, text, &tokens, number),
-        Ok(tokens) => find_body_fault(alloc, finding, text, &tokens, number),
+        Ok(tokens) => find_meant(alloc, finding, text, &tokens, number),
         Err(_) => Ok(()),
     }
 }
@@ -38,7 +61,11 @@ fn find_in(
     finding: &mut Finding,
     refusal: &Refusal<'_>,
     text: &[u8],
-) -> Result<(), AllocError> {
+) -> Result<(), AllocError>
+    requires { finding.old.spot ≡ None }
+    ensures { refusal.now.part ≡ Part.Program → 200 ≤ refusal.now.number
+        → IfOk result (λ _. HasToken text.now finding.old.line finding.new) }
+{
     match refusal.part {
         Part::Program => find_program_fault(alloc, finding, text, refusal.number),
         Part::Plate => find_plate_fault(alloc, finding, text, refusal.number),
@@ -47,37 +74,71 @@ fn find_in(
     }
 }
 
-/// The line that is looked at first, counted from 1 in the text at hand; 0: none.
-fn first_line(refusal: &Refusal<'_>) -> u32 {
+/// The line that is shown, counted from 1 in the text at hand, where this one was found; 0: none.
+fn line_of_part(refusal: &Refusal<'_>, found: u32) -> u32
+    ensures { result ≡ line_of_part refusal.now.part refusal.now.place found }
+{
     match refusal.part {
+        Part::Job => 0,
+        Part::Plate => found,
         Part::Program => refusal.place,
         Part::Log => 1,
-        _ => 0,
     }
 }
 
-/// Keeps the line that is shown, and no spot outside it.
-fn keep_line(finding: &mut Finding, text: &[u8]) -> Result<(), AllocError>
+/// Keeps the bytes of the line of that number, and no spot where the text has no such line.
+fn keep_bytes(finding: &mut Finding, text: &[u8], line: u32) -> Result<(), AllocError>
+    ensures line { IfOk result
+        (λ _. ShowsLine text.now finding.new.line finding.new.shown.items) }
+    ensures known { finding.new.line ≡ known_line text.now line }
+    ensures spot { IfSome finding.new.spot
+        (λ spot. (finding.old.spot ≡ Some spot) × (finding.new.line ≡ line)) }
+    ensures subject { finding.new.subject.items ≡ finding.old.subject.items }
+{
+    finding.shown.clear();
+    let Some(shown) = line_at(text, line) else {
+        finding.line = 0;
+        finding.spot = None;
+        return Ok(());
+    };
+    finding.line = line;
+    finding.shown.extend_from_slice(shown)
+}
+
+/// Moves a spot behind the line to its end.
+fn keep_spot(finding: &mut Finding)
+    ensures within { IfSome finding.new.spot
+        (λ spot. spot.start ≤ length finding.new.shown.items) }
+    ensures spot { IfSome finding.new.spot
+        (λ spot. IsKept finding.old finding.new finding.old.line spot) }
+    ensures line { finding.new.line ≡ finding.old.line }
+    ensures shown { finding.new.shown.items ≡ finding.old.shown.items }
+{
+    let end = finding.shown.len();
+    if let Some(spot) = finding.spot {
+        if spot.start > end {
+            finding.point(end, spot.length);
+        }
+    }
+}
+
+/// Keeps the bytes of the line that is shown, and no spot outside it.
+fn keep_line(finding: &mut Finding, text: &[u8], line: u32) -> Result<(), AllocError>
     ensures within { IfOk result
         (λ _. IfSome finding.new.spot (λ spot. spot.start ≤ length finding.new.shown.items)) }
     ensures line { IfOk result
         (λ _. ShowsLine text.now finding.new.line finding.new.shown.items) }
+    ensures known { IfOk result (λ _. finding.new.line ≡ known_line text.now line) }
+    ensures spot { IfOk result
+        (λ _. IfSome finding.new.spot (λ spot. IsKept finding.old finding.new line spot)) }
 {
-    finding.shown.clear();
-    match line_at(text, finding.line) {
-        Some(line) => finding.shown.extend_from_slice(line)?,
-        None => finding.line = 0,
-    }
-    if let Some(spot) = finding.spot {
-        if spot.start > finding.shown.len() {
-            finding.spot = None;
-        }
-    }
+    keep_bytes(finding, text, line)?;
+    keep_spot(finding);
     Ok(())
 }
 
-/// What exactly is wrong, as far as the text at hand says it; nothing without a text. What is meant stands in the line that is
-/// shown, or at its end. The error is want of memory.
+/// What exactly is wrong, as far as the text at hand says it; nothing without a text. What is meant
+/// stands in the line that is shown, or at its end. The error is want of memory.
 pub fn find(alloc: Global, refusal: &Refusal<'_>) -> Result<Finding, AllocError>
     ensures nothing { refusal.now.text ≡ None
         → IfOk result (λ finding. (finding.spot ≡ None) × (finding.shown.items ≡ [])) }
@@ -85,12 +146,14 @@ pub fn find(alloc: Global, refusal: &Refusal<'_>) -> Result<Finding, AllocError>
         (λ finding. IfSome finding.spot (λ spot. spot.start ≤ length finding.shown.items)) }
     ensures line { IfOk result (λ finding. IfSome refusal.now.text
         (λ text. ShowsLine text.now finding.line finding.shown.items)) }
+    ensures all { IfOk result (λ finding. Finds refusal.now finding) }
 {
     match refusal.text {
         Some(text) => {
-            let mut finding = Finding::new(alloc, first_line(refusal));
+            let mut finding = Finding::new(alloc, line_of_part(refusal, 0));
             find_in(alloc, &mut finding, refusal, text)?;
-            keep_line(&mut finding, text)?;
+            let line = line_of_part(refusal, finding.line);
+            keep_line(&mut finding, text, line)?;
             Ok(finding)
         }
         None => Ok(Finding::new(alloc, 0)),

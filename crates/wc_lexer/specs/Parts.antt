@@ -43,7 +43,8 @@ abbrev pub are_later : ℕ → List durations.Part → Bool
 are_later above [] = true
 are_later above (part ∷ parts) = durations.is_later_part part && nat_lt (durations.unit_milliseconds part) above && (not (durations.has_point part) || are_none parts) && are_later (durations.unit_milliseconds part) parts
 
--- the sum, where the form is right; no sum is told where the form is wrong or the sum is too long for 64 bits
+-- the sum, where the form is right; no sum is told where the form is wrong or the sum is too long
+-- for 64 bits
 abbrev pub IsSumTold : Bool → ℕ → Option ℕ → Type 0
 IsSumTold form sum None = (form ≡ false) ⊎ (2 ^ 64 ≤ sum)
 IsSumTold form sum (Some told) = (form ≡ true) × (told ≡ sum)

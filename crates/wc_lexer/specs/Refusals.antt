@@ -1,10 +1,23 @@
 -- What a refusal of the lexer says of its text.
-use Rattle.std.specs.Prelude.{ℕ, List}
-use Rattle.wc_model.specs.Text.Tokens.{IsFirstTokenFault}
+use Rattle.std.specs.Prelude.{◌≡◌, ◌≤◌, ℕ, List, [], ◌++◌, length, Ok}
+use Rattle.wc_model.specs.Text.Lexemes.{IsLongestLexeme}
+use Rattle.wc_model.specs.Text.Shapes.{Shape, shape_of}
+use Rattle.wc_model.specs.Text.Tokens.{Cuts, IsFirstTokenFault, Token, most_bytes}
 use Rattle.wc_model.specs.declared.fault.Fault.{Fault}
 use Rattle.wc_model.specs.declared.fault.Fault.TheVariants.{Memory, Refused}
 
--- the fault is the text's first, or want of memory
+-- a token stands here
+abbrev pub AtToken : List ℕ → List ℕ → Type 0
+AtToken before rest = (shape : Shape) × (piece : List ℕ) × (after : List ℕ) × (piece ++ after ≡ rest) × IsLongestLexeme piece after × (shape_of piece ≡ Ok shape)
+
+-- room is wanted for a token: the text is not too long, and is cut up to a place at which one
+-- stands
+pub record WantsRoom (text : List ℕ) : Type 0 where
+  pub short : length text ≤ most_bytes
+  pub tokens : List Token
+  pub cut : Cuts AtToken [] text tokens
+
+-- the fault is the text's first, or want of memory, where room is wanted
 abbrev pub Names : List ℕ → Fault → Type 0
 Names text (Refused number place) = IsFirstTokenFault text number place
-Names text Memory = Unit {0}
+Names text Memory = WantsRoom text

@@ -167,7 +167,8 @@ fn first_part(text: &[u8]) -> (&[u8], &[u8], &[u8])
     (number, letters, rest)
 }
 
-/// How long so many units and billionths of one are, in billionths of a millisecond, where the number has 64 bits.
+/// How long so many units and billionths of one are, in billionths of a millisecond, where the
+/// number has 64 bits.
 fn billionths(whole: u64, fraction: u64, milliseconds: u64) -> Option<u64>
     requires { 1 ≤ milliseconds }
     ensures { result ≡ within_64_bits ((whole * 10 ^ 9 + fraction) * milliseconds) }

@@ -15,7 +15,8 @@ fn begins_plain(text: &[u8]) -> bool
     }
 }
 
-/// How many characters of an identifier stand at the front, and whether their underscores are single.
+/// How many characters of an identifier stand at the front, and whether their underscores are
+/// single.
 #[inline(always)]
 pub(crate) fn identifier_front(text: &[u8]) -> (usize, bool)
     ensures longest { result.0 ≡ prefix_len is_identifier_character text.now }

@@ -53,7 +53,8 @@ fn any_lexeme(text: &[u8]) -> Piece
     }
 }
 
-/// The same, with room of its own for the answer, which is then not made ready where it is not called.
+/// The same, with room of its own for the answer, which is then not made ready where it is not
+/// called.
 #[inline(always)]
 fn other_lexeme(text: &[u8]) -> Piece
     ensures stands { said_sight result ≡ sight_by_reach (reach text.now) text.now }
@@ -97,7 +98,8 @@ fn any_piece(text: &[u8]) -> Piece
     }
 }
 
-/// The same, with room of its own for the answer, which is then not made ready where it is not called.
+/// The same, with room of its own for the answer, which is then not made ready where it is not
+/// called.
 #[inline(always)]
 fn other_piece(text: &[u8]) -> Piece
     requires { 1 ≤ length text.now }

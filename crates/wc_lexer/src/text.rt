@@ -12,7 +12,8 @@ use wc_model::Fault;
 /// The greatest length of a text, in bytes.
 const MOST_BYTES: usize = 65536;
 
-/// The tokens of a text, or its first fault.
+/// The tokens of a text, or its first fault. `Err(Memory)` is want of memory: no text that is too
+/// long is told so, and none that has no token before its first fault.
 pub fn tokens<'a>(alloc: Global, text: &'a [u8]) -> Result<Vec<Token<'a>>, Fault>
     ensures cut { IfOk result
         (λ tokens. (length text.now ≤ most_bytes) × IsCut text.now (map token_view tokens.items)) }

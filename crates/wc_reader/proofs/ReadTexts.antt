@@ -1,14 +1,14 @@
 -- What the walk over a text's tokens says of the text.
-use Rattle.std.proofs.Common.{◌≡◌, ◌≤◌, ℕ, List, map, length, subst, sym, inl, inr}
+use Rattle.std.proofs.Common.{◌≡◌, ◌≤◌, ◌<◌, ℕ, List, [], map, length, refl, subst, sym, inl, inr, arith}
 use Rattle.std.specs.Prelude.{Ok, Err, Result, IfOk, IfErr}
 use Rattle.wc_grammar_laws.specs.Moves.{Met, at_first, reading}
 use Rattle.wc_grammar_laws.proofs.Readings.{read_is_spelled, refused_is_first, refused_spells_nothing}
-use Rattle.wc_lexer.specs.Refusals.{Names}
+use Rattle.wc_lexer.specs.Refusals.{AtToken, Names, WantsRoom}
 use Rattle.wc_token_laws.proofs.TokenLaws.{cut_has_no_fault, cut_is_unique}
 use Rattle.wc_model.specs.Text.Grammar.{Spells}
 use Rattle.wc_model.specs.Text.Marks.{Mark}
 use Rattle.wc_model.specs.Text.Reading.{IsMisread, IsRead, last_line, mark_of_token}
-use Rattle.wc_model.specs.Text.Tokens.{IsCut, IsFirstTokenFault, Token, most_bytes}
+use Rattle.wc_model.specs.Text.Tokens.{AtEnd, Cuts, IsCut, IsFirstTokenFault, Nothing, Skipped, Taken, Token, most_bytes}
 use Rattle.wc_model.specs.Language.Tree.{Text}
 use Rattle.wc_model.specs.declared.fault.Fault.{Fault}
 use Rattle.wc_model.specs.declared.fault.Fault.TheVariants.{Memory, Refused}
@@ -44,14 +44,25 @@ misread bytes tokens number place short cut m = record {
   unread = not_spelled bytes tokens m.met short cut m.outcome_is;
 }
 
+-- before the first of some tokens there are blanks alone
+first_stands : {before rest : List ℕ} {tokens : List Token} → Cuts AtEnd before rest tokens → 0 < length tokens → Cuts AtToken before rest []
+first_stands (Nothing e) some = absurd (omega (arith, some))
+first_stands (Skipped piece after e blank more) some = Skipped piece after e blank (first_stands more some)
+first_stands (Taken shape piece after e longest s more) some = Nothing (shape, piece, after, e, longest, s)
+
+-- room is wanted for the tokens of a text that has some
+wants_room : (bytes : List ℕ) (tokens : List Token) → length bytes ≤ most_bytes → IsCut bytes tokens → 0 < length tokens → WantsRoom bytes
+wants_room bytes tokens short cut some = record { short = short; tokens = []; cut = first_stands cut some }
+
 -- what a fault that the walk meets says
-pub refused_as : (bytes : List ℕ) (tokens : List Token) (fault : Fault) → length bytes ≤ most_bytes → IsCut bytes tokens → TellsFault (reading at_first (map mark_of_token tokens) (last_line bytes)) fault → IsRefusedAs bytes fault
-refused_as bytes tokens Memory short cut t = tt
-refused_as bytes tokens (Refused number place) short cut t = misread bytes tokens number place short cut t
+pub refused_as : (bytes : List ℕ) (tokens : List Token) (fault : Fault) → length bytes ≤ most_bytes → IsCut bytes tokens → TellsFault (reading at_first (map mark_of_token tokens) (last_line bytes)) fault
+    → (fault ≡ Memory → 0 < length tokens) → IsRefusedAs bytes fault
+refused_as bytes tokens Memory short cut t some = wants_room bytes tokens short cut (some refl)
+refused_as bytes tokens (Refused number place) short cut t some = misread bytes tokens number place short cut t
 
 -- and one of the tokens
 pub token_fault : (bytes : List ℕ) (fault : Fault) → Names bytes fault → IsRefusedAs bytes fault
-token_fault bytes Memory n = tt
+token_fault bytes Memory n = n
 token_fault bytes (Refused number place) n = not_cut bytes number place n
 
 -- what a result of the walk says of the text it read, or refused
@@ -61,6 +72,6 @@ result_read bytes tokens marks last (Ok source) short cut m l t = read_as bytes 
 result_read bytes tokens marks last (Err fault) short cut m l t = tt
 
 pub result_refused : (bytes : List ℕ) (tokens : List Token) (marks : List Mark) (last : ℕ) (result : Result Source Fault) → length bytes ≤ most_bytes → IsCut bytes tokens → marks ≡ map mark_of_token tokens → last ≡ last_line bytes → TellsReading (reading at_first marks last) result
-    → IfErr result (λ fault. IsRefusedAs bytes fault)
-result_refused bytes tokens marks last (Ok source) short cut m l t = tt
-result_refused bytes tokens marks last (Err fault) short cut m l t = refused_as bytes tokens fault short cut (subst (λ n. TellsFault (reading at_first (map mark_of_token tokens) n) fault) l (subst (λ ms. TellsFault (reading at_first ms last) fault) m t))
+    → IfErr result (λ fault. fault ≡ Memory → 0 < length tokens) → IfErr result (λ fault. IsRefusedAs bytes fault)
+result_refused bytes tokens marks last (Ok source) short cut m l t some = tt
+result_refused bytes tokens marks last (Err fault) short cut m l t some = refused_as bytes tokens fault short cut (subst (λ n. TellsFault (reading at_first (map mark_of_token tokens) n) fault) l (subst (λ ms. TellsFault (reading at_first ms last) fault) m t)) some

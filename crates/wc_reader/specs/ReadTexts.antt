@@ -1,5 +1,6 @@
 -- What the reader says of a text that it refuses.
 use Rattle.std.specs.Prelude.{◌≡◌, ℕ, List, ◌⊎◌}
+use Rattle.wc_lexer.specs.Refusals.{WantsRoom}
 use Rattle.wc_model.specs.Text.Reading.{IsMisread, IsRead}
 use Rattle.wc_model.specs.Text.ReadingFaults.{ReadingFault, number_of}
 use Rattle.wc_model.specs.Text.Tokens.{IsFirstTokenFault}
@@ -16,7 +17,7 @@ pub record IsUnread (bytes : List ℕ) (number place : ℕ) : Type 0 where
   pub first : IsFirstOf bytes number place
   pub unread : (text : Text) → ¬ (IsRead bytes text)
 
--- what a refusal says; want of memory says nothing
+-- what a refusal says; want of memory says that room is wanted for a token
 abbrev pub IsRefusedAs : List ℕ → Fault → Type 0
-IsRefusedAs bytes Memory = Unit {0}
+IsRefusedAs bytes Memory = WantsRoom bytes
 IsRefusedAs bytes (Refused number place) = IsUnread bytes number place

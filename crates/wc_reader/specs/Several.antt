@@ -13,7 +13,8 @@ use Rattle.wc_reader.specs.declared.declarations.DeclarationState.TheVariants.{U
 use Rattle.wc_reader.specs.declared.text_state.TextState.{TextState}
 use Rattle.wc_reader.specs.declared.text_state.TextState.TheVariants.{Declaring}
 
--- A text whose walk stands at one state with these tokens to come is read as if it stood at the other with those.
+-- A text whose walk stands at one state with these tokens to come is read as if it stood at the
+-- other with those.
 pub record GoesOn (state : State) (marks : List Mark) (next : State) (behind : List Mark) : Type 0 where
   pub same : (last : ℕ) → reading state marks last ≡ reading next behind last
 
@@ -53,7 +54,8 @@ pub record IsArgument (input assign operand : Mark) (argument : Assignment) : Ty
       → ListEnds call (input ∷ assign ∷ operand ∷ record { symbol = ClosingBracket; line = close } ∷ record { symbol = LineEnd; line = end } ∷ behind)
       (with_argument call argument.input argument.value) behind
 
--- At the start of a line the four begin this call's list, whose first input is read as one behind a comma is.
+-- At the start of a line the four begin this call's list, whose first input is read as one behind a
+-- comma is.
 pub record BeginsCall (p : Position) (operator instance opening input : Mark) (call : Listed) : Type 0 where
   pub same : (behind : List Mark)
       → GoesOn (AtLine p) (operator ∷ instance ∷ opening ∷ input ∷ behind) (OnLine p (Listing (record { label = None; line = operator.line }) call AtNext)) (input ∷ behind)

@@ -34,7 +34,8 @@ opening_view o = record {
   operand = option_map term_view o.operand;
 }
 
--- parentheses that are open, which the reader has the innermost last: each goes before those that it stands in
+-- parentheses that are open, which the reader has the innermost last: each goes before those that
+-- it stands in
 abbrev pub openings_view : List positions.Opening → List Opening → List positions.Opening
 openings_view outer [] = outer
 openings_view outer (o ∷ inner) = openings_view (opening_view o ∷ outer) inner

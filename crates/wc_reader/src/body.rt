@@ -363,7 +363,8 @@ pub(crate) fn has_content<'a>(opening: &Opening<'a>, done: &[Line<'a>]) -> bool
     }
 }
 
-/// The body behind the `)` of the innermost parenthesis; none where none is open, or it holds nothing.
+/// The body behind the `)` of the innermost parenthesis; none where none is open, or it holds
+/// nothing.
 pub(crate) fn behind_closing<'a>(body: Body<'a>, close: u32) -> Result<Option<Body<'a>>, AllocError>
     requires { IsCounted body }
     ensures behind { IfOk result

@@ -81,8 +81,8 @@ fn step_with<'a>(operation: Operation, token: Token<'a>) -> Option<Step<'a>>
     }
 }
 
-/// Whether a line that begins with this word is read as its operator says: no parenthesis is open, the unit is not
-/// full, and the word ends no unit.
+/// Whether a line that begins with this word is read as its operator says: no parenthesis is open,
+/// the unit is not full, and the word ends no unit.
 fn is_plain_start(body: &Body, text: &[u8]) -> bool
     requires { IsCounted body.now }
     ensures opened { IsTrue result → (units : List ProgramUnit)
@@ -133,7 +133,8 @@ fn step_at<'a>(body: &Body<'a>, first: Token<'a>, second: Token<'a>) -> Option<S
     }
 }
 
-/// Reads a line of an operator with its operand or its label, and says how many tokens it has: none where no such line stands here.
+/// Reads a line of an operator with its operand or its label, and says how many tokens it has: none
+/// where no such line stands here.
 #[inline(always)]
 fn take_step<'a>(body: &mut Body<'a>, tokens: &[Token<'a>]) -> Result<usize, AllocError>
     requires { IsCounted body.old }
@@ -163,8 +164,8 @@ fn take_step<'a>(body: &mut Body<'a>, tokens: &[Token<'a>]) -> Result<usize, All
     }
 }
 
-/// Reads a short line in place, behind an empty one and a label alone where each stands here, and says how many tokens
-/// they have.
+/// Reads a short line in place, behind an empty one and a label alone where each stands here, and
+/// says how many tokens they have.
 #[inline(always)]
 pub(crate) fn take_line<'a>(body: &mut Body<'a>, tokens: &[Token<'a>]) -> Result<usize, AllocError>
     requires { IsCounted body.old }

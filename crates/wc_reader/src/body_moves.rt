@@ -122,8 +122,8 @@ pub(crate) fn section_begun(done: &[Line], text: &[u8]) -> Option<Section>
     if done.is_empty() { section(text) } else { None }
 }
 
-/// Behind the first word of a line of a body with no parenthesis open, which does not end the unit and which no colon
-/// follows.
+/// Behind the first word of a line of a body with no parenthesis open, which does not end the unit
+/// and which no colon follows.
 #[inline(always)]
 fn at_word<'a>(
     alloc: Global,
@@ -190,7 +190,8 @@ fn end_unit<'a>(units: &mut Vec<Unit<'a>, Global>, body: Body<'a>) -> Result<(),
     Ok(())
 }
 
-/// Behind the first word of a line of a body with no parenthesis open, which no colon follows: it may end the unit.
+/// Behind the first word of a line of a body with no parenthesis open, which no colon follows: it
+/// may end the unit.
 #[inline(always)]
 fn at_body_word<'a>(
     alloc: Global,

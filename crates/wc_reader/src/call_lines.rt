@@ -49,7 +49,8 @@ fn add_argument<'a>(call: &mut Listed<'a>, argument: Argument<'a>) -> Result<(),
     Ok(())
 }
 
-/// Reads an argument and the comma behind it, and says how many tokens they have: none where they do not stand here.
+/// Reads an argument and the comma behind it, and says how many tokens they have: none where they
+/// do not stand here.
 fn take_argument<'a>(call: &mut Listed<'a>, tokens: &[Token<'a>]) -> Result<usize, AllocError>
     ensures goes_on { IfOk result
         (λ taken.
@@ -72,7 +73,8 @@ fn take_argument<'a>(call: &mut Listed<'a>, tokens: &[Token<'a>]) -> Result<usiz
     }
 }
 
-/// Reads an argument and its comma at that index, where they stand there, and says where the next token stands.
+/// Reads an argument and its comma at that index, where they stand there, and says where the next
+/// token stands.
 fn take_argument_at<'a>(
     call: &mut Listed<'a>,
     tokens: &[Token<'a>],
@@ -110,8 +112,8 @@ fn take_arguments<'a>(call: &mut Listed<'a>, tokens: &[Token<'a>]) -> Result<usi
     Ok(place)
 }
 
-/// Reads the last argument with the list's end and the line's, and says how many tokens they have: none where they do
-/// not stand here.
+/// Reads the last argument with the list's end and the line's, and says how many tokens they have:
+/// none where they do not stand here.
 fn take_last<'a>(call: &mut Listed<'a>, tokens: &[Token<'a>]) -> Result<usize, AllocError>
     ensures ends { IfOk result
         (λ taken. 0 < taken
@@ -134,8 +136,8 @@ fn take_last<'a>(call: &mut Listed<'a>, tokens: &[Token<'a>]) -> Result<usize, A
     }
 }
 
-/// Reads a call's arguments with the list's end and the line's, and says how many tokens they have: none where no such
-/// list stands here.
+/// Reads a call's arguments with the list's end and the line's, and says how many tokens they have:
+/// none where no such list stands here.
 fn take_list<'a>(call: &mut Listed<'a>, tokens: &[Token<'a>]) -> Result<usize, AllocError>
     ensures ends { IfOk result
         (λ taken. 0 < taken
@@ -152,7 +154,8 @@ fn take_list<'a>(call: &mut Listed<'a>, tokens: &[Token<'a>]) -> Result<usize, A
     Ok(before + last)
 }
 
-/// The call whose list begins with these tokens: its operator, its instance, the bracket and the first input.
+/// The call whose list begins with these tokens: its operator, its instance, the bracket and the
+/// first input.
 fn call_at<'a>(
     alloc: Global,
     body: &Body<'a>,
@@ -183,7 +186,8 @@ fn call_at<'a>(
     }
 }
 
-/// Reads a call with a list on one line, and says how many tokens it has: none where no such line stands here.
+/// Reads a call with a list on one line, and says how many tokens it has: none where no such line
+/// stands here.
 fn take_call<'a>(
     alloc: Global,
     body: &mut Body<'a>,
@@ -219,7 +223,8 @@ fn take_call<'a>(
     }
 }
 
-/// Reads a short line and a call on one line, where each stands here, and says how many tokens they have.
+/// Reads a short line and a call on one line, where each stands here, and says how many tokens they
+/// have.
 #[inline(always)]
 pub(crate) fn take_line_and_call<'a>(
     alloc: Global,

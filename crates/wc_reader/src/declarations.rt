@@ -331,7 +331,8 @@ fn placed<'a>(
     }
 }
 
-/// Behind one more token of a section, whose line ends are passed over; none where no section goes on so.
+/// Behind one more token of a section, whose line ends are passed over; none where no section goes
+/// on so.
 pub(crate) fn declaration_move<'a>(
     alloc: Global,
     unit: Unit<'a>,

@@ -1,4 +1,4 @@
-ghost use Rattle.std.specs.Prelude.{◌≡◌, [], ℕ, Bool, List, MatchOption, Some, map};
+ghost use Rattle.std.specs.Prelude.{◌≡◌, [], ℕ, Bool, IfErr, IfSome, List, MatchOption, Some, map};
 ghost use Rattle.wc_grammar_laws.specs.Moves as moves;
 ghost use Rattle.wc_model.specs.Language.Tree.{ProgramUnit};
 ghost use Rattle.wc_model.specs.Language.Views.{unit_view};
@@ -97,8 +97,10 @@ fn open_on<'a>(body: &Body<'a>, line: &LineState<'a>) -> Fault
 
 /// Whole units at the text's end: one is a program, or none.
 fn whole_text<'a>(units: Vec<Unit<'a>, Global>, last_line: u32) -> Result<Source<'a>, Fault>
-    ensures { TellsReading
+    ensures told { TellsReading
         (moves.at_end (moves.Outside (map unit_view units.entry.items)) last_line) result }
+    // It takes no memory, so a refusal is not told as want of it.
+    ensures refuses { IfErr result (λ fault. fault ≡ Fault.Memory → ⊥) }
 {
     if has_program(&units) {
         Ok(Source { units })
@@ -122,10 +124,12 @@ fn unit_open(line: u32) -> Option<Fault>
 
 /// What is open at the text's end.
 fn open_at_end<'a>(state: &TextState<'a>) -> Option<Fault>
-    ensures { (units : List ProgramUnit) (last : ℕ)
+    ensures told { (units : List ProgramUnit) (last : ℕ)
         → MatchOption result
         (moves.at_end (state_view units state.now) last ≡ moves.at_end (moves.Outside units) last)
         (λ fault. TellsFault (moves.at_end (state_view units state.now) last) fault) }
+    // It takes no memory, so a refusal is not told as want of it.
+    ensures refuses { IfSome result (λ fault. fault ≡ Fault.Memory → ⊥) }
 {
     match state {
         TextState::Outside => None,
@@ -142,7 +146,9 @@ pub(crate) fn at_text_end<'a>(
     reading: &mut Reading<'a>,
     last_line: u32,
 ) -> Result<Source<'a>, Fault>
-    ensures { TellsReading (moves.at_end (reading_view reading.old) last_line) result }
+    ensures told { TellsReading (moves.at_end (reading_view reading.old) last_line) result }
+    // It takes no memory, so a refusal is not told as want of it.
+    ensures refuses { IfErr result (λ fault. fault ≡ Fault.Memory → ⊥) }
 {
     match open_at_end(&reading.state) {
         Some(fault) => Err(fault),

@@ -163,7 +163,8 @@ fn in_line_fault<'a>(
     }
 }
 
-/// What is wrong with a token of a line that has begun: an operator behind a label, or a bracket behind an operator.
+/// What is wrong with a token of a line that has begun: an operator behind a label, or a bracket
+/// behind an operator.
 fn state_fault<'a>(body: &Body<'a>, line: &LineState<'a>, token: Token<'a>) -> Option<Fault>
     requires { IsCounted body.now }
     ensures { (units : List ProgramUnit)
@@ -179,7 +180,8 @@ fn state_fault<'a>(body: &Body<'a>, line: &LineState<'a>, token: Token<'a>) -> O
     }
 }
 
-/// What is wrong with a token, other than that it is unexpected. `colon` says whether a colon follows it.
+/// What is wrong with a token, other than that it is unexpected. `colon` says whether a colon
+/// follows it.
 pub(crate) fn fault_at<'a>(reading: &Reading<'a>, token: Token<'a>, colon: bool) -> Option<Fault>
     requires { IsStateCounted reading.now.state }
     ensures { result

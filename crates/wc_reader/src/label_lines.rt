@@ -62,7 +62,8 @@ fn take_label<'a>(body: &mut Body<'a>, tokens: &[Token<'a>]) -> Result<usize, Al
     Ok(3)
 }
 
-/// Reads an empty line and a label alone, where each stands here, and says how many tokens they have.
+/// Reads an empty line and a label alone, where each stands here, and says how many tokens they
+/// have.
 #[inline(always)]
 pub(crate) fn take_empty<'a>(body: &mut Body<'a>, tokens: &[Token<'a>]) -> Result<usize, AllocError>
     requires { IsCounted body.old }

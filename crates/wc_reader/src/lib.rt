@@ -1,5 +1,5 @@
-//! The tree of a program text in Instruction List: its tokens are taken one after the other, so that no text makes the
-//! reader recurse.
+//! The tree of a program text in Instruction List: its tokens are taken one after the other, so
+//! that no text makes the reader recurse.
 #![tactic(auto)]
 
 mod body;

@@ -92,7 +92,8 @@ fn is_operator(token: Token) -> bool
     }
 }
 
-/// What is wrong with an operator that begins a line where the unit has as many as it may. A label is none.
+/// What is wrong with an operator that begins a line where the unit has as many as it may. A label
+/// is none.
 fn full_operator_fault(token: Token, colon: bool) -> Option<Fault>
     ensures { result
         ≡ option_map fault_of
@@ -152,7 +153,8 @@ fn is_end_word(token: Token, kind: UnitKind) -> bool
     }
 }
 
-/// What is wrong with a token that begins a line in parentheses, other than a `)`, a label and a transfer.
+/// What is wrong with a token that begins a line in parentheses, other than a `)`, a label and a
+/// transfer.
 fn inner_fault(body: &Body, open_line: u32, token: Token, colon: bool) -> Option<Fault>
     requires { IsCounted body.now }
     ensures { (units : List ProgramUnit)

@@ -58,8 +58,8 @@ fn at_operator<'a>(label: Option<Word<'a>>, token: Token<'a>) -> Option<LineStat
     }
 }
 
-/// Behind a line's first identifier that no colon follows. One that is no operator may still be a label: what is wrong
-/// is the token behind it.
+/// Behind a line's first identifier that no colon follows. One that is no operator may still be a
+/// label: what is wrong is the token behind it.
 fn operator_or_label<'a>(token: Token<'a>) -> LineState<'a>
     ensures { line_state_view result
         ≡ lines.operator_or_label

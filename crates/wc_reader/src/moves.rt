@@ -108,8 +108,8 @@ fn in_section<'a>(
     }
 }
 
-/// Behind one more token; none where no text goes on so. `colon` says whether a colon follows it. A unit that the token
-/// ends is added to the whole ones.
+/// Behind one more token; none where no text goes on so. `colon` says whether a colon follows it. A
+/// unit that the token ends is added to the whole ones.
 #[inline(always)]
 pub(crate) fn text_move<'a>(
     alloc: Global,

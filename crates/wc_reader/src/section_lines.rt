@@ -90,8 +90,8 @@ fn add_plain<'a>(
     Ok(())
 }
 
-/// Reads a declaration of one name with no value, and says how many tokens it has: none where no such declaration
-/// stands here.
+/// Reads a declaration of one name with no value, and says how many tokens it has: none where no
+/// such declaration stands here.
 #[inline(always)]
 fn take_plain<'a>(
     alloc: Global,
@@ -116,8 +116,8 @@ fn take_plain<'a>(
     Ok(4)
 }
 
-/// Reads a declaration of one name with no value and a line's end, where each stands here, and says how many tokens
-/// they have.
+/// Reads a declaration of one name with no value and a line's end, where each stands here, and says
+/// how many tokens they have.
 #[inline(always)]
 pub(crate) fn take_declaration<'a>(
     alloc: Global,

@@ -81,7 +81,8 @@ fn move_on<'a>(
     }
 }
 
-/// Goes on behind one more token, or says what is wrong with it. `colon` says whether a colon follows it.
+/// Goes on behind one more token, or says what is wrong with it. `colon` says whether a colon
+/// follows it.
 #[inline(always)]
 fn read_token<'a>(
     alloc: Global,
@@ -147,7 +148,8 @@ fn section_at(state: &TextState) -> Option<Section>
     }
 }
 
-/// Reads a short line of a section in place, and says how many tokens it has: none where no such line stands here.
+/// Reads a short line of a section in place, and says how many tokens it has: none where no such
+/// line stands here.
 #[inline(always)]
 fn take_in_section<'a>(
     alloc: Global,
@@ -169,7 +171,8 @@ fn take_in_section<'a>(
     }
 }
 
-/// Reads a short line of a body in place, and says how many tokens it has: none where no such line stands here.
+/// Reads a short line of a body in place, and says how many tokens it has: none where no such line
+/// stands here.
 #[inline(always)]
 fn take_in_body<'a>(
     alloc: Global,
@@ -190,7 +193,8 @@ fn take_in_body<'a>(
     }
 }
 
-/// Reads a short line in place, and says how many tokens it has: none where no such line stands here.
+/// Reads a short line in place, and says how many tokens it has: none where no such line stands
+/// here.
 #[inline(always)]
 fn take_front<'a>(
     alloc: Global,
@@ -211,7 +215,8 @@ fn take_front<'a>(
     }
 }
 
-/// Reads a short line at that index in place, where one stands there, and says where the next token stands.
+/// Reads a short line at that index in place, where one stands there, and says where the next token
+/// stands.
 #[inline(always)]
 fn take_at<'a>(
     alloc: Global,
@@ -234,7 +239,8 @@ fn take_at<'a>(
     Ok(index + taken)
 }
 
-/// Reads short lines in place from that index on, as many as stand there, and says where the next token stands.
+/// Reads short lines in place from that index on, as many as stand there, and says where the next
+/// token stands.
 fn take_lines<'a>(
     alloc: Global,
     reading: &mut Reading<'a>,
@@ -270,8 +276,10 @@ fn read_on<'a>(
     last_line: u32,
 ) -> Result<Source<'a>, Fault>
     requires { IsStateCounted reading.old.state }
-    ensures { TellsReading
+    ensures told { TellsReading
         (moves.reading (reading_view reading.old) (marks_of tokens.now) last_line) result }
+    // At the end no memory is taken.
+    ensures room { IfErr result (λ fault. fault ≡ Fault.Memory → 0 < length tokens.now) }
 {
     let mut place = 0;
     while place < tokens.len() {
@@ -288,7 +296,9 @@ fn read_on<'a>(
 
 /// The text that the tokens spell, or the first fault in them.
 fn read_tokens<'a>(alloc: Global, tokens: &[Token<'a>], last_line: u32) -> Result<Source<'a>, Fault>
-    ensures { TellsReading (moves.reading at_first (marks_of tokens.now) last_line) result }
+    ensures told { TellsReading (moves.reading at_first (marks_of tokens.now) last_line) result }
+    // With no token no memory is taken.
+    ensures room { IfErr result (λ fault. fault ≡ Fault.Memory → 0 < length tokens.now) }
 {
     let mut reading = Reading {
         units: Vec::new(alloc),
@@ -313,9 +323,11 @@ fn last_line(text: &[u8]) -> u32
     1 + line_feeds(text) as u32
 }
 
-/// The text as a tree (IEC 61131-3:2003, annex B), or its first fault. `Err(Refused)` has the number and line of the
-/// first fault in text order, by the list of refusals: 101 to 107 of its tokens, 201 to 208 of what they spell; the text
-/// is then read as no tree. `Err(Memory)` is want of memory.
+/// The text as a tree (IEC 61131-3:2003, annex B), or its first fault. `Err(Refused)` has the
+/// number and line of the first fault in text order, by the list of refusals: 101 to 107 of its
+/// tokens, 201 to 208 of what they spell; the text is then read as no tree. `Err(Memory)` is want
+/// of memory: no text that is too long is told so, and none that has no token before its first
+/// fault.
 pub fn read<'a>(alloc: Global, text: &'a [u8]) -> Result<Source<'a>, Fault>
     ensures read { IfOk result (λ source. IsRead text.now (text_view source)) }
     ensures refused { IfErr result (λ fault. IsRefusedAs text.now fault) }

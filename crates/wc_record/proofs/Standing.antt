@@ -16,8 +16,8 @@ use Rattle.wc_record.specs.declared.place.Spot.TheVariants as spot
 abbrev pub IsIn : Spot → ℕ → Place → Type 0
 IsIn at ended place = (size : ℕ) × (place ≡ record { spot = at; ended = min 3 ended; size = size })
 
--- where so many fields have ended, a state of the machine stands at this place; the default settings know no escape and
--- no comment
+-- where so many fields have ended, a state of the machine stands at this place; the default
+-- settings know no escape and no comment
 abbrev pub StandsAt : State → ℕ → Place → Type 0
 StandsAt st.StartRecord ended place = (place ≡ record_start) × (ended ≡ 0)
 StandsAt st.AfterCr ended place = (place ≡ record_start) × (ended ≡ 0)

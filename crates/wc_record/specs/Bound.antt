@@ -1,6 +1,7 @@
 -- How much may be read of a log.
 use Rattle.std.specs.Prelude.{ℕ, ◌-◌, ◌^◌, ◌==◌, ◌||◌, Bool, nat_le}
 
--- as much was read as may be: 134217728 bytes and calls since the start, or the count has come to its end
+-- as much was read as may be: 134217728 bytes and calls since the start, or the count has come to
+-- its end
 abbrev pub is_used_up : ℕ → ℕ → Bool
 is_used_up start spent = (spent == 2 ^ 64 - 1) || nat_le 134217728 (spent - start)

@@ -1,4 +1,5 @@
--- The bytes of a log that are read: of a record whose third field has ended none behind its first 65536 (the profile's own).
+-- The bytes of a log that are read: of a record whose third field has ended none behind its first
+-- 65536 (the profile's own).
 use Rattle.std.specs.Prelude.{◌≡◌, ◌≢◌, ◌<◌, ◌≤◌, ◌-◌, ℕ, List, [], ◌∷◌, ◌++◌, length, slice_index, take, drop, if◌then◌else◌}
 use Rattle.wc_record.specs.Places.{after, is_cut}
 use Rattle.wc_record.specs.declared.place.Place.{Place}
@@ -8,7 +9,8 @@ unfoldable pub cut_from : Place → List ℕ → List ℕ
 cut_from place [] = []
 cut_from place (byte ∷ rest) = if is_cut place then [] else byte ∷ cut_from (after place byte) rest
 
--- so many of these bytes, and then what is read from the new place on, is what is read of them and of any that follow
+-- so many of these bytes, and then what is read from the new place on, is what is read of them and
+-- of any that follow
 abbrev pub Cuts : Place → List ℕ → ℕ → Place → Type 0
 Cuts old bytes count new = (following : List ℕ) → cut_from old (bytes ++ following) ≡ take count bytes ++ cut_from new following
 

@@ -91,8 +91,8 @@ IsLeft bytes_left None rows log = (before : List Record) × (left : List Record)
 abbrev pub HasLeft : {R : Type 0} → (R → Option (List ℕ)) → Rows R → LogOf → Type 0
 HasLeft bytes_left rows log = IsLeft bytes_left rows.end rows log
 
--- an answer takes the first row that is left, or tells that none is left, or the refusal; a fault of the reader or of
--- memory says nothing
+-- an answer takes the first row that is left, or tells that none is left, or the refusal; a fault
+-- of the reader or of memory says nothing
 abbrev pub Takes : {R : Type 0} → (R → Option (List ℕ)) → LogOf → Answer → Rows R → Type 0
 Takes bytes_left log (Ok (Some row)) rows = (rest : LogOf) × (log ≡ with_row (row_view (row_bytes rows) row) rest) × HasLeft bytes_left rows rest
 Takes bytes_left log (Ok None) rows = (log ≡ nothing_left) × HasLeft bytes_left rows log
@@ -110,8 +110,8 @@ pub record IsNext {R : Type 0} (number ms : ℕ) (rows : Rows R) (row : Row) : T
   pub early : row.ms < 2 ^ 40
   pub in_range : IsDataInRange (data_view (row_bytes rows) row.kind)
 
--- a failed read has its cause in the reader: it has failed since, or its count of failures stands at its end, or as much
--- was read as may be
+-- a failed read has its cause in the reader: it has failed since, or its count of failures stands
+-- at its end, or as much was read as may be
 abbrev pub HasCause : ℕ → ℕ → ℕ → ℕ → Type 0
 HasCause failures_before failures start spent = (failures_before < failures) ⊎ (failures ≡ 2 ^ 64 - 1) ⊎ (is_used_up start spent ≡ true)
 

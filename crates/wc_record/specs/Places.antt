@@ -1,6 +1,6 @@
--- Where a reader stands in the bytes of a log: what the next byte may be (RFC 4180, section 2; a byte order mark at the
--- log's start is none of its bytes), how many fields of the record at hand have ended, up to three, and how many of its
--- bytes were read, up to 65536.
+-- Where a reader stands in the bytes of a log: what the next byte may be (RFC 4180, section 2; a
+-- byte order mark at the log's start is none of its bytes), how many fields of the record at hand
+-- have ended, up to three, and how many of its bytes were read, up to 65536.
 use Rattle.std.specs.Prelude.{ℕ, ◌+◌, ◌==◌, ◌||◌, ◌&&◌, Bool, true, false, min, nat_le, if◌then◌else◌}
 use Rattle.wc_record.specs.declared.place.Place.{Place}
 use Rattle.wc_record.specs.declared.place.Spot.{Spot}
@@ -14,7 +14,8 @@ log_start = record { spot = spot.LogStart; ended = 0; size = 0 }
 abbrev pub record_start : Place
 record_start = record { spot = spot.Opening; ended = 0; size = 0 }
 
--- three fields of the record at hand have ended, so that it has more than three, and 65536 of its bytes were read
+-- three fields of the record at hand have ended, so that it has more than three, and 65536 of its
+-- bytes were read
 abbrev pub is_cut : Place → Bool
 is_cut place = nat_le 3 place.ended && nat_le 65536 place.size
 

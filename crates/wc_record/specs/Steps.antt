@@ -17,7 +17,8 @@ RefusesRow (fault.Refused number place) log = log ≡ refused_at number place
 RefusesRow fault.Read log = ⊤
 RefusesRow fault.Memory log = ⊤
 
--- an answer gives the first row that is left, with its bytes in the room, or tells that none is left, or the refusal
+-- an answer gives the first row that is left, with its bytes in the room, or tells that none is
+-- left, or the refusal
 abbrev pub GivesRecord : {R : Type 0} → (R → Option (List ℕ)) → LogOf → Answer → Rows R → Type 0
 GivesRecord bytes_left log (Ok (Some row)) rows = (before : List Record) × (left : List Record) × (log ≡ with_row (row_view rows.room.items row) (log_behind before left)) × StandsBehind bytes_left rows before left
 GivesRecord bytes_left log (Ok None) rows = log ≡ nothing_left

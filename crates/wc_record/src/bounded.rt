@@ -15,8 +15,8 @@ use wc_model::ByteIn;
 /// The most bytes and calls that are spent on a log.
 const MOST_SPENT: u64 = 134217728;
 
-/// Whether as much of a log was read as may be: 134217728 bytes and calls since the start, or a count at its end. Both are
-/// counts of `ByteIn::spent`, the first of when the reader was lent.
+/// Whether as much of a log was read as may be: 134217728 bytes and calls since the start, or a
+/// count at its end. Both are counts of `ByteIn::spent`, the first of when the reader was lent.
 pub fn is_used_up(start: u64, spent: u64) -> bool
     ensures { result ≡ is_used_up start spent }
 {
@@ -41,8 +41,9 @@ fn read_within<R: ByteIn>(reader: &mut R, start: u64, buffer: &mut [u8]) -> io::
     reader.read(buffer)
 }
 
-/// A reader that is lent, the count at which it was, and the place at which it stands. It ends in a record that has more
-/// than three fields: such a record is refused, so that nothing behind its third field counts.
+/// A reader that is lent, the count at which it was, and the place at which it stands. It ends in a
+/// record that has more than three fields: such a record is refused, so that nothing behind its
+/// third field counts.
 #[derive(Drop)]
 pub(crate) struct Bounded<'r, R> {
     pub(crate) reader: &'r mut R,

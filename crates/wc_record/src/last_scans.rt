@@ -18,7 +18,8 @@ pub struct Record {
     pub outputs: Outputs,
 }
 
-/// The records of the last scans, as many as it was made for. Its room is made once: keeping a record takes no memory.
+/// The records of the last scans, as many as it was made for. Its room is made once: keeping a
+/// record takes no memory.
 #[derive(Drop)]
 pub struct Recorder {
     ring: HeapCircularBuffer<Record>,
@@ -37,7 +38,8 @@ impl Model for Recorder {
 }
 
 impl Recorder {
-    /// A recorder of the last so many scans, 1 to 1000, that has no record yet. `Memory` is its only fault.
+    /// A recorder of the last so many scans, 1 to 1000, that has no record yet. `Memory` is its
+    /// only fault.
     pub fn new(alloc: Global, number: u16) -> Result<Recorder, Fault>
         requires some { 1 ≤ number }
         requires few { number ≤ 1000 }
@@ -50,7 +52,8 @@ impl Recorder {
         }
     }
 
-    /// Keeps the record of one scan more; where there is no room for it, the oldest goes. It takes no memory.
+    /// Keeps the record of one scan more; where there is no room for it, the oldest goes. It takes
+    /// no memory.
     pub fn keep(&mut self, latest: Record)
         ensures records { self.new.records
             ≡ last_items self.old.most (self.old.records ++ latest ∷ []) }

@@ -1,4 +1,5 @@
-//! The log of a run, row by row, what a scan sees of the rows so far, and the records of the last scans.
+//! The log of a run, row by row, what a scan sees of the rows so far, and the records of the last
+//! scans.
 #![tactic(auto)]
 
 mod bounded;

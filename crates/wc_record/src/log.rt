@@ -51,8 +51,9 @@ fn end_behind(answer: &Result<Option<Row>, LogFault>) -> Option<LogEnd>
     }
 }
 
-/// The rows of a log of CSV records, read one at a time from a reader that is lent. The records are those that `csv`
-/// reads: without a byte order mark, of any number of fields, and blank lines are none.
+/// The rows of a log of CSV records, read one at a time from a reader that is lent. The records are
+/// those that `csv` reads: without a byte order mark, of any number of fields, and blank lines are
+/// none.
 #[derive(Drop)]
 pub struct Rows<'r, R> {
     source: Source<'r, R>,
@@ -65,8 +66,8 @@ pub struct Rows<'r, R> {
 }
 
 impl<'r, R: ByteIn> Rows<'r, R> {
-    /// The rows of the log that the reader has to give. Nothing is read, and no memory is taken, before the first
-    /// `next`.
+    /// The rows of the log that the reader has to give. Nothing is read, and no memory is taken,
+    /// before the first `next`.
     pub fn new(alloc: Global, reader: &'r mut R) -> Rows<'r, R>
         ensures rows { IfSome (R.bytes_left reader.old)
             (λ bytes. HasLeft R.bytes_left result (log_of (records_of bytes))) }
@@ -88,8 +89,8 @@ impl<'r, R: ByteIn> Rows<'r, R> {
         }
     }
 
-    /// The fault behind a read that failed: the reader's where it failed in this call or as much was read as may
-    /// be, else memory.
+    /// The fault behind a read that failed: the reader's where it failed in this call or as much
+    /// was read as may be, else memory.
     #[cold]
     #[inline(never)]
     fn cause(&self, failures_before: u64) -> LogFault
@@ -110,7 +111,8 @@ impl<'r, R: ByteIn> Rows<'r, R> {
         }
     }
 
-    /// Reads the next record, where there is one. `Memory` stands for whatever kept it from being read.
+    /// Reads the next record, where there is one. `Memory` stands for whatever kept it from being
+    /// read.
     #[inline(always)]
     fn read(&mut self) -> Result<bool, LogFault>
         ensures next { IfOk result
@@ -234,7 +236,8 @@ impl<'r, R: ByteIn> Rows<'r, R> {
         }
     }
 
-    /// The next row, where nothing has ended the log, with the cause of what kept a record from being read.
+    /// The next row, where nothing has ended the log, with the cause of what kept a record from
+    /// being read.
     #[inline(always)]
     fn told_row(&mut self) -> Result<Option<Row>, LogFault>
         ensures gives { (before left : List Record) → StandsBehind R.bytes_left self.old before left
@@ -261,11 +264,12 @@ impl<'r, R: ByteIn> Rows<'r, R> {
         }
     }
 
-    /// The next row behind the first, or `None` where none is left; `bytes` lends what a row of bytes brings. `Refused` names the first rule that is broken, 601
-    /// to 608, and its row. `Read` comes only where the reader failed in this call or its count of failures is at its
-    /// end, or where as much was read as may be: 134217728 bytes and calls since `new`. `Memory` comes where a growth
-    /// was refused, and where a read failed, without such a cause. After `None` or a fault each call answers the same
-    /// again and reads nothing.
+    /// The next row behind the first, or `None` where none is left; `bytes` lends what a row of
+    /// bytes brings. `Refused` names the first rule that is broken, 601 to 608, and its row. `Read`
+    /// comes only where the reader failed in this call or its count of failures is at its end, or
+    /// where as much was read as may be: 134217728 bytes and calls since `new`. `Memory` comes
+    /// where a growth was refused, and where a read failed, without such a cause. After `None` or a
+    /// fault each call answers the same again and reads nothing.
     #[inline(always)]
     pub fn next(&mut self) -> Result<Option<Row>, LogFault>
         ensures takes { (log : LogOf) → HasLeft R.bytes_left self.old log
@@ -298,7 +302,8 @@ impl<'r, R: ByteIn> Rows<'r, R> {
         }
     }
 
-    /// The bytes that the last row brought, where it is one of bytes. They stand until the next row is read.
+    /// The bytes that the last row brought, where it is one of bytes. They stand until the next row
+    /// is read.
     #[inline(always)]
     pub fn bytes(&self) -> &[u8]
         ensures { result.now ≡ row_bytes self.now }

@@ -16,7 +16,8 @@ pub(crate) enum Spot {
     SecondOfMark,
     /// Its third.
     ThirdOfMark,
-    /// The first of a record or of a field, or one behind quotes that closed: here a quote opens quotes.
+    /// The first of a record or of a field, or one behind quotes that closed: here a quote opens
+    /// quotes.
     Opening,
     /// One of a field, where a quote is a byte as any other.
     Plain,
@@ -130,7 +131,8 @@ impl Place {
         }
     }
 
-    /// Whether no more is read of the record at hand: it has more than three fields, however it goes on.
+    /// Whether no more is read of the record at hand: it has more than three fields, however it
+    /// goes on.
     #[inline(always)]
     pub(crate) fn is_cut(self) -> bool
         ensures { result ≡ is_cut self }
@@ -171,8 +173,8 @@ impl Place {
         matches!(self.spot, Spot::Opening | Spot::Plain)
     }
 
-    /// How many of these bytes stand on lines that end in them, where they can neither be cut nor hold a quote: behind
-    /// those a record starts.
+    /// How many of these bytes stand on lines that end in them, where they can neither be cut nor
+    /// hold a quote: behind those a record starts.
     #[inline(always)]
     fn whole_lines(self, bytes: &[u8]) -> usize
         ensures passes { 0 < result → Passes self bytes.now result record_start }

@@ -20,12 +20,14 @@ pub(crate) struct Records<'r, R> {
 }
 
 impl<'r, R: ByteIn> Records<'r, R> {
-    /// The records that the reader has to give: no header, of any number of fields, which keep their blanks.
+    /// The records that the reader has to give: no header, of any number of fields, which keep
+    /// their blanks.
     pub(crate) fn new(alloc: Global, bounded: Bounded<'r, R>) -> Records<'r, R>
         ensures records { (bytes : List ℕ) → lent_bytes R.bytes_left bounded.entry ≡ Some bytes
             → HasRecords R.bytes_left result (records_of bytes) }
         ensures lent { lent (reader_source result.csv) ≡ lent bounded.entry }
-        // The bound on what is read is measured from the same count, and the cut from the same place.
+        // The bound on what is read is measured from the same count, and the cut from the same
+        // place.
         ensures whole { reader_source result.csv ≡ bounded.entry }
     {
         Records {

@@ -32,7 +32,7 @@ pub enum LogFault {
         /// The number of the row.
         place: u32,
     },
-    /// The reader failed, or more was read than may be.
+    /// The reader failed, or as much was read as may be.
     Read,
     /// Memory was refused.
     Memory,

@@ -35,8 +35,8 @@ impl<'r, R: ByteIn> Source<'r, R> {
         }
     }
 
-    /// Makes the reader of records, where it is not made yet. It stands apart since the reader is large: a function pays at
-    /// its entry for the size of its locals.
+    /// Makes the reader of records, where it is not made yet. It stands apart since the reader is
+    /// large: a function pays at its entry for the size of its locals.
     #[cold]
     #[inline(never)]
     fn open(&mut self)

@@ -24,8 +24,8 @@ use Rattle.wc_run.specs.declared.fault.RunFault.TheVariants.{Refused, Read, Writ
 use Rattle.wc_run.specs.declared.scale.Scale.{Scale}
 use Rattle.wc_run.proofs.Texts.{length-onto, lines_at_last, lines_of_all, lines_so_far, once_text, one_row_more, onto, onto-append}
 
--- So many rows of the log are done, and the scale stands for them; with these left they are the log. What is written at once of
--- their lines is written, and the rest is held.
+-- So many rows of the log are done, and the scale stands for them; with these left they are the
+-- log. What is written at once of their lines is written, and the rest is held.
 pub record Running {R : Type 0} (bytes_left : R → Option (List ℕ)) (rows : Rows R) (scale : Scale) (recorder : Option RecorderState)
     (plate : PlateData) (logic : Option Logic) (number : Option ℕ) (log : LogOf) (count : ℕ) (old new : Option (List ℕ)) : Type 0 where
   pub past : Past

@@ -1,5 +1,5 @@
--- Which lines of a run are written at once, and which at its end: where the last so many scans are asked for, the answers at
--- once and those scans at the end; else each line at once.
+-- Which lines of a run are written at once, and which at its end: where the last so many scans are
+-- asked for, the answers at once and those scans at the end; else each line at once.
 use Rattle.std.specs.Prelude.{◌≡◌, ⊤, ℕ, List, [], ◌++◌, filter, Option, Some, None}
 use Rattle.wc_model.specs.Instrument.Plates.{PlateData}
 use Rattle.wc_model.specs.Instrument.WeighingHistories.{last_items}
@@ -32,7 +32,8 @@ text_at_end number plate logic rows = report_text (lines_at_end number (lines_of
 abbrev pub text_in_all : Option ℕ → PlateData → Option Logic → List LogRow → List ℕ
 text_in_all number plate logic rows = text_at_once number plate logic rows ++ text_at_end number plate logic rows
 
--- the recorder, if there is one, holds the last of the scans of these lines, as many as are asked for
+-- the recorder, if there is one, holds the last of the scans of these lines, as many as are asked
+-- for
 abbrev pub HoldsScans : Option RecorderState → Option ℕ → List ReportLine → Type 0
 HoldsScans None None lines = ⊤
 HoldsScans None (Some number) lines = ⊥

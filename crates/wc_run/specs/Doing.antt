@@ -16,8 +16,8 @@ use Rattle.wc_run.specs.declared.fault.RunFault.{RunFault}
 use Rattle.wc_run.specs.declared.fault.RunFault.TheVariants.{Refused, Read, Write, Memory}
 use Rattle.wc_run.specs.declared.scale.Scale.{Scale}
 
--- Of a text that is not written whole a front is written at a write fault, and for want of memory nothing: a text is made
--- before it is written.
+-- Of a text that is not written whole a front is written at a write fault, and for want of memory
+-- nothing: a text is made before it is written.
 abbrev pub IsCutShort : RunFault → Option (List ℕ) → Option (List ℕ) → List ℕ → Type 0
 IsCutShort (Refused number place) old new text = ⊥
 IsCutShort Read old new text = ⊥
@@ -29,7 +29,8 @@ abbrev pub Writes : {X : Type 0} → List ℕ → Result X RunFault → Option (
 Writes text (Ok x) old new = Appends old new text
 Writes text (Err fault) old new = IsCutShort fault old new text
 
--- behind lines that came before, these are written or held; or what is written of them at once is cut short
+-- behind lines that came before, these are written or held; or what is written of them at once is
+-- cut short
 abbrev pub Puts : {X : Type 0} → Option ℕ → List ReportLine → List ReportLine → Option RecorderState → Result X RunFault → Option (List ℕ) → Option (List ℕ) → Type 0
 Puts number before lines recorder (Ok x) old new = HoldsScans recorder number (before ++ lines) × Appends old new (report_text (lines_at_once number lines))
 Puts number before lines recorder (Err fault) old new = IsCutShort fault old new (report_text (lines_at_once number lines))
@@ -41,8 +42,9 @@ Does plate logic number before past row scale recorder (Ok x) old new =
     × Appends old new (report_text (lines_at_once number (lines_of_row plate logic past row)))
 Does plate logic number before past row scale recorder (Err fault) old new = IsCutShort fault old new (report_text (lines_at_once number (lines_of_row plate logic past row)))
 
--- All rows were run, or those before the refused one: what is written at once of them is written, and the rest of them is
--- held. After a fault that of the first of them was written, or a front of it.
+-- All rows were run, or those before the refused one: what is written at once of them is written,
+-- and the rest of them is held. After a fault that of the first of them was written, or a front of
+-- it.
 abbrev pub RunsRows : Option ℕ → PlateData → Option Logic → LogOf → Option RecorderState → Result ℕ RunFault → Option (List ℕ) → Option (List ℕ) → Type 0
 RunsRows number plate logic log recorder (Ok count) old new =
     (log.refusal ≡ None) × (count ≡ length log.rows) × HoldsScans recorder number (lines_of_rows plate logic [] log.rows) × Appends old new (text_at_once number plate logic log.rows)
@@ -70,7 +72,8 @@ answer_to (log.Refused number place) = Refused number place
 answer_to log.Read = Read
 answer_to log.Memory = Memory
 
--- a refusal and a write fault stay as they are; what else kept the log from being run is judged by its cause
+-- a refusal and a write fault stay as they are; what else kept the log from being run is judged by
+-- its cause
 abbrev pub IsJudged : RunFault → RunFault → Type 0
 IsJudged (Refused number place) judged = judged ≡ Refused number place
 IsJudged Write judged = judged ≡ Write

@@ -1,5 +1,5 @@
--- The logic beside a scale: none, or a program's text with the store from which its scans go on; and what a run with it
--- writes.
+-- The logic beside a scale: none, or a program's text with the store from which its scans go on;
+-- and what a run with it writes.
 use Rattle.std.specs.Prelude.{⊤, ℕ, List, Option, Some, None}
 use Rattle.wc_machine.specs.Machines.{MachineState, StandsFor}
 use Rattle.wc_model.specs.Instrument.Plates.{PlateData}

@@ -17,8 +17,9 @@ AppendsFront old new text = (front : List ℕ) × (rest : List ℕ) × (text ≡
 abbrev pub AppendsFirst : (List LogRow → List ℕ) → List LogRow → Option (List ℕ) → Option (List ℕ) → Type 0
 AppendsFirst text rows old new = (first : List LogRow) × (left : List LogRow) × (rows ≡ first ++ left) × Appends old new (text first)
 
--- All rows were run, or those before the refused one, and their whole text was written; after a read fault or want of memory
--- what is written of the first of them as they come, after a write fault a front of the whole.
+-- All rows were run, or those before the refused one, and their whole text was written; after a
+-- read fault or want of memory what is written of the first of them as they come, after a write
+-- fault a front of the whole.
 abbrev pub ReportsBy : (List LogRow → List ℕ) → (List LogRow → List ℕ) → LogOf → Result ℕ RunFault → Option (List ℕ) → Option (List ℕ) → Type 0
 ReportsBy whole coming log (Ok count) old new = (log.refusal ≡ None) × (count ≡ length log.rows) × Appends old new (whole log.rows)
 ReportsBy whole coming log (Err (Refused number place)) old new = (log.refusal ≡ Some (record { number = number; row = place })) × Appends old new (whole log.rows)
@@ -30,7 +31,7 @@ ReportsBy whole coming log (Err Memory) old new = AppendsFirst coming log.rows o
 abbrev pub Reports : PlateData → Option Logic → LogOf → Result ℕ RunFault → Option (List ℕ) → Option (List ℕ) → Type 0
 Reports plate logic log answer old new = ReportsBy (run_report plate logic) (run_report plate logic) log answer old new
 
--- A run that keeps the last so many scans writes the answers as the rows come, which are those of a run with no program, and
--- those scans behind them: the report of the last scans.
+-- A run that keeps the last so many scans writes the answers as the rows come, which are those of a
+-- run with no program, and those scans behind them: the report of the last scans.
 abbrev pub ReportsLast : ℕ → PlateData → Option Logic → LogOf → Result ℕ RunFault → Option (List ℕ) → Option (List ℕ) → Type 0
 ReportsLast number plate logic log answer old new = ReportsBy (run_report_last number plate logic) (line_report plate) log answer old new

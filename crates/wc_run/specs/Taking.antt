@@ -1,4 +1,5 @@
--- What a row does to a scale, whatever the scale stands for: told of the row's moment and of what it brings.
+-- What a row does to a scale, whatever the scale stands for: told of the row's moment and of what
+-- it brings.
 use Rattle.std.specs.Prelude.{◌≡◌, ℕ, List, ◌∷◌, Option}
 use Rattle.wc_machine.specs.Machines.{MachineState, StandsFor}
 use Rattle.wc_model.specs.Instrument.Plates.{PlateData}

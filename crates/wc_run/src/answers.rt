@@ -6,7 +6,8 @@ use crate::fault::RunFault;
 use crate::row_output::RowOutput;
 use wc_report::put_answer_line;
 
-/// What is printed of the line's answer to a row: one line, which is the text then, and nothing of an empty answer.
+/// What is printed of the line's answer to a row: one line, which is the text then, and nothing of
+/// an empty answer.
 pub(crate) fn answer_output(
     ms: u64,
     answer: &[u8],

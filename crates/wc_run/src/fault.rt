@@ -8,7 +8,7 @@ pub enum RunFault {
         /// The line or row that breaks it, counted from 1; 0 where no line does.
         place: u32,
     },
-    /// The reader failed, or more was read than may be.
+    /// The reader failed, or as much was read as may be.
     Read,
     /// The writer failed, or took nothing.
     Write,

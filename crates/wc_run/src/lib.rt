@@ -1,4 +1,5 @@
-//! A run of a log: its rows go to the indicator, the line and the machine, and its report is written.
+//! A run of a log: its rows go to the indicator, the line and the machine, and its report is
+//! written.
 #![tactic(auto)]
 
 mod answers;

@@ -70,7 +70,8 @@ fn put_scan<W: ByteOut>(
     }
 }
 
-/// Writes a line, which stands in the room for it; of a scan only where there is no recorder that keeps its record.
+/// Writes a line, which stands in the room for it; of a scan only where there is no recorder that
+/// keeps its record.
 #[inline(always)]
 pub(crate) fn put<W: ByteOut>(
     output: RowOutput,

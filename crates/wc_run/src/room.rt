@@ -36,7 +36,8 @@ impl ByteOut for Answers {
     }
 }
 
-/// Room for what comes of a row. It is kept from row to row, so that a row takes no memory where the room is large enough.
+/// Room for what comes of a row. It is kept from row to row, so that a row takes no memory where
+/// the room is large enough.
 #[derive(Drop)]
 pub(crate) struct Room {
     /// What the line answers to a row.

@@ -34,7 +34,8 @@ fn is_cut_short(answer: &Result<u32, RunFault>) -> bool
     }
 }
 
-/// Runs a log, and behind its rows writes the lines of the scans that are kept, unless a device failed or memory was refused.
+/// Runs a log, and behind its rows writes the lines of the scans that are kept, unless a device
+/// failed or memory was refused.
 fn run_to_end<R: ByteIn, W: ByteOut>(
     alloc: Global,
     scale: &mut Scale<'_>,
@@ -104,7 +105,8 @@ fn run_scale<R: ByteIn, W: ByteOut>(
     }
 }
 
-/// Runs the log that the reader has to give, with a recorder of the last so many scans where they are asked for.
+/// Runs the log that the reader has to give, with a recorder of the last so many scans where they
+/// are asked for.
 fn run_recorded<R: ByteIn, W: ByteOut>(
     alloc: Global,
     number: Option<u16>,
@@ -130,8 +132,8 @@ fn run_recorded<R: ByteIn, W: ByteOut>(
     }
 }
 
-/// A read fault where the reader has failed since, or as much was read as may be; else want of memory. A refusal and a
-/// write fault stay what they are.
+/// A read fault where the reader has failed since, or as much was read as may be; else want of
+/// memory. A refusal and a write fault stay what they are.
 fn judged<R: ByteIn>(fault: RunFault, reader: &R, failures: u64, spent: u64) -> RunFault
     ensures judged { IsJudged fault result }
     ensures read { result ≡ RunFault.Read
@@ -152,8 +154,8 @@ fn judged<R: ByteIn>(fault: RunFault, reader: &R, failures: u64, spent: u64) -> 
     }
 }
 
-/// Runs a log, with the last so many scans at its end where they are asked for: a fault behind which there is no other cause
-/// is want of memory.
+/// Runs a log, with the last so many scans at its end where they are asked for: a fault behind
+/// which there is no other cause is want of memory.
 fn run_judged<R: ByteIn, W: ByteOut>(
     alloc: Global,
     number: Option<u16>,
@@ -187,11 +189,13 @@ fn run_judged<R: ByteIn, W: ByteOut>(
     }
 }
 
-/// Runs a log: each row is read, done, and its line written before the next row is read. `Ok` is the number of rows behind
-/// the first. `Refused` names the first row that breaks a rule, and the rows before it are run and written. `Read` comes
-/// only where the reader failed in this call or as much was read as may be (134217728 bytes and calls), `Write` only where
-/// the writer failed in it, `Memory` where a growth was refused, or a read failed, without such a cause; what is
-/// written is then the report of the first rows, at a write fault a front of the report. With no machine the answers of the line are written alone.
+/// Runs a log: each row is read, done, and its line written before the next row is read. `Ok` is
+/// the number of rows behind the first. `Refused` names the first row that breaks a rule, and the
+/// rows before it are run and written. `Read` comes only where the reader failed in this call or as
+/// much was read as may be (134217728 bytes and calls), `Write` only where the writer failed in it,
+/// `Memory` where a growth was refused, or a read failed, without such a cause; what is written is
+/// then the report of the first rows, at a write fault a front of the report. With no machine the
+/// answers of the line are written alone.
 pub fn run<R: ByteIn, W: ByteOut>(
     alloc: Global,
     plate: &Plate,
@@ -219,10 +223,12 @@ pub fn run<R: ByteIn, W: ByteOut>(
     run_judged(alloc, None, plate, machine, reader, writer)
 }
 
-/// Runs a log as `run` does, but of its scans prints the last `number` alone, 1 to 1000, in order, behind the rows: the answers
-/// of the line are written as their rows come, and the lines of those scans behind the last row, or behind the last before a
-/// refused one. Each scan is kept as a record in a ring, so a run takes no more memory for more rows. After a read fault or want
-/// of memory the answers of the first rows are written and no scan, after a write fault a front of the report.
+/// Runs a log as `run` does, but of its scans prints the last `number` alone, 1 to 1000, in order,
+/// behind the rows: the answers of the line are written as their rows come, and the lines of those
+/// scans behind the last row, or behind the last before a refused one. Each scan is kept as a
+/// record in a ring, so a run takes no more memory for more rows. After a read fault or want of
+/// memory the answers of the first rows are written and no scan, after a write fault a front of the
+/// report.
 pub fn run_last<R: ByteIn, W: ByteOut>(
     alloc: Global,
     number: u16,

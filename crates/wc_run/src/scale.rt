@@ -20,7 +20,8 @@ use wc_record::{Row, RowKind, image};
 use wc_sma::Line;
 use wc_store::SlotStore;
 
-/// A scale: its indicator, its line, the digital inputs, and the machine beside it, if there is one.
+/// A scale: its indicator, its line, the digital inputs, and the machine beside it, if there is
+/// one.
 #[derive(Drop)]
 pub(crate) struct Scale<'a> {
     indicator: Indicator,
@@ -53,8 +54,8 @@ impl<'a> Scale<'a> {
         }
     }
 
-    /// Does a row, with the bytes that are lent with it, and gives what is to be printed of it; a line stands in the room
-    /// then.
+    /// Does a row, with the bytes that are lent with it, and gives what is to be printed of it; a
+    /// line stands in the room then.
     #[inline(always)]
     pub(crate) fn take(
         &mut self,

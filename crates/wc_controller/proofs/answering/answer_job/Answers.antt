@@ -1,7 +1,9 @@
 use Rattle.wc_controller.proofs.Allowing.{on_known}
+use Rattle.wc_controller.proofs.BlamingParts.{blamed_part}
 use Rattle.wc_controller.proofs.Givings.{ends, read_fault_told}
 use Rattle.wc_controller.proofs.answering.answer_job.Goals as goal
 use Rattle.wc_controller.specs.Jobs.{Allows}
+use Rattle.wc_model.specs.Run.JobSections.{sections_of}
 
 pub returns-clause-ends : goal.returns-clause-ends
 returns-clause-ends g c =
@@ -15,3 +17,10 @@ returns-clause-own g c = λ input told.
     let taken = g.W.ByteOut.bytes_taken in
     c.answer_input-answer.ensures.own input
     (read_fault_told input c.answer_input-answer.result c.end.result (taken c.answer_input-answer.new.writer) (taken c.end.new.writer) c.end.ensures.ends told)
+
+pub returns-clause-blames : goal.returns-clause-blames
+returns-clause-blames g c =
+    let taken = g.W.ByteOut.bytes_taken in
+    on_known (g.R.ByteIn.bytes_left c.args.reader.now) _ _
+    (λ bytes told. blamed_part (sections_of bytes) c.answer_input-answer.result c.end.result (taken c.answer_input-answer.new.writer) (taken c.end.new.writer) c.end.ensures.ends told)
+    c.answer_input-answer.ensures.blames

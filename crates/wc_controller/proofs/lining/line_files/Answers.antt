@@ -1,4 +1,5 @@
 use Rattle.wc_controller.proofs.Allowing.{on_known}
+use Rattle.wc_controller.proofs.Blaming.{memory_told}
 use Rattle.wc_controller.proofs.Givings.{ends}
 use Rattle.wc_controller.proofs.lining.line_files.Goals as goal
 use Rattle.wc_controller.specs.Files.{AnswersLine}
@@ -10,3 +11,12 @@ returns-clause-ends g c =
     (λ table told. on_known (g.L.ByteIn.bytes_left c.args.log.now) _ _
     (λ log upto. ends (AnswersLine table log) c.line_inputs-answer.result c.end.result (taken c.args.writer.now) (taken c.line_inputs-answer.new.writer) (taken c.end.new.writer)
     upto c.end.ensures.ends) told) c.line_inputs-answer.ensures.writes
+
+pub returns-clause-memory : goal.returns-clause-memory
+returns-clause-memory g c =
+    let said = c.line_inputs-answer.ensures in
+    let failures = g.L.ByteIn.failure_count in
+    let spent = g.L.ByteIn.spent_count in
+    memory_told (g.L.ByteIn.bytes_left c.args.log.now) (failures c.args.log.now) (failures c.line_inputs-answer.new.log) (spent c.args.log.now) (spent c.line_inputs-answer.new.log)
+    c.line_inputs-answer.result c.end.result (g.W.ByteOut.bytes_taken c.line_inputs-answer.new.writer) (g.W.ByteOut.bytes_taken c.end.new.writer) c.end.ensures.ends
+    said.memory said.unread (λ at. absurd (said.no_program at)) said.own said.blames_log

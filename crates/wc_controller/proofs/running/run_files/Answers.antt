@@ -2,7 +2,7 @@ use Rattle.wc_controller.proofs.Allowing.{on_known}
 use Rattle.wc_controller.proofs.Givings.{ends}
 use Rattle.wc_controller.proofs.running.run_files.Goals as goal
 use Rattle.wc_controller.specs.Files.{AnswersRun}
-use Rattle.wc_controller.proofs.Blaming.{blamed}
+use Rattle.wc_controller.proofs.Blaming.{blamed, memory_told}
 use Rattle.wc_controller.specs.Blames.{RefusesProgram}
 use Rattle.wc_controller.specs.declared.input.Input.TheVariants as input
 
@@ -19,3 +19,12 @@ pub returns-clause-blames_program : goal.returns-clause-blames_program
 returns-clause-blames_program g c =
     blamed input.Program RefusesProgram (g.T.ByteIn.bytes_left c.args.program.now) c.run_inputs-answer.result c.end.result
     (g.W.ByteOut.bytes_taken c.run_inputs-answer.new.writer) (g.W.ByteOut.bytes_taken c.end.new.writer) c.end.ensures.ends c.run_inputs-answer.ensures.blames_program
+
+pub returns-clause-memory : goal.returns-clause-memory
+returns-clause-memory g c =
+    let said = c.run_inputs-answer.ensures in
+    let failures = g.L.ByteIn.failure_count in
+    let spent = g.L.ByteIn.spent_count in
+    memory_told (g.L.ByteIn.bytes_left c.args.log.now) (failures c.args.log.now) (failures c.run_inputs-answer.new.log) (spent c.args.log.now) (spent c.run_inputs-answer.new.log)
+    c.run_inputs-answer.result c.end.result (g.W.ByteOut.bytes_taken c.run_inputs-answer.new.writer) (g.W.ByteOut.bytes_taken c.end.new.writer) c.end.ensures.ends
+    said.memory (λ at. (said.unread_behind_plate at).1) said.unread said.own said.blames_log

@@ -1,4 +1,5 @@
-use Rattle.std.proofs.Common.{◌≡◌, List, ℕ}
+use Rattle.std.proofs.Common.{[], arith}
+use Rattle.std.proofs.KnownBytes.{Consumes-nil}
 use Rattle.wc_controller.proofs.Allowing.{on_each, on_known, plate_not_read, plate_read}
 use Rattle.wc_controller.proofs.running.run_inputs.Goals as goal
 use Rattle.wc_controller.specs.Endings.{met}
@@ -22,3 +23,7 @@ returns-in-Err-clause-writes g c =
     (λ text. on_each (g.L.ByteIn.bytes_left c.args.log.now) _
     (λ log. plate_not_read table (λ read. AnswersFile text (AnswersText c.args.last read text (log_of (records_of log)))) c.in-Err.stopped.fault
     (g.W.ByteOut.bytes_taken c.args.writer.now) is))) c.in-Err.ensures.plate
+
+-- of a program that is not read nothing is taken
+pub returns-in-Err-clause-taken_program : goal.returns-in-Err-clause-taken_program
+returns-in-Err-clause-taken_program g c = ([], Consumes-nil (g.T.ByteIn.bytes_left c.args.program.now), omega arith)

@@ -1,7 +1,6 @@
-use Rattle.std.proofs.Common.{◌∙◌, ap, arith, sym, Some}
+use Rattle.std.proofs.Common.{◌∙◌, ap, arith, Some}
 use Rattle.wc_findings.proofs.LineCuts.{line_is, line_is_missing, stands_further}
 use Rattle.wc_findings.proofs.lines.line_at.Goals as goal
-use Rattle.wc_findings.specs.Lines.{without_return}
 
 pub returns-in-None : goal.returns-in-None
 returns-in-None c = line_is_missing c.args.text.now c.args.number c.loop-passed._passed c.loop-passed.rest.now (omega arith) c.loop-passed.invariant c.in-None.ensures

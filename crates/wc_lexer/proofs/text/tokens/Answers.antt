@@ -1,6 +1,6 @@
 use Rattle.std.proofs.Common.{◌++◌, ◌∷◌, [], if◌then◌else◌, not, refl, ◌≡◌, ◌∙◌, ◌+◌, ◌≤◌, ap, arith, count_by, length, length-drop, map, take, subst, subst₂, sym}
 use Rattle.wc_lexer.proofs.Feeds.{IsStep, space_feeds, step_feeds, token_feeds}
-use Rattle.wc_lexer.proofs.Steps.{counted_on, cut_at_end, fault_here, going_on, going_with, pass_is_filled, take_is_filled, Going}
+use Rattle.wc_lexer.proofs.Steps.{counted_on, cut_at_end, fault_here, going_on, going_with, pass_is_filled, room_here, take_is_filled, Going}
 use Rattle.wc_lexer.proofs.text.tokens.Goals as goal
 use Rattle.wc_lexer.proofs.text.tokens.Goals.{in-Space, in-Comment, in-Lexeme+else-is_err}
 use Rattle.wc_lexer.specs.Sights.{IsWithin, said_sight}
@@ -16,6 +16,10 @@ returns-then-text-gt-MOST_BYTES-clause-refused c = TooLong c.if-text-gt-MOST_BYT
 pub returns-in-Fault-clause-refused : goal.returns-in-Fault-clause-refused
 returns-in-Fault-clause-refused c =
     fault_here c.args.text.now c.split_at.result.1.now c.loop-start.start c.in-Fault.number c.loop-start.line (map token_view c.loop-start.tokens.items) (omega arith) c.split_at.ensures.back c.loop-start-test.true (sym (ap said_sight c.in-Fault.is) ∙ c.first_piece.ensures.stands) c.loop-start.invariant.counted c.loop-start.invariant.going
+
+pub returns-then-is_err-clause-refused : goal.returns-then-is_err-clause-refused
+returns-then-is_err-clause-refused c =
+    room_here c.args.text.now c.split_at.result.1.now c.loop-start.start c.in-Lexeme.count (shape_view c.in-Lexeme.shape) (map token_view c.loop-start.tokens.items) (omega arith) c.split_at.ensures.back c.loop-start-test.true (sym (ap said_sight c.in-Lexeme.is) ∙ c.first_piece.ensures.stands) c.loop-start.invariant.going
 
 pub returns-clause-cut : goal.returns-clause-cut
 returns-clause-cut c = (omega arith, cut_at_end c.args.text.now c.loop-start.start (map token_view c.loop-start.tokens.items) c.loop-start-test.false c.loop-start.invariant.going)
