@@ -1,5 +1,5 @@
 -- The table of a unit by its number, and the unit's frame.
-use Rattle.std.proofs.Common.{◌≡◌, ℕ, zero, suc, ◌+◌, ◌<◌, ◌≢◌, Bool, true, false, ◌&&◌, List, [], ◌∷◌, ◌++◌, map, length, Option, Some, None, option_map, refl, sym, ap, subst, ◌∙◌, arith, ◌==◌, length-append}
+use Rattle.std.proofs.Common.{◌≡◌, ℕ, zero, suc, ◌+◌, ◌<◌, ◌≤◌, ◌≢◌, Bool, true, false, ◌&&◌, List, [], ◌∷◌, ◌++◌, map, length, Option, Some, None, option_map, refl, sym, ap, subst, ◌∙◌, arith, ◌==◌, length-append}
 use Rattle.std.proofs.lemmas.List.{length-map}
 use Rattle.std.proofs.lemmas.Bool.{eq-eqb, eqb-true}
 use Rattle.std.specs.Prelude.{slice_get, option_and_then}
@@ -46,6 +46,22 @@ at_unit (x ∷ xs) b ts (suc n) scope h e =
     let r = at_unit xs (x ∷ b) ts n scope h e in
     let l = r.1 in
     (r.0, omega (arith, l))
+
+-- each unit has a table
+as_many : (units : List ProgramUnit) (ts : List UnitTable) → AreUnits units ts → length ts ≡ length units
+as_many [] ts h = ap length h
+as_many (unit ∷ before) ts h =
+    let others : List UnitTable = h.0 in
+    let table : UnitTable = h.1 in
+    let fewer = as_many before others h.4 in
+    let all = ap length h.2 ∙ length-append others (table ∷ []) in
+    omega (arith, fewer, all)
+
+-- no table stands at the number of no unit
+pub at_no_unit : (xs : Text) (b : List ProgramUnit) (ts : List UnitTable) (n : ℕ) → AreUnits (onto xs b) ts → slice_get (map scope_of_spot (spots_behind b xs)) n ≡ None → length ts ≤ length b + n
+at_no_unit [] b ts n h e = let all = as_many b ts h in omega (arith, all)
+at_no_unit (x ∷ xs) b ts zero h e = absurd (cc)
+at_no_unit (x ∷ xs) b ts (suc n) h e = let behind = at_no_unit xs (x ∷ b) ts n h e in omega (arith, behind)
 
 -- a path in a unit's frame
 path_in : (ns : List Name) (i : ℕ) (places : List (List Name × Content)) → position_from (λ (e : Location × Content). same_place e.0 (Path ns)) i (map (λ p. (Path p.0, p.1)) places) ≡ position_from (λ e. same_path e.0 ns) i places

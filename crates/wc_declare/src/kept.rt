@@ -1,4 +1,4 @@
-ghost use Rattle.std.specs.Prelude.{◌≡◌, ◌≤◌, ℕ, Some, IfOk, IfSome, IsOkUnless, is_some, length, map, option_and_then, option_map};
+ghost use Rattle.std.specs.Prelude.{◌≡◌, ◌≤◌, ℕ, None, Some, IfOk, IfSome, IsOkUnless, is_some, length, map, option_and_then, option_map};
 ghost use Rattle.wc_model.specs.Language.BodyRules.{input_named};
 ghost use Rattle.wc_model.specs.Language.Declarations.{VariableType, members_of};
 ghost use Rattle.wc_model.specs.Language.Frames.{first_numbers, frame_of, location_of, number_of_path, place_number, plain_variables, slot_kinds};
@@ -9,7 +9,7 @@ ghost use Rattle.wc_model.specs.Language.Tree.{Text};
 ghost use Rattle.wc_model.specs.Language.Views.{term_view};
 ghost use Rattle.wc_soundness.specs.FirstNumbers.{AreFirst};
 ghost use Rattle.wc_declare.specs.StandsFor.{AreTables, first_number};
-ghost use Rattle.wc_declare.specs.Numbered.{IsUnit, StandsFrom, numbered_entity, numbered_input, numbered_type, plain_of_field};
+ghost use Rattle.wc_declare.specs.Numbered.{IsNoUnit, IsUnit, StandsFrom, numbered_entity, numbered_input, numbered_type, plain_of_field};
 
 use crate::declared_type::DeclaredType;
 use crate::entity::Entity;
@@ -104,11 +104,13 @@ impl<'a> Tables<'a> {
 
     /// The plain variables of a unit, in the order of declaration; `None` where there is no such unit.
     pub fn fields(&self, unit: usize) -> Option<&[Field<'a>]>
-        ensures { (text : Text) (scope : Scope)
+        ensures fields { (text : Text) (scope : Scope)
             → AreTables self.now text
             → IsUnit text unit scope
             → option_map (λ fields. map plain_of_field fields.now) result
             ≡ Some (plain_variables scope) }
+        ensures no_unit { (text : Text) → AreTables self.now text → IsNoUnit text unit
+            → result ≡ None }
     {
         match self.units.get(unit) {
             Some(table) => Some(table.fields.as_slice()),

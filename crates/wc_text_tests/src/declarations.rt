@@ -98,22 +98,20 @@ fn slot(rt: HostRuntime, text: &[u8], unit: usize, place: usize) -> Option<(Slot
     }
 }
 
-/// How many plain variables a unit has, and the place of the last.
-fn fields(rt: HostRuntime, text: &[u8], unit: usize) -> (usize, Option<Place>) {
+/// How many plain variables a unit has, and the place of the last; nothing of no unit.
+fn fields(rt: HostRuntime, text: &[u8], unit: usize) -> Option<(usize, Option<Place>)> {
     let source = match read(rt.alloc(), text) {
         Ok(source) => source,
-        Err(_) => return (0, None),
+        Err(_) => return None,
     };
     let tables = match tables(rt.alloc(), &source) {
         Ok(tables) => tables,
-        Err(_) => return (0, None),
+        Err(_) => return None,
     };
-    let Some(fields) = tables.fields(unit) else {
-        return (0, None);
-    };
+    let fields = tables.fields(unit)?;
     match fields.last() {
-        Some(field) => (fields.len(), Some(field.place)),
-        None => (0, None),
+        Some(field) => Some((fields.len(), Some(field.place))),
+        None => Some((0, None)),
     }
 }
 
@@ -236,8 +234,9 @@ fn variables_have_places(rt: HostRuntime) {
     assert_eq!(rt; place(rt, PLANT, 1, &Path::Names(&[b"m"])), None);
     assert_eq!(rt; size(rt, PLANT, 0), 10);
     assert_eq!(rt; size(rt, PLANT, 1), 73);
-    assert_eq!(rt; fields(rt, PLANT, 0), (4, Some(Place(9))));
-    assert_eq!(rt; fields(rt, PLANT, 1), (2, Some(Place(72))));
+    assert_eq!(rt; fields(rt, PLANT, 0), Some((4, Some(Place(9)))));
+    assert_eq!(rt; fields(rt, PLANT, 1), Some((2, Some(Place(72)))));
+    assert_eq!(rt; fields(rt, PLANT, 2), None);
 }
 
 #[test]
