@@ -1,13 +1,11 @@
 -- A scan that is never stuck, and whose trace is a path, ends within the bound.
-use Rattle.std.proofs.Common.{◌≡◌, ℕ, List, [], ◌∷◌, Option, Some, None, length, refl, subst}
+use Rattle.std.proofs.Common.{ℕ, List, [], ◌∷◌, Option, refl}
 use Rattle.wc_controller.specs.Headline.{EndsWithin, ShowsOutcome}
 use Rattle.wc_language_laws.proofs.Longest.{best_path, best_path_is_worst}
 use Rattle.wc_language_laws.proofs.TracesArePaths.{TraceIs, program_trace_is_path}
 use Rattle.wc_language_laws.proofs.UnitBounds.{path_of, longest_there}
 use Rattle.wc_model.specs.Language.Meaning.{Outcome, Done, Stuck, program_means}
-use Rattle.wc_model.specs.Language.Paths.{IsBoundOfLast, IsLongest, IsPath, Onward}
-use Rattle.wc_model.specs.Language.Traces.{Item}
-use Rattle.wc_model.specs.Language.WorstPaths.{IsWorstPath}
+use Rattle.wc_model.specs.Language.Paths.{IsBoundOfLast, IsLongest, IsPath}
 use Rattle.wc_model.specs.Say.ProgramReport.{result_of}
 use Rattle.wc_model.specs.Language.Scans.{first_of_reversed}
 use Rattle.wc_model.specs.Language.Scopes.{Scope}

@@ -1,4 +1,3 @@
-use Rattle.std.proofs.Common.{◌≡◌}
 use Rattle.std.specs.Prelude.{Some}
 use Rattle.wc_controller.proofs.Allowing.{on_known}
 use Rattle.wc_controller.proofs.Givings.{ran, ran_short, report_first}

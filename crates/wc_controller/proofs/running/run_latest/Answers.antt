@@ -1,4 +1,3 @@
-use Rattle.std.proofs.Common.{◌≡◌}
 use Rattle.std.specs.Prelude.{Some}
 use Rattle.wc_controller.proofs.Allowing.{on_known}
 use Rattle.wc_controller.proofs.Givings.{last_first, ran, ran_short}

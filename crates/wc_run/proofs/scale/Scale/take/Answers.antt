@@ -1,4 +1,4 @@
-use Rattle.std.proofs.Common.{◌≡◌, ap, ◌∙◌, sym, subst, to_z, of_z, w32, arith}
+use Rattle.std.proofs.Common.{◌≡◌, ap, subst, to_z, of_z, w32, arith}
 use Rattle.std.proofs.lemmas.Int.{ints}
 use Rattle.wc_model.specs.Run.Rows.{Bytes, Counts, Inputs, Scan}
 use Rattle.wc_record.specs.Views.{data_view, IsDataInRange}
