@@ -1,5 +1,4 @@
 -- The fields are those of the places.
-use Rattle.std.proofs.Common.{◌≡◌}
 use Rattle.wc_machine.proofs.BlockCalls.{r_trig_is}
 use Rattle.wc_machine.proofs.r_trig.fields_at.Goals as goal
 

@@ -1,5 +1,4 @@
 -- The fields are those of the places.
-use Rattle.std.proofs.Common.{◌≡◌}
 use Rattle.wc_machine.proofs.BlockCalls.{sr_is}
 use Rattle.wc_machine.proofs.sr.fields_at.Goals as goal
 
