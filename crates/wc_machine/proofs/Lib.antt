@@ -1,5 +1,6 @@
 pub mod Quotients
 pub mod Moments
+pub mod Kept
 pub mod BlockCalls
 pub mod BlockSlots
 pub mod Filling

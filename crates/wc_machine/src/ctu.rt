@@ -1,4 +1,4 @@
-ghost use Rattle.std.specs.Prelude.{◌≡◌, ◌≤◌, ℕ, Some, length};
+ghost use Rattle.std.specs.Prelude.{◌≡◌, ◌+◌, ◌≤◌, ℕ, Some, drop, length};
 ghost use Rattle.wc_blocks.specs.Views.{ctu_view};
 ghost use Rattle.wc_flat.specs.NumberBlocks.{block_called, field_numbers, with_numbers};
 ghost use Rattle.wc_machine.specs.Lines.{AreBefore, AreSlots, slots_of};
@@ -17,8 +17,8 @@ fn fields_at<S: Store>(store: &S, at: usize) -> Ctu
     requires room { length (S.slot_kinds store.now) ≤ 65536 }
     requires slots { AreSlots (slots_of blocks.Ctu) (S.slot_kinds store.now) at }
     ensures { block_called blocks.Ctu 0 (S.slot_kinds store.now) (S.numbers store.now) at
-        ≡ Some (with_numbers (S.numbers store.now) at
-        (field_numbers (ctu_contents (ctu_step (ctu_view result))))) }
+        ≡ Some (with_numbers (S.numbers store.now) (at + 3)
+        (drop 3 (field_numbers (ctu_contents (ctu_step (ctu_view result)))))) }
 {
     Ctu {
         cu: truth_at(store, at),
@@ -30,20 +30,17 @@ fn fields_at<S: Store>(store: &S, at: usize) -> Ctu
     }
 }
 
-/// Writes the fields.
+/// Writes the fields that a call may change: all but CU, R and PV.
 #[inline(always)]
 fn set_fields<S: Store>(store: &mut S, at: usize, block: Ctu)
     requires room { length (S.slot_kinds store.old) ≤ 65536 }
     requires slots { AreSlots (slots_of blocks.Ctu) (S.slot_kinds store.old) at }
-    ensures numbers { S.numbers store.new ≡ with_numbers (S.numbers store.old) at
-        (field_numbers (ctu_contents (ctu_view block))) }
+    ensures numbers { S.numbers store.new ≡ with_numbers (S.numbers store.old) (at + 3)
+        (drop 3 (field_numbers (ctu_contents (ctu_view block)))) }
     ensures kinds { S.slot_kinds store.new ≡ S.slot_kinds store.old }
     ensures moments { (now : ℕ) → AreBefore now (S.slot_kinds store.old) (S.numbers store.old)
         → AreBefore now (S.slot_kinds store.new) (S.numbers store.new) }
 {
-    set_truth(store, at, block.cu);
-    set_truth(store, at + 1, block.r);
-    set_count(store, at + 2, block.pv);
     set_truth(store, at + 3, block.q);
     set_count(store, at + 4, block.cv);
     set_truth(store, at + 5, block.m);

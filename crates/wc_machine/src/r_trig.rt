@@ -1,4 +1,4 @@
-ghost use Rattle.std.specs.Prelude.{◌≡◌, ◌≤◌, ℕ, Some, length};
+ghost use Rattle.std.specs.Prelude.{◌≡◌, ◌+◌, ◌≤◌, ℕ, Some, drop, length};
 ghost use Rattle.wc_blocks.specs.Views.{r_trig_view};
 ghost use Rattle.wc_flat.specs.NumberBlocks.{block_called, field_numbers, with_numbers};
 ghost use Rattle.wc_machine.specs.Lines.{AreBefore, AreSlots, slots_of};
@@ -17,8 +17,8 @@ fn fields_at<S: Store>(store: &S, at: usize) -> RTrig
     requires room { length (S.slot_kinds store.now) ≤ 65536 }
     requires slots { AreSlots (slots_of blocks.RTrig) (S.slot_kinds store.now) at }
     ensures { block_called blocks.RTrig 0 (S.slot_kinds store.now) (S.numbers store.now) at
-        ≡ Some (with_numbers (S.numbers store.now) at
-        (field_numbers (r_trig_contents (r_trig_step (r_trig_view result))))) }
+        ≡ Some (with_numbers (S.numbers store.now) (at + 1)
+        (drop 1 (field_numbers (r_trig_contents (r_trig_step (r_trig_view result)))))) }
 {
     RTrig {
         clk: truth_at(store, at),
@@ -27,18 +27,17 @@ fn fields_at<S: Store>(store: &S, at: usize) -> RTrig
     }
 }
 
-/// Writes the fields.
+/// Writes the fields that a call may change: all but CLK.
 #[inline(always)]
 fn set_fields<S: Store>(store: &mut S, at: usize, block: RTrig)
     requires room { length (S.slot_kinds store.old) ≤ 65536 }
     requires slots { AreSlots (slots_of blocks.RTrig) (S.slot_kinds store.old) at }
-    ensures numbers { S.numbers store.new ≡ with_numbers (S.numbers store.old) at
-        (field_numbers (r_trig_contents (r_trig_view block))) }
+    ensures numbers { S.numbers store.new ≡ with_numbers (S.numbers store.old) (at + 1)
+        (drop 1 (field_numbers (r_trig_contents (r_trig_view block)))) }
     ensures kinds { S.slot_kinds store.new ≡ S.slot_kinds store.old }
     ensures moments { (now : ℕ) → AreBefore now (S.slot_kinds store.old) (S.numbers store.old)
         → AreBefore now (S.slot_kinds store.new) (S.numbers store.new) }
 {
-    set_truth(store, at, block.clk);
     set_truth(store, at + 1, block.q);
     set_truth(store, at + 2, block.m);
 }

@@ -1,4 +1,4 @@
-ghost use Rattle.std.specs.Prelude.{◌≡◌, ◌≤◌, ℕ, Some, length};
+ghost use Rattle.std.specs.Prelude.{◌≡◌, ◌+◌, ◌≤◌, ℕ, Some, drop, length};
 ghost use Rattle.wc_blocks.specs.Views.{sr_view};
 ghost use Rattle.wc_flat.specs.NumberBlocks.{block_called, field_numbers, with_numbers};
 ghost use Rattle.wc_machine.specs.Lines.{AreBefore, AreSlots, slots_of};
@@ -17,8 +17,8 @@ fn fields_at<S: Store>(store: &S, at: usize) -> Sr
     requires room { length (S.slot_kinds store.now) ≤ 65536 }
     requires slots { AreSlots (slots_of blocks.Sr) (S.slot_kinds store.now) at }
     ensures { block_called blocks.Sr 0 (S.slot_kinds store.now) (S.numbers store.now) at
-        ≡ Some (with_numbers (S.numbers store.now) at
-        (field_numbers (sr_contents (sr_step (sr_view result))))) }
+        ≡ Some (with_numbers (S.numbers store.now) (at + 2)
+        (drop 2 (field_numbers (sr_contents (sr_step (sr_view result)))))) }
 {
     Sr {
         s1: truth_at(store, at),
@@ -27,19 +27,17 @@ fn fields_at<S: Store>(store: &S, at: usize) -> Sr
     }
 }
 
-/// Writes the fields.
+/// Writes the fields that a call may change: all but S1 and R.
 #[inline(always)]
 fn set_fields<S: Store>(store: &mut S, at: usize, block: Sr)
     requires room { length (S.slot_kinds store.old) ≤ 65536 }
     requires slots { AreSlots (slots_of blocks.Sr) (S.slot_kinds store.old) at }
-    ensures numbers { S.numbers store.new ≡ with_numbers (S.numbers store.old) at
-        (field_numbers (sr_contents (sr_view block))) }
+    ensures numbers { S.numbers store.new ≡ with_numbers (S.numbers store.old) (at + 2)
+        (drop 2 (field_numbers (sr_contents (sr_view block)))) }
     ensures kinds { S.slot_kinds store.new ≡ S.slot_kinds store.old }
     ensures moments { (now : ℕ) → AreBefore now (S.slot_kinds store.old) (S.numbers store.old)
         → AreBefore now (S.slot_kinds store.new) (S.numbers store.new) }
 {
-    set_truth(store, at, block.s1);
-    set_truth(store, at + 1, block.r);
     set_truth(store, at + 2, block.q1);
 }
 

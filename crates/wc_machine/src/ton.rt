@@ -1,4 +1,4 @@
-ghost use Rattle.std.specs.Prelude.{◌≡◌, ◌≤◌, ℕ, Some, length};
+ghost use Rattle.std.specs.Prelude.{◌≡◌, ◌+◌, ◌≤◌, ℕ, Some, drop, length};
 ghost use Rattle.wc_blocks.specs.Views.{ton_view};
 ghost use Rattle.wc_flat.specs.NumberBlocks.{block_called, field_numbers, with_numbers};
 ghost use Rattle.wc_machine.specs.Lines.{AreBefore, AreSlots, slots_of};
@@ -18,8 +18,8 @@ fn fields_at<S: Store>(store: &S, at: usize) -> Ton
     requires slots { AreSlots (slots_of blocks.Ton) (S.slot_kinds store.now) at }
     ensures called { (now : ℕ)
         → block_called blocks.Ton now (S.slot_kinds store.now) (S.numbers store.now) at
-        ≡ Some (with_numbers (S.numbers store.now) at
-        (field_numbers (ton_contents (ton_step now (ton_view result))))) }
+        ≡ Some (with_numbers (S.numbers store.now) (at + 2)
+        (drop 2 (field_numbers (ton_contents (ton_step now (ton_view result)))))) }
     ensures start { (now : ℕ) → AreBefore now (S.slot_kinds store.now) (S.numbers store.now)
         → result.start ≤ now }
 {
@@ -33,21 +33,19 @@ fn fields_at<S: Store>(store: &S, at: usize) -> Ton
     }
 }
 
-/// Writes the fields.
+/// Writes the fields that a call may change: all but IN and PT.
 #[inline(always)]
 fn set_fields<S: Store>(store: &mut S, at: usize, block: Ton)
     requires room { length (S.slot_kinds store.old) ≤ 65536 }
     requires slots { AreSlots (slots_of blocks.Ton) (S.slot_kinds store.old) at }
     requires range { block.start ≤ 1099511627775 }
-    ensures numbers { S.numbers store.new ≡ with_numbers (S.numbers store.old) at
-        (field_numbers (ton_contents (ton_view block))) }
+    ensures numbers { S.numbers store.new ≡ with_numbers (S.numbers store.old) (at + 2)
+        (drop 2 (field_numbers (ton_contents (ton_view block)))) }
     ensures kinds { S.slot_kinds store.new ≡ S.slot_kinds store.old }
     ensures moments { (now : ℕ) → block.start ≤ now
         → AreBefore now (S.slot_kinds store.old) (S.numbers store.old)
         → AreBefore now (S.slot_kinds store.new) (S.numbers store.new) }
 {
-    set_truth(store, at, block.input);
-    set_time(store, at + 1, block.pt);
     set_truth(store, at + 2, block.q);
     set_time(store, at + 3, block.et);
     set_truth(store, at + 4, block.run);
