@@ -12,7 +12,7 @@ fn write_headline(message: &mut Message, number: u16, told: &Message) -> Result<
         ≡ message.old.bytes.items ++ headline number told.now.bytes.items) }
 {
     message.say("error[")?;
-    message.count(number as u32)?;
+    message.count(number as usize)?;
     message.say("]: ")?;
     message.append(told)?;
     message.end_line()
@@ -27,7 +27,7 @@ fn write_line(message: &mut Message, line: u32) -> Result<(), AllocError>
         return Ok(());
     }
     message.say(":")?;
-    message.count(line)
+    message.count(line as usize)
 }
 
 /// Writes where it is wrong.
@@ -51,7 +51,7 @@ fn write_page(message: &mut Message, number: u16) -> Result<(), AllocError>
         ≡ message.old.bytes.items ++ page_text number) }
 {
     message.say("; `wc explain ")?;
-    message.count(number as u32)?;
+    message.count(number as usize)?;
     message.say("` says more")?;
     message.end_line()
 }

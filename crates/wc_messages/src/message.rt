@@ -1,4 +1,4 @@
-ghost use Rattle.std.specs.Prelude.{◌≡◌, ◌<◌, ◌/◌, ◌%◌, ◌∷◌, ◌++◌, [], IfOk, OnOk, true};
+ghost use Rattle.std.specs.Prelude.{◌≡◌, ◌<◌, ◌/◌, ◌%◌, ◌∷◌, ◌++◌, ◌↔◌, [], IfOk, IsTrue, OnOk, replicate, true};
 ghost use Rattle.std.specs.Fmt.{decimal};
 ghost use Rattle.std.specs.List.{list_all};
 ghost use Rattle.wc_messages.specs.Plain.{hex_digit, is_plain, shown_byte, shown_text};
@@ -42,6 +42,13 @@ impl Message {
         ensures all { result.now ≡ self.now.bytes.items }
     {
         self.bytes.as_slice()
+    }
+
+    /// Whether it has no byte.
+    pub(crate) fn is_empty(&self) -> bool
+        ensures { IsTrue result ↔ self.now.bytes.items ≡ [] }
+    {
+        self.bytes.is_empty()
     }
 
     /// Adds a byte that is shown as it is.
@@ -96,7 +103,7 @@ impl Message {
     }
 
     /// Adds a number.
-    pub(crate) fn count(&mut self, number: u32) -> Result<(), AllocError>
+    pub(crate) fn count(&mut self, number: usize) -> Result<(), AllocError>
         ensures { OnOk result (self.new.bytes.items
             ≡ self.old.bytes.items ++ shown_text (decimal number)) }
     {
@@ -112,9 +119,13 @@ impl Message {
     }
 
     /// Adds a mark so many times.
-    pub(crate) fn repeat(&mut self, mark: &str, times: usize) -> Result<(), AllocError> {
-        for _ in 0..times {
-            self.say(mark)?;
+    pub(crate) fn repeat(&mut self, mark: u8, times: usize) -> Result<(), AllocError>
+        requires { is_plain mark ≡ true }
+        ensures { OnOk result (self.new.bytes.items
+            ≡ self.old.bytes.items ++ replicate times mark) }
+    {
+        for _done in 0..times {
+            self.put(mark)?;
         }
         Ok(())
     }

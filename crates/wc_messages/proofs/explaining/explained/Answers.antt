@@ -6,11 +6,11 @@ returns c =
     let parts = c.in_ok-parts.parts in
     record {
       line = parts.line;
-      names = c.in_ok-parts.ensures;
-      told = parts.told.bytes.items;
       margin = parts.margin.bytes.items;
       beside = parts.beside.bytes.items;
       excerpt = parts.excerpt.bytes.items;
+      shows = c.in_ok-parts.ensures;
+      told = parts.told.bytes.items;
       advice = parts.advice.bytes.items;
       all = four_pieces _ _ _ _ _ _ _ _ _ c.new-message.ensures c.in_ok-write_headline.ensures c.in_ok-write_place.ensures c.in_ok-append.ensures c.in_ok-write_help.ensures;
     }
