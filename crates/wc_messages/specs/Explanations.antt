@@ -8,7 +8,7 @@ use Rattle.wc_findings.specs.declared.refusal.Part.TheVariants.{Job, Plate, Prog
 use Rattle.wc_findings.specs.declared.refusal.Refusal.{Refusal}
 use Rattle.wc_messages.specs.Excerpts.{excerpt_text}
 use Rattle.wc_messages.specs.Locations.{beside_text, margin_text, number_text}
-use Rattle.wc_messages.specs.Plain.{shown_text}
+use Rattle.wc_messages.specs.Plain.{IsShown, shown_text}
 
 -- the part is a program
 abbrev pub is_program : Part → Bool
@@ -28,13 +28,21 @@ named_line refusal found =
     else if is_program refusal.part && nat_lt 0 refusal.place then line_under refusal.above refusal.place
     else 0
 
--- where a refusal stands, as a message shows it: by what was found in the text at hand; what could stand there is told in words
--- that are not pinned
-pub record ShowsPlace (refusal : Refusal) (line : ℕ) (margin beside excerpt : List ℕ) : Type 0 where
+-- the piece of the text with which the first line begins, between backquotes, if there is one
+abbrev pub quoted_text : List ℕ → List ℕ
+quoted_text [] = []
+quoted_text (byte ∷ rest) = shown_text (codes "`") ++ shown_text (byte ∷ rest) ++ shown_text (codes "`") ++ shown_text (codes " ")
+
+-- what was found of a refusal in the text at hand, as a message shows it: what is quoted, and where it stands; what is said of it,
+-- and what could stand there, are words that are not pinned
+pub record ShowsPlace (refusal : Refusal) (line : ℕ) (told margin beside excerpt : List ℕ) : Type 0 where
   pub finding : Finding
   pub found : Finds refusal finding
+  pub said : List ℕ
   pub words : List ℕ
+  pub words_are : IsShown words
   pub line_is : line ≡ named_line refusal finding.line
+  pub told_is : told ≡ quoted_text finding.subject.items ++ shown_text said
   pub margin_is : margin ≡ margin_text line
   pub beside_is : beside ≡ beside_text refusal finding.spot
   pub excerpt_is : excerpt ≡ excerpt_text line finding.shown.items finding.spot words
@@ -60,15 +68,15 @@ page_text number =
 
 -- the last line: what to write instead, and the page that says more
 abbrev pub help_line : ℕ → List ℕ → List ℕ
-help_line number advice = shown_text (codes "help: ") ++ advice ++ page_text number
+help_line number advice = shown_text (codes "help: ") ++ shown_text advice ++ page_text number
 
 -- a message about a refusal
 pub record Explains (refusal : Refusal) (bytes : List ℕ) : Type 0 where
   pub line : ℕ
+  pub told : List ℕ
   pub margin : List ℕ
   pub beside : List ℕ
   pub excerpt : List ℕ
-  pub shows : ShowsPlace refusal line margin beside excerpt
-  pub told : List ℕ
+  pub shows : ShowsPlace refusal line told margin beside excerpt
   pub advice : List ℕ
   pub all : bytes ≡ headline refusal.number told ++ place_line margin refusal.name.now line beside ++ excerpt ++ help_line refusal.number advice

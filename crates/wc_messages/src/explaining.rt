@@ -1,5 +1,6 @@
-ghost use Rattle.std.specs.Prelude.{◌≡◌, ◌++◌, IfOk, OnOk};
+ghost use Rattle.std.specs.Prelude.{◌≡◌, ℕ, List, ◌++◌, IfOk, OnOk};
 ghost use Rattle.wc_messages.specs.Explanations.{Explains, headline, help_line, line_text, page_text, place_line};
+ghost use Rattle.wc_messages.specs.Plain.{shown_text};
 
 use crate::message::Message;
 use crate::parts::{Parts, parts_of};
@@ -58,8 +59,9 @@ fn write_page(message: &mut Message, number: u16) -> Result<(), AllocError>
 
 /// Writes what to write instead, and the page that says more.
 fn write_help(message: &mut Message, number: u16, advice: &Message) -> Result<(), AllocError>
-    ensures { OnOk result (message.new.bytes.items
-        ≡ message.old.bytes.items ++ help_line number advice.now.bytes.items) }
+    ensures { (text : List ℕ) → advice.now.bytes.items ≡ shown_text text
+        → OnOk result (message.new.bytes.items
+        ≡ message.old.bytes.items ++ help_line number text) }
 {
     message.say("help: ")?;
     message.append(advice)?;

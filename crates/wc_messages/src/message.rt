@@ -1,7 +1,7 @@
-ghost use Rattle.std.specs.Prelude.{◌≡◌, ◌<◌, ◌/◌, ◌%◌, ◌∷◌, ◌++◌, ◌↔◌, [], IfOk, IsTrue, OnOk, replicate, true};
+ghost use Rattle.std.specs.Prelude.{◌≡◌, ◌<◌, ◌/◌, ◌%◌, ◌∷◌, ◌++◌, ◌↔◌, [], IfOk, IsTrue, OnOk, codes, replicate, true};
 ghost use Rattle.std.specs.Fmt.{decimal};
 ghost use Rattle.std.specs.List.{list_all};
-ghost use Rattle.wc_messages.specs.Plain.{hex_digit, is_plain, shown_byte, shown_text};
+ghost use Rattle.wc_messages.specs.Plain.{IsShown, hex_digit, is_plain, shown_byte, shown_text};
 
 use std::alloc::{AllocError, Global};
 
@@ -28,7 +28,8 @@ fn digit(value: u8) -> u8
 impl Message {
     /// A text with nothing in it.
     pub(crate) fn new(alloc: Global) -> Message
-        ensures { result.bytes.items ≡ [] }
+        ensures nothing { result.bytes.items ≡ [] }
+        ensures shown { IsShown result.bytes.items }
     {
         Message {
             alloc,
@@ -97,7 +98,9 @@ impl Message {
 
     /// Adds words on the line.
     pub(crate) fn say(&mut self, text: &str) -> Result<(), AllocError>
-        ensures { OnOk result (self.new.bytes.items ≡ self.old.bytes.items ++ shown_text text.now) }
+        ensures all { OnOk result (self.new.bytes.items
+            ≡ self.old.bytes.items ++ shown_text text.now) }
+        ensures shown { IsShown self.old.bytes.items → OnOk result (IsShown self.new.bytes.items) }
     {
         self.add(text.as_bytes())
     }
@@ -112,7 +115,11 @@ impl Message {
     }
 
     /// Adds a piece of a text between backquotes.
-    pub(crate) fn quote(&mut self, text: &[u8]) -> Result<(), AllocError> {
+    pub(crate) fn quote(&mut self, text: &[u8]) -> Result<(), AllocError>
+        ensures { OnOk result (self.new.bytes.items
+            ≡ self.old.bytes.items
+            ++ (shown_text (codes "`") ++ shown_text text.now ++ shown_text (codes "`"))) }
+    {
         self.say("`")?;
         self.add(text)?;
         self.say("`")

@@ -1,6 +1,6 @@
 ghost use Rattle.std.specs.Prelude.{◌≡◌, ◌++◌, IfOk, IfSome, OnOk, is_some};
 ghost use Rattle.wc_messages.specs.Numbers.{is_refusal};
-ghost use Rattle.wc_messages.specs.Paged.{TellsPage, advice_line, answer_line, number_line};
+ghost use Rattle.wc_messages.specs.Paged.{TellsPage, answer_line, met_at, met_lines, number_line, page_line, plate_line};
 
 use crate::hints::hint;
 use crate::message::Message;
@@ -9,93 +9,64 @@ use crate::sentences::sentence;
 use std::alloc::{AllocError, Global};
 
 /// The plate of which the pages of plates speak.
-const PLATE_A: &str =
-    "unit = \"kg\" / decimals = 3 / max = 15000 / e = 5 / zero_counts = 10000 / span_counts = 600000 / window = 4";
-
-/// The parts of a page that no number stands in.
-#[derive(Drop)]
-struct Words {
-    /// What the number means.
-    told: Message,
-    /// Where it is met, its place, and a smallest input.
-    met: Message,
-    /// The place in the answer to that input.
-    place: Message,
-    /// What to write instead.
-    advice: Message,
+fn plate_a() -> &'static str {
+    "unit = \"kg\" / decimals = 3 / max = 15000 / e = 5 / zero_counts = 10000 / span_counts = 600000 / window = 4"
 }
 
-/// A text in a message of its own.
-fn worded(alloc: Global, text: &str) -> Result<Message, AllocError> {
-    let mut message = Message::new(alloc);
-    message.say(text)?;
-    Ok(message)
-}
-
-/// Writes a line of a page: what it tells, and its text.
-fn write_line(message: &mut Message, name: &str, text: &str) -> Result<(), AllocError> {
+/// Writes a line of a page: what it tells, and its words.
+fn write_line(message: &mut Message, name: &str, words: &str) -> Result<(), AllocError>
+    ensures { OnOk result (message.new.bytes.items
+        ≡ message.old.bytes.items ++ page_line name.now words.now) }
+{
     message.say(name)?;
     message.say(": ")?;
-    message.say(text)?;
+    message.say(words)?;
     message.end_line()
-}
-
-/// Where a refusal is met, its place, and a smallest input.
-fn met(alloc: Global, number: u16, page: &Page) -> Result<Message, AllocError> {
-    let mut message = Message::new(alloc);
-    write_line(&mut message, "met at", page.pass)?;
-    write_line(&mut message, "place", page.place)?;
-    write_line(
-        &mut message,
-        "a smallest input, in which ` / ` ends a line",
-        page.input,
-    )?;
-    if number >= 503 && number <= 508 {
-        write_line(&mut message, "plate A", PLATE_A)?;
-    }
-    Ok(message)
-}
-
-/// The words of a page.
-fn words_of(alloc: Global, number: u16, page: &Page) -> Result<Words, AllocError> {
-    Ok(Words {
-        told: worded(alloc, sentence(number))?,
-        met: met(alloc, number, page)?,
-        place: worded(alloc, page.answer)?,
-        advice: worded(alloc, hint(number))?,
-    })
 }
 
 /// Writes the number, and what it means.
-fn write_number(message: &mut Message, number: u16, told: &Message) -> Result<(), AllocError>
+fn write_number(message: &mut Message, number: u16, told: &str) -> Result<(), AllocError>
     ensures { OnOk result (message.new.bytes.items
-        ≡ message.old.bytes.items ++ number_line number told.now.bytes.items) }
+        ≡ message.old.bytes.items ++ number_line number told.now) }
 {
     message.count(number as usize)?;
-    message.say(": ")?;
-    message.append(told)?;
-    message.end_line()
+    write_line(message, "", told)
+}
+
+/// Writes where it is met, its place, and a smallest input.
+fn write_met(message: &mut Message, page: &Page) -> Result<(), AllocError>
+    ensures { OnOk result (message.new.bytes.items
+        ≡ message.old.bytes.items ++ met_lines (met_at page.now)) }
+{
+    write_line(message, "met at", page.pass)?;
+    write_line(message, "place", page.place)?;
+    write_line(
+        message,
+        "a smallest input, in which ` / ` ends a line",
+        page.input,
+    )
+}
+
+/// Writes the plate of which the pages of its refusals speak.
+fn write_plate(message: &mut Message, number: u16, plate: &str) -> Result<(), AllocError>
+    ensures { OnOk result (message.new.bytes.items
+        ≡ message.old.bytes.items ++ plate_line number plate.now) }
+{
+    if number >= 503 && number <= 508 {
+        return write_line(message, "plate A", plate);
+    }
+    Ok(())
 }
 
 /// Writes how the smallest input is answered.
-fn write_answer(message: &mut Message, number: u16, place: &Message) -> Result<(), AllocError>
+fn write_answer(message: &mut Message, number: u16, place: &str) -> Result<(), AllocError>
     ensures { OnOk result (message.new.bytes.items
-        ≡ message.old.bytes.items ++ answer_line number place.now.bytes.items) }
+        ≡ message.old.bytes.items ++ answer_line number place.now) }
 {
     message.say("the answer to it: refused ")?;
     message.count(number as usize)?;
     message.say(" ")?;
-    message.append(place)?;
-    message.end_line()
-}
-
-/// Writes what to write instead.
-fn write_advice(message: &mut Message, advice: &Message) -> Result<(), AllocError>
-    ensures { OnOk result (message.new.bytes.items
-        ≡ message.old.bytes.items ++ advice_line advice.now.bytes.items) }
-{
-    message.say("help: ")?;
-    message.append(advice)?;
+    message.say(place)?;
     message.end_line()
 }
 
@@ -103,12 +74,15 @@ fn write_advice(message: &mut Message, advice: &Message) -> Result<(), AllocErro
 fn printed(alloc: Global, number: u16, page: &Page) -> Result<Message, AllocError>
     ensures { IfOk result (λ message. TellsPage number message.bytes.items) }
 {
-    let words = words_of(alloc, number, page)?;
+    let told = sentence(number);
+    let plate = plate_a();
+    let advice = hint(number);
     let mut message = Message::new(alloc);
-    write_number(&mut message, number, &words.told)?;
-    message.append(&words.met)?;
-    write_answer(&mut message, number, &words.place)?;
-    write_advice(&mut message, &words.advice)?;
+    write_number(&mut message, number, told)?;
+    write_met(&mut message, page)?;
+    write_plate(&mut message, number, plate)?;
+    write_answer(&mut message, number, page.answer)?;
+    write_line(&mut message, "help", advice)?;
     Ok(message)
 }
 

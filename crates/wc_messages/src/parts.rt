@@ -1,5 +1,6 @@
-ghost use Rattle.std.specs.Prelude.{IfOk};
-ghost use Rattle.wc_messages.specs.Explanations.{ShowsPlace};
+ghost use Rattle.std.specs.Prelude.{◌≡◌, ◌++◌, IfOk, OnOk};
+ghost use Rattle.wc_messages.specs.Explanations.{ShowsPlace, quoted_text};
+ghost use Rattle.wc_messages.specs.Plain.{IsShown};
 
 use crate::excerpts::excerpt;
 use crate::hints::hint;
@@ -26,61 +27,103 @@ pub(crate) struct Parts {
     pub(crate) advice: Message,
 }
 
-/// What is wrong.
-fn told(alloc: Global, number: u16, finding: &Finding) -> Result<Message, AllocError> {
+/// Writes the piece of the text with which a headline begins, if there is one.
+fn write_subject(message: &mut Message, subject: &[u8]) -> Result<(), AllocError>
+    ensures { OnOk result (message.new.bytes.items
+        ≡ message.old.bytes.items ++ quoted_text subject.now) }
+{
+    if subject.is_empty() {
+        return Ok(());
+    }
+    message.quote(subject)?;
+    message.say(" ")
+}
+
+/// Writes what stands behind a headline, if there is something.
+fn write_detail(message: &mut Message, detail: &str) -> Result<(), AllocError>
+    ensures { IsShown message.old.bytes.items → OnOk result (IsShown message.new.bytes.items) }
+{
+    if detail.is_empty() {
+        return Ok(());
+    }
+    message.say(": ")?;
+    message.say(detail)
+}
+
+/// What is said of what is quoted.
+fn said(alloc: Global, number: u16, finding: &Finding) -> Result<Message, AllocError>
+    ensures { IfOk result (λ message. IsShown message.bytes.items) }
+{
     let mut message = Message::new(alloc);
-    if !finding.subject.is_empty() {
-        message.quote(&finding.subject)?;
-        message.say(" ")?;
-    }
     message.say(finding.says.unwrap_or(sentence(number)))?;
-    if !finding.detail.is_empty() {
-        message.say(": ")?;
-        message.say(&finding.detail)?;
-    }
+    write_detail(&mut message, &finding.detail)?;
     Ok(message)
+}
+
+/// What is wrong: what is quoted, and what is said of it.
+fn told(alloc: Global, finding: &Finding, said: &Message) -> Result<Message, AllocError>
+    ensures { IfOk result (λ message. message.bytes.items
+        ≡ quoted_text finding.now.subject.items ++ said.now.bytes.items) }
+{
+    let mut message = Message::new(alloc);
+    write_subject(&mut message, &finding.subject)?;
+    message.append(said)?;
+    Ok(message)
+}
+
+/// What stands before one of so many names.
+fn joint(index: usize, count: usize) -> &'static str {
+    if index == 0 {
+        ""
+    } else if index.saturating_add(1) == count {
+        " or "
+    } else {
+        ", "
+    }
 }
 
 /// What could stand at the spot; nothing where that is not known.
-fn expected(alloc: Global, names: &[&'static str]) -> Result<Message, AllocError> {
+fn expected(alloc: Global, names: &[&'static str]) -> Result<Message, AllocError>
+    ensures { IfOk result (λ message. IsShown message.bytes.items) }
+{
     let mut message = Message::new(alloc);
-    for index in 0..names.len() {
-        if index > 0 {
-            message.say(if index.saturating_add(1) == names.len() {
-                " or "
-            } else {
-                ", "
-            })?;
-        }
-        if let Some(name) = names.get(index) {
-            message.say(name)?;
-        }
+    for (index, name) in names.iter().enumerate() {
+        message.say(joint(index, names.len()))?;
+        message.say(*name)?;
     }
     Ok(message)
 }
 
-/// What to write instead.
-fn advice(alloc: Global, number: u16, finding: &Finding) -> Result<Message, AllocError> {
-    let mut message = Message::new(alloc);
+/// What to write instead, as a text.
+fn advised<'a>(number: u16, finding: &'a Finding) -> &'a str {
     if finding.advice.is_empty() {
-        message.say(finding.help.unwrap_or(hint(number)))?;
-    } else {
-        message.say(&finding.advice)?;
+        return finding.help.unwrap_or(hint(number));
     }
+    &finding.advice
+}
+
+/// What to write instead.
+fn advice(alloc: Global, number: u16, finding: &Finding) -> Result<Message, AllocError>
+    ensures { IfOk result (λ message. IsShown message.bytes.items) }
+{
+    let mut message = Message::new(alloc);
+    message.say(advised(number, finding))?;
     Ok(message)
 }
 
 /// The parts of a message about a refusal.
 pub(crate) fn parts_of(alloc: Global, refusal: &Refusal<'_>) -> Result<Parts, AllocError>
-    ensures { IfOk result (λ parts. ShowsPlace refusal.now parts.line
+    ensures place { IfOk result (λ parts. ShowsPlace refusal.now parts.line parts.told.bytes.items
         parts.margin.bytes.items parts.beside.bytes.items parts.excerpt.bytes.items) }
+    ensures advice { IfOk result (λ parts. IsShown parts.advice.bytes.items) }
 {
     let finding = find(alloc, refusal)?;
     let line = named_line(refusal, finding.line);
+    let said = said(alloc, refusal.number, &finding)?;
     let words = expected(alloc, &finding.expected)?;
     Ok(Parts {
         line,
-        told: told(alloc, refusal.number, &finding)?,
+        told: told(alloc, &finding, &said)?,
         margin: margin(alloc, line)?,
         beside: beside(alloc, refusal, &finding)?,
         excerpt: excerpt(alloc, line, &finding, &words)?,
