@@ -1,5 +1,5 @@
--- What is said of a refusal: its number, what is named, the line, the column, the excerpt and the page are pinned; the words
--- between them are not (the profile's own).
+-- What is said of a refusal: its number, what is named, the line, the column, the excerpt and the
+-- page are pinned; the words between them are not (the profile's own).
 use Rattle.std.specs.Prelude.{◌≡◌, ℕ, ◌+◌, ◌==◌, ◌&&◌, min, Bool, true, false, nat_lt, List, [], ◌∷◌, ◌++◌, codes, if◌then◌else◌}
 use Rattle.wc_findings.specs.Finds.{Finds}
 use Rattle.wc_findings.specs.declared.finding.Finding.{Finding}
@@ -21,21 +21,26 @@ is_program Log = false
 abbrev pub line_under : ℕ → ℕ → ℕ
 line_under above line = min (above + line) 4294967295
 
--- the line in what is named, where this one was found in the text at hand (0: none); else that of a program's refusal
+-- the line in what is named, where this one was found (0: none); else that of a program's refusal
 abbrev pub named_line : Refusal → ℕ → ℕ
 named_line refusal found =
     if nat_lt 0 found then line_under refusal.above found
-    else if is_program refusal.part && nat_lt 0 refusal.place then line_under refusal.above refusal.place
+    else if is_program refusal.part && nat_lt 0 refusal.place
+    then line_under refusal.above refusal.place
     else 0
 
 -- the piece of the text with which the first line begins, between backquotes, if there is one
 abbrev pub quoted_text : List ℕ → List ℕ
 quoted_text [] = []
-quoted_text (byte ∷ rest) = shown_text (codes "`") ++ shown_text (byte ∷ rest) ++ shown_text (codes "`") ++ shown_text (codes " ")
+quoted_text (byte ∷ rest) =
+    shown_text (codes "`") ++ shown_text (byte ∷ rest) ++ shown_text (codes "`")
+    ++ shown_text (codes " ")
 
--- what was found of a refusal in the text at hand, as a message shows it: what is quoted, and where it stands; what is said of it,
--- and what could stand there, are words that are not pinned
-pub record ShowsPlace (refusal : Refusal) (line : ℕ) (told margin beside excerpt : List ℕ) : Type 0 where
+-- what was found of a refusal in the text at hand, as a message shows it: what is quoted, and
+-- where it stands; what is said of it, and what could stand there, are words
+pub record ShowsPlace
+    (refusal : Refusal) (line : ℕ) (told margin beside excerpt : List ℕ)
+    : Type 0 where
   pub finding : Finding
   pub found : Finds refusal finding
   pub said : List ℕ
@@ -50,7 +55,8 @@ pub record ShowsPlace (refusal : Refusal) (line : ℕ) (told margin beside excer
 -- the first line: the number, and what is wrong
 abbrev pub headline : ℕ → List ℕ → List ℕ
 headline number told =
-    shown_text (codes "error[") ++ number_text number ++ shown_text (codes "]: ") ++ told ++ (10 ∷ [])
+    shown_text (codes "error[") ++ number_text number ++ shown_text (codes "]: ")
+    ++ told ++ (10 ∷ [])
 
 -- a line behind the name of what it stands in; nothing where none is known
 abbrev pub line_text : ℕ → List ℕ
@@ -64,7 +70,8 @@ place_line margin name line beside =
 -- which page says more
 abbrev pub page_text : ℕ → List ℕ
 page_text number =
-    shown_text (codes "; `wc explain ") ++ number_text number ++ shown_text (codes "` says more") ++ (10 ∷ [])
+    shown_text (codes "; `wc explain ") ++ number_text number
+    ++ shown_text (codes "` says more") ++ (10 ∷ [])
 
 -- the last line: what to write instead, and the page that says more
 abbrev pub help_line : ℕ → List ℕ → List ℕ
@@ -79,4 +86,6 @@ pub record Explains (refusal : Refusal) (bytes : List ℕ) : Type 0 where
   pub excerpt : List ℕ
   pub shows : ShowsPlace refusal line told margin beside excerpt
   pub advice : List ℕ
-  pub all : bytes ≡ headline refusal.number told ++ place_line margin refusal.name.now line beside ++ excerpt ++ help_line refusal.number advice
+  pub all :
+      bytes ≡ headline refusal.number told ++ place_line margin refusal.name.now line beside
+      ++ excerpt ++ help_line refusal.number advice

@@ -44,7 +44,7 @@ section_text part place =
     if place == 0 then shown_text (heading part)
     else counted_text part place ++ shown_text (codes " of ") ++ shown_text (heading part)
 
--- the row of a log; nothing where none is named, nor of another part, whose lines are those of the file
+-- the row of a log, where one is named; the lines of other parts are those of the file
 abbrev pub row_text : Part → ℕ → List ℕ
 row_text Job place = []
 row_text Plate place = []
@@ -62,4 +62,5 @@ in_brackets (byte ∷ rest) = shown_text (codes " (") ++ (byte ∷ rest) ++ show
 
 -- what stands behind the line: the column, and the place that is counted
 abbrev pub beside_text : Refusal → Option Spot → List ℕ
-beside_text refusal spot = column_text spot ++ in_brackets (place_text refusal.in_job refusal.part refusal.place)
+beside_text refusal spot =
+    column_text spot ++ in_brackets (place_text refusal.in_job refusal.part refusal.place)

@@ -1,5 +1,5 @@
--- The page of a refusal: its lines, its number, and the answer with that number, are pinned; the words on the lines are not (the
--- profile's own).
+-- The page of a refusal: its lines, its number, and the answer with that number, are pinned; the
+-- words on the lines are not (the profile's own).
 use Rattle.std.specs.Prelude.{◌≡◌, ℕ, List, [], ◌∷◌, ◌++◌, codes, if◌then◌else◌}
 use Rattle.wc_messages.specs.Locations.{number_text}
 use Rattle.wc_messages.specs.Numbers.{is_from}
@@ -21,7 +21,8 @@ plate_line number plate = if is_from 503 508 number then page_line (codes "plate
 -- the line that says how the smallest input is answered
 abbrev pub answer_line : ℕ → List ℕ → List ℕ
 answer_line number place =
-    shown_text (codes "the answer to it: refused ") ++ number_text number ++ shown_text (codes " ") ++ shown_text place ++ (10 ∷ [])
+    shown_text (codes "the answer to it: refused ") ++ number_text number
+    ++ shown_text (codes " ") ++ shown_text place ++ (10 ∷ [])
 
 -- where it is met, its place, and a smallest input
 pub record MetAt : Type 0 where
@@ -46,4 +47,6 @@ pub record TellsPage (number : ℕ) (bytes : List ℕ) : Type 0 where
   pub plate : List ℕ
   pub place : List ℕ
   pub advice : List ℕ
-  pub all : bytes ≡ number_line number told ++ met_lines met ++ plate_line number plate ++ answer_line number place ++ page_line (codes "help") advice
+  pub all :
+      bytes ≡ number_line number told ++ met_lines met ++ plate_line number plate
+      ++ answer_line number place ++ page_line (codes "help") advice

@@ -71,7 +71,7 @@ fn a_line_with_a_return_is_marked_at_its_end(rt: HostRuntime) -> Result<(), Fail
     let text = b"PROGRAM P\r\nLD\r\nEND_PROGRAM\r\n";
     let message = of_file(rt.alloc(), Part::Program, 201, 2, Some(text))?;
     let wanted =
-        b"error[201]: the line can't end here\n --> a.txt:2:3\n  |\n2 | LD\n  |   ^ expected ";
+        b"error[201]: the line can't end here\n --> a.txt:2:3\n  |\n2 | LD\n  |   ^";
     assert!(rt; message.as_bytes().starts_with(wanted));
     Ok(())
 }
