@@ -12,3 +12,8 @@ pub four_behind : {E : Type 0} (r : Result Unit E) (old a b c d first second thi
 four_behind (Ok x) old a b c d first second third all e f g h =
     rw (h, g, f, e, append_assoc old a b, append_assoc old (a ++ b) c, append_assoc old (a ++ b ++ c) d) refl
 four_behind (Err x) old a b c d first second third all e f g h = tt
+
+-- five pieces in an empty message
+pub five_pieces : (a b c d e start first second third fourth all : List ℕ) → start ≡ [] → first ≡ start ++ a → second ≡ first ++ b → third ≡ second ++ c → fourth ≡ third ++ d → all ≡ fourth ++ e
+    → all ≡ a ++ b ++ c ++ d ++ e
+five_pieces a b c d e start first second third fourth all none f g h i j = rw (j, i, h, g, f, none) refl

@@ -4,3 +4,4 @@ pub mod SeekerSteps
 pub mod SeekerStates
 pub mod LinesAbove
 pub mod Assembled
+pub mod OnLines

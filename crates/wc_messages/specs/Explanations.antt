@@ -1,12 +1,14 @@
--- What is said of a refusal: its number, what is named, the line and the page are pinned; the words between them are not (the
--- profile's own).
-use Rattle.std.specs.Prelude.{◌≡◌, ◌≤◌, ℕ, ◌+◌, ◌==◌, ◌&&◌, min, Bool, true, false, nat_lt, List, [], ◌∷◌, ◌++◌, length, codes, IfSome, if◌then◌else◌}
-use Rattle.std.specs.Fmt.{decimal}
-use Rattle.wc_findings.specs.Lines.{lines_of}
+-- What is said of a refusal: its number, what is named, the line, the column, the excerpt and the
+-- page are pinned; the words between them are not (the profile's own).
+use Rattle.std.specs.Prelude.{◌≡◌, ℕ, ◌+◌, ◌==◌, ◌&&◌, min, Bool, true, false, nat_lt, List, [], ◌∷◌, ◌++◌, codes, if◌then◌else◌}
+use Rattle.wc_findings.specs.Finds.{Finds}
+use Rattle.wc_findings.specs.declared.finding.Finding.{Finding}
 use Rattle.wc_findings.specs.declared.refusal.Part.{Part}
 use Rattle.wc_findings.specs.declared.refusal.Part.TheVariants.{Job, Plate, Program, Log}
 use Rattle.wc_findings.specs.declared.refusal.Refusal.{Refusal}
-use Rattle.wc_messages.specs.Plain.{shown_text}
+use Rattle.wc_messages.specs.Excerpts.{excerpt_text}
+use Rattle.wc_messages.specs.Locations.{beside_text, margin_text, number_text}
+use Rattle.wc_messages.specs.Plain.{IsShown, shown_text}
 
 -- the part is a program
 abbrev pub is_program : Part → Bool
@@ -19,26 +21,46 @@ is_program Log = false
 abbrev pub line_under : ℕ → ℕ → ℕ
 line_under above line = min (above + line) 4294967295
 
--- the line in what is named, where this one was found in the text at hand (0: none); else that of a program's refusal
+-- the line in what is named, where this one was found (0: none); else that of a program's refusal
 abbrev pub named_line : Refusal → ℕ → ℕ
 named_line refusal found =
     if nat_lt 0 found then line_under refusal.above found
-    else if is_program refusal.part && nat_lt 0 refusal.place then line_under refusal.above refusal.place
+    else if is_program refusal.part && nat_lt 0 refusal.place
+    then line_under refusal.above refusal.place
     else 0
 
--- the line that is named stands in the text at hand, if it was found there
-abbrev pub NamesLine : Refusal → ℕ → Type 0
-NamesLine refusal line =
-    (found : ℕ) × (line ≡ named_line refusal found) × IfSome refusal.text (λ text. found ≤ length (lines_of text.now))
+-- the piece of the text with which the first line begins, between backquotes, if there is one
+abbrev pub quoted_text : List ℕ → List ℕ
+quoted_text [] = []
+quoted_text (byte ∷ rest) =
+    shown_text (codes "`") ++ shown_text (byte ∷ rest) ++ shown_text (codes "`")
+    ++ shown_text (codes " ")
+
+-- what was found of a refusal in the text at hand, as a message shows it: what is quoted, and
+-- where it stands; what is said of it, and what could stand there, are words
+pub record ShowsPlace
+    (refusal : Refusal) (line : ℕ) (told margin beside excerpt : List ℕ)
+    : Type 0 where
+  pub finding : Finding
+  pub found : Finds refusal finding
+  pub said : List ℕ
+  pub words : List ℕ
+  pub words_are : IsShown words
+  pub line_is : line ≡ named_line refusal finding.line
+  pub told_is : told ≡ quoted_text finding.subject.items ++ shown_text said
+  pub margin_is : margin ≡ margin_text line
+  pub beside_is : beside ≡ beside_text refusal finding.spot
+  pub excerpt_is : excerpt ≡ excerpt_text line finding.shown.items finding.spot words
 
 -- the first line: the number, and what is wrong
 abbrev pub headline : ℕ → List ℕ → List ℕ
 headline number told =
-    shown_text (codes "error[") ++ shown_text (decimal number) ++ shown_text (codes "]: ") ++ told ++ (10 ∷ [])
+    shown_text (codes "error[") ++ number_text number ++ shown_text (codes "]: ")
+    ++ told ++ (10 ∷ [])
 
 -- a line behind the name of what it stands in; nothing where none is known
 abbrev pub line_text : ℕ → List ℕ
-line_text line = if line == 0 then [] else shown_text (codes ":") ++ shown_text (decimal line)
+line_text line = if line == 0 then [] else shown_text (codes ":") ++ number_text line
 
 -- the second line: what is named, the line in it, and what stands behind it
 abbrev pub place_line : List ℕ → List ℕ → ℕ → List ℕ → List ℕ
@@ -48,19 +70,22 @@ place_line margin name line beside =
 -- which page says more
 abbrev pub page_text : ℕ → List ℕ
 page_text number =
-    shown_text (codes "; `wc explain ") ++ shown_text (decimal number) ++ shown_text (codes "` says more") ++ (10 ∷ [])
+    shown_text (codes "; `wc explain ") ++ number_text number
+    ++ shown_text (codes "` says more") ++ (10 ∷ [])
 
 -- the last line: what to write instead, and the page that says more
 abbrev pub help_line : ℕ → List ℕ → List ℕ
-help_line number advice = shown_text (codes "help: ") ++ advice ++ page_text number
+help_line number advice = shown_text (codes "help: ") ++ shown_text advice ++ page_text number
 
 -- a message about a refusal
 pub record Explains (refusal : Refusal) (bytes : List ℕ) : Type 0 where
   pub line : ℕ
-  pub names : NamesLine refusal line
   pub told : List ℕ
   pub margin : List ℕ
   pub beside : List ℕ
   pub excerpt : List ℕ
+  pub shows : ShowsPlace refusal line told margin beside excerpt
   pub advice : List ℕ
-  pub all : bytes ≡ headline refusal.number told ++ place_line margin refusal.name.now line beside ++ excerpt ++ help_line refusal.number advice
+  pub all :
+      bytes ≡ headline refusal.number told ++ place_line margin refusal.name.now line beside
+      ++ excerpt ++ help_line refusal.number advice

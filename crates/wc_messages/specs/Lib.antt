@@ -1,7 +1,10 @@
 pub mod Numbers
 pub mod Parts
 pub mod Plain
+pub mod Locations
+pub mod Excerpts
 pub mod Rows
 pub mod Seekers
 pub mod Above
 pub mod Explanations
+pub mod Paged

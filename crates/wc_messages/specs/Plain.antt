@@ -1,5 +1,5 @@
 -- what a message may hold: bytes that a terminal only shows
-use Rattle.std.specs.Prelude.{ℕ, ◌+◌, ◌/◌, ◌%◌, Bool, ◌==◌, ◌||◌, ◌&&◌, nat_le, nat_lt, if◌then◌else◌, List, [], ◌∷◌}
+use Rattle.std.specs.Prelude.{◌≡◌, ℕ, ◌+◌, ◌/◌, ◌%◌, Bool, ◌==◌, ◌||◌, ◌&&◌, nat_le, nat_lt, if◌then◌else◌, List, [], ◌∷◌}
 use Rattle.std.specs.List.{flat_map}
 
 -- a line feed, or a printable byte of ASCII
@@ -19,3 +19,7 @@ shown_byte byte =
 -- how bytes are shown on a line
 abbrev pub shown_text : List ℕ → List ℕ
 shown_text bytes = flat_map shown_byte bytes
+
+-- these are bytes as they are shown on one line
+abbrev pub IsShown : List ℕ → Type 0
+IsShown bytes = (text : List ℕ) × (bytes ≡ shown_text text)

@@ -1,5 +1,6 @@
-ghost use Rattle.std.specs.Prelude.{◌≡◌, ◌++◌, IfOk, OnOk};
+ghost use Rattle.std.specs.Prelude.{◌≡◌, ℕ, List, ◌++◌, IfOk, OnOk};
 ghost use Rattle.wc_messages.specs.Explanations.{Explains, headline, help_line, line_text, page_text, place_line};
+ghost use Rattle.wc_messages.specs.Plain.{shown_text};
 
 use crate::message::Message;
 use crate::parts::{Parts, parts_of};
@@ -12,7 +13,7 @@ fn write_headline(message: &mut Message, number: u16, told: &Message) -> Result<
         ≡ message.old.bytes.items ++ headline number told.now.bytes.items) }
 {
     message.say("error[")?;
-    message.count(number as u32)?;
+    message.count(number as usize)?;
     message.say("]: ")?;
     message.append(told)?;
     message.end_line()
@@ -27,7 +28,7 @@ fn write_line(message: &mut Message, line: u32) -> Result<(), AllocError>
         return Ok(());
     }
     message.say(":")?;
-    message.count(line)
+    message.count(line as usize)
 }
 
 /// Writes where it is wrong.
@@ -51,15 +52,16 @@ fn write_page(message: &mut Message, number: u16) -> Result<(), AllocError>
         ≡ message.old.bytes.items ++ page_text number) }
 {
     message.say("; `wc explain ")?;
-    message.count(number as u32)?;
+    message.count(number as usize)?;
     message.say("` says more")?;
     message.end_line()
 }
 
 /// Writes what to write instead, and the page that says more.
 fn write_help(message: &mut Message, number: u16, advice: &Message) -> Result<(), AllocError>
-    ensures { OnOk result (message.new.bytes.items
-        ≡ message.old.bytes.items ++ help_line number advice.now.bytes.items) }
+    ensures { (text : List ℕ) → advice.now.bytes.items ≡ shown_text text
+        → OnOk result (message.new.bytes.items
+        ≡ message.old.bytes.items ++ help_line number text) }
 {
     message.say("help: ")?;
     message.append(advice)?;

@@ -3,6 +3,7 @@
 //! not made here.
 #![tactic(auto)]
 
+mod excerpts;
 mod explaining;
 mod hints;
 mod jobs;
@@ -10,6 +11,7 @@ mod message;
 mod page;
 mod pages;
 mod parts;
+mod placing;
 mod seeker;
 mod seeking;
 mod sentences;

@@ -1,7 +1,7 @@
-ghost use Rattle.std.specs.Prelude.{◌≡◌, ◌<◌, ◌/◌, ◌%◌, ◌∷◌, ◌++◌, [], IfOk, OnOk, true};
+ghost use Rattle.std.specs.Prelude.{◌≡◌, ◌<◌, ◌/◌, ◌%◌, ◌∷◌, ◌++◌, ◌↔◌, [], IfOk, IsTrue, OnOk, codes, replicate, true};
 ghost use Rattle.std.specs.Fmt.{decimal};
 ghost use Rattle.std.specs.List.{list_all};
-ghost use Rattle.wc_messages.specs.Plain.{hex_digit, is_plain, shown_byte, shown_text};
+ghost use Rattle.wc_messages.specs.Plain.{IsShown, hex_digit, is_plain, shown_byte, shown_text};
 
 use std::alloc::{AllocError, Global};
 
@@ -28,7 +28,8 @@ fn digit(value: u8) -> u8
 impl Message {
     /// A text with nothing in it.
     pub(crate) fn new(alloc: Global) -> Message
-        ensures { result.bytes.items ≡ [] }
+        ensures nothing { result.bytes.items ≡ [] }
+        ensures shown { IsShown result.bytes.items }
     {
         Message {
             alloc,
@@ -42,6 +43,13 @@ impl Message {
         ensures all { result.now ≡ self.now.bytes.items }
     {
         self.bytes.as_slice()
+    }
+
+    /// Whether it has no byte.
+    pub(crate) fn is_empty(&self) -> bool
+        ensures { IsTrue result ↔ self.now.bytes.items ≡ [] }
+    {
+        self.bytes.is_empty()
     }
 
     /// Adds a byte that is shown as it is.
@@ -90,13 +98,15 @@ impl Message {
 
     /// Adds words on the line.
     pub(crate) fn say(&mut self, text: &str) -> Result<(), AllocError>
-        ensures { OnOk result (self.new.bytes.items ≡ self.old.bytes.items ++ shown_text text.now) }
+        ensures all { OnOk result (self.new.bytes.items
+            ≡ self.old.bytes.items ++ shown_text text.now) }
+        ensures shown { IsShown self.old.bytes.items → OnOk result (IsShown self.new.bytes.items) }
     {
         self.add(text.as_bytes())
     }
 
     /// Adds a number.
-    pub(crate) fn count(&mut self, number: u32) -> Result<(), AllocError>
+    pub(crate) fn count(&mut self, number: usize) -> Result<(), AllocError>
         ensures { OnOk result (self.new.bytes.items
             ≡ self.old.bytes.items ++ shown_text (decimal number)) }
     {
@@ -105,16 +115,24 @@ impl Message {
     }
 
     /// Adds a piece of a text between backquotes.
-    pub(crate) fn quote(&mut self, text: &[u8]) -> Result<(), AllocError> {
+    pub(crate) fn quote(&mut self, text: &[u8]) -> Result<(), AllocError>
+        ensures { OnOk result (self.new.bytes.items
+            ≡ self.old.bytes.items
+            ++ (shown_text (codes "`") ++ shown_text text.now ++ shown_text (codes "`"))) }
+    {
         self.say("`")?;
         self.add(text)?;
         self.say("`")
     }
 
     /// Adds a mark so many times.
-    pub(crate) fn repeat(&mut self, mark: &str, times: usize) -> Result<(), AllocError> {
-        for _ in 0..times {
-            self.say(mark)?;
+    pub(crate) fn repeat(&mut self, mark: u8, times: usize) -> Result<(), AllocError>
+        requires { is_plain mark ≡ true }
+        ensures { OnOk result (self.new.bytes.items
+            ≡ self.old.bytes.items ++ replicate times mark) }
+    {
+        for _done in 0..times {
+            self.put(mark)?;
         }
         Ok(())
     }

@@ -1,5 +1,6 @@
-ghost use Rattle.std.specs.Prelude.{◌≡◌, IfOk, is_some};
+ghost use Rattle.std.specs.Prelude.{◌≡◌, ◌++◌, IfOk, IfSome, OnOk, is_some};
 ghost use Rattle.wc_messages.specs.Numbers.{is_refusal};
+ghost use Rattle.wc_messages.specs.Paged.{TellsPage, answer_line, met_at, met_lines, number_line, page_line, plate_line};
 
 use crate::hints::hint;
 use crate::message::Message;
@@ -7,42 +8,90 @@ use crate::pages::{Page, page_of};
 use crate::sentences::sentence;
 use std::alloc::{AllocError, Global};
 
-/// Writes a line of a page: what it tells, and its text.
-fn write_line(message: &mut Message, name: &str, text: &str) -> Result<(), AllocError> {
+/// The plate of which the pages of plates speak.
+fn plate_a() -> &'static str {
+    "unit = \"kg\" / decimals = 3 / max = 15000 / e = 5 / zero_counts = 10000 / span_counts = 600000 / window = 4"
+}
+
+/// Writes a line of a page: what it tells, and its words.
+fn write_line(message: &mut Message, name: &str, words: &str) -> Result<(), AllocError>
+    ensures { OnOk result (message.new.bytes.items
+        ≡ message.old.bytes.items ++ page_line name.now words.now) }
+{
     message.say(name)?;
     message.say(": ")?;
-    message.say(text)?;
+    message.say(words)?;
     message.end_line()
 }
 
-/// The plate of which the pages of plates speak.
-const PLATE_A: &str =
-    "unit = \"kg\" / decimals = 3 / max = 15000 / e = 5 / zero_counts = 10000 / span_counts = 600000 / window = 4";
+/// Writes the number, and what it means.
+fn write_number(message: &mut Message, number: u16, told: &str) -> Result<(), AllocError>
+    ensures { OnOk result (message.new.bytes.items
+        ≡ message.old.bytes.items ++ number_line number told.now) }
+{
+    message.count(number as usize)?;
+    write_line(message, "", told)
+}
 
-/// The page of a refusal, as it is printed.
-fn printed(alloc: Global, number: u16, page: &Page) -> Result<Message, AllocError> {
-    let mut message = Message::new(alloc);
-    message.count(number as u32)?;
-    write_line(&mut message, "", sentence(number))?;
-    write_line(&mut message, "met at", page.pass)?;
-    write_line(&mut message, "place", page.place)?;
+/// Writes where it is met, its place, and a smallest input.
+fn write_met(message: &mut Message, page: &Page) -> Result<(), AllocError>
+    ensures { OnOk result (message.new.bytes.items
+        ≡ message.old.bytes.items ++ met_lines (met_at page.now)) }
+{
+    write_line(message, "met at", page.pass)?;
+    write_line(message, "place", page.place)?;
     write_line(
-        &mut message,
+        message,
         "a smallest input, in which ` / ` ends a line",
         page.input,
-    )?;
+    )
+}
+
+/// Writes the plate of which the pages of its refusals speak.
+fn write_plate(message: &mut Message, number: u16, plate: &str) -> Result<(), AllocError>
+    ensures { OnOk result (message.new.bytes.items
+        ≡ message.old.bytes.items ++ plate_line number plate.now) }
+{
     if number >= 503 && number <= 508 {
-        write_line(&mut message, "plate A", PLATE_A)?;
+        return write_line(message, "plate A", plate);
     }
-    write_line(&mut message, "the answer to it", page.answer)?;
-    write_line(&mut message, "help", hint(number))?;
+    Ok(())
+}
+
+/// Writes how the smallest input is answered.
+fn write_answer(message: &mut Message, number: u16, place: &str) -> Result<(), AllocError>
+    ensures { OnOk result (message.new.bytes.items
+        ≡ message.old.bytes.items ++ answer_line number place.now) }
+{
+    message.say("the answer to it: refused ")?;
+    message.count(number as usize)?;
+    message.say(" ")?;
+    message.say(place)?;
+    message.end_line()
+}
+
+/// The page of a refusal, as it is printed.
+fn printed(alloc: Global, number: u16, page: &Page) -> Result<Message, AllocError>
+    ensures { IfOk result (λ message. TellsPage number message.bytes.items) }
+{
+    let told = sentence(number);
+    let plate = plate_a();
+    let advice = hint(number);
+    let mut message = Message::new(alloc);
+    write_number(&mut message, number, told)?;
+    write_met(&mut message, page)?;
+    write_plate(&mut message, number, plate)?;
+    write_answer(&mut message, number, page.answer)?;
+    write_line(&mut message, "help", advice)?;
     Ok(message)
 }
 
 /// The page of a refusal, where there is one of that number: what it means, where it is met, a smallest input with its
 /// answer, and what to write instead. The error is want of memory.
 pub fn page(alloc: Global, number: u16) -> Result<Option<Message>, AllocError>
-    ensures { IfOk result (λ page. is_some page ≡ is_refusal number) }
+    ensures known { IfOk result (λ page. is_some page ≡ is_refusal number) }
+    ensures told { IfOk result
+        (λ page. IfSome page (λ message. TellsPage number message.bytes.items)) }
 {
     match page_of(number) {
         Some(page) => match printed(alloc, number, &page) {

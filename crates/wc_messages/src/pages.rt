@@ -2,7 +2,7 @@ ghost use Rattle.std.specs.Prelude.{◌≡◌, is_some, true};
 ghost use Rattle.wc_messages.specs.Numbers.{is_refusal};
 
 /// What is said of a refusal beside its sentence and its hint: where it is met, its place, and a smallest input with the
-/// answer to it, as docs/REFUSALS.md has them. In the input ` / ` ends a line.
+/// place in the answer to it, as docs/REFUSALS.md has them. In the input ` / ` ends a line.
 #[derive(Clone, Copy, Debug)]
 pub(crate) struct Page {
     pub(crate) pass: &'static str,
@@ -49,18 +49,13 @@ fn token_page(number: u16) -> Option<Page>
     ensures { is_some result ≡ true }
 {
     match number {
-        101 => written("tokens", "the line of the byte", "!", "refused 101 1"),
-        102 => written("tokens", "the line of its (*", "(*", "refused 102 1"),
-        103 => written(
-            "tokens",
-            "the line of the outer (*",
-            "(*(*",
-            "refused 103 1",
-        ),
-        104 => written("tokens", "the line of the token", "_", "refused 104 1"),
-        105 => written("tokens", "the line of the token", "+", "refused 105 1"),
-        106 => written("tokens", "the line of the token", "T#", "refused 106 1"),
-        _ => written("tokens", "0", "(65537 spaces)", "refused 107 0"),
+        101 => written("tokens", "the line of the byte", "!", "1"),
+        102 => written("tokens", "the line of its (*", "(*", "1"),
+        103 => written("tokens", "the line of the outer (*", "(*(*", "1"),
+        104 => written("tokens", "the line of the token", "_", "1"),
+        105 => written("tokens", "the line of the token", "+", "1"),
+        106 => written("tokens", "the line of the token", "T#", "1"),
+        _ => written("tokens", "0", "(65537 spaces)", "0"),
     }
 }
 
@@ -73,44 +68,34 @@ fn reading_page(number: u16) -> Option<Page>
             "reader",
             "the line of the first token with which the text can't go on",
             "x",
-            "refused 201 1",
+            "1",
         ),
-        202 => written(
-            "reader",
-            "the line of the unit's keyword",
-            "PROGRAM",
-            "refused 202 1",
-        ),
+        202 => written("reader", "the line of the unit's keyword", "PROGRAM", "1"),
         203 => written(
             "reader",
             "the line of the unit behind PROGRAM, or the text's last line",
             "(the empty text)",
-            "refused 203 1",
+            "1",
         ),
-        204 => written(
-            "reader",
-            "the line of the )",
-            "PROGRAM P&( / )",
-            "refused 204 2",
-        ),
-        205 => written("reader", "its line", "PROGRAM P&( / x:", "refused 205 2"),
+        204 => written("reader", "the line of the )", "PROGRAM P&( / )", "2"),
+        205 => written("reader", "its line", "PROGRAM P&( / x:", "2"),
         206 => written(
             "reader",
             "the line of the ); the line of the innermost opening",
             "PROGRAM P)",
-            "refused 206 1",
+            "1",
         ),
         207 => written(
             "reader",
             "the line of the ninth opening",
             "PROGRAM P&( / &( / &( / &( / &( / &( / &( / &( / &(",
-            "refused 207 9",
+            "9",
         ),
         _ => written(
             "reader",
             "the line of the unit's keyword, or of the line that is too many",
             "(64 times FUNCTION_BLOCK a END_FUNCTION_BLOCK, a line each, then PROGRAM)",
-            "refused 208 65",
+            "65",
         ),
     }
 }
@@ -124,49 +109,44 @@ fn declaration_page(number: u16) -> Option<Page>
             "tables",
             "the second name",
             "PROGRAM P / VAR a, a : BOOL; END_VAR / END_PROGRAM",
-            "refused 301 2",
+            "2",
         ),
         302 => written(
             "tables",
             "the type",
             "PROGRAM P / VAR a : b; END_VAR / END_PROGRAM",
-            "refused 302 2",
+            "2",
         ),
         303 => written(
             "tables",
             "the literal",
             "PROGRAM P / VAR a : BOOL := 2; END_VAR / END_PROGRAM",
-            "refused 303 2",
+            "2",
         ),
         304 => written(
             "tables",
             "the address",
             "PROGRAM P / LD % / END_PROGRAM",
-            "refused 304 2",
+            "2",
         ),
         305 => written(
             "tables",
             "the address",
             "FUNCTION_BLOCK B / LD %IX0.0 / END_FUNCTION_BLOCK / PROGRAM P / END_PROGRAM",
-            "refused 305 2",
+            "2",
         ),
         306 => written(
             "tables",
             "the name that is too many",
             "(PROGRAM P, on line 2 a VAR section with 257 names of type BOOL, END_PROGRAM)",
-            "refused 306 2",
+            "2",
         ),
-        307 => written(
-            "tables",
-            "the name",
-            "PROGRAM R / END_PROGRAM",
-            "refused 307 1",
-        ),
+        307 => written("tables", "the name", "PROGRAM R / END_PROGRAM", "1"),
         _ => written(
             "tables",
             "the type",
             "FUNCTION_BLOCK B / VAR a : B; END_VAR / END_FUNCTION_BLOCK / PROGRAM P / END_PROGRAM",
-            "refused 308 2",
+            "2",
         ),
     }
 }
@@ -180,67 +160,67 @@ fn body_page(number: u16) -> Option<Page>
             "verify",
             "the line of the instruction",
             "PROGRAM P / LD x / END_PROGRAM",
-            "refused 401 2",
+            "2",
         ),
         402 => written(
             "verify",
             "the line of the instruction, or of the )",
             "PROGRAM P / LDN 1 / END_PROGRAM",
-            "refused 402 2",
+            "2",
         ),
         403 => written(
             "verify",
             "the line of the instruction",
             "PROGRAM P / NOT / END_PROGRAM",
-            "refused 403 2",
+            "2",
         ),
         404 => written(
             "verify",
             "the line of the instruction",
             "PROGRAM P / ST 1 / END_PROGRAM",
-            "refused 404 2",
+            "2",
         ),
         405 => written(
             "verify",
             "the line of the instruction",
             "PROGRAM P / VAR t : TON; END_VAR / LD t.IN / END_PROGRAM",
-            "refused 405 3",
+            "3",
         ),
         406 => written(
             "verify",
             "the line of the jump",
             "PROGRAM P / JMP L / END_PROGRAM",
-            "refused 406 2",
+            "2",
         ),
         407 => written(
             "verify",
             "the line of the second label",
             "PROGRAM P / L: / L: / END_PROGRAM",
-            "refused 407 3",
+            "3",
         ),
         408 => written(
             "verify",
             "the line of the instruction",
             "PROGRAM P / LD 1 / DIV 0 / END_PROGRAM",
-            "refused 408 3",
+            "3",
         ),
         409 => written(
             "verify",
             "the line of the call",
             "PROGRAM P / VAR t : TON; END_VAR / CAL t(x := 1) / END_PROGRAM",
-            "refused 409 3",
+            "3",
         ),
         410 => written(
             "verify",
             "the line of the call",
             "PROGRAM P / VAR t : TON; END_VAR / CAL t(IN := 1, IN := 1) / END_PROGRAM",
-            "refused 410 3",
+            "3",
         ),
         _ => written(
             "cost",
             "the line of the unit's keyword",
             "(the text below the table) of docs/REFUSALS.md: nineteen blocks, of which each calls the one before twice, and a program that calls the last one twice",
-            "refused 411 94",
+            "94",
         ),
     }
 }
@@ -250,19 +230,14 @@ fn plate_page(number: u16) -> Option<Page>
     ensures { is_some result ≡ true }
 {
     match number {
-        501 => written("plate", "0", "plate x", "refused 501 0"),
-        502 => written("plate", "0", "(the empty plate)", "refused 502 0"),
-        503 => written("plate", "0", "plate A with unit = \"lb\"", "refused 503 0"),
-        504 => written("plate", "0", "plate A with decimals = 4", "refused 504 0"),
-        505 => written("plate", "0", "plate A with e = 3", "refused 505 0"),
-        506 => written("plate", "0", "plate A with max = 15001", "refused 506 0"),
-        507 => written(
-            "plate",
-            "0",
-            "plate A with span_counts = 11999",
-            "refused 507 0",
-        ),
-        _ => written("plate", "0", "plate A with window = 1", "refused 508 0"),
+        501 => written("plate", "0", "plate x", "0"),
+        502 => written("plate", "0", "(the empty plate)", "0"),
+        503 => written("plate", "0", "plate A with unit = \"lb\"", "0"),
+        504 => written("plate", "0", "plate A with decimals = 4", "0"),
+        505 => written("plate", "0", "plate A with e = 3", "0"),
+        506 => written("plate", "0", "plate A with max = 15001", "0"),
+        507 => written("plate", "0", "plate A with span_counts = 11999", "0"),
+        _ => written("plate", "0", "plate A with window = 1", "0"),
     }
 }
 
@@ -271,19 +246,19 @@ fn log_page(number: u16) -> Option<Page>
     ensures { is_some result ≡ true }
 {
     match number {
-        601 => written("log", "the row", "(the empty log)", "refused 601 1"),
-        602 => written("log", "the row", "row ,S,", "refused 602 2"),
-        603 => written("log", "the row", "rows 1,S, / 0,S,", "refused 603 3"),
-        604 => written("log", "the row", "row 0,,", "refused 604 2"),
-        605 => written("log", "the row", "row 0,C,", "refused 605 2"),
-        606 => written("log", "the row", "row 0,I,", "refused 606 2"),
+        601 => written("log", "the row", "(the empty log)", "1"),
+        602 => written("log", "the row", "row ,S,", "2"),
+        603 => written("log", "the row", "rows 1,S, / 0,S,", "3"),
+        604 => written("log", "the row", "row 0,,", "2"),
+        605 => written("log", "the row", "row 0,C,", "2"),
+        606 => written("log", "the row", "row 0,I,", "2"),
         607 => written(
             "log",
             "the row",
             "(the heading row and 1000000 rows 0,S,)",
-            "refused 607 1000001",
+            "1000001",
         ),
-        _ => written("log", "the row", "row 0,S,x", "refused 608 2"),
+        _ => written("log", "the row", "row 0,S,x", "2"),
     }
 }
 
@@ -292,7 +267,7 @@ fn job_page(number: u16) -> Option<Page>
     ensures { is_some result ≡ true }
 {
     match number {
-        701 => written("job", "0", "(the empty job)", "refused 701 0"),
-        _ => written("job, files", "0", "(1048577 spaces)", "refused 702 0"),
+        701 => written("job", "0", "(the empty job)", "0"),
+        _ => written("job, files", "0", "(1048577 spaces)", "0"),
     }
 }

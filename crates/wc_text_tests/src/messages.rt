@@ -67,6 +67,26 @@ fn a_token_is_marked(rt: HostRuntime) -> Result<(), Fail> {
 }
 
 #[test]
+fn a_line_with_a_return_is_marked_at_its_end(rt: HostRuntime) -> Result<(), Fail> {
+    let text = b"PROGRAM P\r\nLD\r\nEND_PROGRAM\r\n";
+    let message = of_file(rt.alloc(), Part::Program, 201, 2, Some(text))?;
+    let wanted =
+        b"error[201]: the line can't end here\n --> a.txt:2:3\n  |\n2 | LD\n  |   ^";
+    assert!(rt; message.as_bytes().starts_with(wanted));
+    Ok(())
+}
+
+#[test]
+fn a_byte_that_is_escaped_moves_the_marks(rt: HostRuntime) -> Result<(), Fail> {
+    let text = b"PROGRAM P\n\t(*\xe9*) LD xy\nEND_PROGRAM\n";
+    let message = of_file(rt.alloc(), Part::Program, 401, 2, Some(text))?;
+    let wanted =
+        b"error[401]: `xy` is not declared in this unit\n --> a.txt:2:11\n  |\n2 |  (*\\xe9*) LD xy\n  |              ^^\nhelp: ";
+    assert!(rt; message.as_bytes().starts_with(wanted));
+    Ok(())
+}
+
+#[test]
 fn a_number_says_what_is_not_found(rt: HostRuntime) -> Result<(), Fail> {
     let message = of_file(rt.alloc(), Part::Program, 403, 7, None)?;
     let wanted = b"error[403]: there is no current result\n --> a.txt:7\nhelp: ";
@@ -137,7 +157,7 @@ fn a_number_has_its_page(rt: HostRuntime) -> Result<(), Fail> {
     };
     assert!(rt;
         page.as_bytes()
-            .starts_with(b"403: there is no current result\nmet at: verify\n")
+            .starts_with(b"403: there is no current result\nmet at: verify\nplace: the line of the instruction\na smallest input, in which ` / ` ends a line: PROGRAM P / NOT / END_PROGRAM\nthe answer to it: refused 403 2\nhelp: ")
     );
     assert!(rt; page_of(rt.alloc(), 400)?.is_none());
     Ok(())

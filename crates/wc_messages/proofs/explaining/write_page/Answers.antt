@@ -7,4 +7,4 @@ pub returns : goal.returns
 returns c =
     four_behind c.end_line.result c.args.message.now.bytes.items (shown_text (codes "; `wc explain ")) (shown_text (decimal c.args.number)) (shown_text (codes "` says more")) (10 ∷ [])
     c.say.new.self.bytes.items c.count.new.self.bytes.items c.say-2.new.self.bytes.items c.end_line.new.self.bytes.items
-    c.in_ok-say.ensures c.in_ok-count.ensures c.in_ok-say-2.ensures c.end_line.ensures
+    c.in_ok-say.ensures.all c.in_ok-count.ensures c.in_ok-say-2.ensures.all c.end_line.ensures

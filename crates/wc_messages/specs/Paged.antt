@@ -1,0 +1,52 @@
+-- The page of a refusal: its lines, its number, and the answer with that number, are pinned; the
+-- words on the lines are not (the profile's own).
+use Rattle.std.specs.Prelude.{◌≡◌, ℕ, List, [], ◌∷◌, ◌++◌, codes, if◌then◌else◌}
+use Rattle.wc_messages.specs.Locations.{number_text}
+use Rattle.wc_messages.specs.Numbers.{is_from}
+use Rattle.wc_messages.specs.Plain.{shown_text}
+use Rattle.wc_messages.specs.declared.pages.Page.{Page}
+
+-- a line: what it tells, and its words
+abbrev pub page_line : List ℕ → List ℕ → List ℕ
+page_line name words = shown_text name ++ shown_text (codes ": ") ++ shown_text words ++ (10 ∷ [])
+
+-- the first line: the number, and what it means
+abbrev pub number_line : ℕ → List ℕ → List ℕ
+number_line number told = number_text number ++ page_line [] told
+
+-- the line of the plate of which the pages of its refusals speak; nothing on others
+abbrev pub plate_line : ℕ → List ℕ → List ℕ
+plate_line number plate = if is_from 503 508 number then page_line (codes "plate A") plate else []
+
+-- the line that says how the smallest input is answered
+abbrev pub answer_line : ℕ → List ℕ → List ℕ
+answer_line number place =
+    shown_text (codes "the answer to it: refused ") ++ number_text number
+    ++ shown_text (codes " ") ++ shown_text place ++ (10 ∷ [])
+
+-- where it is met, its place, and a smallest input
+pub record MetAt : Type 0 where
+  pub pass : List ℕ
+  pub place : List ℕ
+  pub input : List ℕ
+
+-- what a page has of these
+abbrev pub met_at : Page → MetAt
+met_at page = record { pass = page.pass.now; place = page.place.now; input = page.input.now }
+
+-- the lines of these
+abbrev pub met_lines : MetAt → List ℕ
+met_lines met =
+    page_line (codes "met at") met.pass ++ page_line (codes "place") met.place
+    ++ page_line (codes "a smallest input, in which ` / ` ends a line") met.input
+
+-- the page of that refusal
+pub record TellsPage (number : ℕ) (bytes : List ℕ) : Type 0 where
+  pub told : List ℕ
+  pub met : MetAt
+  pub plate : List ℕ
+  pub place : List ℕ
+  pub advice : List ℕ
+  pub all :
+      bytes ≡ number_line number told ++ met_lines met ++ plate_line number plate
+      ++ answer_line number place ++ page_line (codes "help") advice

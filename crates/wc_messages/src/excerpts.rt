@@ -1,0 +1,151 @@
+ghost use Rattle.std.specs.Prelude.{◌≡◌, ◌-◌, ◌++◌, IfOk, OnOk, [], drop, take};
+ghost use Rattle.wc_messages.specs.Excerpts.{bar_line, excerpt_text, expected_text, first_shown, marked_text, marks, quoted_line, shown_part, spot_start};
+
+use crate::message::{Message, shown};
+use crate::placing::margin;
+use std::alloc::{AllocError, Global};
+use wc_findings::{Finding, Spot};
+
+/// How many bytes of a line are shown at most.
+const WIDEST: usize = 120;
+
+/// The bytes from a place on, at most so many.
+fn piece(text: &[u8], start: usize, length: usize) -> &[u8]
+    ensures { result.now ≡ take length (drop start text.now) }
+{
+    let (_, rest) = text.split_at(start.min(text.len()));
+    let (first, _) = rest.split_at(length.min(rest.len()));
+    first
+}
+
+/// Where what is meant starts; the line's front where nothing is meant.
+fn spot_start(spot: Option<Spot>) -> usize
+    ensures { result ≡ spot_start spot }
+{
+    match spot {
+        Some(spot) => spot.start,
+        None => 0,
+    }
+}
+
+/// The first byte of a line that is shown.
+fn first_shown(line: &[u8], start: usize) -> usize
+    ensures { result ≡ first_shown line.now start }
+{
+    if line.len() > WIDEST {
+        start.saturating_sub(WIDEST / 2)
+    } else {
+        0
+    }
+}
+
+/// The part of a line that is shown.
+fn shown_part(line: &[u8], spot: Option<Spot>) -> &[u8]
+    ensures { result.now ≡ shown_part line.now spot }
+{
+    piece(line, first_shown(line, spot_start(spot)), WIDEST)
+}
+
+/// Writes a mark under each column that some bytes of what is shown take.
+fn write_marks(
+    alloc: Global,
+    message: &mut Message,
+    part: &[u8],
+    start: usize,
+    length: usize,
+) -> Result<(), AllocError>
+    ensures { OnOk result (message.new.bytes.items
+        ≡ message.old.bytes.items ++ marks part.now start length) }
+{
+    let before = shown(alloc, piece(part, 0, start))?;
+    let meant = shown(alloc, piece(part, start, length))?;
+    message.repeat(b' ', before.as_bytes().len())?;
+    message.repeat(b'^', meant.as_bytes().len().max(1))
+}
+
+/// Writes what could stand there, if something is known.
+fn write_expected(message: &mut Message, words: &Message) -> Result<(), AllocError>
+    ensures { OnOk result (message.new.bytes.items
+        ≡ message.old.bytes.items ++ expected_text words.now.bytes.items) }
+{
+    if words.is_empty() {
+        return Ok(());
+    }
+    message.say(" expected ")?;
+    message.append(words)
+}
+
+/// The marks under what is meant in a line, and what could stand there.
+fn marked(
+    alloc: Global,
+    line: &[u8],
+    spot: Option<Spot>,
+    words: &Message,
+) -> Result<Message, AllocError>
+    ensures { IfOk result (λ message. message.bytes.items
+        ≡ marked_text line.now spot words.now.bytes.items) }
+{
+    let mut message = Message::new(alloc);
+    let Some(meant) = spot else {
+        return Ok(message);
+    };
+    let start = meant.start.saturating_sub(first_shown(line, meant.start));
+    message.say(" ")?;
+    write_marks(
+        alloc,
+        &mut message,
+        shown_part(line, spot),
+        start,
+        meant.length,
+    )?;
+    write_expected(&mut message, words)?;
+    Ok(message)
+}
+
+/// Writes a line that has no number.
+fn write_bar(message: &mut Message, margin: &Message, text: &Message) -> Result<(), AllocError>
+    ensures { OnOk result (message.new.bytes.items
+        ≡ message.old.bytes.items ++ bar_line margin.now.bytes.items text.now.bytes.items) }
+{
+    message.append(margin)?;
+    message.say(" |")?;
+    message.append(text)?;
+    message.end_line()
+}
+
+/// Writes a line behind its number.
+fn write_quoted(message: &mut Message, number: u32, part: &[u8]) -> Result<(), AllocError>
+    ensures { OnOk result (message.new.bytes.items
+        ≡ message.old.bytes.items ++ quoted_line number part.now) }
+{
+    message.count(number as usize)?;
+    message.say(" | ")?;
+    message.add(part)?;
+    message.end_line()
+}
+
+/// The line that is meant, with its marks, where it is known.
+pub(crate) fn excerpt(
+    alloc: Global,
+    number: u32,
+    finding: &Finding,
+    words: &Message,
+) -> Result<Message, AllocError>
+    ensures { IfOk result (λ message. message.bytes.items
+        ≡ excerpt_text number finding.now.shown.items finding.now.spot words.now.bytes.items) }
+{
+    let mut message = Message::new(alloc);
+    if finding.shown.is_empty() {
+        return Ok(message);
+    }
+    let margin = margin(alloc, number)?;
+    let marked = marked(alloc, &finding.shown, finding.spot, words)?;
+    write_bar(&mut message, &margin, &Message::new(alloc))?;
+    write_quoted(
+        &mut message,
+        number,
+        shown_part(&finding.shown, finding.spot),
+    )?;
+    write_bar(&mut message, &margin, &marked)?;
+    Ok(message)
+}
