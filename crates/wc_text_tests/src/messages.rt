@@ -70,8 +70,7 @@ fn a_token_is_marked(rt: HostRuntime) -> Result<(), Fail> {
 fn a_line_with_a_return_is_marked_at_its_end(rt: HostRuntime) -> Result<(), Fail> {
     let text = b"PROGRAM P\r\nLD\r\nEND_PROGRAM\r\n";
     let message = of_file(rt.alloc(), Part::Program, 201, 2, Some(text))?;
-    let wanted =
-        b"error[201]: the line can't end here\n --> a.txt:2:3\n  |\n2 | LD\n  |   ^";
+    let wanted = b"error[201]: the line can't end here\n --> a.txt:2:3\n  |\n2 | LD\n  |   ^";
     assert!(rt; message.as_bytes().starts_with(wanted));
     Ok(())
 }
@@ -156,8 +155,9 @@ fn a_number_has_its_page(rt: HostRuntime) -> Result<(), Fail> {
         return Ok(());
     };
     assert!(rt;
-        page.as_bytes()
-            .starts_with(b"403: there is no current result\nmet at: verify\nplace: the line of the instruction\na smallest input, in which ` / ` ends a line: PROGRAM P / NOT / END_PROGRAM\nthe answer to it: refused 403 2\nhelp: ")
+        page.as_bytes().starts_with(
+            b"403: there is no current result\nmet at: verify\nplace: the line of the instruction\na smallest input, in which ` / ` ends a line: PROGRAM P / NOT / END_PROGRAM\nthe answer to it: refused 403 2\nhelp: "
+        )
     );
     assert!(rt; page_of(rt.alloc(), 400)?.is_none());
     Ok(())
