@@ -1,5 +1,5 @@
 -- A record of three fields, from its fields one by one.
-use Rattle.std.proofs.Common.{◌≡◌, ◌≤◌, ℕ, true, List, [], ◌∷◌, Some, None, Ok, Err, refl, arith}
+use Rattle.std.proofs.Common.{◌≡◌, ◌≤◌, ℕ, length, true, List, [], ◌∷◌, Some, None, Ok, Err, refl, arith}
 use Rattle.std.proofs.lemmas.Bool.Decides.{nat_tests}
 use Rattle.std.specs.Prelude.{nat_le}
 use Rattle.csv.specs.Records.{field_at}
@@ -30,23 +30,22 @@ no_third (a ∷ []) e = refl
 no_third (a ∷ b ∷ []) e = refl
 no_third (a ∷ b ∷ c ∷ more) e = cc
 
--- a fourth
-pub a_fourth : (fields : Record) (d : List ℕ) → Some d ≡ field_at fields 3 → None ≡ three_of fields
-unfolding field_at
-a_fourth [] d e = refl
-a_fourth (a ∷ []) d e = refl
-a_fourth (a ∷ b ∷ []) d e = refl
-a_fourth (a ∷ b ∷ c ∷ []) d e = cc
-a_fourth (a ∷ b ∷ c ∷ f ∷ more) d e = refl
+-- another number of fields
+pub not_three : (fields : Record) → (length fields ≡ 3 → ⊥) → None ≡ three_of fields
+not_three [] h = refl
+not_three (a ∷ []) h = refl
+not_three (a ∷ b ∷ []) h = refl
+not_three (a ∷ b ∷ c ∷ []) h = absurd (h refl)
+not_three (a ∷ b ∷ c ∷ f ∷ more) h = refl
 
--- three and no fourth
-pub just_three : (fields : Record) (a b c : List ℕ) → Some a ≡ field_at fields 0 → Some b ≡ field_at fields 1 → Some c ≡ field_at fields 2 → None ≡ field_at fields 3 → Some (a ∷ b ∷ c ∷ []) ≡ three_of fields
+-- three of them
+pub just_three : (fields : Record) (a b c : List ℕ) → length fields ≡ 3 → Some a ≡ field_at fields 0 → Some b ≡ field_at fields 1 → Some c ≡ field_at fields 2 → Some (a ∷ b ∷ c ∷ []) ≡ three_of fields
 unfolding field_at
-just_three [] a b c e f g h = cc
-just_three (x ∷ []) a b c e f g h = cc
-just_three (x ∷ y ∷ []) a b c e f g h = cc
-just_three (x ∷ y ∷ z ∷ []) a b c e f g h = cc
-just_three (x ∷ y ∷ z ∷ w ∷ more) a b c e f g h = cc
+just_three [] a b c n e f g = cc
+just_three (x ∷ []) a b c n e f g = cc
+just_three (x ∷ y ∷ []) a b c n e f g = cc
+just_three (x ∷ y ∷ z ∷ []) a b c n e f g = cc
+just_three (x ∷ y ∷ z ∷ w ∷ more) a b c n e f g = absurd (omega (arith, n))
 
 -- which record has these three
 pub three_are : (fields : Record) (a b c : List ℕ) → Some (a ∷ b ∷ c ∷ []) ≡ three_of fields → fields ≡ a ∷ b ∷ c ∷ []

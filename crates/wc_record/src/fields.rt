@@ -21,13 +21,13 @@ struct RowFields<'f> {
 fn three_fields(row: &ByteRecord) -> Option<RowFields<'_>>
     ensures { option_map fields_view result ≡ three_of (fields_of row.now) }
 {
+    if row.len() != 3 {
+        return None;
+    }
     let moment = row.get(0)?;
     let kind = row.get(1)?;
     let text = row.get(2)?;
-    match row.get(3) {
-        Some(_) => None,
-        None => Some(RowFields { moment, kind, text }),
-    }
+    Some(RowFields { moment, kind, text })
 }
 
 /// Whether the text is that of the first row's field.

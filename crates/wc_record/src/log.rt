@@ -143,6 +143,7 @@ impl<'r, R: ByteIn> Rows<'r, R> {
             ((rows_read self.new ≡ 1) × (last_ms self.new ≡ last_ms self.old)) }
         ensures keeps { Keeps self.old self.new }
     {
+        self.row = self.source.record();
         match self.read() {
             Ok(found) => {
                 if found && is_first_row(&self.row) {

@@ -10,6 +10,12 @@ use csv::ByteRecord;
 use std::alloc::Global;
 use wc_model::ByteIn;
 
+/// Room for the bytes of a record: as many as `csv` takes from its reader at once.
+const RECORD_ROOM: usize = 8192;
+
+/// Room for the ends of its fields, three and one that is too many.
+const ENDS_ROOM: usize = 4;
+
 /// A reader of records that is made when the first of them is read.
 #[derive(Drop)]
 pub(crate) struct Source<'r, R> {
@@ -52,6 +58,18 @@ impl<'r, R: ByteIn> Source<'r, R> {
         }
         if let Some(bounded) = self.unread.take() {
             self.opened.replace(Records::new(self.alloc, bounded));
+        }
+    }
+
+    /// A record to read into. `csv` takes no more bytes at once than it has room for, so with less
+    /// room than its line has bytes each record would be taken in two pieces. Where memory is
+    /// refused, it grows as it needs.
+    pub(crate) fn record(&self) -> ByteRecord
+        ensures { fields_of result ≡ [] }
+    {
+        match ByteRecord::with_capacity(self.alloc, RECORD_ROOM, ENDS_ROOM) {
+            Ok(row) => row,
+            Err(_) => ByteRecord::new(self.alloc),
         }
     }
 

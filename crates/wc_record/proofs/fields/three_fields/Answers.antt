@@ -1,5 +1,5 @@
-use Rattle.std.proofs.Common.{ap, ◌∙◌, option_map}
-use Rattle.wc_record.proofs.ThreeFields.{no_first, no_second, no_third, a_fourth, just_three}
+use Rattle.std.proofs.Common.{ap, sym, ◌∙◌, option_map}
+use Rattle.wc_record.proofs.ThreeFields.{no_first, no_second, no_third, not_three, just_three}
 use Rattle.wc_record.proofs.fields.three_fields.Goals as goal
 use Rattle.wc_record.specs.Views.{fields_view}
 
@@ -12,9 +12,8 @@ returns-in_err-kind c = ap (option_map fields_view) c.from_residual-in_err-kind.
 pub returns-in_err-text : goal.returns-in_err-text
 returns-in_err-text c = ap (option_map fields_view) c.from_residual-in_err-text.ensures ∙ no_third _ c.in_err-text.ensures.value
 
-pub returns-in-Some : goal.returns-in-Some
-returns-in-Some c = a_fourth _ c.in-Some.field-0.now c.in-Some.ensures.value
+pub returns-then-len-ne3 : goal.returns-then-len-ne3
+returns-then-len-ne3 c = not_three _ (λ e. c.if-len-ne3.true (c.len.ensures ∙ e))
 
-pub returns-in-None : goal.returns-in-None
-returns-in-None c =
-    just_three _ c.in_ok-moment.moment.now c.in_ok-kind.kind.now c.in_ok-text.text.now c.in_ok-moment.ensures.value c.in_ok-kind.ensures.value c.in_ok-text.ensures.value c.in-None.ensures.value
+pub returns : goal.returns
+returns c = just_three _ c.in_ok-moment.moment.now c.in_ok-kind.kind.now c.in_ok-text.text.now (sym c.len.ensures ∙ c.if-len-ne3.false) c.in_ok-moment.ensures.value c.in_ok-kind.ensures.value c.in_ok-text.ensures.value
