@@ -11,7 +11,6 @@ use wc_model::Image;
 use wc_store::Store;
 
 /// Whether a bit is 1.
-#[inline(always)]
 fn is_set(bits: u16, bit: u8) -> bool
     requires { bit < 16 }
     ensures { result ≡ is_bit_set bits bit }
@@ -20,7 +19,6 @@ fn is_set(bits: u16, bit: u8) -> bool
 }
 
 /// Copies the lowest bits to the places from `first` on.
-#[inline(always)]
 fn copy_bits<S: Store>(store: &mut S, first: usize, count: u8, bits: u16)
     requires few { count ≤ 16 }
     requires slots { AreAll slots.Bool (S.slot_kinds store.old) first count }
@@ -43,7 +41,6 @@ fn copy_bits<S: Store>(store: &mut S, first: usize, count: u8, bits: u16)
 }
 
 /// Copies the weights to the places from `first` on.
-#[inline(always)]
 fn copy_weights<S: Store>(store: &mut S, first: usize, weights: &[i32; 3])
     requires slots { AreAll slots.Dint (S.slot_kinds store.old) first 3 }
     requires within { first + 3 ≤ length (S.numbers store.old) }

@@ -8,7 +8,6 @@ use wc_model::Outputs;
 use wc_store::Store;
 
 /// Whether an output bit is TRUE.
-#[inline(always)]
 fn is_on<S: Store>(store: &S, bit: u8) -> bool
     requires bit { bit < 16 }
     requires slots { AreAll slots.Bool (S.slot_kinds store.now) 25 16 }
@@ -19,7 +18,6 @@ fn is_on<S: Store>(store: &S, bit: u8) -> bool
 }
 
 /// The output bits, bit i for `%QX0.i`, which stand at the places from 25 on.
-#[inline(always)]
 fn bits<S: Store>(store: &S) -> u16
     requires slots { AreAll slots.Bool (S.slot_kinds store.now) 25 16 }
     requires room { length (S.slot_kinds store.now) ≤ 65536 }
@@ -37,7 +35,6 @@ fn bits<S: Store>(store: &S) -> u16
 }
 
 /// An output word.
-#[inline(always)]
 fn word<S: Store>(store: &S, number: usize) -> i32
     requires number { number < 4 }
     requires slots { AreAll slots.Dint (S.slot_kinds store.now) 41 4 }

@@ -64,6 +64,8 @@ impl<'r, R: ByteIn> Source<'r, R> {
     /// A record to read into. `csv` takes no more bytes at once than it has room for, so with less
     /// room than its line has bytes each record would be taken in two pieces. Where memory is
     /// refused, it grows as it needs.
+    #[cold]
+    #[inline(never)]
     pub(crate) fn record(&self) -> ByteRecord
         ensures { fields_of result ≡ [] }
     {
