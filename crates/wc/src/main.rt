@@ -18,7 +18,7 @@ use std::fs::File;
 use std::io::Write;
 use std::process::ExitCode;
 use std::{env, io};
-use telling::without_memory;
+use telling::{tell_write_fault, without_memory};
 use wc_messages::shown;
 use words::{Wanted, read_words};
 
@@ -66,6 +66,15 @@ fn tell_meant(rt: &HostRuntime, word: Option<&String>) -> io::Result<()> {
     }
 }
 
+/// Says why a page or help was not printed: the exit status.
+fn end_unprinted(rt: &HostRuntime, error: io::Error) -> u8 {
+    if error.kind() == io::ErrorKind::OutOfMemory {
+        return without_memory(rt);
+    }
+    let _told = tell_write_fault(rt, Some(error));
+    DEVICE_FAULT
+}
+
 /// Prints help, the version, or what is wrong with the words: the exit status.
 fn show(rt: &HostRuntime, error: &Error, words: &[String]) -> u8 {
     if error.kind() == ErrorKind::OutOfMemory {
@@ -78,10 +87,7 @@ fn show(rt: &HostRuntime, error: &Error, words: &[String]) -> u8 {
             }
             error.exit_code() as u8
         }
-        Err(_) => {
-            let _told = rt.eprintln("device fault");
-            DEVICE_FAULT
-        }
+        Err(error) => end_unprinted(rt, error),
     }
 }
 
@@ -93,10 +99,7 @@ fn show_page(rt: &HostRuntime, number: u16) -> u8 {
             let _told = eprintln!(rt; "error: there is no refusal {number}");
             WRONG_WORDS
         }
-        Err(_) => {
-            let _told = rt.eprintln("device fault");
-            DEVICE_FAULT
-        }
+        Err(error) => end_unprinted(rt, error),
     }
 }
 

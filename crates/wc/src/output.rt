@@ -40,8 +40,21 @@ impl Gathered {
         !self.failed
     }
 
-    /// Gathers a piece, behind what is gathered, which is written first where there is no room for both.
+    /// Writes a piece for which there is no room, behind what is gathered: false where one of them could not be written.
+    fn pass(&mut self, piece: &[u8]) -> bool {
+        if !self.empty() {
+            return false;
+        }
+        self.failed = write_whole(&mut self.output, piece).is_err();
+        !self.failed
+    }
+
+    /// Gathers a piece, behind what is gathered, which is written first where there is no room for both. A piece that is
+    /// larger than the room is written at once, so that none takes memory.
     fn gather(&mut self, piece: &[u8]) -> bool {
+        if piece.len() > PIECE {
+            return self.pass(piece);
+        }
         if PIECE - self.pending.len().min(PIECE) < piece.len() && !self.empty() {
             return false;
         }

@@ -185,7 +185,7 @@ fn tell_read_fault(
 }
 
 /// Says that standard output could not be written, and why.
-fn tell_write_fault(rt: &HostRuntime, cause: Option<io::Error>) -> io::Result<()> {
+pub(crate) fn tell_write_fault(rt: &HostRuntime, cause: Option<io::Error>) -> io::Result<()> {
     rt.eprintln("device fault")?;
     match cause {
         Some(error) => eprintln!(rt; "error: standard output can't be written: {error}"),

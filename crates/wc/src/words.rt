@@ -1,8 +1,11 @@
 use clap::{Arg, ArgAction, ArgMatches, Command, Error, value_parser};
 use std::alloc::{AllocError, Global};
 
-/// The product's version, and what it is proved with.
-const VERSION: &str = "0.1.0 (Narbeddo), proved with rattle-kit-13b, logic dac8208d650f15bf";
+/// The product's version, the toolchain that its sources are for, and the digest of the legally relevant sources, which
+/// tools/legal_digest computes. Whether a build was proved is not known to the program.
+const VERSION: &str = "0.1.0 (Narbeddo)
+toolchain rattle-kit-13b logic dac8208d650f15bf
+legal part sha256 bb388d788ded4b641fe3e1962eb0b5c553eae9962a38455a186cf7600c626d89";
 
 /// What the program does, with an example of each word.
 const ABOUT: &str =

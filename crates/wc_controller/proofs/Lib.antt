@@ -6,3 +6,4 @@ pub mod Givings
 pub mod Allowing
 pub mod Blaming
 pub mod BlamingParts
+pub mod Settled

@@ -1,5 +1,5 @@
 ghost use Rattle.std.specs.Prelude.{IfErr, IfOk};
-ghost use Rattle.wc_controller.specs.Loads.{IsRefusedLoad};
+ghost use Rattle.wc_controller.specs.Loads.{IsNeverRefused, IsRefusedLoad, IsTheOnlyRefusal};
 ghost use Rattle.wc_model.specs.Language.Views.{text_view};
 ghost use Rattle.wc_controller.specs.Headline.{HasTheHeadline};
 ghost use Rattle.wc_model.specs.Instrument.Plates.{PlateData};
@@ -12,11 +12,8 @@ use wc_model::Fault;
 use wc_reader::read;
 use wc_verify::verify;
 
-/// Loads a program text in five passes: tokens, reading, declarations, bodies, cost. `Err(Refused)`
-/// has the number and the line of the first fault of the first pass that has one, by the list of
-/// refusals. `Err(Memory)` is want of memory. With what is loaded every scan ends, within the
-/// program's bound, and leaves the line as it is with no program.
-pub fn load<'a>(alloc: Global, text: &'a [u8]) -> Result<Loaded<'a>, Fault>
+/// Loads a program text in five passes: tokens, reading, declarations, bodies, cost.
+fn load_in_passes<'a>(alloc: Global, text: &'a [u8]) -> Result<Loaded<'a>, Fault>
     ensures loaded { IfOk result (λ loaded. IsLoaded text.now (text_view loaded.source)) }
     ensures headline { IfOk result
         (λ loaded. (plate : PlateData) → HasTheHeadline plate (text_view loaded.source)) }
@@ -34,4 +31,20 @@ pub fn load<'a>(alloc: Global, text: &'a [u8]) -> Result<Loaded<'a>, Fault>
         Ok(checked) => cost(alloc, checked),
         Err(fault) => Err(fault),
     }
+}
+
+/// Loads a program text in five passes: tokens, reading, declarations, bodies, cost. `Err(Refused)`
+/// has the number and the line of the first fault of the first pass that has one, by the list of
+/// refusals; there is no other, and the text is then loaded as nothing. `Err(Memory)` is want of
+/// memory. With what is loaded every scan ends, within the program's bound, and leaves the line as
+/// it is with no program.
+pub fn load<'a>(alloc: Global, text: &'a [u8]) -> Result<Loaded<'a>, Fault>
+    ensures loaded { IfOk result (λ loaded. IsLoaded text.now (text_view loaded.source)) }
+    ensures headline { IfOk result
+        (λ loaded. (plate : PlateData) → HasTheHeadline plate (text_view loaded.source)) }
+    ensures refused { IfErr result (λ fault. IsRefusedLoad text.now fault) }
+    ensures accepted { IfOk result (λ loaded. IsNeverRefused text.now) }
+    ensures only { IfErr result (λ fault. IsTheOnlyRefusal text.now fault) }
+{
+    load_in_passes(alloc, text)
 }

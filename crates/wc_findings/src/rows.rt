@@ -48,10 +48,17 @@ fn tell_field(
     finding.tell(field.text, says)
 }
 
+/// Semicolons stand where commas should.
+fn has_semicolons(row: &[u8]) -> bool {
+    commas(row) == 0 && row.contains(&b';')
+}
+
 /// What is wrong with the first row.
 fn heading_fault(row: &[u8]) -> &'static str {
     if row.is_empty() {
         "the log is empty: its first row ms,kind,data is missing"
+    } else if has_semicolons(row) {
+        "the first row is not ms,kind,data: fields end with a comma, not with a semicolon"
     } else {
         "the first row is not ms,kind,data"
     }
@@ -65,6 +72,8 @@ fn tell_fields(finding: &mut Finding, row: &[u8], place: u32) {
         finding.says = Some("the row has more than three fields");
         let third = field_of(row, 2);
         finding.point(third.start.saturating_add(third.text.len()), 1);
+    } else if has_semicolons(row) {
+        finding.says = Some("the row has semicolons where commas should stand");
     } else {
         finding.says = Some("the row has fewer than three fields");
     }

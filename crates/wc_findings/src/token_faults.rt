@@ -81,6 +81,16 @@ fn byte_help(byte: u8) -> Option<&'static str> {
     }
 }
 
+/// A byte order mark, as UTF-8 has it.
+const BYTE_ORDER_MARK: &[u8] = b"\xef\xbb\xbf";
+
+/// Says that the text has a byte order mark, and points to it.
+fn tell_byte_order_mark(finding: &mut Finding, start: usize) -> Result<(), AllocError> {
+    finding.point(start, 3);
+    finding.help = Some("save the text as ASCII, or as UTF-8 without a byte order mark");
+    finding.tell(BYTE_ORDER_MARK, "is a byte order mark, and a program has none")
+}
+
 /// Says what is wrong with the bytes that are meant.
 fn tell_fault(finding: &mut Finding, number: u16, text: &[u8]) -> Result<(), AllocError> {
     match number {
@@ -119,6 +129,9 @@ pub(crate) fn find_token_fault(
         return Ok(());
     };
     match spot_from(alloc, line, from, number) {
+        Some(spot) if number == 101 && behind(line, spot.start).starts_with(BYTE_ORDER_MARK) => {
+            tell_byte_order_mark(finding, spot.start)
+        }
         Some(spot) => {
             finding.point(spot.start, spot.length);
             tell_fault(finding, number, piece(line, spot.start, spot.length))

@@ -8,3 +8,4 @@ pub mod TracesArePaths
 pub mod UnitBounds
 pub mod Returning
 pub mod Keeping
+pub mod OneBound

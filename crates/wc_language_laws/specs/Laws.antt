@@ -1,5 +1,5 @@
 -- Statements about the definitions of the language.
-use Rattle.std.specs.Prelude.{◌≡◌, ℕ, ◌≤◌, true, List, [], ◌∷◌, ◌↔◌, ◌⊎◌, length, Option, Some, None, ℤ}
+use Rattle.std.specs.Prelude.{◌≡◌, ℕ, suc, ◌≤◌, true, List, [], ◌∷◌, ◌↔◌, ◌⊎◌, length, Option, Some, None, ℤ}
 use Rattle.wc_model.specs.Language.Blocks.{RTrigFields, SrFields, CtuFields, TonFields, TofFields, r_trig_step, sr_step, ctu_step, ton_step, tof_step}
 use Rattle.wc_model.specs.Language.Checks.{Check, Refusal, Spot, IsFirstBroken, first_broken, spots_of}
 use Rattle.wc_model.specs.Language.Faults.{MOST_STEPS}
@@ -8,7 +8,7 @@ use Rattle.wc_model.specs.Language.Loading.{IsLoaded}
 use Rattle.wc_model.specs.Language.Meaning.{Context, Outcome, Done, Stuck, Running, Seeking, Returned, ahead, means, program_means}
 use Rattle.wc_model.specs.Language.Carried.{Lead, keeps, lead_of}
 use Rattle.wc_model.specs.Language.Names.{Name}
-use Rattle.wc_model.specs.Language.Paths.{IsPath, IsLongest}
+use Rattle.wc_model.specs.Language.Paths.{IsPath, IsLongest, IsProgramBound}
 use Rattle.wc_model.specs.Language.Reasons.{NoLabelAhead}
 use Rattle.wc_model.specs.Language.Store.{Location, Store}
 use Rattle.wc_model.specs.Language.Traces.{Item}
@@ -17,7 +17,7 @@ use Rattle.wc_model.specs.Language.Values.{IsWrapped, wrap}
 use Rattle.wc_model.specs.Language.WorstPaths.{IsWorstPath}
 use Rattle.wc_model.specs.Language.Scans.{steps_of}
 use Rattle.wc_model.specs.Language.Scopes.{Scope}
-use Rattle.wc_model.specs.Say.UnitReport.{IsBoundOf}
+use Rattle.wc_model.specs.Say.UnitReport.{IsBoundAt, IsBoundOf}
 use Rattle.wc_model.specs.declared.value.Value.{Value}
 use Rattle.std.specs.List.{AllByRecursion}
 use Rattle.std.specs.Prelude.{Bool}
@@ -93,6 +93,15 @@ HasABound spot = (bound : ℕ) × IsBoundOf spot bound × (bound ≤ MOST_STEPS)
 -- each unit of a text that is loaded has a bound, whether another calls it or none
 abbrev pub EachLoadedUnitHasABound : Type 0
 EachLoadedUnitHasABound = (bytes : List ℕ) (text : Text) → IsLoaded bytes text → AllByRecursion HasABound (spots_of text)
+
+-- a unit has one bound at most
+abbrev pub AUnitHasOneBound : Type 0
+AUnitHasOneBound = (scope : Scope) (m n : ℕ) → IsLongest scope m → IsLongest scope n → m ≡ n
+
+-- the bound of a text's last unit, which a check prints last, is that of its program, and no other number is
+abbrev pub ThePrintedBoundIsThePrograms : Type 0
+ThePrintedBoundIsThePrograms = (text : Text) (place n : ℕ) → length text ≡ suc place → IsBoundAt text place n →
+    IsProgramBound text n × ((m : ℕ) → IsProgramBound text m → m ≡ n)
 
 -- no run of a program executes more items than its longest path has, whatever the store and the moment
 abbrev pub NoRunIsLongerThanThePaths : Type 0

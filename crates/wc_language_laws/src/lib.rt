@@ -1,7 +1,7 @@
 //! Laws about the definitions of the language. Each function has an empty body: its clause is the law.
 #![tactic(auto)]
 
-ghost use Rattle.wc_language_laws.specs.Laws.{WrapIsTheOnlyOne, JumpGoesOnAhead, ReturnEndsTheBody, ATextKeepsItsPlaces, RTrigKeepsItsHistory, SrKeepsItsHistory, CtuKeepsItsHistory, TonKeepsItsHistory, TofKeepsItsHistory, FirstFaultIsFirst, WorstPathIsLongest, EachUnitHasAWorstPath, EachLoadedUnitHasABound, NoRunIsLongerThanThePaths};
+ghost use Rattle.wc_language_laws.specs.Laws.{WrapIsTheOnlyOne, JumpGoesOnAhead, ReturnEndsTheBody, ATextKeepsItsPlaces, RTrigKeepsItsHistory, SrKeepsItsHistory, CtuKeepsItsHistory, TonKeepsItsHistory, TofKeepsItsHistory, FirstFaultIsFirst, WorstPathIsLongest, EachUnitHasAWorstPath, EachLoadedUnitHasABound, AUnitHasOneBound, ThePrintedBoundIsThePrograms, NoRunIsLongerThanThePaths};
 
 /// Arithmetic wraps to the one number of 32 bits that is equal modulo 2^32.
 pub fn wrap_is_the_only_one()
@@ -66,6 +66,16 @@ pub fn each_unit_has_a_worst_path()
 /// Each unit of a text that is loaded from its bytes has a bound within the limit, also one that nobody calls.
 pub fn each_loaded_unit_has_a_bound()
     ensures { EachLoadedUnitHasABound }
+{}
+
+/// A unit has one bound at most.
+pub fn a_unit_has_one_bound()
+    ensures { AUnitHasOneBound }
+{}
+
+/// The number that a check prints for the last unit of a text is the bound of its program, within which each scan keeps.
+pub fn the_printed_bound_is_the_programs()
+    ensures { ThePrintedBoundIsThePrograms }
 {}
 
 /// No run of a program executes more items than its longest path has.

@@ -1,6 +1,6 @@
 -- What is said of a refusal: its number, what is named, the line, the column, the excerpt and the
 -- page are pinned; the words between them are not (the profile's own).
-use Rattle.std.specs.Prelude.{◌≡◌, ℕ, ◌+◌, ◌==◌, ◌&&◌, min, Bool, true, false, nat_lt, List, [], ◌∷◌, ◌++◌, codes, if◌then◌else◌}
+use Rattle.std.specs.Prelude.{◌≡◌, ℕ, ◌+◌, ◌-◌, ◌==◌, ◌&&◌, min, Bool, true, false, nat_lt, List, [], ◌∷◌, ◌++◌, codes, length, take, if◌then◌else◌}
 use Rattle.wc_findings.specs.Finds.{Finds}
 use Rattle.wc_findings.specs.declared.finding.Finding.{Finding}
 use Rattle.wc_findings.specs.declared.refusal.Part.{Part}
@@ -29,12 +29,21 @@ named_line refusal found =
     then line_under refusal.above refusal.place
     else 0
 
--- the piece of the text with which the first line begins, between backquotes, if there is one
+-- how many bytes of a piece so long are left out where 120 are quoted, if any are
+abbrev pub left_out_text : ℕ → List ℕ
+left_out_text long =
+    if nat_lt 120 long
+    then shown_text (codes "(and ") ++ number_text (long - 120)
+    ++ shown_text (codes " bytes more) ")
+    else []
+
+-- the piece of the text with which the first line begins, 120 bytes of it at most, between
+-- backquotes, if there is one
 abbrev pub quoted_text : List ℕ → List ℕ
 quoted_text [] = []
 quoted_text (byte ∷ rest) =
-    shown_text (codes "`") ++ shown_text (byte ∷ rest) ++ shown_text (codes "`")
-    ++ shown_text (codes " ")
+    shown_text (codes "`") ++ shown_text (take 120 (byte ∷ rest)) ++ shown_text (codes "`")
+    ++ shown_text (codes " ") ++ left_out_text (length (byte ∷ rest))
 
 -- what was found of a refusal in the text at hand, as a message shows it: what is quoted, and
 -- where it stands; what is said of it, and what could stand there, are words

@@ -6,11 +6,11 @@ use crate::placing::margin;
 use std::alloc::{AllocError, Global};
 use wc_findings::{Finding, Spot};
 
-/// How many bytes of a line are shown at most.
-const WIDEST: usize = 120;
+/// How many bytes of a line, or of what is quoted, are shown at most.
+pub(crate) const WIDEST: usize = 120;
 
 /// The bytes from a place on, at most so many.
-fn piece(text: &[u8], start: usize, length: usize) -> &[u8]
+pub(crate) fn piece(text: &[u8], start: usize, length: usize) -> &[u8]
     ensures { result.now ≡ take length (drop start text.now) }
 {
     let (_, rest) = text.split_at(start.min(text.len()));

@@ -1,8 +1,8 @@
 ghost use Rattle.std.specs.Prelude.{◌≡◌, ◌++◌, IfOk, OnOk};
-ghost use Rattle.wc_messages.specs.Explanations.{ShowsPlace, quoted_text};
+ghost use Rattle.wc_messages.specs.Explanations.{ShowsPlace, left_out_text, quoted_text};
 ghost use Rattle.wc_messages.specs.Plain.{IsShown};
 
-use crate::excerpts::excerpt;
+use crate::excerpts::{WIDEST, excerpt, piece};
 use crate::hints::hint;
 use crate::message::Message;
 use crate::placing::{beside, margin, named_line};
@@ -27,6 +27,19 @@ pub(crate) struct Parts {
     pub(crate) advice: Message,
 }
 
+/// Writes how many bytes of a piece so long are left out where it is quoted, if any are.
+fn write_left_out(message: &mut Message, length: usize) -> Result<(), AllocError>
+    ensures { OnOk result (message.new.bytes.items
+        ≡ message.old.bytes.items ++ left_out_text length) }
+{
+    if length <= WIDEST {
+        return Ok(());
+    }
+    message.say("(and ")?;
+    message.count(length - WIDEST)?;
+    message.say(" bytes more) ")
+}
+
 /// Writes the piece of the text with which a headline begins, if there is one.
 fn write_subject(message: &mut Message, subject: &[u8]) -> Result<(), AllocError>
     ensures { OnOk result (message.new.bytes.items
@@ -35,8 +48,9 @@ fn write_subject(message: &mut Message, subject: &[u8]) -> Result<(), AllocError
     if subject.is_empty() {
         return Ok(());
     }
-    message.quote(subject)?;
-    message.say(" ")
+    message.quote(piece(subject, 0, WIDEST))?;
+    message.say(" ")?;
+    write_left_out(message, subject.len())
 }
 
 /// Writes what stands behind a headline, if there is something.

@@ -1,4 +1,4 @@
-ghost use Rattle.std.specs.Prelude.{◌≡◌, ℕ, ◌∷◌, List, Option};
+ghost use Rattle.std.specs.Prelude.{◌≡◌, ℕ, ◌∷◌, IfErr, List, Option};
 ghost use Rattle.wc_model.specs.Language.Checks.{Check, Refusal, asks, first_broken};
 ghost use Rattle.wc_model.specs.Language.Judging.{Judges};
 ghost use Rattle.wc_verify.specs.Found.{first_at};
@@ -33,8 +33,10 @@ pub(crate) fn refused(number: u16, place: u32) -> Fault
 
 /// Refuses at a line what breaks a rule.
 pub(crate) fn refuse(number: Option<u16>, line: u32) -> Result<(), Fault>
-    ensures { (found rest : Option Refusal) → found ≡ first_at number line rest
+    ensures judges { (found rest : Option Refusal) → found ≡ first_at number line rest
         → Judges found rest result }
+    // No memory is taken here, so none is told to be wanting.
+    ensures refuses { IfErr result (λ fault. fault ≡ Fault.Memory → ⊥) }
 {
     match number {
         Some(number) => Err(refused(number, line)),

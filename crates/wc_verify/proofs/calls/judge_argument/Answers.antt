@@ -14,7 +14,7 @@ pub returns-clause-judged : goal.returns-clause-judged
 returns-clause-judged c = λ scope type before behind rest is num held.
     let spot : Spot Assignment = record { before = before; item = assignment_view c.args.argument.now; behind = behind } in
     let seen = c.see-seen.ensures scope is in
-    c.refuse.ensures _ (first_broken rest)
+    c.refuse.ensures.judges _ (first_broken rest)
     (argument_found scope (members_of scope.before type) spot c.in-Some.input.kind c.judge_reading.result c.unless.result c.first_of.result c.suits_input-suits.result
     (input_parts scope type (input_named (members_of scope.before type) (name_of c.args.argument.now.name.now)) c.in-Some.input (c.in-Some.ensures.found is.text c.args.unit scope type is.tables_are is.unit_is num))
     (is_new c.args.names.now before (name_of c.args.argument.now.name.now) held c.in-Ok.new c.in-Ok.ensures.new c.if-not-new.false)

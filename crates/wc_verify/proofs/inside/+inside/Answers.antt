@@ -77,10 +77,10 @@ judge_nested-returns-in-Ok t c = λ scope label behind more is.
     let within = nesting.within scope label c.args.line c.args.operator term inside c.args.close behind c.args.kind more in
     let whole = nesting.whole scope label c.args.line c.args.operator term inside c.args.close behind c.args.kind more in
     c.followed.ensures scope whole behind c.args.kind more
-    (c.refuse-in-Ok.ensures (first_broken (line_rules scope whole behind c.args.kind ++ more)) (first_broken more)
+    (c.refuse-in-Ok.ensures.judges (first_broken (line_rules scope whole behind c.args.kind ++ more)) (first_broken more)
     (nesting.closing_found scope label c.args.line c.args.operator term inside c.args.close behind c.args.kind more c.opening_kind.result c.in-Ok.inner c.judge_closing.result (c.opening_kind.ensures scope term seen)
     (judges_ok (first_broken (opening_checks scope c.args.line c.args.operator term c.args.kind ++ within)) (first_broken within) c.refuse.result c.in_default.field-0 c.in_default.is
-    (c.refuse.ensures (first_broken (opening_checks scope c.args.line c.args.operator term c.args.kind ++ within)) (first_broken within) (c.judge_opening.ensures scope term c.args.line within seen)))
+    (c.refuse.ensures.judges (first_broken (opening_checks scope c.args.line c.args.operator term c.args.kind ++ within)) (first_broken within) (c.judge_opening.ensures scope term c.args.line within seen)))
     (c.in-Ok.ensures scope (nesting.closing scope label c.args.line c.args.operator term inside c.args.close behind c.args.kind more) is)
     c.judge_closing.ensures))
     c.kind_after_operator.ensures
@@ -93,7 +93,7 @@ judge_nested-returns-in-Err-judge_inside t c = λ scope label behind more is.
     let within = nesting.within scope label c.args.line c.args.operator term inside c.args.close behind c.args.kind more in
     nesting.inside_refused scope label c.args.line c.args.operator term inside c.args.close behind c.args.kind more c.opening_kind.result c.in-Err-judge_inside.fault (c.opening_kind.ensures scope term seen)
     (judges_ok (first_broken (opening_checks scope c.args.line c.args.operator term c.args.kind ++ within)) (first_broken within) c.refuse.result c.in_default.field-0 c.in_default.is
-    (c.refuse.ensures (first_broken (opening_checks scope c.args.line c.args.operator term c.args.kind ++ within)) (first_broken within) (c.judge_opening.ensures scope term c.args.line within seen)))
+    (c.refuse.ensures.judges (first_broken (opening_checks scope c.args.line c.args.operator term c.args.kind ++ within)) (first_broken within) (c.judge_opening.ensures scope term c.args.line within seen)))
     (c.in-Err-judge_inside.ensures scope (nesting.closing scope label c.args.line c.args.operator term inside c.args.close behind c.args.kind more) is)
 
 pub judge_inside-returns-in-Err : goal.judge_inside-returns-in-Err

@@ -1,0 +1,4 @@
+pub mod Costs
+pub mod ReadOnce
+pub mod Reasons
+pub mod LoadLaws
