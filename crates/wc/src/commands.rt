@@ -1,6 +1,6 @@
 ghost use Rattle.std.specs.Prelude.{◌≤◌, IfSome};
 
-use crate::devices::{Keeping, Noting, Opening};
+use crate::opening::Opening;
 use crate::output::{Emptying, Gathered, Gathering};
 use crate::telling::{Met, Sources, end, without_memory};
 use crate::words::ProgramFiles;
@@ -8,6 +8,7 @@ use std::cell::RefCell;
 use std::io;
 use std::io::{IsTerminal, Stdin};
 use wc_controller::{Ending, answer_job, check_file, line_files, run_files};
+use wc_devices::{Keeping, Noting};
 use wc_model::Device;
 
 /// A file that is read, and before each read the output is emptied.

@@ -3,9 +3,9 @@
 #![tactic(auto)]
 
 mod commands;
-mod devices;
 mod excerpts;
 mod explaining;
+mod opening;
 mod output;
 mod telling;
 mod words;

@@ -1,10 +1,10 @@
 ghost use Rattle.std.specs.Prelude.{◌≤◌, length};
 
-use crate::devices::Noting;
 use std::alloc::{AllocError, Global};
 use std::cell::RefCell;
 use std::io;
 use std::io::{Read, Stdout, Write};
+use wc_devices::Noting;
 use wc_model::{Device, write_whole};
 
 /// How many bytes are gathered before they are written.
@@ -135,6 +135,8 @@ fn empty_first(gathered: &RefCell<Gathered>) -> io::Result<()> {
 }
 
 impl<D: Read> Read for Emptying<'_, D> {
+    ghost remaining = { λ e. D.remaining e.inner };
+
     fn read(&mut self, buffer: &mut [u8]) -> io::Result<usize> {
         match empty_first(self.gathered) {
             Ok(()) => self.inner.read(buffer),

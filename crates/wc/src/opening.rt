@@ -1,0 +1,37 @@
+use std::fs::File;
+use std::io;
+use std::io::Read;
+
+/// A file that is opened when it is first read, so that files are opened one after the other.
+#[derive(Drop)]
+pub(crate) struct Opening<'a> {
+    rt: &'a HostRuntime,
+    path: &'a str,
+    file: Option<File>,
+}
+
+impl<'a> Opening<'a> {
+    /// The file at a path, not opened yet.
+    pub(crate) fn new(rt: &'a HostRuntime, path: &'a str) -> Opening<'a> {
+        Opening {
+            rt,
+            path,
+            file: None,
+        }
+    }
+}
+
+impl Read for Opening<'_> {
+    fn read(&mut self, buffer: &mut [u8]) -> io::Result<usize> {
+        if self.file.is_none() {
+            match File::open(self.rt, self.path) {
+                Ok(file) => self.file = Some(file),
+                Err(error) => return Err(error),
+            }
+        }
+        match &mut self.file {
+            Some(file) => file.read(buffer),
+            None => Ok(0),
+        }
+    }
+}

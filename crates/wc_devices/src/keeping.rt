@@ -1,0 +1,68 @@
+ghost use Rattle.std.specs.Prelude.{◌≡◌, [], Some, option_map};
+ghost use Rattle.std.specs.Io.{ReadsAtMost};
+ghost use Rattle.std.specs.Io.KnownBytes.{ReadConsumes};
+ghost use Rattle.wc_devices.specs.Inside.{Keeps, keeping_inner, kept};
+
+use std::alloc::Global;
+use std::io;
+use std::io::Read;
+
+/// A reader that keeps the bytes that it reads, as long as there is memory for them.
+#[derive(Drop)]
+pub struct Keeping<D> {
+    inner: D,
+    kept: Vec<u8>,
+    whole: bool,
+}
+
+impl<D> Keeping<D> {
+    /// One that has read nothing.
+    pub fn new(alloc: Global, inner: D) -> Keeping<D>
+        ensures inner { keeping_inner result ≡ inner }
+        ensures nothing { kept result ≡ Some [] }
+    {
+        Keeping {
+            inner,
+            kept: Vec::new(alloc),
+            whole: true,
+        }
+    }
+
+    /// The reader inside.
+    pub fn get_ref(&self) -> &D
+        ensures { result.now ≡ keeping_inner self.now }
+    {
+        &self.inner
+    }
+
+    /// All bytes that were read; nothing where memory for some of them was refused.
+    pub fn bytes(&self) -> Option<&[u8]>
+        ensures { option_map (λ bytes. bytes.now) result ≡ kept self.now }
+    {
+        if self.whole {
+            Some(self.kept.as_slice())
+        } else {
+            None
+        }
+    }
+}
+
+impl<D: Read> Read for Keeping<D> {
+    ghost remaining = { λ k. D.remaining (keeping_inner k) };
+
+    fn read(&mut self, buffer: &mut [u8]) -> io::Result<usize>
+        ensures bound { ReadsAtMost result buffer.new }
+        ensures bytes { ReadConsumes (D.remaining (keeping_inner self.old))
+            (D.remaining (keeping_inner self.new)) result buffer.new }
+        ensures kept { Keeps (kept self.old) (kept self.new) result buffer.new }
+    {
+        match self.inner.read(buffer) {
+            Ok(count) => {
+                let (read, _) = buffer.split_at(count);
+                self.whole = self.whole && self.kept.extend_from_slice(read).is_ok();
+                Ok(count)
+            }
+            Err(error) => Err(error),
+        }
+    }
+}

@@ -1,0 +1,76 @@
+ghost use Rattle.std.specs.Prelude.{◌≡◌, IfErr, None, OnOk, Some};
+ghost use Rattle.std.specs.Io.{ReadsAtMost, WritesAtMost};
+ghost use Rattle.std.specs.Io.KnownBytes.{ReadConsumes, WriteAppends};
+ghost use Rattle.wc_devices.specs.Inside.{noted, noting_inner};
+
+use crate::trying::{read_again, write_again};
+use std::io;
+use std::io::{Read, Write};
+
+/// A reader or a writer that tries a call again where it was interrupted, at most 16 times, and keeps why it failed last.
+#[derive(Drop)]
+pub struct Noting<D> {
+    inner: D,
+    cause: Option<io::Error>,
+}
+
+impl<D> Noting<D> {
+    /// One that has not failed.
+    pub fn new(inner: D) -> Noting<D>
+        ensures inner { noting_inner result ≡ inner }
+        ensures cause { noted result ≡ None }
+    {
+        Noting { inner, cause: None }
+    }
+
+    /// Why it failed last, if it did.
+    pub fn cause(&self) -> Option<io::Error>
+        ensures { result ≡ noted self.now }
+    {
+        self.cause
+    }
+}
+
+impl<D: Read> Read for Noting<D> {
+    ghost remaining = { λ n. D.remaining (noting_inner n) };
+
+    fn read(&mut self, buffer: &mut [u8]) -> io::Result<usize>
+        ensures bound { ReadsAtMost result buffer.new }
+        ensures bytes { ReadConsumes (D.remaining (noting_inner self.old))
+            (D.remaining (noting_inner self.new)) result buffer.new }
+        ensures noted { IfErr result (λ error. noted self.new ≡ Some error) }
+        ensures steady { OnOk result (noted self.new ≡ noted self.old) }
+    {
+        match read_again(&mut self.inner, buffer) {
+            Ok(count) => Ok(count),
+            Err(error) => {
+                self.cause = Some(error);
+                Err(error)
+            }
+        }
+    }
+}
+
+impl<D: Write> Write for Noting<D> {
+    ghost contents = { λ n. D.contents (noting_inner n) };
+
+    fn write(&mut self, piece: &[u8]) -> io::Result<usize>
+        ensures bound { WritesAtMost result piece.now }
+        ensures bytes { WriteAppends (D.contents (noting_inner self.old))
+            (D.contents (noting_inner self.new)) result piece.now }
+        ensures noted { IfErr result (λ error. noted self.new ≡ Some error) }
+        ensures steady { OnOk result (noted self.new ≡ noted self.old) }
+    {
+        match write_again(&mut self.inner, piece) {
+            Ok(count) => Ok(count),
+            Err(error) => {
+                self.cause = Some(error);
+                Err(error)
+            }
+        }
+    }
+
+    fn flush(&mut self) -> io::Result<()> {
+        self.inner.flush()
+    }
+}
