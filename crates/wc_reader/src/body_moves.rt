@@ -1,23 +1,24 @@
-ghost use Rattle.std.specs.Prelude.{◌≡◌, ◌==◌, ◌∷◌, [], ℕ, length, Bool, IfOk, IfSome, List, OnOk, Some, map, option_map};
+ghost use Rattle.std.specs.Prelude.{◌≡◌, ◌∷◌, [], ℕ, Bool, IfOk, IfSome, List, OnOk, Some, map, option_map};
 ghost use Rattle.wc_grammar_laws.specs.Moves as moves;
 ghost use Rattle.wc_model.specs.Text.Marks as marks;
 ghost use Rattle.wc_model.specs.Language.Names.{name_of};
 ghost use Rattle.wc_model.specs.Text.Positions as positions;
 ghost use Rattle.wc_model.specs.Language.Tree.{ProgramUnit};
 ghost use Rattle.wc_model.specs.Language.Views.{lines_view, unit_view};
-ghost use Rattle.wc_reader.specs.LineViews.{begun_view, in_line_view, line_state_view};
-ghost use Rattle.wc_reader.specs.TextViews.{IsCounted, IsStateCounted, position_view, state_view};
-ghost use Rattle.wc_reader.specs.Words.{symbol_view};
+ghost use Rattle.wc_lines.specs.LineViews.{begun_view, in_line_view, line_state_view};
+ghost use Rattle.wc_bodies.specs.BodyViews.{IsCounted, position_view};
+ghost use Rattle.wc_reader.specs.TextViews.{IsStateCounted, state_view};
+ghost use Rattle.wc_lines.specs.Words.{symbol_view};
 
-use crate::body::{Body, behind_closing, behind_form, behind_label};
 use crate::declarations::{DeclarationState, Declaring};
-use crate::line_state::{Begun, InLine, LineForm, LineState};
-use crate::lines::{at_start, at_start_inside, line_move};
 use crate::text_state::TextState;
-use crate::words::{ends_unit, section, word};
 use std::alloc::{AllocError, Global};
+use wc_bodies::{Body, add_label, behind_closing, behind_form, section_begun};
 use wc_lexer::{Shape, Token};
-use wc_model::{Line, Section, Unit};
+use wc_lines::{
+    Begun, InLine, LineForm, LineState, at_start, at_start_inside, ends_unit, line_move,
+};
+use wc_model::Unit;
 
 /// On a line that an instruction may be the whole of, or behind its end.
 #[inline(always)]
@@ -85,7 +86,8 @@ fn line_state<'a>(
 {
     match line {
         LineState::LabelAlone(label) => {
-            let body = behind_label(body, label)?;
+            let mut body = body;
+            add_label(&mut body, label)?;
             Ok(Some(TextState::AtLine(body)))
         }
         LineState::Instructing(begun, state) => in_line_state(alloc, body, begun, state),
@@ -112,14 +114,6 @@ fn on_line<'a>(
         Some(line) => line_state(alloc, body, line),
         None => Ok(None),
     }
-}
-
-/// The section that a word begins, where no line of the body has come.
-pub(crate) fn section_begun(done: &[Line], text: &[u8]) -> Option<Section>
-    requires { moves.are_no_lines (lines_view done.now) ≡ (length done.now == 0) }
-    ensures { result ≡ moves.section_begun (lines_view done.now) (name_of text.now) }
-{
-    if done.is_empty() { section(text) } else { None }
 }
 
 /// Behind the first word of a line of a body with no parenthesis open, which does not end the unit

@@ -5,15 +5,16 @@ ghost use Rattle.wc_model.specs.Language.Names.{name_of};
 ghost use Rattle.wc_model.specs.Language.Tree.{ProgramUnit};
 ghost use Rattle.wc_model.specs.Language.Views.{unit_view};
 ghost use Rattle.wc_reader.specs.TextViews.{IsStateCounted, declaring_view, state_view, section_view};
-ghost use Rattle.wc_reader.specs.Words.{symbol_view};
+ghost use Rattle.wc_lines.specs.Words.{symbol_view};
 
-use crate::body::body_start;
 use crate::body_moves::{along_line, at_closed, at_line};
 use crate::declarations::{DeclarationState, Declaring, declaration_move};
 use crate::text_state::TextState;
-use crate::words::{section, unit_kind, word};
+use crate::words::unit_kind;
 use std::alloc::{AllocError, Global};
+use wc_bodies::body_start;
 use wc_lexer::{Shape, Token};
+use wc_lines::word;
 use wc_model::{Section, Unit, UnitKind};
 
 /// Behind a unit's first word, where the token is one.

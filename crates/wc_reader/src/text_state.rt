@@ -1,7 +1,7 @@
-use crate::body::Body;
 use crate::declarations::DeclarationState;
-use crate::line_state::LineState;
 use std::alloc::Global;
+use wc_bodies::Body;
+use wc_lines::LineState;
 use wc_model::{Section, Unit, UnitKind};
 
 /// How far a text has been read, behind its whole units.

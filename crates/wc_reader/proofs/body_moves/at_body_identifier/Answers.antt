@@ -3,8 +3,8 @@ use Rattle.wc_grammar_laws.specs.LineMoves.{Start, line_move}
 use Rattle.wc_grammar_laws.specs.Moves.{begun_line}
 use Rattle.wc_model.specs.Text.Grammar.{InBody}
 use Rattle.wc_model.specs.Language.Views.{unit_view}
-use Rattle.wc_reader.proofs.Outcomes.{ok-map}
-use Rattle.wc_reader.specs.TextViews.{position_view}
+use Rattle.wc_lines.proofs.Outcomes.{ok-map}
+use Rattle.wc_bodies.specs.BodyViews.{position_view}
 use Rattle.wc_reader.proofs.body_moves.at_body_identifier.Goals as goal
 
 pub returns-then-colon-clause-behind : goal.returns-then-colon-clause-behind

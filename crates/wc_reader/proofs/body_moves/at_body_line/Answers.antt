@@ -2,8 +2,8 @@ use Rattle.std.proofs.Common.{map, sym, ap, ◌∙◌}
 use Rattle.wc_grammar_laws.specs.Moves.{begun_line}
 use Rattle.wc_model.specs.Language.Views.{unit_view}
 use Rattle.wc_reader.proofs.FirstTokens.{body-other}
-use Rattle.wc_reader.proofs.Outcomes.{ok-map}
-use Rattle.wc_reader.specs.TextViews.{position_view}
+use Rattle.wc_lines.proofs.Outcomes.{ok-map}
+use Rattle.wc_bodies.specs.BodyViews.{position_view}
 use Rattle.wc_reader.proofs.body_moves.at_body_line.Goals as goal
 
 pub returns-in_default : goal.returns-in_default

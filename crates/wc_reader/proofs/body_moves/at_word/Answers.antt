@@ -4,8 +4,8 @@ use Rattle.wc_grammar_laws.specs.Moves.{begun_line, section_begun}
 use Rattle.wc_model.specs.Text.Grammar.{InBody}
 use Rattle.wc_model.specs.Language.Names.{name_of}
 use Rattle.wc_model.specs.Language.Views.{lines_view}
-use Rattle.wc_reader.proofs.Outcomes.{ok-map}
-use Rattle.wc_reader.specs.TextViews.{position_view}
+use Rattle.wc_lines.proofs.Outcomes.{ok-map}
+use Rattle.wc_bodies.specs.BodyViews.{position_view}
 use Rattle.wc_reader.proofs.body_moves.at_word.Goals as goal
 
 pub returns-clause-behind : goal.returns-clause-behind
