@@ -1,4 +1,4 @@
-ghost use Rattle.std.specs.Prelude.{◌≡◌, ◌==◌, ◌+◌, ◌∷◌, [], length, min, IfOk, OnOk, MatchOption, IfSome, List, Some, option_map, Option, None};
+ghost use Rattle.std.specs.Prelude.{◌≡◌, ◌==◌, ◌+◌, ◌∷◌, [], length, min, IfOk, OnOk, MatchOption, IfSome, List, Some, option_map, Option, None, true, if◌then◌else◌};
 ghost use Rattle.wc_grammar_laws.specs.LineMoves as lines;
 ghost use Rattle.wc_grammar_laws.specs.Moves as moves;
 ghost use Rattle.wc_model.specs.Text.Limits.{most_lines};
@@ -11,6 +11,7 @@ ghost use Rattle.wc_bodies.specs.BodyViews.{IsCounted, position_view, opening_vi
 
 use crate::tree_lines::{label_line, nested_line, step_line};
 use std::alloc::{AllocError, Global};
+use std::mem;
 use wc_lines::{Begun, LineForm, Step};
 use wc_model::{Line, Operand, Operator, Unit, Word};
 
@@ -99,106 +100,54 @@ pub fn add_step<'a>(body: &mut Body<'a>, begun: Begun<'a>, step: Step<'a>) -> Re
     Ok(())
 }
 
-/// The body behind an instruction.
-#[inline(always)]
-fn behind_step<'a>(body: Body<'a>, begun: Begun<'a>, step: Step<'a>) -> Result<Body<'a>, AllocError>
-    requires { IsCounted body }
-    ensures behind { IfOk result
-        (λ next. (units : List ProgramUnit)
-        → position_view units next
-        ≡ moves.behind_line (position_view units body.entry)
-        (lines.Instructs (option_map word_view begun.entry.label) begun.entry.line
-        (step_view step.entry))) }
-    ensures counted { IfOk result (λ next. IsCounted next) }
-{
-    let mut body = body;
-    add_step(&mut body, begun, step)?;
-    Ok(body)
-}
-
-/// The body behind an opening line.
-fn behind_opening<'a>(
+/// Adds an opening line behind a body's lines.
+fn add_opening<'a>(
     alloc: Global,
-    body: Body<'a>,
+    body: &mut Body<'a>,
     begun: Begun<'a>,
     operator: Operator,
     operand: Option<Operand<'a>>,
-) -> Result<Body<'a>, AllocError>
-    requires { IsCounted body }
-    ensures behind { IfOk result
-        (λ next. (units : List ProgramUnit)
-        → position_view units next
-        ≡ moves.behind_line (position_view units body.entry)
+) -> Result<(), AllocError>
+    requires { IsCounted body.old }
+    ensures behind { OnOk result
+        ((units : List ProgramUnit)
+        → position_view units body.new
+        ≡ moves.behind_line (position_view units body.old)
         (lines.Opens (option_map word_view begun.entry.label) begun.entry.line operator
         (option_map term_view operand.entry))) }
-    ensures counted { IfOk result (λ next. IsCounted next) }
+    ensures counted { OnOk result (IsCounted body.new) }
 {
-    let Body {
-        unit,
-        mut openings,
-        done,
-        count,
-    } = body;
-    openings.push(Opening {
-        before: done,
+    let before = mem::replace(&mut body.done, Vec::new(alloc));
+    body.openings.push(Opening {
+        before,
         begun,
         operator,
         operand,
     })?;
-    Ok(Body {
-        unit,
-        openings,
-        done: Vec::new(alloc),
-        count: one_more(count),
-    })
+    body.count = one_more(body.count);
+    Ok(())
 }
 
-/// The body behind the line of an instruction.
+/// Adds the line of an instruction behind a body's lines.
 #[inline(always)]
-pub fn behind_form<'a>(
+pub fn add_form<'a>(
     alloc: Global,
-    body: Body<'a>,
+    body: &mut Body<'a>,
     begun: Begun<'a>,
     form: LineForm<'a>,
-) -> Result<Body<'a>, AllocError>
-    requires { IsCounted body }
-    ensures behind { IfOk result
-        (λ next. (units : List ProgramUnit)
-        → position_view units next
-        ≡ moves.behind_line (position_view units body.entry)
+) -> Result<(), AllocError>
+    requires { IsCounted body.old }
+    ensures behind { OnOk result
+        ((units : List ProgramUnit)
+        → position_view units body.new
+        ≡ moves.behind_line (position_view units body.old)
         (form_view (begun_view begun.entry) form.entry)) }
-    ensures counted { IfOk result (λ next. IsCounted next) }
+    ensures counted { OnOk result (IsCounted body.new) }
 {
     match form {
-        LineForm::Instructs(step) => behind_step(body, begun, step),
-        LineForm::Opens(operator, operand) => behind_opening(alloc, body, begun, operator, operand),
+        LineForm::Instructs(step) => add_step(body, begun, step),
+        LineForm::Opens(operator, operand) => add_opening(alloc, body, begun, operator, operand),
     }
-}
-
-/// The lines before a parenthesis, and then the whole parenthesis.
-fn closed<'a>(
-    opening: Opening<'a>,
-    inside: Vec<Line<'a>, Global>,
-    close: u32,
-) -> Result<Vec<Line<'a>, Global>, AllocError>
-    ensures tree { IfOk result
-        (λ done.
-        lines_view done.items
-        ≡ moves.lines_and (opening_view opening.entry).before
-        (tree.Nested (opening_view opening.entry).label (opening_view opening.entry).line
-        (opening_view opening.entry).operator (opening_view opening.entry).operand
-        (lines_view inside.entry.items) close tree.End)) }
-    ensures seen { IfOk result
-        (λ done. moves.are_no_lines (lines_view done.items) ≡ (length done.items == 0)) }
-{
-    let Opening {
-        mut before,
-        begun,
-        operator,
-        operand,
-    } = opening;
-    before.push(nested_line(begun, operator, operand, inside, close))?;
-    Ok(before)
 }
 
 /// Whether a parenthesis holds something.
@@ -213,37 +162,34 @@ pub(crate) fn has_content<'a>(opening: &Opening<'a>, done: &[Line<'a>]) -> bool
     }
 }
 
-/// The body behind the `)` of the innermost parenthesis; none where none is open, or it holds
-/// nothing.
-pub fn behind_closing<'a>(body: Body<'a>, close: u32) -> Result<Option<Body<'a>>, AllocError>
-    requires { IsCounted body }
+/// Closes the innermost parenthesis at its `)`, and says whether there is one that holds something.
+pub fn close<'a>(body: &mut Body<'a>, close: u32) -> Result<bool, AllocError>
+    requires { IsCounted body.old }
     ensures behind { IfOk result
-        (λ next.
+        (λ closed.
         (units : List ProgramUnit) (innermost : positions.Opening) (outer : List positions.Opening)
-        → (position_view units body.entry).openings ≡ innermost ∷ outer
-        → option_map (λ it. moves.Closed (position_view units it)) next
-        ≡ moves.closing_move (position_view units body.entry) innermost outer close) }
-    ensures counted { IfOk result (λ next. IfSome next (λ it. IsCounted it)) }
+        → (position_view units body.old).openings ≡ innermost ∷ outer
+        → (if closed then Some (moves.Closed (position_view units body.new)) else None)
+        ≡ moves.closing_move (position_view units body.old) innermost outer close) }
+    ensures counted { IfOk result (λ closed. closed ≡ true → IsCounted body.new) }
 {
-    let Body {
-        unit,
-        mut openings,
-        done,
-        count,
-    } = body;
-    match openings.pop() {
-        None => Ok(None),
+    match body.openings.pop() {
+        None => Ok(false),
         Some(opening) => {
-            if has_content(&opening, &done) {
-                let done = closed(opening, done, close)?;
-                Ok(Some(Body {
-                    unit,
-                    openings,
-                    done,
-                    count: one_more(count),
-                }))
+            if has_content(&opening, &body.done) {
+                let Opening {
+                    before,
+                    begun,
+                    operator,
+                    operand,
+                } = opening;
+                let inside = mem::replace(&mut body.done, before);
+                body.done
+                    .push(nested_line(begun, operator, operand, inside, close))?;
+                body.count = one_more(body.count);
+                Ok(true)
             } else {
-                Ok(None)
+                Ok(false)
             }
         }
     }

@@ -10,9 +10,7 @@ mod sections;
 mod tree_lines;
 
 pub use begun_faults::state_fault;
-pub use bodies::{
-    Body, Opening, add_label, add_step, behind_closing, behind_form, body_start, is_full,
-};
+pub use bodies::{Body, Opening, add_form, add_label, add_step, body_start, close, is_full};
 pub use line_faults::start_fault;
 pub use open_lines::{open_in, open_on};
 pub use sections::section_begun;

@@ -3,6 +3,7 @@ use Rattle.std.specs.Prelude.{◌≡◌, List, map, Some, None}
 use Rattle.wc_grammar_laws.specs.Moves as moves
 use Rattle.wc_grammar_laws.specs.Moves.{State}
 use Rattle.wc_model.specs.Language.Tree.{ProgramUnit}
+use Rattle.wc_model.specs.Text.Positions.{Position}
 use Rattle.wc_model.specs.Language.Views.{unit_view, word_view}
 use Rattle.wc_model.specs.declared.source.Section.{Section}
 use Rattle.wc_bodies.specs.BodyViews.{IsCounted, position_view}
@@ -12,6 +13,8 @@ use Rattle.wc_reader.specs.declared.declarations.DeclarationState.TheVariants.{U
 use Rattle.wc_reader.specs.declared.declarations.Declaring.{Declaring as SectionRead}
 use Rattle.wc_reader.specs.declared.text_state.TextState.{TextState}
 use Rattle.wc_reader.specs.declared.text_state.TextState.TheVariants.{Outside, Unnamed, Declaring, AtLine, OnLine, Closed}
+use Rattle.wc_reader.specs.declared.text_state.BodyPlace.{BodyPlace}
+use Rattle.wc_reader.specs.declared.text_state.BodyPlace.TheVariants.{LineStart, AlongLine, BehindClosing, InSection, BehindUnit}
 use Rattle.wc_reader.specs.declared.text_state.Reading.{Reading}
 
 -- how far a declaration has been read
@@ -30,6 +33,14 @@ section_view units read = elim read.state [
   | Some state ↦ moves.Declaring units (unit_view read.unit) read.section (declaring_view state)
   | None ↦ moves.AtLine (moves.body_start units (unit_view read.unit))
 ]
+
+-- where a token of a body leads, with the body behind it
+abbrev pub place_view : Position → BodyPlace → State
+place_view p LineStart = moves.AtLine p
+place_view p (AlongLine line) = moves.OnLine p (line_state_view line)
+place_view p BehindClosing = moves.Closed p
+place_view p (InSection section) = moves.Declaring p.before p.unit section moves.Undeclared
+place_view p BehindUnit = moves.behind_unit p
 
 -- how far a text has been read behind these units
 abbrev pub state_view : List ProgramUnit → TextState → State

@@ -21,6 +21,21 @@ pub(crate) enum TextState<'a> {
     Closed(Body<'a>),
 }
 
+/// Where a token of a body leads, beside the body itself.
+#[derive(Drop)]
+pub(crate) enum BodyPlace<'a> {
+    /// To the start of a line.
+    LineStart,
+    /// On along a line that has begun.
+    AlongLine(LineState<'a>),
+    /// Behind a `)`, which the body counts as done.
+    BehindClosing,
+    /// Into a section, where no line of the body has come.
+    InSection(Section),
+    /// Behind the unit.
+    BehindUnit,
+}
+
 /// The whole units, and how far the text behind them has been read.
 #[derive(Drop)]
 pub(crate) struct Reading<'a> {
