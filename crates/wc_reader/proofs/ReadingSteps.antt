@@ -1,31 +1,16 @@
--- One step of the walk over a text's tokens.
-use Rattle.std.proofs.Common.{◌≡◌, ℕ, Bool, false, List, ◌∷◌, Option, Some, None, option_map, Result, Err, refl}
+-- What is told at a token of the walk.
+use Rattle.std.proofs.Common.{◌≡◌, ℕ, Bool, false, List, ◌∷◌, Option, Some, None, option_map, Result, refl}
 use Rattle.wc_grammar_laws.specs.Moves.{Met, State, colon_next, judge, move, reading}
 use Rattle.wc_model.specs.Text.Marks.{Mark}
 use Rattle.wc_model.specs.Text.ReadingFaults.{UnexpectedToken}
 use Rattle.wc_model.specs.Language.Tree.{Text}
 use Rattle.wc_model.specs.declared.fault.Fault.{Fault}
 use Rattle.wc_model.specs.declared.fault.Fault.TheVariants.{Memory, Refused}
-use Rattle.wc_reader.specs.TextViews.{fault_of}
+use Rattle.wc_bodies.proofs.WalkSteps.{behind_judgement, behind_move, step, unjudged}
+use Rattle.wc_bodies.specs.BodyViews.{fault_of}
 use Rattle.wc_reader.specs.Told.{IsUnexpected, TellsFault}
 
--- what is told behind a judgement
-abbrev behind_judgement : Option Met → Result Text Met → Result Text Met
-behind_judgement judgement rest = elim judgement as (λ _. Result Text Met) [ Some met ↦ Err met | None ↦ rest ]
-
--- what is told behind a move
-abbrev behind_move : Option State → List Mark → (last line : ℕ) → Result Text Met
-behind_move moved behind last line = elim moved as (λ _. Result Text Met) [
-  | Some next ↦ reading next behind last
-  | None ↦ Err (record { fault = UnexpectedToken; line = line })
-]
-
--- a step of the walk
-step : (state : State) (mark : Mark) (behind : List Mark) (last : ℕ) (colon : Bool) → colon_next behind false ≡ colon
-    → reading state (mark ∷ behind) last
-    ≡ behind_judgement (judge state mark.symbol mark.line colon) (behind_move (move state mark.symbol mark.line colon) behind last mark.line)
-step state mark behind last colon e = rw (← e) refl
-
+-- a judgement is told as the fault that it is
 judged : (met : Option Met) (rest : Result Text Met) (fault : Fault) → Some fault ≡ option_map fault_of met → TellsFault (behind_judgement met rest) fault
 judged None rest fault h = cc
 judged (Some met) rest fault h = let e : fault ≡ fault_of met = cc in rw e (record { met = met; outcome_is = refl; number_is = refl; place_is = refl })
@@ -35,17 +20,6 @@ pub at_fault : (state : State) (mark : Mark) (behind : List Mark) (last : ℕ) (
     → Some fault ≡ option_map fault_of (judge state mark.symbol mark.line colon) → TellsFault (reading state (mark ∷ behind) last) fault
 at_fault state mark behind last colon fault e h =
     rw (step state mark behind last colon e) (judged (judge state mark.symbol mark.line colon) (behind_move (move state mark.symbol mark.line colon) behind last mark.line) fault h)
-
-unjudged : (met : Option Met) → None ≡ option_map fault_of met → met ≡ None
-unjudged None h = refl
-unjudged (Some met) h = cc
-
--- at a token with which a text goes on
-pub at_move : (state next : State) (mark : Mark) (behind : List Mark) (last : ℕ) (colon : Bool) → colon_next behind false ≡ colon
-    → None ≡ option_map fault_of (judge state mark.symbol mark.line colon) → Some next ≡ move state mark.symbol mark.line colon
-    → reading state (mark ∷ behind) last ≡ reading next behind last
-at_move state next mark behind last colon e h k =
-    rw (step state mark behind last colon e, unjudged (judge state mark.symbol mark.line colon) h, ← k) refl
 
 -- at a token with which no text goes on
 pub at_unexpected : (state : State) (mark : Mark) (behind : List Mark) (last : ℕ) (colon : Bool) (fault : Fault) → colon_next behind false ≡ colon

@@ -1,58 +1,21 @@
 -- What the reader's states in a text stand for.
-use Rattle.std.specs.Prelude.{◌≡◌, ◌==◌, min, List, [], ◌∷◌, length, map, Some, None, option_map}
+use Rattle.std.specs.Prelude.{◌≡◌, List, map, Some, None}
 use Rattle.wc_grammar_laws.specs.Moves as moves
-use Rattle.wc_grammar_laws.specs.Moves.{Met, State, are_no_lines}
-use Rattle.wc_model.specs.Text.Limits.{lines_before, most_lines}
-use Rattle.wc_model.specs.Text.Positions as positions
-use Rattle.wc_model.specs.Text.Positions.{Position}
-use Rattle.wc_model.specs.Text.ReadingFaults.{number_of}
+use Rattle.wc_grammar_laws.specs.Moves.{State}
 use Rattle.wc_model.specs.Language.Tree.{ProgramUnit}
-use Rattle.wc_model.specs.Language.Views.{lines_view, term_view, unit_view, word_view}
-use Rattle.wc_model.specs.declared.fault.Fault.{Fault}
-use Rattle.wc_model.specs.declared.fault.Fault.TheVariants.{Refused}
-use Rattle.wc_reader.specs.LineViews.{line_state_view}
-use Rattle.wc_reader.specs.declared.body.Body.{Body}
-use Rattle.wc_reader.specs.declared.body.Opening.{Opening}
+use Rattle.wc_model.specs.Text.Positions.{Position}
+use Rattle.wc_model.specs.Language.Views.{unit_view, word_view}
+use Rattle.wc_model.specs.declared.source.Section.{Section}
+use Rattle.wc_bodies.specs.BodyViews.{IsCounted, position_view}
+use Rattle.wc_lines.specs.LineViews.{line_state_view}
 use Rattle.wc_reader.specs.declared.declarations.DeclarationState.{DeclarationState}
 use Rattle.wc_reader.specs.declared.declarations.DeclarationState.TheVariants.{Undeclared, BehindNames, BehindComma, BehindColon, BehindType, BehindAssign, BehindValue}
 use Rattle.wc_reader.specs.declared.declarations.Declaring.{Declaring as SectionRead}
 use Rattle.wc_reader.specs.declared.text_state.TextState.{TextState}
 use Rattle.wc_reader.specs.declared.text_state.TextState.TheVariants.{Outside, Unnamed, Declaring, AtLine, OnLine, Closed}
+use Rattle.wc_reader.specs.declared.text_state.BodyPlace.{BodyPlace}
+use Rattle.wc_reader.specs.declared.text_state.BodyPlace.TheVariants.{LineStart, AlongLine, BehindClosing, InSection, BehindUnit}
 use Rattle.wc_reader.specs.declared.text_state.Reading.{Reading}
-
--- a fault as the library tells it
-abbrev pub fault_of : Met → Fault
-fault_of met = Refused (number_of met.fault) met.line
-
--- a parenthesis that is open
-abbrev pub opening_view : Opening → positions.Opening
-opening_view o = record {
-  before = lines_view o.before.items;
-  label = option_map word_view o.begun.label;
-  line = o.begun.line;
-  operator = o.operator;
-  operand = option_map term_view o.operand;
-}
-
--- parentheses that are open, which the reader has the innermost last: each goes before those that
--- it stands in
-abbrev pub openings_view : List positions.Opening → List Opening → List positions.Opening
-openings_view outer [] = outer
-openings_view outer (o ∷ inner) = openings_view (opening_view o ∷ outer) inner
-
--- how far a body has been read
-abbrev pub position_view : List ProgramUnit → Body → Position
-position_view units body = record {
-  before = units;
-  unit = unit_view body.unit;
-  openings = openings_view [] body.openings.items;
-  done = lines_view body.done.items;
-}
-
--- the lines of a body are counted, as far as they may go, and where there is one the tree has one
-pub record IsCounted (body : Body) : Type 0 where
-  pub count : body.count ≡ min (lines_before (position_view [] body)) most_lines
-  pub seen : are_no_lines (lines_view body.done.items) ≡ (length body.done.items == 0)
 
 -- how far a declaration has been read
 abbrev pub declaring_view : DeclarationState → moves.InDeclaration
@@ -70,6 +33,14 @@ section_view units read = elim read.state [
   | Some state ↦ moves.Declaring units (unit_view read.unit) read.section (declaring_view state)
   | None ↦ moves.AtLine (moves.body_start units (unit_view read.unit))
 ]
+
+-- where a token of a body leads, with the body behind it
+abbrev pub place_view : Position → BodyPlace → State
+place_view p LineStart = moves.AtLine p
+place_view p (AlongLine line) = moves.OnLine p (line_state_view line)
+place_view p BehindClosing = moves.Closed p
+place_view p (InSection section) = moves.Declaring p.before p.unit section moves.Undeclared
+place_view p BehindUnit = moves.behind_unit p
 
 -- how far a text has been read behind these units
 abbrev pub state_view : List ProgramUnit → TextState → State
@@ -90,3 +61,8 @@ IsStateCounted (AtLine body) = IsCounted body
 IsStateCounted (OnLine body line) = IsCounted body
 IsStateCounted (Closed body) = IsCounted body
 IsStateCounted _ = Unit {0}
+
+-- the state stands in that section, before a declaration
+abbrev pub IsUndeclared : TextState → Section → Type 0
+IsUndeclared (Declaring unit section Undeclared) expected = section ≡ expected
+IsUndeclared state expected = ⊥

@@ -1,95 +1,92 @@
-ghost use Rattle.std.specs.Prelude.{◌≡◌, ◌==◌, ◌∷◌, [], ℕ, length, Bool, IfOk, IfSome, List, OnOk, Some, map, option_map};
+ghost use Rattle.std.specs.Prelude.{◌≡◌, ◌∷◌, [], ℕ, Bool, IfOk, IfSome, List, OnOk, Some, option_map};
 ghost use Rattle.wc_grammar_laws.specs.Moves as moves;
 ghost use Rattle.wc_model.specs.Text.Marks as marks;
 ghost use Rattle.wc_model.specs.Language.Names.{name_of};
 ghost use Rattle.wc_model.specs.Text.Positions as positions;
 ghost use Rattle.wc_model.specs.Language.Tree.{ProgramUnit};
-ghost use Rattle.wc_model.specs.Language.Views.{lines_view, unit_view};
-ghost use Rattle.wc_reader.specs.LineViews.{begun_view, in_line_view, line_state_view};
-ghost use Rattle.wc_reader.specs.TextViews.{IsCounted, IsStateCounted, position_view, state_view};
-ghost use Rattle.wc_reader.specs.Words.{symbol_view};
+ghost use Rattle.wc_model.specs.Language.Views.{lines_view};
+ghost use Rattle.wc_lines.specs.LineViews.{begun_view, in_line_view, line_state_view};
+ghost use Rattle.wc_bodies.specs.BodyViews.{IsCounted, position_view};
+ghost use Rattle.wc_reader.specs.TextViews.{place_view};
+ghost use Rattle.wc_lines.specs.Words.{symbol_view};
 
-use crate::body::{Body, behind_closing, behind_form, behind_label};
-use crate::declarations::{DeclarationState, Declaring};
-use crate::line_state::{Begun, InLine, LineForm, LineState};
-use crate::lines::{at_start, at_start_inside, line_move};
-use crate::text_state::TextState;
-use crate::words::{ends_unit, section, word};
+use crate::text_state::BodyPlace;
 use std::alloc::{AllocError, Global};
+use wc_bodies::{Body, add_form, add_label, close, section_begun};
 use wc_lexer::{Shape, Token};
-use wc_model::{Line, Section, Unit};
+use wc_lines::{
+    Begun, InLine, LineForm, LineState, at_start, at_start_inside, ends_unit, line_move,
+};
 
 /// On a line that an instruction may be the whole of, or behind its end.
 #[inline(always)]
-fn form_state<'a>(
+fn form_place<'a>(
     alloc: Global,
-    body: Body<'a>,
+    body: &mut Body<'a>,
     begun: Begun<'a>,
     form: LineForm<'a>,
     ended: bool,
-) -> Result<Option<TextState<'a>>, AllocError>
-    requires { IsCounted body }
+) -> Result<BodyPlace<'a>, AllocError>
+    requires { IsCounted body.old }
     ensures behind { IfOk result
-        (λ next. (units : List ProgramUnit)
-        → option_map (state_view units) next
-        ≡ Some
-        (moves.on_line (position_view units body.entry)
-        (in_line_view (begun_view begun.entry) (InLine.Formed form.entry ended)))) }
-    ensures counted { IfOk result (λ next. IfSome next (λ it. IsStateCounted it)) }
+        (λ place. (units : List ProgramUnit)
+        → place_view (position_view units body.new) place
+        ≡ moves.on_line (position_view units body.old)
+        (in_line_view (begun_view begun.entry) (InLine.Formed form.entry ended))) }
+    ensures counted { OnOk result (IsCounted body.new) }
 {
     if ended {
-        let body = behind_form(alloc, body, begun, form)?;
-        Ok(Some(TextState::AtLine(body)))
+        add_form(alloc, body, begun, form)?;
+        Ok(BodyPlace::LineStart)
     } else {
         let state = InLine::Formed(form, false);
-        Ok(Some(TextState::OnLine(body, LineState::Instructing(begun, state))))
+        Ok(BodyPlace::AlongLine(LineState::Instructing(begun, state)))
     }
 }
 
 /// On the line of an instruction, or behind its end.
 #[inline(always)]
-fn in_line_state<'a>(
+fn in_line_place<'a>(
     alloc: Global,
-    body: Body<'a>,
+    body: &mut Body<'a>,
     begun: Begun<'a>,
     state: InLine<'a>,
-) -> Result<Option<TextState<'a>>, AllocError>
-    requires { IsCounted body }
+) -> Result<BodyPlace<'a>, AllocError>
+    requires { IsCounted body.old }
     ensures behind { IfOk result
-        (λ next. (units : List ProgramUnit)
-        → option_map (state_view units) next
-        ≡ Some
-        (moves.on_line (position_view units body.entry)
-        (in_line_view (begun_view begun.entry) state.entry))) }
-    ensures counted { IfOk result (λ next. IfSome next (λ it. IsStateCounted it)) }
+        (λ place. (units : List ProgramUnit)
+        → place_view (position_view units body.new) place
+        ≡ moves.on_line (position_view units body.old)
+        (in_line_view (begun_view begun.entry) state.entry)) }
+    ensures counted { OnOk result (IsCounted body.new) }
 {
     match state {
-        InLine::Formed(form, ended) => form_state(alloc, body, begun, form, ended),
-        state => Ok(Some(TextState::OnLine(body, LineState::Instructing(begun, state)))),
+        InLine::Formed(form, ended) => form_place(alloc, body, begun, form, ended),
+        state => Ok(BodyPlace::AlongLine(LineState::Instructing(begun, state))),
     }
 }
 
 /// On a line, or behind its end.
 #[inline(always)]
-fn line_state<'a>(
+fn line_place<'a>(
     alloc: Global,
-    body: Body<'a>,
+    body: &mut Body<'a>,
     line: LineState<'a>,
-) -> Result<Option<TextState<'a>>, AllocError>
-    requires { IsCounted body }
+) -> Result<BodyPlace<'a>, AllocError>
+    requires { IsCounted body.old }
     ensures behind { IfOk result
-        (λ next. (units : List ProgramUnit)
-        → option_map (state_view units) next
-        ≡ Some (moves.on_line (position_view units body.entry) (line_state_view line.entry))) }
-    ensures counted { IfOk result (λ next. IfSome next (λ it. IsStateCounted it)) }
+        (λ place. (units : List ProgramUnit)
+        → place_view (position_view units body.new) place
+        ≡ moves.on_line (position_view units body.old) (line_state_view line.entry)) }
+    ensures counted { OnOk result (IsCounted body.new) }
 {
     match line {
         LineState::LabelAlone(label) => {
-            let body = behind_label(body, label)?;
-            Ok(Some(TextState::AtLine(body)))
+            add_label(body, label)?;
+            Ok(BodyPlace::LineStart)
         }
-        LineState::Instructing(begun, state) => in_line_state(alloc, body, begun, state),
-        line => Ok(Some(TextState::OnLine(body, line))),
+        LineState::Instructing(begun, state) => in_line_place(alloc, body, begun, state),
+        line => Ok(BodyPlace::AlongLine(line)),
     }
 }
 
@@ -97,29 +94,24 @@ fn line_state<'a>(
 #[inline(always)]
 fn on_line<'a>(
     alloc: Global,
-    body: Body<'a>,
+    body: &mut Body<'a>,
     line: Option<LineState<'a>>,
-) -> Result<Option<TextState<'a>>, AllocError>
-    requires { IsCounted body }
+) -> Result<Option<BodyPlace<'a>>, AllocError>
+    requires { IsCounted body.old }
     ensures behind { IfOk result
         (λ next. (units : List ProgramUnit)
-        → option_map (state_view units) next
-        ≡ moves.begun_line (position_view units body.entry)
+        → option_map (place_view (position_view units body.new)) next
+        ≡ moves.begun_line (position_view units body.old)
         (option_map line_state_view line.entry)) }
-    ensures counted { IfOk result (λ next. IfSome next (λ it. IsStateCounted it)) }
+    ensures counted { IfOk result (λ next. IfSome next (λ place. IsCounted body.new)) }
 {
     match line {
-        Some(line) => line_state(alloc, body, line),
+        Some(line) => match line_place(alloc, body, line) {
+            Ok(place) => Ok(Some(place)),
+            Err(error) => Err(error),
+        },
         None => Ok(None),
     }
-}
-
-/// The section that a word begins, where no line of the body has come.
-pub(crate) fn section_begun(done: &[Line], text: &[u8]) -> Option<Section>
-    requires { moves.are_no_lines (lines_view done.now) ≡ (length done.now == 0) }
-    ensures { result ≡ moves.section_begun (lines_view done.now) (name_of text.now) }
-{
-    if done.is_empty() { section(text) } else { None }
 }
 
 /// Behind the first word of a line of a body with no parenthesis open, which does not end the unit
@@ -127,67 +119,23 @@ pub(crate) fn section_begun(done: &[Line], text: &[u8]) -> Option<Section>
 #[inline(always)]
 fn at_word<'a>(
     alloc: Global,
-    body: Body<'a>,
+    body: &mut Body<'a>,
     token: Token<'a>,
-) -> Result<Option<TextState<'a>>, AllocError>
-    requires counted { IsCounted body }
+) -> Result<Option<BodyPlace<'a>>, AllocError>
+    requires counted { IsCounted body.old }
     requires identifier { symbol_view token ≡ marks.Identifier token.text.now }
     ensures behind { IfOk result
         (λ next. (units : List ProgramUnit)
-        → option_map (state_view units) next
+        → option_map (place_view (position_view units body.new)) next
         ≡ moves.section_or_line
-        (position_view units body.entry) token.entry.text.now token.entry.line
-        (moves.section_begun (lines_view body.entry.done.items) (name_of token.entry.text.now))) }
-    ensures counted { IfOk result (λ next. IfSome next (λ it. IsStateCounted it)) }
+        (position_view units body.old) token.entry.text.now token.entry.line
+        (moves.section_begun (lines_view body.old.done.items) (name_of token.entry.text.now))) }
+    ensures counted { IfOk result (λ next. IfSome next (λ place. IsCounted body.new)) }
 {
     match section_begun(&body.done, token.text) {
-        Some(section) => Ok(Some(TextState::Declaring(
-            body.unit,
-            section,
-            DeclarationState::Undeclared,
-        ))),
+        Some(section) => Ok(Some(BodyPlace::InSection(section))),
         None => on_line(alloc, body, at_start(token, false)),
     }
-}
-
-/// Behind the token after a `)`: the line's end.
-#[inline(always)]
-pub(crate) fn at_closed<'a>(body: Body<'a>, token: Token<'a>) -> Option<TextState<'a>>
-    requires { IsCounted body }
-    ensures behind { (units : List ProgramUnit) (line : ℕ) (colon : Bool)
-        → option_map (state_view units) result
-        ≡ moves.move (moves.Closed (position_view units body.entry))
-        (symbol_view token.entry) line colon }
-    ensures counted { IfSome result (λ it. IsStateCounted it) }
-{
-    match token.shape {
-        Shape::LineEnd => Some(TextState::AtLine(body)),
-        _ => None,
-    }
-}
-
-/// Adds the unit whose body is done to the whole ones.
-fn end_unit<'a>(units: &mut Vec<Unit<'a>, Global>, body: Body<'a>) -> Result<(), AllocError>
-    ensures { OnOk result
-        (moves.Outside (map unit_view units.new.items)
-        ≡ moves.behind_unit (position_view (map unit_view units.old.items) body.entry)) }
-{
-    let Body { unit, done, .. } = body;
-    let Unit {
-        kind,
-        line,
-        name,
-        declarations,
-        ..
-    } = unit;
-    units.push(Unit {
-        kind,
-        line,
-        name,
-        declarations,
-        body: done,
-    })?;
-    Ok(())
 }
 
 /// Behind the first word of a line of a body with no parenthesis open, which no colon follows: it
@@ -195,23 +143,20 @@ fn end_unit<'a>(units: &mut Vec<Unit<'a>, Global>, body: Body<'a>) -> Result<(),
 #[inline(always)]
 fn at_body_word<'a>(
     alloc: Global,
-    units: &mut Vec<Unit<'a>, Global>,
-    body: Body<'a>,
+    body: &mut Body<'a>,
     token: Token<'a>,
-) -> Result<Option<TextState<'a>>, AllocError>
-    requires counted { IsCounted body }
+) -> Result<Option<BodyPlace<'a>>, AllocError>
+    requires counted { IsCounted body.old }
     requires identifier { symbol_view token ≡ marks.Identifier token.text.now }
     ensures behind { IfOk result
-        (λ next.
-        option_map (state_view (map unit_view units.new.items)) next
-        ≡ moves.word_move
-        (position_view (map unit_view units.old.items) body.entry)
+        (λ next. (units : List ProgramUnit)
+        → option_map (place_view (position_view units body.new)) next
+        ≡ moves.word_move (position_view units body.old)
         token.entry.text.now token.entry.line) }
-    ensures counted { IfOk result (λ next. IfSome next (λ it. IsStateCounted it)) }
+    ensures counted { IfOk result (λ next. IfSome next (λ place. IsCounted body.new)) }
 {
     if ends_unit(token.text, body.unit.kind) {
-        end_unit(units, body)?;
-        Ok(Some(TextState::Outside))
+        Ok(Some(BodyPlace::BehindUnit))
     } else {
         at_word(alloc, body, token)
     }
@@ -221,24 +166,23 @@ fn at_body_word<'a>(
 #[inline(always)]
 fn at_body_identifier<'a>(
     alloc: Global,
-    units: &mut Vec<Unit<'a>, Global>,
-    body: Body<'a>,
+    body: &mut Body<'a>,
     token: Token<'a>,
     colon: bool,
-) -> Result<Option<TextState<'a>>, AllocError>
-    requires counted { IsCounted body }
+) -> Result<Option<BodyPlace<'a>>, AllocError>
+    requires counted { IsCounted body.old }
     requires identifier { symbol_view token ≡ marks.Identifier token.text.now }
     ensures behind { IfOk result
-        (λ next.
-        option_map (state_view (map unit_view units.new.items)) next
-        ≡ moves.body_move (position_view (map unit_view units.old.items) body.entry)
+        (λ next. (units : List ProgramUnit)
+        → option_map (place_view (position_view units body.new)) next
+        ≡ moves.body_move (position_view units body.old)
         (marks.Identifier token.entry.text.now) token.entry.line colon) }
-    ensures counted { IfOk result (λ next. IfSome next (λ it. IsStateCounted it)) }
+    ensures counted { IfOk result (λ next. IfSome next (λ place. IsCounted body.new)) }
 {
     if colon {
         on_line(alloc, body, at_start(token, true))
     } else {
-        at_body_word(alloc, units, body, token)
+        at_body_word(alloc, body, token)
     }
 }
 
@@ -246,39 +190,40 @@ fn at_body_identifier<'a>(
 #[inline(always)]
 fn at_body_line<'a>(
     alloc: Global,
-    units: &mut Vec<Unit<'a>, Global>,
-    body: Body<'a>,
+    body: &mut Body<'a>,
     token: Token<'a>,
     colon: bool,
-) -> Result<Option<TextState<'a>>, AllocError>
-    requires { IsCounted body }
+) -> Result<Option<BodyPlace<'a>>, AllocError>
+    requires { IsCounted body.old }
     ensures behind { IfOk result
-        (λ next.
-        option_map (state_view (map unit_view units.new.items)) next
-        ≡ moves.body_move (position_view (map unit_view units.old.items) body.entry)
+        (λ next. (units : List ProgramUnit)
+        → option_map (place_view (position_view units body.new)) next
+        ≡ moves.body_move (position_view units body.old)
         (symbol_view token.entry) token.entry.line colon) }
-    ensures counted { IfOk result (λ next. IfSome next (λ it. IsStateCounted it)) }
+    ensures counted { IfOk result (λ next. IfSome next (λ place. IsCounted body.new)) }
 {
     match token.shape {
-        Shape::Identifier => at_body_identifier(alloc, units, body, token, colon),
+        Shape::Identifier => at_body_identifier(alloc, body, token, colon),
         _ => on_line(alloc, body, at_start(token, colon)),
     }
 }
 
 /// Behind a `)` at the start of a line.
-fn at_closing<'a>(body: Body<'a>, line: u32) -> Result<Option<TextState<'a>>, AllocError>
-    requires { IsCounted body }
+#[inline(always)]
+fn at_closing<'a>(body: &mut Body<'a>, line: u32) -> Result<Option<BodyPlace<'a>>, AllocError>
+    requires { IsCounted body.old }
     ensures behind { IfOk result
         (λ next.
         (units : List ProgramUnit) (innermost : positions.Opening) (outer : List positions.Opening)
-        → (position_view units body.entry).openings ≡ innermost ∷ outer
-        → option_map (state_view units) next
-        ≡ moves.closing_move (position_view units body.entry) innermost outer line) }
-    ensures counted { IfOk result (λ next. IfSome next (λ it. IsStateCounted it)) }
+        → (position_view units body.old).openings ≡ innermost ∷ outer
+        → option_map (place_view (position_view units body.new)) next
+        ≡ moves.closing_move (position_view units body.old) innermost outer line) }
+    ensures counted { IfOk result (λ next. IfSome next (λ place. IsCounted body.new)) }
 {
-    match behind_closing(body, line)? {
-        Some(body) => Ok(Some(TextState::Closed(body))),
-        None => Ok(None),
+    if close(body, line)? {
+        Ok(Some(BodyPlace::BehindClosing))
+    } else {
+        Ok(None)
     }
 }
 
@@ -286,18 +231,18 @@ fn at_closing<'a>(body: Body<'a>, line: u32) -> Result<Option<TextState<'a>>, Al
 #[inline(always)]
 fn at_inside_line<'a>(
     alloc: Global,
-    body: Body<'a>,
+    body: &mut Body<'a>,
     token: Token<'a>,
-) -> Result<Option<TextState<'a>>, AllocError>
-    requires { IsCounted body }
+) -> Result<Option<BodyPlace<'a>>, AllocError>
+    requires { IsCounted body.old }
     ensures behind { IfOk result
         (λ next.
         (units : List ProgramUnit) (innermost : positions.Opening) (outer : List positions.Opening)
-        → (position_view units body.entry).openings ≡ innermost ∷ outer
-        → option_map (state_view units) next
-        ≡ moves.inside_move (position_view units body.entry) innermost outer
+        → (position_view units body.old).openings ≡ innermost ∷ outer
+        → option_map (place_view (position_view units body.new)) next
+        ≡ moves.inside_move (position_view units body.old) innermost outer
         (symbol_view token.entry) token.entry.line) }
-    ensures counted { IfOk result (λ next. IfSome next (λ it. IsStateCounted it)) }
+    ensures counted { IfOk result (λ next. IfSome next (λ place. IsCounted body.new)) }
 {
     match token.shape {
         Shape::Closing => at_closing(body, token.line),
@@ -309,21 +254,20 @@ fn at_inside_line<'a>(
 #[inline(always)]
 fn at_line_start<'a>(
     alloc: Global,
-    units: &mut Vec<Unit<'a>, Global>,
-    body: Body<'a>,
+    body: &mut Body<'a>,
     token: Token<'a>,
     colon: bool,
-) -> Result<Option<TextState<'a>>, AllocError>
-    requires { IsCounted body }
+) -> Result<Option<BodyPlace<'a>>, AllocError>
+    requires { IsCounted body.old }
     ensures behind { IfOk result
-        (λ next.
-        option_map (state_view (map unit_view units.new.items)) next
-        ≡ moves.start_move (position_view (map unit_view units.old.items) body.entry)
-        (position_view [] body.entry).openings (symbol_view token.entry) token.entry.line colon) }
-    ensures counted { IfOk result (λ next. IfSome next (λ it. IsStateCounted it)) }
+        (λ next. (units : List ProgramUnit)
+        → option_map (place_view (position_view units body.new)) next
+        ≡ moves.start_move (position_view units body.old)
+        (position_view [] body.old).openings (symbol_view token.entry) token.entry.line colon) }
+    ensures counted { IfOk result (λ next. IfSome next (λ place. IsCounted body.new)) }
 {
     if body.openings.is_empty() {
-        at_body_line(alloc, units, body, token, colon)
+        at_body_line(alloc, body, token, colon)
     } else {
         at_inside_line(alloc, body, token)
     }
@@ -333,22 +277,21 @@ fn at_line_start<'a>(
 #[inline(always)]
 pub(crate) fn at_line<'a>(
     alloc: Global,
-    units: &mut Vec<Unit<'a>, Global>,
-    body: Body<'a>,
+    body: &mut Body<'a>,
     token: Token<'a>,
     colon: bool,
-) -> Result<Option<TextState<'a>>, AllocError>
-    requires { IsCounted body }
+) -> Result<Option<BodyPlace<'a>>, AllocError>
+    requires { IsCounted body.old }
     ensures behind { IfOk result
-        (λ next.
-        option_map (state_view (map unit_view units.new.items)) next
-        ≡ moves.move (moves.AtLine (position_view (map unit_view units.old.items) body.entry))
+        (λ next. (units : List ProgramUnit)
+        → option_map (place_view (position_view units body.new)) next
+        ≡ moves.move (moves.AtLine (position_view units body.old))
         (symbol_view token.entry) token.entry.line colon) }
-    ensures counted { IfOk result (λ next. IfSome next (λ it. IsStateCounted it)) }
+    ensures counted { IfOk result (λ next. IfSome next (λ place. IsCounted body.new)) }
 {
     match token.shape {
-        Shape::LineEnd => Ok(Some(TextState::AtLine(body))),
-        _ => at_line_start(alloc, units, body, token, colon),
+        Shape::LineEnd => Ok(Some(BodyPlace::LineStart)),
+        _ => at_line_start(alloc, body, token, colon),
     }
 }
 
@@ -356,17 +299,17 @@ pub(crate) fn at_line<'a>(
 #[inline(always)]
 pub(crate) fn along_line<'a>(
     alloc: Global,
-    body: Body<'a>,
+    body: &mut Body<'a>,
     line: LineState<'a>,
     token: Token<'a>,
-) -> Result<Option<TextState<'a>>, AllocError>
-    requires { IsCounted body }
+) -> Result<Option<BodyPlace<'a>>, AllocError>
+    requires { IsCounted body.old }
     ensures behind { IfOk result
         (λ next. (units : List ProgramUnit) (colon : Bool)
-        → option_map (state_view units) next
-        ≡ moves.move (moves.OnLine (position_view units body.entry) (line_state_view line.entry))
+        → option_map (place_view (position_view units body.new)) next
+        ≡ moves.move (moves.OnLine (position_view units body.old) (line_state_view line.entry))
         (symbol_view token.entry) token.entry.line colon) }
-    ensures counted { IfOk result (λ next. IfSome next (λ it. IsStateCounted it)) }
+    ensures counted { IfOk result (λ next. IfSome next (λ place. IsCounted body.new)) }
 {
     match line_move(alloc, line, token) {
         Ok(line) => on_line(alloc, body, line),

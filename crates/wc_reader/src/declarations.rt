@@ -2,14 +2,15 @@ ghost use Rattle.std.specs.Prelude.{◌≡◌, ◌++◌, ◌∷◌, [], ℕ, IfO
 ghost use Rattle.wc_grammar_laws.specs.Moves as moves;
 ghost use Rattle.wc_grammar_laws.specs.Words.{literal_of};
 ghost use Rattle.wc_model.specs.Language.Tree.{ProgramUnit};
-ghost use Rattle.wc_model.specs.Language.Views.{declaration_view, unit_view, word_view};
+ghost use Rattle.wc_model.specs.Language.Views.{unit_view, word_view};
 ghost use Rattle.wc_model.specs.declared.source.Section.{Section};
 ghost use Rattle.wc_reader.specs.TextViews.{declaring_view, section_view};
-ghost use Rattle.wc_reader.specs.Words.{symbol_view};
+ghost use Rattle.wc_lines.specs.Words.{symbol_view};
 
-use crate::words::{literal, word};
+use crate::words::literal;
 use std::alloc::{AllocError, Global};
 use wc_lexer::{Shape, Token};
+use wc_lines::word;
 use wc_model::{Decl, Initial, Section, Unit, Word, is_word};
 
 /// How far a section of declarations has been read.

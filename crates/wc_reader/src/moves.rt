@@ -1,19 +1,22 @@
-ghost use Rattle.std.specs.Prelude.{◌≡◌, Bool, IfOk, IfSome, List, map, option_map};
+ghost use Rattle.std.specs.Prelude.{◌≡◌, ℕ, Bool, IfOk, IfSome, List, OnOk, map, option_map};
 ghost use Rattle.wc_grammar_laws.specs.Moves as moves;
 ghost use Rattle.wc_grammar_laws.specs.Words.{found, unit_kinds};
 ghost use Rattle.wc_model.specs.Language.Names.{name_of};
 ghost use Rattle.wc_model.specs.Language.Tree.{ProgramUnit};
 ghost use Rattle.wc_model.specs.Language.Views.{unit_view};
-ghost use Rattle.wc_reader.specs.TextViews.{IsStateCounted, declaring_view, state_view, section_view};
-ghost use Rattle.wc_reader.specs.Words.{symbol_view};
+ghost use Rattle.wc_lines.specs.LineViews.{line_state_view};
+ghost use Rattle.wc_bodies.specs.BodyViews.{IsCounted, position_view};
+ghost use Rattle.wc_reader.specs.TextViews.{IsStateCounted, declaring_view, place_view, state_view, section_view};
+ghost use Rattle.wc_lines.specs.Words.{symbol_view};
 
-use crate::body::body_start;
-use crate::body_moves::{along_line, at_closed, at_line};
+use crate::body_moves::{along_line, at_line};
 use crate::declarations::{DeclarationState, Declaring, declaration_move};
-use crate::text_state::TextState;
-use crate::words::{section, unit_kind, word};
+use crate::text_state::{BodyPlace, TextState};
+use crate::words::unit_kind;
 use std::alloc::{AllocError, Global};
+use wc_bodies::{Body, body_start};
 use wc_lexer::{Shape, Token};
+use wc_lines::{LineState, word};
 use wc_model::{Section, Unit, UnitKind};
 
 /// Behind a unit's first word, where the token is one.
@@ -108,6 +111,132 @@ fn in_section<'a>(
     }
 }
 
+/// Adds the unit whose body is done to the whole ones.
+fn end_unit<'a>(units: &mut Vec<Unit<'a>, Global>, body: Body<'a>) -> Result<(), AllocError>
+    ensures { OnOk result
+        (moves.Outside (map unit_view units.new.items)
+        ≡ moves.behind_unit (position_view (map unit_view units.old.items) body.entry)) }
+{
+    let Body { unit, done, .. } = body;
+    let Unit {
+        kind,
+        line,
+        name,
+        declarations,
+        ..
+    } = unit;
+    units.push(Unit {
+        kind,
+        line,
+        name,
+        declarations,
+        body: done,
+    })?;
+    Ok(())
+}
+
+/// How far the text has been read whose body has been read so far. A unit that is done is added to
+/// the whole ones.
+#[inline(always)]
+fn body_state<'a>(
+    units: &mut Vec<Unit<'a>, Global>,
+    body: Body<'a>,
+    place: BodyPlace<'a>,
+) -> Result<TextState<'a>, AllocError>
+    requires { IsCounted body }
+    ensures behind { IfOk result
+        (λ state.
+        state_view (map unit_view units.new.items) state
+        ≡ place_view (position_view (map unit_view units.old.items) body.entry) place.entry) }
+    ensures counted { IfOk result (λ state. IsStateCounted state) }
+{
+    match place {
+        BodyPlace::LineStart => Ok(TextState::AtLine(body)),
+        BodyPlace::AlongLine(line) => Ok(TextState::OnLine(body, line)),
+        BodyPlace::BehindClosing => Ok(TextState::Closed(body)),
+        BodyPlace::InSection(section) => Ok(TextState::Declaring(
+            body.unit,
+            section,
+            DeclarationState::Undeclared,
+        )),
+        BodyPlace::BehindUnit => {
+            end_unit(units, body)?;
+            Ok(TextState::Outside)
+        }
+    }
+}
+
+/// Behind one more token at the start of a line.
+#[inline(always)]
+fn from_line<'a>(
+    alloc: Global,
+    units: &mut Vec<Unit<'a>, Global>,
+    body: Body<'a>,
+    token: Token<'a>,
+    colon: bool,
+) -> Result<Option<TextState<'a>>, AllocError>
+    requires { IsCounted body }
+    ensures behind { IfOk result
+        (λ next.
+        option_map (state_view (map unit_view units.new.items)) next
+        ≡ moves.move (moves.AtLine (position_view (map unit_view units.old.items) body.entry))
+        (symbol_view token.entry) token.entry.line colon) }
+    ensures counted { IfOk result (λ next. IfSome next (λ it. IsStateCounted it)) }
+{
+    let mut body = body;
+    match at_line(alloc, &mut body, token, colon)? {
+        Some(place) => {
+            let state = body_state(units, body, place)?;
+            Ok(Some(state))
+        }
+        None => Ok(None),
+    }
+}
+
+/// Behind one more token of a line that has begun.
+#[inline(always)]
+fn from_within<'a>(
+    alloc: Global,
+    units: &mut Vec<Unit<'a>, Global>,
+    body: Body<'a>,
+    line: LineState<'a>,
+    token: Token<'a>,
+) -> Result<Option<TextState<'a>>, AllocError>
+    requires { IsCounted body }
+    ensures behind { IfOk result
+        (λ next. (colon : Bool)
+        → option_map (state_view (map unit_view units.new.items)) next
+        ≡ moves.move
+        (moves.OnLine (position_view (map unit_view units.old.items) body.entry)
+        (line_state_view line.entry)) (symbol_view token.entry) token.entry.line colon) }
+    ensures counted { IfOk result (λ next. IfSome next (λ it. IsStateCounted it)) }
+{
+    let mut body = body;
+    match along_line(alloc, &mut body, line, token)? {
+        Some(place) => {
+            let state = body_state(units, body, place)?;
+            Ok(Some(state))
+        }
+        None => Ok(None),
+    }
+}
+
+/// Behind the token after a `)`: the line's end.
+#[inline(always)]
+fn from_closed<'a>(body: Body<'a>, token: Token<'a>) -> Option<TextState<'a>>
+    requires { IsCounted body }
+    ensures behind { (units : List ProgramUnit) (line : ℕ) (colon : Bool)
+        → option_map (state_view units) result
+        ≡ moves.move (moves.Closed (position_view units body.entry))
+        (symbol_view token.entry) line colon }
+    ensures counted { IfSome result (λ it. IsStateCounted it) }
+{
+    match token.shape {
+        Shape::LineEnd => Some(TextState::AtLine(body)),
+        _ => None,
+    }
+}
+
 /// Behind one more token; none where no text goes on so. `colon` says whether a colon follows it. A
 /// unit that the token ends is added to the whole ones.
 #[inline(always)]
@@ -132,8 +261,8 @@ pub(crate) fn text_move<'a>(
         TextState::Declaring(unit, section, state) => in_section(
             alloc, unit, section, state, token,
         ),
-        TextState::AtLine(body) => at_line(alloc, units, body, token, colon),
-        TextState::OnLine(body, line) => along_line(alloc, body, line, token),
-        TextState::Closed(body) => Ok(at_closed(body, token)),
+        TextState::AtLine(body) => from_line(alloc, units, body, token, colon),
+        TextState::OnLine(body, line) => from_within(alloc, units, body, line, token),
+        TextState::Closed(body) => Ok(from_closed(body, token)),
     }
 }

@@ -8,22 +8,21 @@ ghost use Rattle.wc_model.specs.Language.Tree.{ProgramUnit};
 ghost use Rattle.wc_model.specs.Language.Views.{text_view};
 ghost use Rattle.wc_lexer.specs.Views.{token_view};
 ghost use Rattle.wc_reader.specs.ReadTexts.{IsRefusedAs};
-ghost use Rattle.wc_reader.specs.Several.{GoesOn, IsUndeclared};
-ghost use Rattle.wc_reader.specs.TextViews.{IsStateCounted, reading_view, state_view};
+ghost use Rattle.wc_short_lines.specs.Several.{GoesOn};
+ghost use Rattle.wc_reader.specs.TextViews.{IsUndeclared, IsStateCounted, reading_view, state_view};
 ghost use Rattle.wc_reader.specs.Told.{IsUnexpected, IsUnexpectedAt, TellsReading, TellsFault};
-ghost use Rattle.wc_reader.specs.Words.{marks_of, symbol_view};
+ghost use Rattle.wc_lines.specs.Words.{marks_of, symbol_view};
 
-use crate::call_lines::take_line_and_call;
 use crate::declarations::DeclarationState;
 use crate::ends::at_text_end;
 use crate::faults::fault_at;
 use crate::moves::text_move;
-use crate::section_lines::take_declaration;
 use crate::text_state::{Reading, TextState};
 use std::alloc::{AllocError, Global};
 use std::mem;
 use wc_lexer::{Shape, Token, tokens};
 use wc_model::{Fault, Section, Source};
+use wc_short_lines::{take_declaration, take_line_and_call};
 
 /// Whether the next token is a colon.
 #[inline(always)]

@@ -1,7 +1,7 @@
-use crate::body::Body;
 use crate::declarations::DeclarationState;
-use crate::line_state::LineState;
 use std::alloc::Global;
+use wc_bodies::Body;
+use wc_lines::LineState;
 use wc_model::{Section, Unit, UnitKind};
 
 /// How far a text has been read, behind its whole units.
@@ -19,6 +19,21 @@ pub(crate) enum TextState<'a> {
     OnLine(Body<'a>, LineState<'a>),
     /// Behind a `)`, which the body counts as done.
     Closed(Body<'a>),
+}
+
+/// Where a token of a body leads, beside the body itself.
+#[derive(Drop)]
+pub(crate) enum BodyPlace<'a> {
+    /// To the start of a line.
+    LineStart,
+    /// On along a line that has begun.
+    AlongLine(LineState<'a>),
+    /// Behind a `)`, which the body counts as done.
+    BehindClosing,
+    /// Into a section, where no line of the body has come.
+    InSection(Section),
+    /// Behind the unit.
+    BehindUnit,
 }
 
 /// The whole units, and how far the text behind them has been read.

@@ -1,11 +1,11 @@
 use Rattle.std.proofs.Common.{[], ap, ◌∙◌}
 use Rattle.wc_grammar_laws.specs.Moves.{begun_line}
 use Rattle.wc_model.specs.Text.Positions.{setting_in}
-use Rattle.wc_reader.proofs.Outcomes.{ok-map}
-use Rattle.wc_reader.specs.TextViews.{position_view, openings_view}
+use Rattle.wc_lines.proofs.Outcomes.{ok-map}
+use Rattle.wc_bodies.specs.BodyViews.{position_view, openings_view}
 use Rattle.wc_reader.proofs.body_moves.along_line.Goals as goal
 
 pub returns-in-Ok-clause-behind : goal.returns-in-Ok-clause-behind
 returns-in-Ok-clause-behind c =
     ok-map c.on_line.result (λ next h units colon.
-    h units ∙ ap (begun_line (position_view units c.args.body)) (c.in-Ok.ensures (setting_in (openings_view [] c.args.body.openings.items)) colon)) c.on_line.ensures.behind
+    h units ∙ ap (begun_line (position_view units c.args.body.now)) (c.in-Ok.ensures (setting_in (openings_view [] c.args.body.now.openings.items)) colon)) c.on_line.ensures.behind

@@ -1,14 +1,12 @@
-use Rattle.std.proofs.Common.{true, map, ap, ◌∙◌}
+use Rattle.std.proofs.Common.{true, ap, ◌∙◌}
 use Rattle.wc_grammar_laws.specs.LineMoves.{Start, line_move}
 use Rattle.wc_grammar_laws.specs.Moves.{begun_line}
 use Rattle.wc_model.specs.Text.Grammar.{InBody}
-use Rattle.wc_model.specs.Language.Views.{unit_view}
-use Rattle.wc_reader.proofs.Outcomes.{ok-map}
-use Rattle.wc_reader.specs.TextViews.{position_view}
+use Rattle.wc_lines.proofs.Outcomes.{ok-map}
+use Rattle.wc_bodies.specs.BodyViews.{position_view}
 use Rattle.wc_reader.proofs.body_moves.at_body_identifier.Goals as goal
 
 pub returns-then-colon-clause-behind : goal.returns-then-colon-clause-behind
 returns-then-colon-clause-behind c =
-    let units = map unit_view c.args.units.now.items in
-    rw c.if-colon.true (ok-map c.on_line.result (λ next h. h units
-    ∙ ap (begun_line (position_view units c.args.body)) (c.at_start.ensures ∙ ap (λ s. line_move InBody Start s c.args.token.line true) c.requires.identifier)) c.on_line.ensures.behind)
+    rw c.if-colon.true (ok-map c.on_line.result (λ next h units. h units
+    ∙ ap (begun_line (position_view units c.args.body.now)) (c.at_start.ensures ∙ ap (λ s. line_move InBody Start s c.args.token.line true) c.requires.identifier)) c.on_line.ensures.behind)

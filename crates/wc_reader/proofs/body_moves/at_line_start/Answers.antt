@@ -1,17 +1,15 @@
-use Rattle.std.proofs.Common.{◌≡◌, ◌==◌, false, length, map, sym, ap, ◌∙◌, arith}
+use Rattle.std.proofs.Common.{◌≡◌, ◌==◌, false, length, sym, ap, ◌∙◌, arith}
 use Rattle.std.proofs.lemmas.Bool.Decides.{nat_tests}
 use Rattle.wc_grammar_laws.specs.Moves.{start_move}
-use Rattle.wc_model.specs.Language.Views.{unit_view}
-use Rattle.wc_reader.proofs.Openings.{innermost_of}
-use Rattle.wc_reader.proofs.Outcomes.{ok-map}
-use Rattle.wc_reader.specs.TextViews.{position_view}
-use Rattle.wc_reader.specs.Words.{symbol_view}
+use Rattle.wc_bodies.proofs.Openings.{innermost_of}
+use Rattle.wc_lines.proofs.Outcomes.{ok-map}
+use Rattle.wc_bodies.specs.BodyViews.{position_view}
+use Rattle.wc_lines.specs.Words.{symbol_view}
 use Rattle.wc_reader.proofs.body_moves.at_line_start.Goals as goal
 
 pub returns-else-is_empty-clause-behind : goal.returns-else-is_empty-clause-behind
 returns-else-is_empty-clause-behind c =
-    let units = map unit_view c.args.units.now.items in
-    let more : (length c.args.body.openings.items == 0) ≡ false = grind (arith, nat_tests, c.args.body.openings.ok.0) in
-    let some = innermost_of c.args.body.openings.items more in
-    ok-map c.at_inside_line.result (λ next h. h units some.innermost some.outer some.same
-    ∙ sym (ap (λ os. start_move (position_view units c.args.body) os (symbol_view c.args.token) c.args.token.line c.args.colon) some.same)) c.at_inside_line.ensures.behind
+    let more : (length c.args.body.now.openings.items == 0) ≡ false = grind (arith, nat_tests, c.args.body.now.openings.ok.0) in
+    let some = innermost_of c.args.body.now.openings.items more in
+    ok-map c.at_inside_line.result (λ next h units. h units some.innermost some.outer some.same
+    ∙ sym (ap (λ os. start_move (position_view units c.args.body.now) os (symbol_view c.args.token) c.args.token.line c.args.colon) some.same)) c.at_inside_line.ensures.behind

@@ -4,13 +4,13 @@ use Rattle.wc_grammar_laws.specs.Moves.{begun_line, section_begun}
 use Rattle.wc_model.specs.Text.Grammar.{InBody}
 use Rattle.wc_model.specs.Language.Names.{name_of}
 use Rattle.wc_model.specs.Language.Views.{lines_view}
-use Rattle.wc_reader.proofs.Outcomes.{ok-map}
-use Rattle.wc_reader.specs.TextViews.{position_view}
+use Rattle.wc_lines.proofs.Outcomes.{ok-map}
+use Rattle.wc_bodies.specs.BodyViews.{position_view}
 use Rattle.wc_reader.proofs.body_moves.at_word.Goals as goal
 
-pub returns-clause-behind : goal.returns-clause-behind
-returns-clause-behind c =
-    let none : section_begun (lines_view c.args.body.done.items) (name_of c.args.token.text.now) ≡ None =
+pub returns-in-None-clause-behind : goal.returns-in-None-clause-behind
+returns-in-None-clause-behind c =
+    let none : section_begun (lines_view c.args.body.now.done.items) (name_of c.args.token.text.now) ≡ None =
     ap (λ items. section_begun (lines_view items) (name_of c.args.token.text.now)) (sym c.deref.ensures.value) ∙ (sym c.section_begun.ensures ∙ c.in-None.is) in
     ok-map c.on_line.result (λ next h units. rw none
-    (h units ∙ ap (begun_line (position_view units c.args.body)) (c.at_start.ensures ∙ ap (λ s. line_move InBody Start s c.args.token.line false) c.requires.identifier))) c.on_line.ensures.behind
+    (h units ∙ ap (begun_line (position_view units c.args.body.now)) (c.at_start.ensures ∙ ap (λ s. line_move InBody Start s c.args.token.line false) c.requires.identifier))) c.on_line.ensures.behind

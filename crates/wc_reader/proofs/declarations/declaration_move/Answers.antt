@@ -1,6 +1,6 @@
 use Rattle.std.proofs.Common.{◌∙◌}
 use Rattle.wc_model.specs.Language.Views.{unit_view}
-use Rattle.wc_reader.proofs.Outcomes.{ok-map}
+use Rattle.wc_lines.proofs.Outcomes.{ok-map}
 use Rattle.wc_reader.proofs.declarations.declaration_move.Goals as goal
 
 pub returns-in-Undeclared : goal.returns-in-Undeclared

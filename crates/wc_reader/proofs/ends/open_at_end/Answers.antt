@@ -2,8 +2,8 @@ use Rattle.std.proofs.Common.{◌≡◌, ◌∙◌, [], refl, subst, sym}
 use Rattle.wc_grammar_laws.specs.Moves.{Met, open_on}
 use Rattle.wc_model.specs.declared.fault.Fault.{Fault}
 use Rattle.wc_model.specs.declared.fault.Fault.TheVariants.{Memory, Refused}
-use Rattle.wc_reader.specs.LineViews.{line_state_view}
-use Rattle.wc_reader.specs.TextViews.{fault_of, position_view}
+use Rattle.wc_lines.specs.LineViews.{line_state_view}
+use Rattle.wc_bodies.specs.BodyViews.{fault_of, position_view}
 use Rattle.wc_reader.proofs.ends.open_at_end.Goals as goal
 
 pub returns-in-OnLine-clause-told : goal.returns-in-OnLine-clause-told

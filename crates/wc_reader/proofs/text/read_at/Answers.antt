@@ -1,7 +1,7 @@
 use Rattle.std.proofs.Common.{◌≡◌, ◌+◌, ◌∷◌, drop, sym, ◌∙◌}
 use Rattle.std.proofs.lemmas.List.{drop_more}
-use Rattle.wc_reader.proofs.Outcomes.{on_ok-map}
-use Rattle.wc_reader.specs.Words.{marks_of}
+use Rattle.wc_lines.proofs.Outcomes.{on_ok-map}
+use Rattle.wc_lines.specs.Words.{marks_of}
 use Rattle.wc_reader.proofs.text.read_at.Goals as goal
 
 pub returns-in-Some-clause-goes_on : goal.returns-in-Some-clause-goes_on

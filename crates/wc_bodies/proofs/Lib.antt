@@ -1,0 +1,5 @@
+mod Counting
+pub mod LineLists
+mod MetIf
+pub mod Openings
+pub mod WalkSteps

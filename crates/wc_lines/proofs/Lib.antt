@@ -1,0 +1,3 @@
+mod FoundGroups
+mod LaterTokens
+pub mod Outcomes

@@ -1,0 +1,135 @@
+ghost use Rattle.std.specs.Prelude.{◌≡◌, ℕ, Bool, IfOk, option_map};
+ghost use Rattle.wc_grammar_laws.specs.LineMoves as lines;
+ghost use Rattle.wc_model.specs.Text.Grammar.{Setting};
+ghost use Rattle.wc_model.specs.Language.Views.{name_view};
+ghost use Rattle.wc_lines.specs.LineViews.{in_line_view, item_view, listed_view};
+ghost use Rattle.wc_lines.specs.Words.{symbol_view};
+
+use crate::line_state::{InLine, InList, LineForm, Listed, OperandOf, Step};
+use crate::operands::at_operand;
+use crate::words::word;
+use std::alloc::{AllocError, Global};
+use wc_lexer::{Shape, Token};
+use wc_model::{Condition, Word};
+
+/// Behind the token after a call's instance.
+pub(crate) fn at_instance<'a>(
+    alloc: Global,
+    condition: Condition,
+    instance: Word<'a>,
+    token: Token<'a>,
+) -> Option<InLine<'a>>
+    ensures { (begun : lines.Begun) (setting : Setting) (line : ℕ) (colon : Bool)
+        → option_map (in_line_view begun) result
+        ≡ lines.line_move setting
+        (lines.Instanced begun condition (name_view instance.entry))
+        (symbol_view token.entry) line colon }
+{
+    let call = Listed {
+        condition,
+        instance,
+        arguments: Vec::new(alloc),
+    };
+    match token.shape {
+        Shape::LineEnd => Some(InLine::Formed(LineForm::Instructs(Step::Call(call)), true)),
+        Shape::Opening => Some(InLine::Listing(call, InList::AtFirst)),
+        _ => None,
+    }
+}
+
+/// Behind the token after the list's bracket: an input, or the list's end.
+fn at_first<'a>(call: Listed<'a>, token: Token<'a>) -> Option<InLine<'a>>
+    ensures { (begun : lines.Begun) (line : ℕ)
+        → option_map (in_line_view begun) result
+        ≡ lines.at_list begun (listed_view call.entry) lines.AtFirst
+        (symbol_view token.entry) line }
+{
+    match token.shape {
+        Shape::LineEnd => Some(InLine::Listing(call, InList::AtFirst)),
+        Shape::Identifier => Some(InLine::Listing(call, InList::AtAssign(word(token)))),
+        Shape::Closing => Some(InLine::Formed(LineForm::Instructs(Step::Call(call)), false)),
+        _ => None,
+    }
+}
+
+/// Behind the token after a comma: an input.
+fn at_next<'a>(call: Listed<'a>, token: Token<'a>) -> Option<InLine<'a>>
+    ensures { (begun : lines.Begun) (line : ℕ)
+        → option_map (in_line_view begun) result
+        ≡ lines.at_list begun (listed_view call.entry) lines.AtNext
+        (symbol_view token.entry) line }
+{
+    match token.shape {
+        Shape::LineEnd => Some(InLine::Listing(call, InList::AtNext)),
+        Shape::Identifier => Some(InLine::Listing(call, InList::AtAssign(word(token)))),
+        _ => None,
+    }
+}
+
+/// Behind the token after an input: its `:=`.
+fn at_assign<'a>(call: Listed<'a>, input: Word<'a>, token: Token<'a>) -> Option<InLine<'a>>
+    ensures { (begun : lines.Begun) (line : ℕ)
+        → option_map (in_line_view begun) result
+        ≡ lines.at_list begun (listed_view call.entry)
+        (lines.AtAssign (name_view input.entry)) (symbol_view token.entry) line }
+{
+    match token.shape {
+        Shape::LineEnd => Some(InLine::Listing(call, InList::AtAssign(input))),
+        Shape::Assign => Some(InLine::Listing(call, InList::AtValue(input))),
+        _ => None,
+    }
+}
+
+/// Behind the token after `:=`: a value.
+fn at_value<'a>(
+    call: Listed<'a>,
+    input: Word<'a>,
+    token: Token<'a>,
+) -> Result<Option<InLine<'a>>, AllocError>
+    ensures { IfOk result
+        (λ next. (begun : lines.Begun)
+        → option_map (in_line_view begun) next
+        ≡ lines.at_list begun (listed_view call.entry)
+        (lines.AtValue (name_view input.entry)) (symbol_view token.entry) token.entry.line) }
+{
+    match token.shape {
+        Shape::LineEnd => Ok(Some(InLine::Listing(call, InList::AtValue(input)))),
+        _ => at_operand(OperandOf::OfArgument(call, input), token),
+    }
+}
+
+/// Behind the token after a whole argument: a comma, or the list's end.
+fn at_end<'a>(call: Listed<'a>, token: Token<'a>) -> Option<InLine<'a>>
+    ensures { (begun : lines.Begun) (line : ℕ)
+        → option_map (in_line_view begun) result
+        ≡ lines.at_list begun (listed_view call.entry) lines.AtEnd
+        (symbol_view token.entry) line }
+{
+    match token.shape {
+        Shape::LineEnd => Some(InLine::Listing(call, InList::AtEnd)),
+        Shape::Comma => Some(InLine::Listing(call, InList::AtNext)),
+        Shape::Closing => Some(InLine::Formed(LineForm::Instructs(Step::Call(call)), false)),
+        _ => None,
+    }
+}
+
+/// Behind one more token of a call's list, whose line ends are passed over.
+pub(crate) fn at_list<'a>(
+    call: Listed<'a>,
+    item: InList<'a>,
+    token: Token<'a>,
+) -> Result<Option<InLine<'a>>, AllocError>
+    ensures { IfOk result
+        (λ next. (begun : lines.Begun)
+        → option_map (in_line_view begun) next
+        ≡ lines.at_list begun (listed_view call.entry) (item_view item.entry)
+        (symbol_view token.entry) token.entry.line) }
+{
+    match item {
+        InList::AtFirst => Ok(at_first(call, token)),
+        InList::AtNext => Ok(at_next(call, token)),
+        InList::AtAssign(input) => Ok(at_assign(call, input, token)),
+        InList::AtValue(input) => at_value(call, input, token),
+        InList::AtEnd => Ok(at_end(call, token)),
+    }
+}

@@ -1,7 +1,0 @@
-use Rattle.wc_reader.proofs.body.behind_form.Goals as goal
-
-pub returns-in-Instructs-clause-behind : goal.returns-in-Instructs-clause-behind
-returns-in-Instructs-clause-behind c = rw c.in-Instructs.is c.behind_step.ensures.behind
-
-pub returns-in-Opens-clause-behind : goal.returns-in-Opens-clause-behind
-returns-in-Opens-clause-behind c = rw c.in-Opens.is c.behind_opening.ensures.behind

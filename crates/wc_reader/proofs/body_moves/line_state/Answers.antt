@@ -1,6 +1,0 @@
-use Rattle.std.proofs.Common.{Some, ap}
-use Rattle.wc_grammar_laws.specs.Moves as moves
-use Rattle.wc_reader.proofs.body_moves.line_state.Goals as goal
-
-pub returns-in_ok-body-in-LabelAlone-clause-behind : goal.returns-in_ok-body-in-LabelAlone-clause-behind
-returns-in_ok-body-in-LabelAlone-clause-behind c = λ units. rw c.in-LabelAlone.is (ap (λ p. Some (moves.AtLine p)) (c.in_ok-body-in-LabelAlone.ensures.behind units))

@@ -1,0 +1,2 @@
+mod CallLists
+mod ShortLines
