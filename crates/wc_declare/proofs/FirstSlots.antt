@@ -23,3 +23,14 @@ one_more (k ∷ kinds) (m ∷ numbers) kind n h first = (h.0, one_more kinds num
 pub first_added : (kinds more : List SlotKind) (numbers others : List ℤ) (kind : SlotKind) (n : ℤ) → more ≡ kinds ++ kind ∷ [] → others ≡ numbers ++ n ∷ [] → IsFirst kind n → AreFirst kinds numbers → AreFirst more others
 first_added kinds more numbers others kind n e f first h =
     subst (λ ks. AreFirst ks others) (sym e) (subst (λ ns. AreFirst (kinds ++ kind ∷ []) ns) (sym f) (one_more kinds numbers kind n h first))
+
+-- the slots of one frame behind those of another
+joined : (kinds more : List SlotKind) (numbers others : List ℤ) → AreFirst kinds numbers → AreFirst more others → AreFirst (kinds ++ more) (numbers ++ others)
+joined [] more [] others h first = first
+joined [] more (m ∷ numbers) others h first = absurd h
+joined (k ∷ kinds) more [] others h first = absurd h
+joined (k ∷ kinds) more (m ∷ numbers) others h first = (h.0, joined kinds more numbers others h.1 first)
+
+pub first_joined : (kinds more all : List SlotKind) (numbers others together : List ℤ) → all ≡ kinds ++ more → together ≡ numbers ++ others → AreFirst more others → AreFirst kinds numbers → AreFirst all together
+first_joined kinds more all numbers others together e f first h =
+    subst (λ ks. AreFirst ks together) (sym e) (subst (λ ns. AreFirst (kinds ++ more) ns) (sym f) (joined kinds more numbers others h first))

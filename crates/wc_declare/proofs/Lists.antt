@@ -1,5 +1,5 @@
 -- Lists by their indices.
-use Rattle.std.proofs.Common.{◌≡◌, ℕ, zero, suc, ◌+◌, ◌<◌, ◌≤◌, List, [], ◌∷◌, ◌++◌, length, get_or, drop, drop-cons, add-one, Some, None, refl, sym, ap, ◌∙◌}
+use Rattle.std.proofs.Common.{◌≡◌, ℕ, zero, suc, ◌+◌, ◌<◌, ◌≤◌, List, [], ◌∷◌, ◌++◌, length, get_or, drop, drop-cons, add-one, Some, None, refl, sym, ap, ◌∙◌, arith}
 use Rattle.std.proofs.lemmas.Option.{slice_get_read, slice_get_past}
 use Rattle.std.specs.Prelude.{slice_get}
 
@@ -32,3 +32,32 @@ not_past xs ys i x same e past = let n : None ≡ Some x = sym (slice_get_past x
 -- two that are found at one place are one
 pub same_found : {X : Type 0} (xs ys : List X) (i : ℕ) (x y : X) → xs ≡ ys → slice_get ys i ≡ Some x → i < length xs → y ≡ get_or xs i y → y ≡ x
 same_found xs ys i x y same e below is = let n : Some y ≡ Some x = sym (got_some xs i y below is) ∙ ap (λ zs. slice_get zs i) same ∙ e in cc
+
+-- there is an item at each index
+pub found_within : {X : Type 0} (xs : List X) (i : ℕ) → i < length xs → (x : X) × (slice_get xs i ≡ Some x)
+found_within [] i below = absurd (omega (arith, below))
+found_within (x ∷ xs) zero below = (x, refl)
+found_within (x ∷ xs) (suc i) below = found_within xs i (omega (arith, below))
+
+-- what stands in a list with one more item is one of the others, or that
+pub data LastOr {X : Type 0} (xs : List X) (more : X) (i : ℕ) (x : X) : Type 0 where
+  among : slice_get xs i ≡ Some x → LastOr xs more i x
+  last : i ≡ length xs → x ≡ more → LastOr xs more i x
+
+pub last_or : {X : Type 0} (xs : List X) (more : X) (i : ℕ) (x : X) → slice_get (xs ++ more ∷ []) i ≡ Some x → LastOr xs more i x
+last_or [] more zero x e = last refl (let s : x ≡ more = cc in s)
+last_or [] more (suc i) x e = cc
+last_or (y ∷ xs) more zero x e = among e
+last_or (y ∷ xs) more (suc i) x e = on (last_or xs more i x e)
+  where
+    on : LastOr xs more i x → LastOr (y ∷ xs) more (suc i) x
+    on (among there) = among there
+    on (last at is) = last (let n : suc i ≡ length (y ∷ xs) = omega (arith, at) in n) is
+
+-- nothing stands in an empty list
+pub nothing : {X : Type 0} (xs : List X) (x : X) (i : ℕ) → xs ≡ [] → slice_get xs i ≡ Some x → ⊥
+nothing xs x i none there = let e : slice_get [] i ≡ Some x = ap (λ ys. slice_get ys i) (sym none) ∙ there in by i e
+  where
+    by : (i : ℕ) → slice_get [] i ≡ Some x → ⊥
+    by zero e = cc
+    by (suc k) e = cc

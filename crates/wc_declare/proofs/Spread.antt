@@ -1,8 +1,8 @@
 -- The slots of a frame, variable by variable.
-use Rattle.std.proofs.Common.{◌≡◌, ℕ, ◌+◌, ◌<◌, Bool, true, false, List, [], ◌∷◌, ◌++◌, map, drop, get_or, length, Some, option_map, append_assoc, refl, sym, ap, subst, ◌∙◌, arith}
+use Rattle.std.proofs.Common.{◌≡◌, ℕ, ◌+◌, ◌<◌, Bool, true, false, List, [], ◌∷◌, ◌++◌, map, drop, get_or, length, Some, option_map, append_assoc, length-append, refl, sym, ap, subst, ◌∙◌, arith}
 use Rattle.std.proofs.lemmas.List.{append-nil, map-append}
 use Rattle.std.proofs.lemmas.Option.{slice_get_within}
-use Rattle.std.specs.Prelude.{if◌then◌else◌}
+use Rattle.std.specs.Prelude.{if◌then◌else◌, slice_get}
 use Rattle.wc_model.specs.Language.Declarations.{Variable, is_block, type_named}
 use Rattle.wc_model.specs.Language.DeclarationRules.{places_of_type}
 use Rattle.wc_model.specs.Language.Frames.{content_number, first_numbers, frame_of, slot_kind_of, slot_kinds}
@@ -12,7 +12,7 @@ use Rattle.wc_model.specs.Language.Store.{Location, Path, Content, below, block_
 use Rattle.wc_model.specs.Language.Tree.{ProgramUnit}
 use Rattle.wc_model.specs.declared.block.StandardBlock.{StandardBlock}
 use Rattle.wc_model.specs.declared.kind.Kind.{Kind}
-use Rattle.wc_declare.specs.Slots.{IsBegun, IsGrown, begun_contents, contents_of}
+use Rattle.wc_declare.specs.Slots.{AreFinished, EachHoldsFirst, HoldsFirst, IsBegun, IsGrown, begun_contents, contents_of}
 use Rattle.wc_declare.specs.StandsFor.{AreRows, IsRow, Stands, type_at}
 use Rattle.wc_declare.specs.declared.declared_type.DeclaredType.{DeclaredType}
 use Rattle.wc_declare.specs.declared.declared_type.DeclaredType.TheVariants as numbered
@@ -20,7 +20,7 @@ use Rattle.wc_declare.specs.declared.frame.Frame.{Frame}
 use Rattle.wc_declare.specs.declared.unit_table.UnitTable.{UnitTable}
 use Rattle.wc_declare.specs.declared.variable.Variable.{Variable as Row}
 use Rattle.wc_declare.proofs.Frames.{own_places, places_of}
-use Rattle.wc_declare.proofs.Lists.{from_index_or}
+use Rattle.wc_declare.proofs.Lists.{LastOr, among, found_within, from_index_or, last, last_or, nothing}
 use Rattle.wc_declare.proofs.Places.{TypeCase, found_block, of_block, of_elementary, of_standard, stands_more, type_case, units_length}
 
 -- a list that goes on is the whole; a piece of what follows is added
@@ -146,6 +146,57 @@ held_block units before u h v number e = by (type_case before (type_named before
               omega (arith, l, n, count);
           held = ap (λ x. contents_of (variable_places (block_places before) x v.initial)) t ∙ ap contents_of found.places;
         }
+
+-- the finished slots of a block are those of an instance
+pub finished_more : (units : List UnitTable) (before : List ProgramUnit) (u : ProgramUnit) (count : ℕ) (frames : List Frame) (v : Variable) (number : ℕ) (old new : Frame) → (b : HeldBlock units before v number) → count ≡ length before → AreFinished units count frames →
+    ((more : Frame) → slice_get frames number ≡ Some more → new.kinds.items ≡ old.kinds.items ++ more.kinds.items) →
+    ((more : Frame) → slice_get frames number ≡ Some more → new.initials.items ≡ old.initials.items ++ more.initials.items) → IsGrown old new (contents_of (unit_places b.earlier b.unit))
+finished_more units before u count frames v number old new b e done kinds initials =
+    let within : number < length frames = (let n = done.counted in let l = b.below in omega (arith, n, l, e)) in
+    let there = found_within frames number within in
+    let same = ap (slice_get frames) (sym b.counted) ∙ there.1 in
+    record {
+      kinds = kinds there.0 there.1 ∙ ap (λ xs. old.kinds.items ++ xs) (done.kinds b.earlier b.unit there.0 b.stands same);
+      initials = initials there.0 there.1 ∙ ap (λ xs. old.initials.items ++ xs) (done.initials b.earlier b.unit there.0 b.stands same);
+    }
+
+-- one unit's more
+pub finished_on : (units : List UnitTable) (count : ℕ) (frames more : List Frame) (none frame : Frame) → none.kinds.items ≡ [] → none.initials.items ≡ [] → more ≡ frames ++ frame ∷ [] →
+    ((before : List ProgramUnit) (u : ProgramUnit) → Stands units before u → count ≡ length before → IsGrown none frame (contents_of (unit_places before u))) → AreFinished units count frames → AreFinished units (count + 1) more
+finished_on units count frames more none frame kinds initials is grown done = record {
+  counted = ap length is ∙ (let l : length (frames ++ frame ∷ []) ≡ length frames + length (frame ∷ []) = length-append frames (frame ∷ []) in let n = done.counted in let g : length (frames ++ frame ∷ []) ≡ count + 1 = omega (arith, l, n) in g);
+  kinds = λ before u f stands there. (by before u f stands (last_or frames frame (length before) f (ap (λ fs. slice_get fs (length before)) (sym is) ∙ there))).0;
+  initials = λ before u f stands there. (by before u f stands (last_or frames frame (length before) f (ap (λ fs. slice_get fs (length before)) (sym is) ∙ there))).1;
+}
+  where
+    by : (before : List ProgramUnit) (u : ProgramUnit) (f : Frame) → Stands units before u → LastOr frames frame (length before) f →
+        (f.kinds.items ≡ map slot_kind_of (contents_of (unit_places before u))) × (f.initials.items ≡ map content_number (contents_of (unit_places before u)))
+    by before u f stands (among there) = (done.kinds before u f stands there, done.initials before u f stands there)
+    by before u f stands (last at e) =
+        let n = done.counted in
+        let g = grown before u stands (let c : count ≡ length before = omega (arith, at, n) in c) in (
+          ap (λ (x : Frame). x.kinds.items) e ∙ (g.kinds ∙ ap (λ xs. xs ++ map slot_kind_of (contents_of (unit_places before u))) kinds),
+          ap (λ (x : Frame). x.initials.items) e ∙ (g.initials ∙ ap (λ xs. xs ++ map content_number (contents_of (unit_places before u))) initials),
+        )
+
+-- each frame holds what it may at first, one more with the others
+pub first_on : (frames more : List Frame) (frame : Frame) → more ≡ frames ++ frame ∷ [] → HoldsFirst frame → EachHoldsFirst frames → EachHoldsFirst more
+first_on frames more frame is held each = λ k f there. by k f (last_or frames frame k f (ap (λ fs. slice_get fs k) (sym is) ∙ there))
+  where
+    by : (k : ℕ) (f : Frame) → LastOr frames frame k f → HoldsFirst f
+    by k f (among there) = each k f there
+    by k f (last at e) = subst HoldsFirst (sym e) held
+
+-- before the first unit none is finished
+pub none_finished : (units : List UnitTable) (frames : List Frame) → frames ≡ [] → AreFinished units 0 frames
+none_finished units frames none = record {
+  counted = ap length none;
+  kinds = λ before u frame stands there. absurd (nothing frames frame (length before) none there);
+  initials = λ before u frame stands there. absurd (nothing frames frame (length before) none there);
+}
+
+pub none_first : (frames : List Frame) → frames ≡ [] → EachHoldsFirst frames
+none_first frames none = λ k frame there. absurd (nothing frames frame k none there)
 
 -- pieces that are added one behind another
 pub grown_more : (old now new : Frame) (these those : List Content) → IsGrown old now these → IsGrown now new those → IsGrown old new (these ++ those)

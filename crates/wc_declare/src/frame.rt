@@ -1,4 +1,4 @@
-ghost use Rattle.std.specs.Prelude.{◌≡◌, ◌++◌, ◌∷◌, [], List, Option, IfOk, OnOk, IsOkUnless, length, map, option_map, pos, replicate};
+ghost use Rattle.std.specs.Prelude.{◌≡◌, ◌+◌, ◌++◌, ◌∷◌, [], List, Option, Some, IfOk, OnOk, IsOkUnless, length, map, option_map, pos, replicate, slice_get};
 ghost use Rattle.wc_model.specs.Language.Frames.{content_number, first_numbers, frame_of, slot_kind_of, slot_kinds};
 ghost use Rattle.wc_model.specs.Language.Store.{first_content, standard_fields, unit_places, zero_of};
 ghost use Rattle.wc_model.specs.Language.Declarations.{is_block};
@@ -8,11 +8,9 @@ ghost use Rattle.wc_model.specs.Language.Tree.{ProgramUnit};
 ghost use Rattle.wc_model.specs.declared.source.Initial.{Initial};
 ghost use Rattle.wc_soundness.specs.FirstNumbers.{IsFirst};
 ghost use Rattle.wc_soundness.specs.Typing.{slot_of_kind};
-ghost use Rattle.wc_declare.specs.Slots.{HoldsFirst, IsBegun, IsGrown, contents_of};
+ghost use Rattle.wc_declare.specs.Slots.{AreFinished, EachHoldsFirst, HoldsFirst, IsBegun, IsGrown, contents_of};
 ghost use Rattle.wc_declare.specs.StandsFor.{Stands};
 
-use crate::declared_type::DeclaredType;
-use crate::unit_table::UnitTable;
 use std::alloc::Global;
 use wc_model::{Fault, Kind, SlotKind, StandardBlock, Value};
 
@@ -26,7 +24,7 @@ pub struct Frame {
 }
 
 /// Adds a slot that holds a number at first.
-fn push(frame: &mut Frame, kind: SlotKind, number: i64) -> Result<(), Fault>
+pub(crate) fn push(frame: &mut Frame, kind: SlotKind, number: i64) -> Result<(), Fault>
     ensures kinds { OnOk result
         (frame.new.kinds.items ≡ frame.old.kinds.items ++ kind ∷ []) }
     ensures initials { OnOk result
@@ -63,7 +61,7 @@ fn push_zeros(frame: &mut Frame, kinds: &[SlotKind]) -> Result<(), Fault>
 }
 
 /// The kind of the slot of a variable of this kind.
-fn slot_of(kind: Kind) -> SlotKind
+pub(crate) fn slot_of(kind: Kind) -> SlotKind
     ensures content { (initial : Option Initial)
         → result ≡ slot_kind_of (first_content kind initial) }
     ensures kind { result ≡ slot_of_kind kind }
@@ -76,7 +74,7 @@ fn slot_of(kind: Kind) -> SlotKind
 }
 
 /// What a variable of this kind holds at first, with a literal or without.
-fn first_number(kind: Kind, literal: Option<Value>) -> i64
+pub(crate) fn first_number(kind: Kind, literal: Option<Value>) -> i64
     ensures content { (initial : Option Initial) → literal ≡ option_map (λ i. i.value) initial
         → result ≡ content_number (first_content kind initial) }
     ensures first { IsFirst (slot_of_kind kind) result }
@@ -91,7 +89,7 @@ fn first_number(kind: Kind, literal: Option<Value>) -> i64
 }
 
 /// Adds the slots of an instance of a standard function block.
-fn push_standard(frame: &mut Frame, block: StandardBlock) -> Result<(), Fault>
+pub(crate) fn push_standard(frame: &mut Frame, block: StandardBlock) -> Result<(), Fault>
     ensures grown { OnOk result
         (IsGrown frame.old frame.new (map (λ f. f.1) (standard_fields block))) }
     ensures first { OnOk result (HoldsFirst frame.old → HoldsFirst frame.new) }
@@ -136,44 +134,39 @@ fn push_standard(frame: &mut Frame, block: StandardBlock) -> Result<(), Fault>
     }
 }
 
-/// Adds the slots of a unit's variables.
-fn push_unit<'a>(frame: &mut Frame, units: &[UnitTable<'a>], unit: usize) -> Result<(), Fault>
-    ensures grown { (before : List ProgramUnit) (u : ProgramUnit) → Stands units.now before u
-        → unit ≡ length before
-        → OnOk result (IsGrown frame.old frame.new (contents_of (unit_places before u))) }
-    ensures first { OnOk result (HoldsFirst frame.old → HoldsFirst frame.new) }
+/// Adds the slots of another frame.
+pub(crate) fn append(frame: &mut Frame, more: &Frame) -> Result<(), Fault>
+    ensures kinds { OnOk result
+        (frame.new.kinds.items ≡ frame.old.kinds.items ++ more.now.kinds.items) }
+    ensures initials { OnOk result
+        (frame.new.initials.items ≡ frame.old.initials.items ++ more.now.initials.items) }
+    ensures first { OnOk result
+        (HoldsFirst more.now → HoldsFirst frame.old → HoldsFirst frame.new) }
     ensures memory { IsOkUnless result Fault.Memory }
 {
-    let Some(table) = units.get(unit) else {
-        return Ok(());
-    };
-    for row in &table.rows {
-        match row.declared {
-            DeclaredType::Elementary(kind) => {
-                if let Err(fault) = push(frame, slot_of(kind), first_number(kind, row.initial)) {
-                    return Err(fault);
-                }
-            }
-            DeclaredType::Standard(block) => {
-                if let Err(fault) = push_standard(frame, block) {
-                    return Err(fault);
-                }
-            }
-            DeclaredType::Block(block) => {
-                // A block's unit stands before it, so this holds of every table that is made.
-                if block < unit {
-                    if let Err(fault) = push_unit(frame, units, block) {
-                        return Err(fault);
-                    }
-                }
-            }
-        }
+    if frame.kinds.extend_from_slice(&more.kinds).is_err() {
+        return Err(Fault::Memory);
+    }
+    if frame.initials.extend_from_slice(&more.initials).is_err() {
+        return Err(Fault::Memory);
     }
     Ok(())
 }
 
+/// No slots.
+pub(crate) fn no_slots(alloc: Global) -> Frame
+    ensures kinds { result.kinds.items ≡ [] }
+    ensures initials { result.initials.items ≡ [] }
+    ensures first { HoldsFirst result }
+{
+    Frame {
+        kinds: Vec::new(alloc),
+        initials: Vec::new(alloc),
+    }
+}
+
 /// Adds the slots of the directly represented variables.
-fn push_direct(frame: &mut Frame) -> Result<(), Fault>
+pub(crate) fn push_direct(frame: &mut Frame) -> Result<(), Fault>
     ensures grown { OnOk result
         (IsGrown frame.old frame.new (map (λ v. zero_of (kind_of_direct v)) direct_variables)) }
     ensures first { OnOk result (HoldsFirst frame.old → HoldsFirst frame.new) }
@@ -192,56 +185,4 @@ fn push_direct(frame: &mut Frame) -> Result<(), Fault>
         return Err(fault);
     }
     Ok(())
-}
-
-/// The slots that stand before those of a unit's variables.
-fn begun(alloc: Global, is_block: bool) -> Result<Frame, Fault>
-    ensures begins { IfOk result (IsBegun is_block) }
-    ensures first { IfOk result HoldsFirst }
-    ensures memory { IsOkUnless result Fault.Memory }
-{
-    let mut frame = Frame {
-        kinds: Vec::new(alloc),
-        initials: Vec::new(alloc),
-    };
-    if is_block {
-        return Ok(frame);
-    }
-    match push_direct(&mut frame) {
-        Ok(()) => Ok(frame),
-        Err(fault) => Err(fault),
-    }
-}
-
-/// Whether a unit is a function block.
-fn is_function_block<'a>(units: &[UnitTable<'a>], unit: usize) -> bool
-    ensures { (before : List ProgramUnit) (u : ProgramUnit) → Stands units.now before u
-        → unit ≡ length before
-        → result ≡ is_block u }
-{
-    match units.get(unit) {
-        Some(table) => table.is_block,
-        None => true,
-    }
-}
-
-/// The slots of a unit's frame: a program's begins with the directly represented variables.
-pub(crate) fn slots<'a>(alloc: Global, units: &[UnitTable<'a>], unit: usize) -> Result<Frame, Fault>
-    ensures kinds { (scope : Scope) → Stands units.now scope.before scope.unit
-        → unit ≡ length scope.before
-        → IfOk result (λ frame. frame.kinds.items ≡ slot_kinds (frame_of scope)) }
-    ensures initials { (scope : Scope) → Stands units.now scope.before scope.unit
-        → unit ≡ length scope.before
-        → IfOk result (λ frame. frame.initials.items ≡ first_numbers (frame_of scope)) }
-    ensures first { IfOk result HoldsFirst }
-    ensures memory { IsOkUnless result Fault.Memory }
-{
-    let mut frame = match begun(alloc, is_function_block(units, unit)) {
-        Ok(frame) => frame,
-        Err(fault) => return Err(fault),
-    };
-    match push_unit(&mut frame, units, unit) {
-        Ok(()) => Ok(frame),
-        Err(fault) => Err(fault),
-    }
 }

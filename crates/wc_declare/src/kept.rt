@@ -14,7 +14,8 @@ ghost use Rattle.wc_declare.specs.Numbered.{IsNoUnit, IsUnit, StandsFrom, number
 use crate::declared_type::DeclaredType;
 use crate::entity::Entity;
 use crate::field::Field;
-use crate::frame::{Frame, slots};
+use crate::finished::slots;
+use crate::frame::Frame;
 use crate::input::{Input, input_of};
 use crate::located::Located;
 use crate::lookup::{address, number, row};

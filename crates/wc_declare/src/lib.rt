@@ -9,6 +9,7 @@ mod declared_type;
 mod declaring;
 mod entity;
 mod field;
+mod finished;
 mod frame;
 mod input;
 mod kept;

@@ -5,16 +5,16 @@ use Rattle.wc_model.specs.Language.Store.{first_content, standard_fields, unit_p
 use Rattle.wc_soundness.specs.FirstNumbers.{IsFirst}
 use Rattle.wc_declare.specs.Slots.{HoldsFirst, contents_of}
 use Rattle.wc_declare.specs.declared.declared_type.DeclaredType.TheVariants as numbered
-use Rattle.wc_declare.proofs.Spread.{SpreadsOn, held_block, held_elementary, held_standard, spreads_at, spreads_end}
-use Rattle.wc_declare.proofs.frame.+push_unit.Goals as goal
-use Rattle.wc_declare.proofs.frame.+push_unit.Goals.{in-Elementary+in_default-push, in-Standard+in_default-push_standard, in-Block+then-block-unit+in_default-push_unit, in-Block+else-block-unit}
+use Rattle.wc_declare.proofs.Spread.{SpreadsOn, finished_more, held_block, held_elementary, held_standard, spreads_at, spreads_end}
+use Rattle.wc_declare.proofs.finished.push_unit.Goals as goal
+use Rattle.wc_declare.proofs.finished.push_unit.Goals.{in-Elementary+in_default-push, in-Standard+in_default-push_standard, in-Block+in_default-push_finished}
 
 pub loop-row-preserved : goal.loop-row-preserved
-loop-row-preserved t c = record {
-  spread = λ before u h e.
+loop-row-preserved c = record {
+  spread = λ before u h e done.
       let i = c.loop-row.row-index in
       let items = c.deref-row-items.result.now in
-      let now = c.loop-row.invariant.spread before u h e in
+      let now = c.loop-row.invariant.spread before u h e done in
       let old = c.args.frame.now in
       elim c.match-row.branch [
         | in-Elementary+in_default-push w ↦ subst (λ f. SpreadsOn before u old f (drop (i + 1) items)) (sym w.frame-is)
@@ -31,32 +31,26 @@ loop-row-preserved t c = record {
         | in-Standard+in_default-push_standard w ↦ subst (λ f. SpreadsOn before u old f (drop (i + 1) items)) (sym w.frame-is)
             (spreads_at before u old c.loop-row.frame w.push_standard.new.frame items i _ c.loop-row-test.true now (numbered.Standard w.in-Standard.block) w.in-Standard.is
             (λ v initial typed. (map (λ f. f.1) (standard_fields w.in-Standard.block), held_standard before v w.in-Standard.block typed, w.in_default-push_standard.ensures.grown)))
-        | in-Block+then-block-unit+in_default-push_unit w ↦ subst (λ f. SpreadsOn before u old f (drop (i + 1) items)) (sym w.frame-is)
-            (spreads_at before u old c.loop-row.frame w.push_unit.new.frame items i _ c.loop-row-test.true now (numbered.Block w.in-Block.block) w.in-Block.is
+        | in-Block+in_default-push_finished w ↦ subst (λ f. SpreadsOn before u old f (drop (i + 1) items)) (sym w.frame-is)
+            (spreads_at before u old c.loop-row.frame w.push_finished.new.frame items i _ c.loop-row-test.true now (numbered.Block w.in-Block.block) w.in-Block.is
             (λ v initial typed.
             let b = held_block c.args.units.now before u h v w.in-Block.block typed in
-            (contents_of (unit_places b.earlier b.unit), b.held, w.in_default-push_unit.ensures.grown b.earlier b.unit b.stands b.counted)))
-        | in-Block+else-block-unit w ↦
-            spreads_at before u old c.loop-row.frame c.match-row.frame items i _ c.loop-row-test.true now (numbered.Block w.in-Block.block) w.in-Block.is
-            (λ v initial typed.
-            let b = held_block c.args.units.now before u h v w.in-Block.block typed in
-            absurd (let l = b.below in omega (arith, l, e, w.if-block-unit.false)))
+            (contents_of (unit_places b.earlier b.unit), b.held, finished_more c.args.units.now before u c.args.unit c.args.finished.now v w.in-Block.block c.loop-row.frame w.push_finished.new.frame b e done w.in_default-push_finished.ensures.kinds w.in_default-push_finished.ensures.initials)))
       ];
-  first = λ held.
-      let now = c.loop-row.invariant.first held in
+  first = λ each held.
+      let now = c.loop-row.invariant.first each held in
       elim c.match-row.branch [
         | in-Elementary+in_default-push w ↦ subst HoldsFirst (sym w.frame-is)
             (w.in_default-push.ensures.first
             (let raw : to_z w64 (of_z w64 w.first_number.result) ≡ w.first_number.result = omega (arith, ints) in
             subst (λ n. IsFirst w.slot_of.result n) (sym raw) (subst (λ k. IsFirst k w.first_number.result) (sym w.slot_of.ensures.kind) w.first_number.ensures.first)) now)
         | in-Standard+in_default-push_standard w ↦ subst HoldsFirst (sym w.frame-is) (w.in_default-push_standard.ensures.first now)
-        | in-Block+then-block-unit+in_default-push_unit w ↦ subst HoldsFirst (sym w.frame-is) (w.in_default-push_unit.ensures.first now)
-        | in-Block+else-block-unit w ↦ subst HoldsFirst (sym w.frame-is) now
+        | in-Block+in_default-push_finished w ↦ subst HoldsFirst (sym w.frame-is) (w.in_default-push_finished.ensures.first each now)
       ];
 }
 
 pub returns-clause-grown : goal.returns-clause-grown
-returns-clause-grown t c = λ before u h e.
+returns-clause-grown c = λ before u h e done.
     let items = c.deref-row-items.result.now in
     let end : drop c.loop-row.row-index items ≡ [] = drop_all c.loop-row.row-index items c.loop-row-test.false in
-    spreads_end before u c.args.frame.now c.loop-row.frame (subst (λ xs. SpreadsOn before u c.args.frame.now c.loop-row.frame xs) end (c.loop-row.invariant.spread before u h e))
+    spreads_end before u c.args.frame.now c.loop-row.frame (subst (λ xs. SpreadsOn before u c.args.frame.now c.loop-row.frame xs) end (c.loop-row.invariant.spread before u h e done))
