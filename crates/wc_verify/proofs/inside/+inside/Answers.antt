@@ -66,7 +66,7 @@ judge_nested-returns-in-Err t c = λ scope label behind more is.
     let term = option_map term_view c.args.operand.now in
     let inside = lines_view c.args.inside.now.items in
     nesting.opening_refused scope label c.args.line c.args.operator term inside c.args.close behind c.args.kind more c.in-Err.fault
-    (c.in-Err.ensures (first_broken (opening_checks scope c.args.line c.args.operator term c.args.kind ++ nesting.within scope label c.args.line c.args.operator term inside c.args.close behind c.args.kind more)) (first_broken (nesting.within scope label c.args.line c.args.operator term inside c.args.close behind c.args.kind more))
+    (c.in-Err.ensures.judges (first_broken (opening_checks scope c.args.line c.args.operator term c.args.kind ++ nesting.within scope label c.args.line c.args.operator term inside c.args.close behind c.args.kind more)) (first_broken (nesting.within scope label c.args.line c.args.operator term inside c.args.close behind c.args.kind more))
     (c.judge_opening.ensures scope term c.args.line (nesting.within scope label c.args.line c.args.operator term inside c.args.close behind c.args.kind more) (c.see_if_any-seen.ensures scope is)))
 
 pub judge_nested-returns-in-Ok : goal.judge_nested-returns-in-Ok
