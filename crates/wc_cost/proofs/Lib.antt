@@ -1,15 +1,5 @@
-pub mod Assigned
 pub mod Bounds
-pub mod Calling
-pub mod CallsLaid
-pub mod Going
-pub mod LabelsLaid
-pub mod LayableLines
-pub mod LinesLaid
-pub mod Loading
 pub mod Measured
-pub mod Placed
-pub mod PlacesThere
 pub mod TextUnits
 pub mod UnitNames
 pub mod WorstWays

@@ -2,7 +2,7 @@
 use Rattle.std.proofs.Common.{◌≡◌, ℕ, zero, suc, ◌+◌, ◌≤◌, List, [], ◌∷◌, ◌++◌, length, Option, Some, None, Err, append_assoc, refl, sym, ap, subst, ◌∙◌, arith, length-append, inl, inr}
 use Rattle.std.proofs.lemmas.List.{append-nil, length-map, map-append}
 use Rattle.std.specs.Prelude.{slice_index}
-use Rattle.wc_declare.specs.StandsFor.{onto}
+use Rattle.wc_names.specs.StandsFor.{onto}
 use Rattle.wc_flat.proofs.FlatPaths.{BlocksMeasured, MeasuredAs}
 use Rattle.wc_flat.proofs.UnitPaths.{AreBoundsBehind, blocks_step, measured_is_worst, measured_path, unit_measured}
 use Rattle.wc_flat.specs.FlatPaths.{sources_of, worst_of}

@@ -3,8 +3,8 @@ use Rattle.std.proofs.Common.{◌≡◌, ℕ, zero, suc, ◌+◌, ◌<◌, ◌�
 use Rattle.std.proofs.lemmas.List.{length-map}
 use Rattle.std.specs.List.{flat_map}
 use Rattle.std.specs.Prelude.{slice_get}
-use Rattle.wc_declare.specs.Numbered.{IsUnit}
-use Rattle.wc_declare.specs.StandsFor.{onto}
+use Rattle.wc_names.specs.Numbered.{IsUnit}
+use Rattle.wc_names.specs.StandsFor.{onto}
 use Rattle.wc_flat.proofs.Shortness.{in_sequence, lines_short, tokens_fit}
 use Rattle.wc_flat.specs.Laid.{flat_length}
 use Rattle.wc_model.specs.Language.BodyRules.{body_rules, text_body_checks}
@@ -23,9 +23,9 @@ use Rattle.wc_soundness.proofs.Steps.{clean_first, clean_second}
 use Rattle.wc_soundness.proofs.Texts.{none_broken}
 use Rattle.wc_soundness.specs.Laws.{UnitsNestSimply}
 use Rattle.wc_soundness.specs.Sound.{Clean, NestsSimply}
-use Rattle.wc_cost.proofs.LayableLines.{lines_layable}
+use Rattle.wc_laying.proofs.LayableLines.{lines_layable}
 use Rattle.wc_cost.specs.Faultless.{IsFaultless}
-use Rattle.wc_cost.specs.Layable.{IsLayable}
+use Rattle.wc_laying.specs.Layable.{IsLayable}
 
 -- the rules of a unit by its number
 unit_clean : (rules : Spot ProgramUnit → List Check) (before units : List ProgramUnit) → Clean (flat_map rules (spots_behind before units)) → (k : ℕ) (scope : Scope) → slice_get (map scope_of_spot (spots_behind before units)) k ≡ Some scope →

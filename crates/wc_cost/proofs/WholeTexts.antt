@@ -2,9 +2,9 @@
 use Rattle.std.proofs.Common.{◌≡◌, ℕ, ◌-◌, List, [], ◌∷◌, ◌++◌, map, length, Result, Err, Vec, Global, refl, sym, ap, subst, ◌∙◌, arith}
 use Rattle.std.proofs.lemmas.List.{append-nil, length-map, length-reverse, reverse-reverse}
 use Rattle.std.specs.Prelude.{if◌then◌else◌, reverse}
-use Rattle.wc_declare.specs.Numbered.{IsUnit}
-use Rattle.wc_declare.specs.StandsFor.{AreTables, onto}
-use Rattle.wc_declare.specs.declared.kept.Tables.{Tables}
+use Rattle.wc_names.specs.Numbered.{IsUnit}
+use Rattle.wc_names.specs.StandsFor.{AreTables, onto}
+use Rattle.wc_names.specs.declared.kept.Tables.{Tables}
 use Rattle.wc_flat.proofs.Programs.{codes_length}
 use Rattle.wc_flat.proofs.Texts.{newest}
 use Rattle.wc_flat.specs.Contents.{frame_of_reversed, frame_of_text}

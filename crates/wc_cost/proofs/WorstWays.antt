@@ -8,7 +8,7 @@ use Rattle.wc_model.specs.declared.code.Code.{Code}
 use Rattle.wc_model.specs.declared.code.Code.TheVariants.{Not, Jump, Return, Call, ArgumentNumber, ArgumentPlace, Standard, Body}
 use Rattle.wc_model.specs.declared.operator.Condition.{Condition}
 use Rattle.wc_model.specs.declared.operator.Condition.TheVariants.{Always, IfTrue, IfFalse}
-use Rattle.wc_declare.proofs.Lists.{from_index, from_index_or}
+use Rattle.wc_names.proofs.Lists.{from_index, from_index_or}
 use Rattle.wc_cost.specs.Ways.{AreBehind, AreSmall, AreWays, and_then, own_source, own_steps, steps_of}
 
 -- the length of the way from one of the lines behind

@@ -1,9 +1,5 @@
 pub mod Costs
 pub mod Faultless
-pub mod FlatLines
-pub mod Layable
-pub mod Laying
 pub mod LoadedInside
 pub mod LoadedTexts
-pub mod Operands
 pub mod Ways

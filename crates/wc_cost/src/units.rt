@@ -1,21 +1,21 @@
 ghost use Rattle.std.specs.Prelude.{◌≡◌, ℕ, ◌≤◌, List, IfOk, IsOkUnless, length};
-ghost use Rattle.wc_declare.specs.StandsFor.{AreTables};
+ghost use Rattle.wc_names.specs.StandsFor.{AreTables};
 ghost use Rattle.wc_flat.specs.FlatPaths.{sources_of, worst_of};
 ghost use Rattle.wc_flat.specs.Laid.{IsLaid, flat_length};
 ghost use Rattle.wc_model.specs.Language.Scopes.{Scope};
 ghost use Rattle.wc_model.specs.Language.Views.{text_view, unit_view};
 ghost use Rattle.wc_cost.specs.Faultless.{IsFaultless, LoadsUnits, MeasuresUnit};
-ghost use Rattle.wc_cost.specs.Layable.{IsLayable};
+ghost use Rattle.wc_laying.specs.Layable.{IsLayable};
 ghost use Rattle.wc_cost.specs.LoadedInside.{bounds_of};
 ghost use Rattle.wc_cost.specs.Ways.{AreSmall};
 ghost use Rattle.wc_verify.specs.Seeing.{IsScope};
 
-use crate::body::flat_body;
 use crate::laid::LaidUnit;
 use crate::ways::ways;
 use std::alloc::Global;
-use wc_declare::Tables;
+use wc_laying::flat_body;
 use wc_model::{Code, Fault, Source, Unit};
+use wc_names::Tables;
 
 /// The length of the worst way through a body.
 fn longest(alloc: Global, units: &[LaidUnit], code: &[Code]) -> Result<u64, Fault>

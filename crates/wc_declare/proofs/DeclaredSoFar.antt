@@ -10,9 +10,9 @@ use Rattle.wc_model.specs.Language.Declarations.{Variable, declared_by, is_block
 use Rattle.wc_model.specs.Language.Names.{Name}
 use Rattle.wc_model.specs.Language.Tree.{Declaration, ProgramUnit, Text, Word}
 use Rattle.wc_declare.specs.Rows.{HasTaken, HoldsRows, IsEmptyOf, SameNames}
-use Rattle.wc_declare.specs.StandsFor.{AreDifferent, AreRows, IsTableOf, first_place}
-use Rattle.wc_declare.specs.Numbered.{plain_of_field}
-use Rattle.wc_declare.specs.declared.unit_table.UnitTable.{UnitTable}
+use Rattle.wc_names.specs.StandsFor.{AreDifferent, AreRows, IsTableOf, first_place}
+use Rattle.wc_names.specs.Numbered.{plain_of_field}
+use Rattle.wc_names.specs.declared.unit_table.UnitTable.{UnitTable}
 use Rattle.wc_declare.proofs.RowsSoFar.{as_variable}
 
 -- what is taken does not depend on the order

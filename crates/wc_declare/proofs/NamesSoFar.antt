@@ -8,9 +8,9 @@ use Rattle.wc_model.specs.Language.DeclarationRules.{is_among, is_new, name_of_w
 use Rattle.wc_model.specs.Language.Declarations.{same_name}
 use Rattle.wc_model.specs.Language.Names.{Name}
 use Rattle.wc_model.specs.Language.Tree.{Word}
-use Rattle.wc_declare.specs.Keys.{same_name_laws}
+use Rattle.wc_names.specs.Keys.{same_name_laws}
 use Rattle.wc_declare.specs.Rows.{SameNames}
-use Rattle.wc_declare.specs.StandsFor.{AreDifferent}
+use Rattle.wc_names.specs.StandsFor.{AreDifferent}
 
 pub or_last : (a b : Bool) → (a || (b || false)) ≡ (b || a)
 or_last true true = refl

@@ -5,13 +5,13 @@ use Rattle.wc_model.specs.Language.Checks.{Check, Spot, asks, first_broken, spot
 use Rattle.wc_model.specs.Language.DeclarationRules.{Taken, and_more, has_room, places_of_type}
 use Rattle.wc_model.specs.Language.Declarations.{Variable, VariableType, type_named}
 use Rattle.wc_model.specs.Language.Tree.{Declaration, ProgramUnit, Word}
-use Rattle.wc_declare.specs.Numbered.{plain_of_field, stands_in}
+use Rattle.wc_names.specs.Numbered.{plain_of_field, stands_in}
 use Rattle.wc_declare.specs.Rows.{HasTaken, HoldsRows, plain_as}
-use Rattle.wc_declare.specs.StandsFor.{AreRows, IsRow, end_of, plain_at, plain_from, type_at}
-use Rattle.wc_declare.specs.declared.declared_type.DeclaredType.{DeclaredType}
-use Rattle.wc_declare.specs.declared.unit_table.UnitTable.{UnitTable}
-use Rattle.wc_declare.specs.declared.variable.Variable.{Variable as Row}
-use Rattle.wc_declare.proofs.Places.{TypeCase, of_elementary, of_standard, of_block, type_case}
+use Rattle.wc_names.specs.StandsFor.{AreRows, IsRow, end_of, plain_at, plain_from, type_at}
+use Rattle.wc_names.specs.declared.declared_type.DeclaredType.{DeclaredType}
+use Rattle.wc_names.specs.declared.unit_table.UnitTable.{UnitTable}
+use Rattle.wc_names.specs.declared.variable.Variable.{Variable as Row}
+use Rattle.wc_names.proofs.Places.{TypeCase, of_elementary, of_standard, of_block, type_case}
 
 -- one more row
 rows_more : (before : List ProgramUnit) (first : ℕ) (vs : List Variable) (rows : List Row) (v : Variable) (row : Row) → AreRows before first vs rows → IsRow before (end_of before first vs) v row →

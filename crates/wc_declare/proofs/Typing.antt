@@ -11,12 +11,12 @@ use Rattle.wc_model.specs.declared.kind.Kind.{Kind}
 use Rattle.wc_model.specs.declared.source.Initial.{Initial}
 use Rattle.wc_model.specs.declared.source.Section.{Section}
 use Rattle.wc_model.specs.declared.value.Value.{Value}
-use Rattle.wc_declare.specs.Numbered.{numbered_type, stands_in}
+use Rattle.wc_names.specs.Numbered.{numbered_type, stands_in}
 use Rattle.wc_declare.specs.Rows.{suits_numbered}
-use Rattle.wc_declare.specs.StandsFor.{type_at}
-use Rattle.wc_declare.specs.declared.declared_type.DeclaredType.{DeclaredType}
-use Rattle.wc_declare.specs.declared.declared_type.DeclaredType.TheVariants as numbered
-use Rattle.wc_declare.proofs.Places.{TypeCase, of_elementary, of_standard, of_block, type_case}
+use Rattle.wc_names.specs.StandsFor.{type_at}
+use Rattle.wc_names.specs.declared.declared_type.DeclaredType.{DeclaredType}
+use Rattle.wc_names.specs.declared.declared_type.DeclaredType.TheVariants as numbered
+use Rattle.wc_names.proofs.Places.{TypeCase, of_elementary, of_standard, of_block, type_case}
 
 pub or_second : (a b c : Bool) → a ≡ false → b ≡ true → true ≡ ((a || b) || c)
 or_second a b c p q = rw p (rw q refl)

@@ -8,13 +8,14 @@ use Rattle.wc_model.specs.Language.DeclarationRules.{is_among, names_block_of, t
 use Rattle.wc_model.specs.Language.Declarations.{same_name}
 use Rattle.wc_model.specs.Language.Names.{Name}
 use Rattle.wc_model.specs.Language.Tree.{ProgramUnit, Text}
-use Rattle.wc_declare.specs.Keys.{same_name_laws}
-use Rattle.wc_declare.specs.StandsFor.{AreUnitsOf, IsTableOf, number_named, onto}
-use Rattle.wc_declare.specs.declared.unit_table.UnitTable.{UnitTable}
+use Rattle.wc_names.specs.Keys.{same_name_laws}
+use Rattle.wc_names.specs.StandsFor.{IsTableOf, number_named, onto}
+use Rattle.wc_declare.specs.SoFar.{AreUnitsOf}
+use Rattle.wc_names.specs.declared.unit_table.UnitTable.{UnitTable}
 use Rattle.wc_declare.specs.declared.units.Units.{Units}
 use Rattle.std.proofs.lemmas.Slice.Eq.{bytes_eq-Decides}
 use Rattle.wc_declare.proofs.NamesSoFar.{neither, or_last}
-use Rattle.wc_declare.proofs.Positions.{or_else}
+use Rattle.wc_names.proofs.Positions.{or_else}
 
 -- a name is among the units' names where a unit has it
 pub among_more : (names : List Name) (new name : Name) → is_among (names ++ new ∷ []) name ≡ (same_name name new || is_among names name)

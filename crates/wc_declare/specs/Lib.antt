@@ -1,7 +1,2 @@
-pub mod Numbered
-pub mod StandsFor
-pub mod Keys
 pub mod Rows
-pub mod Slots
-pub mod Direct
-pub mod Members
+pub mod SoFar

@@ -7,12 +7,12 @@ use Rattle.wc_model.specs.Language.Names.{Name, name_of}
 use Rattle.wc_model.specs.declared.operand.Word.{Word as Spelled}
 use Rattle.wc_model.specs.declared.value.Value.{Value}
 use Rattle.wc_model.specs.Language.Tree.{ProgramUnit}
-use Rattle.wc_declare.specs.Numbered.{plain_of_field}
-use Rattle.wc_declare.specs.StandsFor.{AreRows, end_of, first_place, plain_from}
-use Rattle.wc_declare.specs.declared.declared_type.DeclaredType.{DeclaredType}
-use Rattle.wc_declare.specs.declared.declared_type.DeclaredType.TheVariants.{Elementary, Standard, Block}
-use Rattle.wc_declare.specs.declared.unit_table.UnitTable.{UnitTable}
-use Rattle.wc_declare.specs.declared.variable.Variable.{Variable as Row}
+use Rattle.wc_names.specs.Numbered.{plain_of_field}
+use Rattle.wc_names.specs.StandsFor.{AreRows, end_of, first_place, plain_from}
+use Rattle.wc_names.specs.declared.declared_type.DeclaredType.{DeclaredType}
+use Rattle.wc_names.specs.declared.declared_type.DeclaredType.TheVariants.{Elementary, Standard, Block}
+use Rattle.wc_names.specs.declared.unit_table.UnitTable.{UnitTable}
+use Rattle.wc_names.specs.declared.variable.Variable.{Variable as Row}
 
 -- so many variables and places are taken by the table's variables
 pub record HasTaken (taken : Taken) (table : UnitTable) : Type 0 where

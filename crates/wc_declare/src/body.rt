@@ -7,10 +7,10 @@ ghost use Rattle.wc_model.specs.Language.Tree.{Lines, ProgramUnit};
 ghost use Rattle.wc_model.specs.Language.Views.{assignment_view, line_view, lines_view, term_view, word_view};
 ghost use Rattle.wc_model.specs.Language.Judging.{Judges};
 
-use crate::address::variable_at;
 use crate::reserved::is_reserved;
 use crate::word::refused;
 use wc_model::{Argument, Fault, Instr, Line, Operand, Word};
+use wc_names::variable_at;
 
 /// Judges a label by 307.
 fn judge_label<'a>(label: Option<Word<'a>>) -> Result<(), Fault>

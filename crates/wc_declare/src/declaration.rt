@@ -6,20 +6,19 @@ ghost use Rattle.wc_model.specs.Language.Names.{Name, name_of};
 ghost use Rattle.wc_model.specs.Language.Tree.{ProgramUnit, Text};
 ghost use Rattle.wc_model.specs.Language.Views.{declaration_view, name_view, unit_view, word_view};
 ghost use Rattle.wc_model.specs.Language.Judging.{Judges};
-ghost use Rattle.wc_declare.specs.Numbered.{stands_in};
+ghost use Rattle.wc_names.specs.Numbered.{stands_in};
 ghost use Rattle.wc_declare.specs.Rows.{HasTaken, HoldsRows, IsEmptyOf, SameNames, suits_numbered};
-ghost use Rattle.wc_declare.specs.StandsFor.{AreDifferent, AreUnitsOf, IsTableOf, type_at};
+ghost use Rattle.wc_names.specs.StandsFor.{AreDifferent, IsTableOf, type_at};
+ghost use Rattle.wc_declare.specs.SoFar.{AreUnitsOf};
 
-use crate::declared_type::DeclaredType;
-use crate::names::Names;
 use crate::reserved::is_reserved;
+use crate::room::add_variable;
 use crate::type_names::is_type_word;
 use crate::types::{block, type_at, width};
-use crate::unit_table::UnitTable;
 use crate::units::Units;
-use crate::variable::Variable;
 use crate::word::refused;
 use wc_model::{Decl, Fault, Initial, Kind, Section, Unit, Value, Word};
+use wc_names::{DeclaredType, Names, UnitTable, Variable};
 
 /// Judges a name by 307 and 301, and adds it to those that are declared.
 pub(crate) fn declare_name<'a>(names: &mut Names<'a>, word: Word<'a>) -> Result<(), Fault>
@@ -212,7 +211,7 @@ fn declare_variables<'a>(
             first: table.size,
             initial,
         };
-        if let Err(fault) = table.add(*word, variable, width) {
+        if let Err(fault) = add_variable(table, *word, variable, width) {
             return Err(fault);
         }
     }

@@ -5,14 +5,14 @@ ghost use Rattle.wc_model.specs.Language.Faults.{declaration_fault};
 ghost use Rattle.wc_model.specs.Language.Names.{Name};
 ghost use Rattle.wc_model.specs.Language.Views.{name_view, text_view, unit_view};
 ghost use Rattle.wc_model.specs.Language.Judging.{Judges};
-ghost use Rattle.wc_declare.specs.StandsFor.{AreTables, AreUnits, AreUnitsOf, onto};
+ghost use Rattle.wc_names.specs.StandsFor.{AreTables, AreUnits, onto};
+ghost use Rattle.wc_declare.specs.SoFar.{AreUnitsOf};
 
-use crate::kept::Tables;
-use crate::names::Names;
 use crate::unit::{add_unit, is_block, judge_unit};
 use crate::units::Units;
 use std::alloc::Global;
 use wc_model::{Fault, Source, Unit};
+use wc_names::{Names, Tables};
 
 /// Adds the name of a unit where it is a function block.
 fn add_block<'a>(names: &mut Names<'a>, unit: &Unit<'a>) -> Result<(), Fault>
@@ -96,7 +96,5 @@ pub fn tables<'a>(alloc: Global, source: &Source<'a>) -> Result<Tables<'a>, Faul
     if let Err(fault) = judge_units(alloc, &mut units, source) {
         return Err(fault);
     }
-    Ok(Tables {
-        units: units.tables,
-    })
+    Ok(Tables::new(units.tables))
 }

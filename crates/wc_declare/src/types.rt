@@ -4,12 +4,13 @@ ghost use Rattle.wc_model.specs.Language.Declarations.{block_named};
 ghost use Rattle.wc_model.specs.Language.Names.{Name, name_of};
 ghost use Rattle.wc_model.specs.Language.Store.{standard_fields};
 ghost use Rattle.wc_model.specs.Language.Tree.{ProgramUnit, Text};
-ghost use Rattle.wc_declare.specs.StandsFor.{AreUnitsOf, type_at};
+ghost use Rattle.wc_names.specs.StandsFor.{type_at};
+ghost use Rattle.wc_declare.specs.SoFar.{AreUnitsOf};
 
-use crate::declared_type::DeclaredType;
 use crate::type_names::{elementary, standard};
 use crate::units::Units;
 use wc_model::StandardBlock;
+use wc_names::DeclaredType;
 
 /// The number of the function block of that name among the units so far.
 pub(crate) fn block<'a>(units: &Units<'a>, name: &[u8]) -> Option<usize>

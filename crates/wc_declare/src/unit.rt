@@ -7,17 +7,17 @@ ghost use Rattle.wc_model.specs.Language.Tree.{ProgramUnit, Text};
 ghost use Rattle.wc_model.specs.Language.Views.{name_view, unit_view, word_view};
 ghost use Rattle.wc_model.specs.Language.Judging.{Judges};
 ghost use Rattle.wc_declare.specs.Rows.{SameNames};
-ghost use Rattle.wc_declare.specs.StandsFor.{AreUnitsOf, IsTableOf};
+ghost use Rattle.wc_names.specs.StandsFor.{IsTableOf};
+ghost use Rattle.wc_declare.specs.SoFar.{AreUnitsOf};
 
 use crate::body::judge_body;
 use crate::declaration::judge_declarations;
-use crate::names::Names;
 use crate::reserved::is_reserved;
-use crate::unit_table::UnitTable;
 use crate::units::Units;
 use crate::word::refused;
 use std::alloc::Global;
 use wc_model::{Fault, Unit, UnitKind, Word};
+use wc_names::{Names, UnitTable};
 
 /// Whether a unit is a function block.
 pub(crate) fn is_block<'a>(unit: &Unit<'a>) -> bool

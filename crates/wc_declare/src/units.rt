@@ -1,5 +1,4 @@
-use crate::names::Names;
-use crate::unit_table::UnitTable;
+use wc_names::{Names, UnitTable};
 
 /// What is kept while a text is judged.
 #[derive(Drop)]

@@ -13,13 +13,13 @@ use Rattle.wc_model.specs.Language.Scopes.{Scope}
 use Rattle.wc_model.specs.Language.Tree.{Assignment, ProgramUnit}
 use Rattle.wc_model.specs.declared.kind.Kind.{Kind}
 use Rattle.wc_model.specs.declared.operator.Condition.{Condition}
-use Rattle.wc_declare.specs.Numbered.{number_within, numbered_input, numbered_type}
-use Rattle.wc_declare.specs.declared.declared_type.DeclaredType.{DeclaredType}
-use Rattle.wc_declare.specs.declared.declared_type.DeclaredType.TheVariants as numbered
-use Rattle.wc_declare.specs.declared.input.Input.{Input}
-use Rattle.wc_declare.specs.declared.kept.Tables.{Tables}
+use Rattle.wc_names.specs.Numbered.{number_within, numbered_input, numbered_type}
+use Rattle.wc_names.specs.declared.declared_type.DeclaredType.{DeclaredType}
+use Rattle.wc_names.specs.declared.declared_type.DeclaredType.TheVariants as numbered
+use Rattle.wc_names.specs.declared.input.Input.{Input}
+use Rattle.wc_names.specs.declared.kept.Tables.{Tables}
 use Rattle.wc_verify.specs.Calls.{HoldsNames, is_numbered_instance}
-use Rattle.wc_declare.specs.Keys.{same_name_laws}
+use Rattle.wc_names.specs.Keys.{same_name_laws}
 use Rattle.wc_verify.specs.Seeing.{IsScope}
 use Rattle.wc_verify.proofs.Found.{Asked, Both, Finds, asked_as, joined}
 

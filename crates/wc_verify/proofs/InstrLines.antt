@@ -21,7 +21,7 @@ use Rattle.wc_model.specs.declared.tree.Instr.TheVariants as instrs
 use Rattle.wc_model.specs.declared.tree.Instr.TheFolds.{fold-Instr, fold_out-Instr, fold_out-Line}
 use Rattle.wc_model.specs.declared.tree.Instr.TheOpen.{Instr-F}
 use Rattle.wc_model.specs.declared.tree.Line.{Line, fold-Line, the_lemmas}
-use Rattle.wc_declare.proofs.Lists.{from_index}
+use Rattle.wc_names.proofs.Lists.{from_index}
 use Rattle.wc_verify.specs.Instructions.{GoesInside, GoesOn, SaysAhead, step_ahead, instr_line, opened_line, put}
 
 -- a line in front of others is the first of them

@@ -5,10 +5,10 @@ use Rattle.std.specs.Prelude.{if◌then◌else◌}
 use Rattle.indexmap.specs.IndexMap.{insert_entry}
 use Rattle.wc_model.specs.Language.Declarations.{named_in, same_name}
 use Rattle.wc_model.specs.Language.Names.{Name}
-use Rattle.wc_declare.specs.Keys.{name_of_key, same_key, same_name_laws}
+use Rattle.wc_names.specs.Keys.{name_of_key, same_key, same_name_laws}
 use Rattle.wc_soundness.proofs.Tests.{same_name-sound}
 use Rattle.wc_verify.specs.Rows.{named_rows, row_of}
-use Rattle.wc_declare.specs.declared.key.Key.{Key}
+use Rattle.wc_names.specs.declared.key.Key.{Key}
 use Rattle.wc_verify.specs.declared.labels.Row.{Row}
 
 -- a row of the same name is changed

@@ -6,8 +6,8 @@ use Rattle.wc_model.specs.Language.Kinds.{elementary_kind, term_kind}
 use Rattle.wc_model.specs.Language.Scopes.{Scope, Entity, entity_of}
 use Rattle.wc_model.specs.Language.Tree.{Term}
 use Rattle.wc_model.specs.declared.kind.Kind.{Kind}
-use Rattle.wc_declare.specs.Numbered.{numbered_entity}
-use Rattle.wc_declare.specs.declared.entity.Entity.{Entity as FoundEntity}
+use Rattle.wc_names.specs.Numbered.{numbered_entity}
+use Rattle.wc_names.specs.declared.entity.Entity.{Entity as FoundEntity}
 use Rattle.wc_verify.specs.Seeing.{IsSeen}
 
 -- the kind of what may be there

@@ -5,8 +5,8 @@ use Rattle.wc_model.specs.Language.DeclarationRules.{is_among}
 use Rattle.wc_model.specs.Language.Declarations.{same_name}
 use Rattle.wc_model.specs.Language.Names.{Name}
 use Rattle.wc_model.specs.Language.Tree.{Assignment}
-use Rattle.wc_declare.specs.declared.declared_type.DeclaredType.{DeclaredType}
-use Rattle.wc_declare.specs.declared.declared_type.DeclaredType.TheVariants.{Elementary, Standard, Block}
+use Rattle.wc_names.specs.declared.declared_type.DeclaredType.{DeclaredType}
+use Rattle.wc_names.specs.declared.declared_type.DeclaredType.TheVariants.{Elementary, Standard, Block}
 
 -- the names are those of the inputs that are assigned
 abbrev pub HoldsNames : List Name → List Assignment → Type 0

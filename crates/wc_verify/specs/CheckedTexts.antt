@@ -1,11 +1,11 @@
 -- A text that breaks no rule on bodies, with its tables. (No rule of the language.)
 use Rattle.std.specs.Prelude.{◌≡◌, ℕ, List, None}
-use Rattle.wc_declare.specs.StandsFor.{AreTables}
+use Rattle.wc_names.specs.StandsFor.{AreTables}
 use Rattle.wc_model.specs.Language.Faults.{declaration_fault}
 use Rattle.wc_model.specs.Language.Tree.{Text}
 use Rattle.wc_model.specs.Text.Reading.{IsRead}
 use Rattle.wc_model.specs.declared.source.Source.{Source}
-use Rattle.wc_declare.specs.declared.kept.Tables.{Tables}
+use Rattle.wc_names.specs.declared.kept.Tables.{Tables}
 
 -- what is verified: the text and its tables
 pub record CheckedText : Type 0 where

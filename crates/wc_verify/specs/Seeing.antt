@@ -5,9 +5,9 @@ use Rattle.wc_model.specs.Language.Kinds.{term_kind}
 use Rattle.wc_model.specs.Language.Scopes.{Scope, entity_of}
 use Rattle.wc_model.specs.Language.Tree.{Term, Constant, Text}
 use Rattle.wc_model.specs.declared.value.Value.TheVariants.{Dint}
-use Rattle.wc_declare.specs.Numbered.{IsUnit}
-use Rattle.wc_declare.specs.StandsFor.{AreTables}
-use Rattle.wc_declare.specs.declared.kept.Tables.{Tables}
+use Rattle.wc_names.specs.Numbered.{IsUnit}
+use Rattle.wc_names.specs.StandsFor.{AreTables}
+use Rattle.wc_names.specs.declared.kept.Tables.{Tables}
 use Rattle.wc_verify.specs.declared.seen.Seen.{Seen}
 
 -- the tables are those of a text, whose unit of that number stands in this scope

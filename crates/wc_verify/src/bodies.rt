@@ -20,8 +20,8 @@ use crate::jumps::{leaves, note, target};
 use crate::labels::Labels;
 use crate::ways::Way;
 use std::alloc::Global;
-use wc_declare::Tables;
 use wc_model::{Fault, Instr, Kind, Line, Word};
+use wc_names::Tables;
 
 /// Whether a later line carries the label of a jump.
 fn is_ahead(labels: &Labels<'_>, target: Option<&[u8]>) -> bool

@@ -9,7 +9,7 @@ ghost use Rattle.wc_model.specs.Language.Scopes.{Scope, type_of};
 ghost use Rattle.wc_model.specs.Language.Tree.{Assignment};
 ghost use Rattle.wc_model.specs.Language.Views.{assignment_view, term_view};
 ghost use Rattle.wc_model.specs.Language.Judging.{Judges};
-ghost use Rattle.wc_declare.specs.Numbered.{numbered_type};
+ghost use Rattle.wc_names.specs.Numbered.{numbered_type};
 ghost use Rattle.wc_verify.specs.Calls.{HoldsNames, is_numbered_instance};
 ghost use Rattle.wc_verify.specs.Seeing.{IsScope, IsSeen};
 
@@ -19,8 +19,8 @@ use crate::operands::is_bit_literal;
 use crate::refusals::{is_of_kind, judge_condition, judge_reading};
 use crate::seen::{Seen, see};
 use std::alloc::Global;
-use wc_declare::{DeclaredType, Names, Tables};
 use wc_model::{Argument, Condition, Fault, Kind, Operand};
+use wc_names::{DeclaredType, Names, Tables};
 
 /// Whether an input of a kind takes what is assigned.
 fn suits_input(kind: Kind, operand: &Operand<'_>, seen: Seen) -> bool

@@ -1,12 +1,12 @@
 ghost use Rattle.std.specs.Prelude.{◌≡◌, None};
 ghost use Rattle.wc_model.specs.Language.Faults.{body_fault, declaration_fault};
 ghost use Rattle.wc_model.specs.Language.Views.{text_view};
-ghost use Rattle.wc_declare.specs.StandsFor.{AreTables};
+ghost use Rattle.wc_names.specs.StandsFor.{AreTables};
 ghost use Rattle.wc_verify.specs.CheckedTexts.{WasRead};
 
 use std::marker::Model;
-use wc_declare::Tables;
 use wc_model::Source;
+use wc_names::Tables;
 
 /// A text that was read and breaks no rule on declarations and bodies, with its tables.
 #[derive(Drop)]

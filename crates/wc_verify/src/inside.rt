@@ -13,8 +13,8 @@ use crate::kinds::kind_after_operator;
 use crate::seen::{Seen, see};
 use crate::steps::{judge_closing, judge_opening};
 use std::alloc::Global;
-use wc_declare::Tables;
 use wc_model::{Fault, Instr, Kind, Line, Operand, Operator};
+use wc_names::Tables;
 
 /// What the operand on an opening line names, where one is written.
 fn see_if_any<'a>(tables: &Tables<'a>, unit: usize, operand: &Option<Operand<'a>>) -> Option<Seen>

@@ -17,8 +17,8 @@ use crate::refusals::{judge_condition, judge_truth};
 use crate::seen::see;
 use crate::steps::{judge_apply, judge_load, judge_store};
 use std::alloc::Global;
-use wc_declare::Tables;
 use wc_model::{Argument, Condition, Fault, Kind, Operand, Operator, Storing};
+use wc_names::Tables;
 
 /// What follows a line that is judged: the kind of the result behind it.
 pub(crate) fn followed(

@@ -8,8 +8,8 @@ use crate::ways::Way;
 use indexmap::IndexMap;
 use std::alloc::Global;
 use std::marker::Model;
-use wc_declare::Key;
 use wc_model::Fault;
+use wc_names::Key;
 
 /// What is known of a label.
 #[derive(Clone, Copy)]

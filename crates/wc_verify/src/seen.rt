@@ -3,8 +3,8 @@ ghost use Rattle.wc_model.specs.Language.Scopes.{Scope};
 ghost use Rattle.wc_model.specs.Language.Views.{term_view};
 ghost use Rattle.wc_verify.specs.Seeing.{IsScope, IsSeen};
 
-use wc_declare::Tables;
 use wc_model::{Kind, Operand};
+use wc_names::Tables;
 
 /// What is known of an operand.
 #[derive(Clone, Copy)]

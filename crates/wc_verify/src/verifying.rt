@@ -2,14 +2,14 @@ ghost use Rattle.std.specs.Prelude.{◌≡◌, None, IfOk};
 ghost use Rattle.wc_model.specs.Language.Faults.{body_fault};
 ghost use Rattle.wc_model.specs.Language.Judging.{Judges};
 ghost use Rattle.wc_model.specs.Language.Views.{text_view};
-ghost use Rattle.wc_declare.specs.StandsFor.{AreTables};
+ghost use Rattle.wc_names.specs.StandsFor.{AreTables};
 ghost use Rattle.wc_verify.specs.CheckedTexts.{AreGiven, WasRead};
 
 use crate::bodies::judge_body;
 use crate::checked::Checked;
 use std::alloc::Global;
-use wc_declare::Tables;
 use wc_model::{Fault, Source};
+use wc_names::Tables;
 
 /// Judges the bodies of a text, unit by unit.
 fn judge_units<'a>(alloc: Global, source: &Source<'a>, tables: &Tables<'a>) -> Result<(), Fault>

@@ -3,7 +3,7 @@ use Rattle.wc_controller.proofs.LoadedTexts.{headline_holds}
 use Rattle.wc_controller.proofs.Refusals.{is_loaded, not_costed, not_declared, not_read, not_verified, with_headline}
 use Rattle.wc_controller.proofs.loading.load_in_passes.Goals as goal
 use Rattle.wc_cost.specs.Costs.{IsCosted}
-use Rattle.wc_declare.specs.declared.kept.Tables.{Tables}
+use Rattle.wc_names.specs.declared.kept.Tables.{Tables}
 use Rattle.wc_model.specs.Language.Views.{text_view}
 use Rattle.wc_model.specs.declared.source.Source.{Source}
 use Rattle.wc_verify.specs.CheckedTexts.{CheckedText}

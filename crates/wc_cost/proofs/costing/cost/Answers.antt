@@ -26,7 +26,7 @@ invariant_of-result c =
     let counted : c.len.result ≡ length c.in-Ok.units.items = search rules in
     let count : c.len.result ≡ length text = counted ∙ laid_count text c.in-Ok.units.items loaded.laid in
     let last = last_unit text c.source.ensures.read.1.spelled.order c.saturating_sub-last.result (c.saturating_sub-last.ensures ∙ ap (λ n. n - 1) count) in
-    let stand = subst (λ t. Rattle.wc_declare.specs.StandsFor.AreTables t text) (sym c.tables-2.ensures.tables) c.tables-2.ensures.stand in
+    let stand = subst (λ t. Rattle.wc_names.specs.StandsFor.AreTables t text) (sym c.tables-2.ensures.tables) c.tables-2.ensures.stand in
     record {
       sound = record { read = c.source.ensures.read; sound = c.source.ensures.sound; laid = loaded.laid };
       lines = loaded.lines;

@@ -5,7 +5,7 @@ use Rattle.wc_flat.specs.Laid.{IsLaid, flat_length}
 use Rattle.wc_model.specs.Language.Tree.{Lines, ProgramUnit}
 use Rattle.wc_model.specs.Language.Views.{lines_view}
 use Rattle.wc_model.specs.declared.code.Code.{Code}
-use Rattle.wc_cost.specs.Layable.{IsLayable}
+use Rattle.wc_laying.specs.Layable.{IsLayable}
 use Rattle.wc_cost.specs.LoadedInside.{bounds_of}
 use Rattle.wc_cost.proofs.units.lay_unit.Goals as goal
 

@@ -1,6 +1,6 @@
 use Rattle.std.proofs.Common.{◌≡◌, ◌+◌, ◌∷◌, [], List, Err, map, drop, refl, sym, subst, ap, ◌∙◌, arith}
 use Rattle.std.proofs.lemmas.List.{drop_all}
-use Rattle.wc_declare.specs.StandsFor.{AreTables, onto}
+use Rattle.wc_names.specs.StandsFor.{AreTables, onto}
 use Rattle.wc_model.specs.Language.Scopes.{Scope}
 use Rattle.wc_model.specs.Language.Tree.{Text}
 use Rattle.wc_model.specs.Language.Views.{unit_view}
@@ -9,7 +9,7 @@ use Rattle.wc_cost.specs.Faultless.{AreLoaded, IsFaultless, IsMeasured, LoadsUni
 use Rattle.wc_cost.specs.LoadedInside.{bounds_of}
 use Rattle.wc_cost.specs.Ways.{AreSmall}
 use Rattle.wc_cost.specs.declared.laid.LaidUnit.{LaidUnit}
-use Rattle.wc_declare.proofs.Lists.{from_index}
+use Rattle.wc_names.proofs.Lists.{from_index}
 use Rattle.wc_cost.proofs.Measured.{all_loaded, unit_refused}
 use Rattle.wc_cost.proofs.Measured.{bounds_small, measured_sound}
 use Rattle.wc_cost.proofs.TextUnits.{unit_at, unit_layable, unit_nests, unit_short}

@@ -6,7 +6,7 @@ use Rattle.wc_model.specs.Language.DeclarationRules.{body_name_checks, label_che
 use Rattle.wc_model.specs.Language.Views.{assignment_view, line_view, lines_view, term_view, word_view}
 use Rattle.wc_declare.proofs.Judging.{judges_err, judges_ok, judges_same}
 use Rattle.wc_declare.proofs.LineViews.{apply_at, call_at, defer_at, label_first, load_at, store_at}
-use Rattle.wc_declare.proofs.Lists.{from_index}
+use Rattle.wc_names.proofs.Lists.{from_index}
 use Rattle.wc_declare.proofs.body.+judge_line.Goals as goal
 
 pub returns-in-Err : goal.returns-in-Err

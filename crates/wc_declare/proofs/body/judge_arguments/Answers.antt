@@ -9,7 +9,7 @@ use Rattle.wc_model.specs.declared.operand.Operand.TheVariants.{Literal}
 use Rattle.wc_model.specs.declared.tree.Argument.{Argument}
 use Rattle.wc_model.specs.declared.value.Value.TheVariants.{Bool as Truth}
 use Rattle.wc_declare.proofs.Judging.{judges_err, judges_ok}
-use Rattle.wc_declare.proofs.Lists.{from_index_or}
+use Rattle.wc_names.proofs.Lists.{from_index_or}
 use Rattle.wc_declare.proofs.body.judge_arguments.Goals as goal
 
 -- the rules of arguments

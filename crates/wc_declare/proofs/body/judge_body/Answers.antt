@@ -4,7 +4,7 @@ use Rattle.wc_model.specs.Language.Checks.{first_broken}
 use Rattle.wc_model.specs.Language.DeclarationRules.{body_name_checks}
 use Rattle.wc_model.specs.Language.Views.{line_view, lines_view}
 use Rattle.wc_declare.proofs.Judging.{judges_err, judges_ok}
-use Rattle.wc_declare.proofs.Lists.{from_index}
+use Rattle.wc_names.proofs.Lists.{from_index}
 use Rattle.wc_declare.proofs.body.judge_body.Goals as goal
 
 pub returns-in-Err : goal.returns-in-Err

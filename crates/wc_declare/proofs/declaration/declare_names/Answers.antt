@@ -7,7 +7,7 @@ use Rattle.wc_model.specs.Language.Names.{Name}
 use Rattle.wc_model.specs.Language.Tree.{Word as Named}
 use Rattle.wc_model.specs.Language.Views.{word_view}
 use Rattle.wc_model.specs.declared.operand.Word.{Word}
-use Rattle.wc_declare.proofs.Lists.{from_index_or}
+use Rattle.wc_names.proofs.Lists.{from_index_or}
 use Rattle.wc_declare.proofs.NamesSoFar.{StandsBehind, at_first, one_behind, name_checks}
 use Rattle.wc_declare.proofs.Judging.{judges_err, judges_ok}
 use Rattle.wc_declare.proofs.declaration.declare_names.Goals as goal

@@ -6,9 +6,9 @@ use Rattle.wc_model.specs.Language.Tree.{Declaration, Word as Named}
 use Rattle.wc_model.specs.Language.Views.{declaration_view, word_view}
 use Rattle.wc_model.specs.declared.operand.Word.{Word}
 use Rattle.wc_declare.specs.Rows.{HasTaken, HoldsRows}
-use Rattle.wc_declare.specs.declared.declared_type.DeclaredType.{DeclaredType}
-use Rattle.wc_declare.specs.declared.unit_table.UnitTable.{UnitTable}
-use Rattle.wc_declare.proofs.Lists.{from_index_or}
+use Rattle.wc_names.specs.declared.declared_type.DeclaredType.{DeclaredType}
+use Rattle.wc_names.specs.declared.unit_table.UnitTable.{UnitTable}
+use Rattle.wc_names.proofs.Lists.{from_index_or}
 use Rattle.wc_declare.proofs.Judging.{judges_err, judges_ok}
 use Rattle.wc_declare.proofs.RowsSoFar.{RoomBehind, as_variable, one_further, room_first, room_more, room_of}
 use Rattle.wc_declare.proofs.declaration.declare_variables.Goals as goal
@@ -42,9 +42,9 @@ loop-word-preserved c =
     let word : Word = get_or items i (record { text = record { ref_ptr = (0, 0); now = [] }; line = 0 }) in
     let d = declaration_view c.args.declaration.now in
     let h = begin c.args.table.now c.loop-word.table d c.args.declared c.args.width (map word_view items) items i c.loop-word-test.true c.loop-word.invariant in
-    room_more c.args.table.now c.loop-word.table c.add.new.self d c.args.declared c.args.width (map word_view items) (word_view word) (map word_view (drop (i + 1) items))
+    room_more c.args.table.now c.loop-word.table c.add_variable.new.table d c.args.declared c.args.width (map word_view items) (word_view word) (map word_view (drop (i + 1) items))
     (record { section = c.args.declaration.now.section; declared = c.args.declared; first = c.loop-word.table.size; initial = c.literal-initial.result }) h
-    (λ t rest taken. judges_ok (first_broken (asks 306 word.line (has_room (and_more t 1 c.args.width)) ∷ rest)) (first_broken rest) c.add.result c.in_default.field-0 c.in_default.is (c.add.ensures.judged t rest taken))
+    (λ t rest taken. judges_ok (first_broken (asks 306 word.line (has_room (and_more t 1 c.args.width)) ∷ rest)) (first_broken rest) c.add_variable.result c.in_default.field-0 c.in_default.is (c.add_variable.ensures.judged t rest taken))
     refl refl refl c.literal-initial.ensures c.in_default.ensures.rows c.in_default.ensures.size c.in_default.ensures.fields c.in_default.ensures.names c.in_default.ensures.small c.in_default.ensures.is_block
 
 pub returns-clause-judged : goal.returns-clause-judged

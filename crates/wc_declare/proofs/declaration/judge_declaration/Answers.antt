@@ -3,7 +3,7 @@ use Rattle.wc_model.specs.Language.Checks.{first_broken}
 use Rattle.wc_model.specs.Language.DeclarationRules.{and_more, declaration_checks, initial_checks, names_are_new, places_of_type, room_checks, type_checks}
 use Rattle.wc_model.specs.Language.Views.{declaration_view, name_view, word_view}
 use Rattle.wc_declare.specs.Rows.{HasTaken}
-use Rattle.wc_declare.specs.declared.declared_type.DeclaredType.{DeclaredType}
+use Rattle.wc_names.specs.declared.declared_type.DeclaredType.{DeclaredType}
 use Rattle.wc_declare.proofs.Judging.{judges_err, judges_ok, judges_same, on_ok, pieces}
 use Rattle.wc_declare.proofs.declaration.judge_declaration.Goals as goal
 

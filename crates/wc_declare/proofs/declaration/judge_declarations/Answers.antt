@@ -7,7 +7,7 @@ use Rattle.wc_model.specs.Language.Tree.{Declaration, ProgramUnit}
 use Rattle.wc_model.specs.Language.Views.{declaration_view, unit_view}
 use Rattle.wc_declare.proofs.DeclaredSoFar.{Declares, all_declared, asked_of, none_declared, one_declared}
 use Rattle.wc_declare.proofs.Judging.{judges_err, judges_ok}
-use Rattle.wc_declare.proofs.Lists.{from_index}
+use Rattle.wc_names.proofs.Lists.{from_index}
 use Rattle.wc_declare.proofs.declaration.judge_declarations.Goals as goal
 
 pub loop-declaration-init : goal.loop-declaration-init

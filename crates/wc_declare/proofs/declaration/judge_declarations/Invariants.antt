@@ -2,7 +2,7 @@ use Rattle.std.proofs.Common.{List, map, drop}
 use Rattle.wc_model.specs.Language.Tree.{ProgramUnit, Text}
 use Rattle.wc_model.specs.Language.Views.{declaration_view, unit_view}
 use Rattle.wc_declare.specs.Rows.{IsEmptyOf}
-use Rattle.wc_declare.specs.StandsFor.{AreUnitsOf}
+use Rattle.wc_declare.specs.SoFar.{AreUnitsOf}
 use Rattle.wc_declare.proofs.DeclaredSoFar.{Declares}
 use Rattle.wc_declare.proofs.declaration.judge_declarations.Given as goal
 

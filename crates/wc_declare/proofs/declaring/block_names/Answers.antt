@@ -4,7 +4,7 @@ use Rattle.std.specs.Prelude.{◌||◌, ◌&&◌}
 use Rattle.wc_model.specs.Language.DeclarationRules.{is_among, names_block_of}
 use Rattle.wc_model.specs.Language.Declarations.{is_block, same_name}
 use Rattle.wc_model.specs.Language.Views.{unit_view}
-use Rattle.wc_declare.proofs.Lists.{from_index}
+use Rattle.wc_names.proofs.Lists.{from_index}
 use Rattle.wc_declare.proofs.UnitsSoFar.{block_more, or_end}
 use Rattle.wc_declare.proofs.declaring.block_names.Goals as goal
 

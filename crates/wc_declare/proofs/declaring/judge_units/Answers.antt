@@ -5,10 +5,11 @@ use Rattle.wc_model.specs.Language.Checks.{first_broken, spots_behind}
 use Rattle.wc_model.specs.Language.DeclarationRules.{unit_checks}
 use Rattle.wc_model.specs.Language.Faults.{declaration_fault}
 use Rattle.wc_model.specs.Language.Views.{unit_view}
-use Rattle.wc_declare.specs.StandsFor.{AreUnits, AreUnitsOf, onto}
-use Rattle.wc_declare.specs.declared.unit_table.UnitTable.{UnitTable}
+use Rattle.wc_names.specs.StandsFor.{AreUnits, onto}
+use Rattle.wc_declare.specs.SoFar.{AreUnitsOf}
+use Rattle.wc_names.specs.declared.unit_table.UnitTable.{UnitTable}
 use Rattle.wc_declare.proofs.Judging.{judges_err, judges_ok}
-use Rattle.wc_declare.proofs.Lists.{from_index}
+use Rattle.wc_names.proofs.Lists.{from_index}
 use Rattle.wc_declare.proofs.UnitsSoFar.{Reads, none_read, one_read}
 use Rattle.wc_declare.proofs.declaring.judge_units.Goals as goal
 

@@ -1,6 +1,6 @@
 use Rattle.std.proofs.Common.{[], map, drop}
 use Rattle.wc_model.specs.Language.Views.{unit_view}
-use Rattle.wc_declare.specs.StandsFor.{AreUnitsOf}
+use Rattle.wc_declare.specs.SoFar.{AreUnitsOf}
 use Rattle.wc_declare.proofs.UnitsSoFar.{Reads}
 use Rattle.wc_declare.proofs.declaring.judge_units.Given as goal
 

@@ -1,11 +1,12 @@
-use Rattle.std.proofs.Common.{None}
+use Rattle.std.proofs.Common.{[], None, sym, subst}
 use Rattle.wc_model.specs.Language.Faults.{declaration_fault}
 use Rattle.wc_model.specs.Language.Views.{text_view}
+use Rattle.wc_names.specs.StandsFor.{AreUnits, onto}
 use Rattle.wc_declare.proofs.Judging.{judges_ok}
 use Rattle.wc_declare.proofs.declaring.tables.Goals as goal
 
 pub returns-clause-accepted : goal.returns-clause-accepted
-returns-clause-accepted c = c.in_default.ensures.tables c.in-Ok.ensures.units
+returns-clause-accepted c = subst (λ tables. AreUnits (onto (text_view c.args.source.now) []) tables.items) (sym c.new.ensures) (c.in_default.ensures.tables c.in-Ok.ensures.units)
 
 pub returns-clause-judged : goal.returns-clause-judged
 returns-clause-judged c = judges_ok (declaration_fault (text_view c.args.source.now)) None c.judge_units.result c.in_default.field-0 c.in_default.is (c.judge_units.ensures.judged c.in-Ok.ensures.units)

@@ -2,9 +2,9 @@ use Rattle.std.proofs.Common.{List, Some, None, option_map, length, sym, ap, ◌
 use Rattle.std.specs.Prelude.{if◌then◌else◌}
 use Rattle.wc_model.specs.Language.Names.{name_of}
 use Rattle.wc_model.specs.Language.Tree.{ProgramUnit}
-use Rattle.wc_declare.specs.declared.unit_table.UnitTable.{UnitTable}
-use Rattle.wc_declare.proofs.Lists.{not_past, same_found}
-use Rattle.wc_declare.proofs.Places.{block_numbered, block_unnumbered}
+use Rattle.wc_names.specs.declared.unit_table.UnitTable.{UnitTable}
+use Rattle.wc_names.proofs.Lists.{not_past, same_found}
+use Rattle.wc_names.proofs.Places.{block_numbered, block_unnumbered}
 use Rattle.wc_declare.proofs.types.block.Goals as goal
 
 pub returns-in_default : goal.returns-in_default

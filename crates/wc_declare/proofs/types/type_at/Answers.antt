@@ -1,6 +1,6 @@
 use Rattle.std.proofs.Common.{sym, ◌∙◌}
 use Rattle.wc_model.specs.Language.Names.{name_of}
-use Rattle.wc_declare.proofs.Places.{type_at_found, type_at_none}
+use Rattle.wc_names.proofs.Places.{type_at_found, type_at_none}
 use Rattle.wc_declare.proofs.types.type_at.Goals as goal
 
 pub returns-in-Some-block : goal.returns-in-Some-block

@@ -1,7 +1,7 @@
 use Rattle.std.proofs.Common.{Some, ap, ◌∙◌}
-use Rattle.wc_declare.proofs.Lists.{not_past, same_found}
-use Rattle.wc_declare.proofs.Places.{elementary_width, standard_type_width, block_type_width}
-use Rattle.wc_declare.specs.declared.unit_table.UnitTable.{UnitTable}
+use Rattle.wc_names.proofs.Lists.{not_past, same_found}
+use Rattle.wc_names.proofs.Places.{elementary_width, standard_type_width, block_type_width}
+use Rattle.wc_names.specs.declared.unit_table.UnitTable.{UnitTable}
 use Rattle.wc_declare.proofs.types.width.Goals as goal
 
 pub returns-in-Elementary : goal.returns-in-Elementary

@@ -6,7 +6,7 @@ use Rattle.wc_model.specs.Language.Declarations.{is_block}
 use Rattle.wc_model.specs.Language.Views.{lines_view, unit_view}
 use Rattle.wc_model.specs.Language.Tree.{ProgramUnit}
 use Rattle.wc_declare.specs.Rows.{IsEmptyOf}
-use Rattle.wc_declare.specs.declared.unit_table.UnitTable.{UnitTable}
+use Rattle.wc_names.specs.declared.unit_table.UnitTable.{UnitTable}
 use Rattle.wc_declare.proofs.Judging.{judges_err, judges_ok}
 use Rattle.wc_declare.proofs.unit.judge_unit.Goals as goal
 

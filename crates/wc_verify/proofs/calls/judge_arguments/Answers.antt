@@ -9,11 +9,11 @@ use Rattle.wc_model.specs.Language.Views.{assignment_view}
 use Rattle.wc_model.specs.declared.operand.Operand.TheVariants.{Literal}
 use Rattle.wc_model.specs.declared.tree.Argument.{Argument}
 use Rattle.wc_model.specs.declared.value.Value.TheVariants.{Bool as Truth}
-use Rattle.wc_declare.specs.declared.declared_type.DeclaredType.{DeclaredType}
-use Rattle.wc_declare.specs.declared.kept.Tables.{Tables}
+use Rattle.wc_names.specs.declared.declared_type.DeclaredType.{DeclaredType}
+use Rattle.wc_names.specs.declared.kept.Tables.{Tables}
 use Rattle.wc_verify.proofs.Calling.{ArgumentsBehind, one_behind}
 use Rattle.wc_declare.proofs.Judging.{judges_err, judges_ok}
-use Rattle.wc_declare.proofs.Lists.{from_index_or}
+use Rattle.wc_names.proofs.Lists.{from_index_or}
 use Rattle.wc_verify.proofs.calls.judge_arguments.Goals as goal
 
 -- the arguments that are left begin with this one

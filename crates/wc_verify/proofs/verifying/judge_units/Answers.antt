@@ -5,10 +5,10 @@ use Rattle.wc_model.specs.Language.Checks.{first_broken, spots_behind}
 use Rattle.wc_model.specs.Language.Faults.{body_fault}
 use Rattle.wc_model.specs.Language.Scopes.{Scope}
 use Rattle.wc_model.specs.Language.Views.{unit_view}
-use Rattle.wc_declare.specs.StandsFor.{AreTables}
+use Rattle.wc_names.specs.StandsFor.{AreTables}
 use Rattle.wc_verify.proofs.BodyUnits.{UnitsLeft, unit_passed, unit_rules, unit_there}
 use Rattle.wc_declare.proofs.Judging.{judges_err}
-use Rattle.wc_declare.proofs.Lists.{from_index}
+use Rattle.wc_names.proofs.Lists.{from_index}
 use Rattle.wc_verify.proofs.verifying.judge_units.Goals as goal
 
 pub returns-in-Err : goal.returns-in-Err

@@ -1,6 +1,6 @@
 use Rattle.std.proofs.Common.{map, drop}
 use Rattle.wc_model.specs.Language.Views.{unit_view}
-use Rattle.wc_declare.specs.StandsFor.{AreTables}
+use Rattle.wc_names.specs.StandsFor.{AreTables}
 use Rattle.wc_verify.proofs.BodyUnits.{UnitsLeft}
 use Rattle.wc_verify.proofs.verifying.judge_units.Given as goal
 

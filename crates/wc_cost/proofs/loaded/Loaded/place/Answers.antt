@@ -1,6 +1,6 @@
 use Rattle.std.proofs.Common.{◌≡◌, ◌-◌, length, option_map, sym, subst, ap, ◌∙◌, rules}
-use Rattle.wc_declare.specs.Numbered.{IsUnit}
-use Rattle.wc_declare.specs.StandsFor.{AreTables}
+use Rattle.wc_names.specs.Numbered.{IsUnit}
+use Rattle.wc_names.specs.StandsFor.{AreTables}
 use Rattle.wc_model.specs.Language.Frames.{number_of_path}
 use Rattle.wc_model.specs.Language.Scopes.{Scope}
 use Rattle.wc_model.specs.Language.Views.{text_view}

@@ -1,8 +1,0 @@
-use Rattle.std.proofs.Common.{ap, ◌∙◌}
-use Rattle.wc_model.specs.Language.DeclarationRules.{is_among}
-use Rattle.wc_model.specs.Language.Names.{name_of}
-use Rattle.wc_declare.proofs.KeyNames.{keys_any}
-use Rattle.wc_declare.proofs.names.Names.contains.Goals as goal
-
-pub returns : goal.returns
-returns c = c.contains.ensures ∙ keys_any (record { text = c.args.name }) c.self.inside.keys.keys ∙ ap (λ names. is_among names (name_of c.args.name.now)) c.self.view_is

@@ -1,0 +1,17 @@
+-- What is kept while a text is judged. (No rule of the language.)
+use Rattle.std.specs.Prelude.{◌≡◌, List, map, length}
+use Rattle.std.specs.List.{position_from}
+use Rattle.wc_model.specs.Language.DeclarationRules.{is_among, names_block_of}
+use Rattle.wc_model.specs.Language.Declarations.{same_name}
+use Rattle.wc_model.specs.Language.Names.{Name}
+use Rattle.wc_model.specs.Language.Tree.{ProgramUnit, Text}
+use Rattle.wc_names.specs.StandsFor.{AreUnits, number_named}
+use Rattle.wc_declare.specs.declared.units.Units.{Units}
+
+-- the names of all blocks of the text, and the units so far
+pub record AreUnitsOf (text : Text) (before : List ProgramUnit) (units : Units) : Type 0 where
+  pub blocks : (name : Name) → is_among units.blocks name ≡ names_block_of text name
+  pub numbers : (name : Name) → position_from (λ n. same_name n name) 0 units.names ≡ number_named before name
+  pub among : (name : Name) → is_among units.names name ≡ is_among (map (λ u. u.name.name) before) name
+  pub counted : length units.names ≡ length before
+  pub tables : AreUnits before units.tables.items

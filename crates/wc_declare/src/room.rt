@@ -1,0 +1,88 @@
+ghost use Rattle.std.specs.Prelude.{◌≡◌, ◌+◌, ◌≤◌, [], ◌∷◌, ◌++◌, List, None, OnOk, IfSome, IsOkUnless, is_some, length, nat_le, ◌&&◌, map};
+ghost use Rattle.wc_model.specs.Language.Checks.{Check, asks, first_broken};
+ghost use Rattle.wc_model.specs.Language.DeclarationRules.{Taken, and_more, has_room};
+ghost use Rattle.wc_model.specs.Language.Judging.{Judges};
+ghost use Rattle.wc_names.specs.Numbered.{plain_of_field};
+ghost use Rattle.wc_declare.specs.Rows.{HasTaken, plain_of};
+
+use crate::word::refused;
+use wc_model::{Fault, Place, Word};
+use wc_names::{DeclaredType, Field, UnitTable, Variable};
+
+/// How many variables a unit may have.
+const MOST_VARIABLES: usize = 256;
+
+/// How many places a frame may have.
+const MOST_PLACES: u32 = 4096;
+
+/// Where the places end once a variable is added to so many of so many places, if there is room.
+fn room(variables: usize, size: u16, width: u16) -> Option<u16>
+    ensures room { is_some result ≡ (nat_le (variables + 1) 256 && nat_le (size + width) 4096) }
+    ensures end { IfSome result (λ end. end ≡ size + width) }
+    ensures small { IfSome result (λ end. end ≤ 4096) }
+{
+    let end = u32::from(size) + u32::from(width);
+    if variables >= MOST_VARIABLES || end > MOST_PLACES {
+        return None;
+    }
+    Some(end as u16)
+}
+
+/// Adds a variable to the plain ones where it is one.
+fn push_field<'a>(
+    fields: &mut Vec<Field<'a>>,
+    word: Word<'a>,
+    variable: Variable,
+) -> Result<(), Fault>
+    ensures fields { OnOk result
+        (map plain_of_field fields.new.items ≡ map plain_of_field fields.old.items
+        ++ plain_of word.entry variable) }
+    ensures memory { IsOkUnless result Fault.Memory }
+{
+    let DeclaredType::Elementary(kind) = variable.declared else {
+        return Ok(());
+    };
+    let field = Field {
+        name: word.text,
+        section: variable.section,
+        kind,
+        place: Place(variable.first),
+    };
+    match fields.push(field) {
+        Ok(()) => Ok(()),
+        Err(_) => Err(Fault::Memory),
+    }
+}
+
+/// Adds a variable, named already, behind the others: 306 where there is no room.
+pub(crate) fn add_variable<'a>(
+    table: &mut UnitTable<'a>,
+    word: Word<'a>,
+    variable: Variable,
+    width: u16,
+) -> Result<(), Fault>
+    ensures judged { (t : Taken) (rest : List Check) → HasTaken t table.old
+        → Judges
+        (first_broken (asks 306 word.entry.line (has_room (and_more t 1 width)) ∷ rest))
+        (first_broken rest) result }
+    ensures rows { OnOk result (table.new.rows.items ≡ table.old.rows.items ++ variable ∷ []) }
+    ensures fields { OnOk result
+        (map plain_of_field table.new.fields.items ≡ map plain_of_field table.old.fields.items
+        ++ plain_of word.entry variable) }
+    ensures size { OnOk result (table.new.size ≡ table.old.size + width) }
+    ensures small { OnOk result (table.new.size ≤ 4096) }
+    ensures names { OnOk result (table.new.names ≡ table.old.names) }
+    ensures is_block { OnOk result (table.new.is_block ≡ table.old.is_block) }
+{
+    let Some(end) = room(table.rows.len(), table.size, width) else {
+        return Err(refused(306, word.line));
+    };
+    if table.rows.push(variable).is_err() {
+        return Err(Fault::Memory);
+    }
+    if let Err(fault) = push_field(&mut table.fields, word, variable) {
+        return Err(fault);
+    }
+    table.size = end;
+    Ok(())
+}

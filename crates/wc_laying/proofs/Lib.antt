@@ -1,0 +1,10 @@
+pub mod Assigned
+pub mod Calling
+pub mod CallsLaid
+pub mod Going
+pub mod LabelsLaid
+pub mod LayableLines
+pub mod LinesLaid
+pub mod Loading
+pub mod Placed
+pub mod PlacesThere

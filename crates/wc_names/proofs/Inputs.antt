@@ -1,0 +1,168 @@
+-- The inputs of instances, by their places.
+use Rattle.std.proofs.Common.{◌≡◌, ℕ, ◌+◌, Bool, true, false, ◌&&◌, List, [], ◌∷◌, Option, Some, None, cond, is_some, length, option_map, refl, sym, ap, ◌∙◌}
+use Rattle.std.specs.Prelude.{find, if◌then◌else◌, option_and_then}
+use Rattle.std.specs.List.{list_all, position_from}
+use Rattle.wc_model.specs.Language.BodyRules.{input_named}
+use Rattle.wc_model.specs.Language.Declarations.{Member, VariableType, Elementary, Standard, Block, member_named, members_of, same_name, standard_members}
+use Rattle.wc_model.specs.Language.Kinds.{elementary_kind}
+use Rattle.wc_model.specs.Language.Names.{Name}
+use Rattle.wc_model.specs.Language.Scopes.{is_input}
+use Rattle.wc_model.specs.Language.Store.{standard_fields}
+use Rattle.wc_model.specs.Language.Tree.{ProgramUnit}
+use Rattle.wc_model.specs.declared.block.StandardBlock.{StandardBlock}
+use Rattle.wc_model.specs.declared.block.StandardBlock.TheVariants.{RTrig, Sr, Ctu, Ton, Tof}
+use Rattle.wc_model.specs.declared.kind.Kind.{Kind}
+use Rattle.wc_model.specs.declared.source.Section.{Section}
+use Rattle.wc_model.specs.declared.source.Section.TheVariants.{Input, Output, Own}
+use Rattle.wc_names.specs.Members.{kind_numbered, row_member, seen_member}
+use Rattle.wc_names.specs.Numbered.{number_within, numbered_input, numbered_type, stands_in}
+use Rattle.wc_names.specs.StandsFor.{Stands, row_named}
+use Rattle.wc_names.specs.declared.declared_type.DeclaredType.{DeclaredType}
+use Rattle.wc_names.specs.declared.declared_type.DeclaredType.TheVariants as numbered
+use Rattle.wc_names.specs.declared.input.Input.{Input as FoundInput}
+use Rattle.wc_names.specs.declared.member.Member.{Member as Seen}
+use Rattle.wc_names.specs.declared.unit_table.UnitTable.{UnitTable}
+use Rattle.wc_names.specs.declared.variable.Variable.{Variable as Row}
+use Rattle.wc_names.proofs.Entities.{found_name}
+use Rattle.wc_names.proofs.Lookups.{field_of_one, from_row, within_elementary}
+use Rattle.wc_names.proofs.MemberTables.{members_by}
+use Rattle.wc_names.proofs.Places.{TypeCase, of_block, of_elementary, of_standard, type_case}
+
+-- the input among what is found by a name
+abbrev pub as_input : Option Member → Option Member
+as_input o = elim o as (λ x. Option Member) [ Some m ↦ (if is_input m.section then Some m else None) | None ↦ None ]
+
+-- no member is no input
+pub no_member : (before : List ProgramUnit) (type : VariableType) (o : Option Member) → None ≡ option_map seen_member o → None ≡ option_and_then (numbered_input before type) (as_input o)
+no_member before type None e = refl
+no_member before type (Some m) e = cc
+
+pub no_input : (before : List ProgramUnit) (type : VariableType) (o : Option Member) (seen : Seen) → Some seen ≡ option_map seen_member o → is_input seen.section ≡ false → None ≡ option_and_then (numbered_input before type) (as_input o)
+no_input before type None seen e i = cc
+no_input before type (Some m) seen e i =
+    let same : seen ≡ seen_member m = cc in
+    let not_in : is_input m.section ≡ false = sym (ap (λ (s : Seen). is_input s.section) same) ∙ i in
+    sym (ap (λ b. option_and_then (numbered_input before type) (if b then Some m else None)) not_in)
+
+-- an instance is no numbered input
+pub no_kind : (before : List ProgramUnit) (type : VariableType) (o : Option Member) (seen : Seen) → Some seen ≡ option_map seen_member o → is_input seen.section ≡ true → seen.kind ≡ None → None ≡ option_and_then (numbered_input before type) (as_input o)
+no_kind before type None seen e i k = cc
+no_kind before type (Some m) seen e i k =
+    let same : seen ≡ seen_member m = cc in
+    let in_is : is_input m.section ≡ true = sym (ap (λ (s : Seen). is_input s.section) same) ∙ i in
+    let kind : elementary_kind m.type ≡ None = sym (ap (λ (s : Seen). s.kind) same) ∙ k in
+    sym (ap (λ b. option_and_then (numbered_input before type) (if b then Some m else None)) in_is
+    ∙ ap (λ o. option_and_then (λ (x : Kind). option_map (λ n. record { kind = x; place = n }) (number_within before type (m.name ∷ []))) o) kind)
+
+-- an input with its kind and place
+pub input_by : (before : List ProgramUnit) (type : VariableType) (name : Name) (o : Option Member) (seen : Seen) (kind : Kind) (place : Option ℕ) → ((m : Member) → o ≡ Some m → m.name ≡ name) → Some seen ≡ option_map seen_member o →
+    is_input seen.section ≡ true → seen.kind ≡ Some kind → place ≡ number_within before type (name ∷ []) →
+    ◌≡◌ {A = Option FoundInput} (option_map (λ n. record { kind = kind; place = n }) place) (option_and_then (numbered_input before type) (as_input o))
+input_by before type name None seen kind place n e i k p = cc
+input_by before type name (Some m) seen kind place n e i k p =
+    let same : seen ≡ seen_member m = cc in
+    let in_is : is_input m.section ≡ true = sym (ap (λ (s : Seen). is_input s.section) same) ∙ i in
+    let kind_is : elementary_kind m.type ≡ Some kind = sym (ap (λ (s : Seen). s.kind) same) ∙ k in
+    let there : place ≡ number_within before type (m.name ∷ []) = p ∙ ap (λ x. number_within before type (x ∷ [])) (sym (n m refl)) in
+    ap (λ (q : Option ℕ). option_map (λ n. record { kind = kind; place = n }) q) there
+    ∙ sym (ap (λ b. option_and_then (numbered_input before type) (if b then Some m else None)) in_is
+    ∙ ap (λ o. option_and_then (λ (x : Kind). option_map (λ n. record { kind = x; place = n }) (number_within before type (m.name ∷ []))) o) kind_is)
+
+-- a member has the name that it is found by
+pub member_spelled : (ms : List Member) (name : Name) (m : Member) → member_named ms name ≡ Some m → m.name ≡ name
+member_spelled ms name m e = found_name ms name m e
+
+-- the number of a place within what has no member
+pub within_plain : (before : List ProgramUnit) (type : VariableType) (kind : Kind) (name : Name) → numbered_type before type ≡ Some (numbered.Elementary kind) → None ≡ number_within before type (name ∷ [])
+within_plain before type kind name e = by (type_case before (Some type) (numbered.Elementary kind) e)
+  where
+    by : TypeCase before (Some type) (numbered.Elementary kind) → None ≡ number_within before type (name ∷ [])
+    by (of_elementary k t d) = let same : Elementary k ≡ type = cc in ap (λ x. number_within before x (name ∷ [])) same
+    by (of_standard b t d) = cc
+    by (of_block n u us t f d) = cc
+
+-- and among the fields of a standard block
+pub within_fields : (before : List ProgramUnit) (type : VariableType) (block : StandardBlock) (name : Name) → numbered_type before type ≡ Some (numbered.Standard block) →
+    position_from (λ f. same_name f.0 name) 0 (standard_fields block) ≡ number_within before type (name ∷ [])
+within_fields before type block name e = by (type_case before (Some type) (numbered.Standard block) e)
+  where
+    by : TypeCase before (Some type) (numbered.Standard block) → position_from (λ f. same_name f.0 name) 0 (standard_fields block) ≡ number_within before type (name ∷ [])
+    by (of_elementary k t d) = cc
+    by (of_standard b t d) =
+        let one : block ≡ b = cc in
+        let same : Standard block ≡ type = ap Standard one ∙ (cc) in
+        field_of_one (standard_fields block) name ∙ ap (λ x. number_within before x (name ∷ [])) same
+    by (of_block n u us t f d) = cc
+
+-- the inputs of a block of the text are of elementary types
+abbrev made : Kind → ℕ → FoundInput
+made kind n = record { kind = kind; place = n }
+
+numbered_by : (before : List ProgramUnit) (type : VariableType) (m : Member) (kind : Kind) (n : ℕ) → elementary_kind m.type ≡ Some kind → number_within before type (m.name ∷ []) ≡ Some n → is_some (numbered_input before type m) ≡ true
+numbered_by before type m kind n k p =
+    ap (λ o. is_some (option_and_then (λ x. option_map (made x) (number_within before type (m.name ∷ []))) o)) k ∙ ap (λ q. is_some (option_map (made kind) q)) p
+
+plain_input : (section : Section) (declared : DeclaredType) → is_input section ≡ true → stands_in section declared ≡ true → (kind : Kind) × (declared ≡ numbered.Elementary kind)
+plain_input section (numbered.Elementary kind) i s = (kind, refl)
+plain_input Input (numbered.Standard block) i s = cc
+plain_input Output (numbered.Standard block) i s = cc
+plain_input Own (numbered.Standard block) i s = cc
+plain_input Input (numbered.Block number) i s = cc
+plain_input Output (numbered.Block number) i s = cc
+plain_input Own (numbered.Block number) i s = cc
+
+row_there : (o : Option Row) (seen : Seen) → option_map row_member o ≡ Some seen → (row : Row) × (o ≡ Some row) × (row_member row ≡ seen)
+row_there None seen e = cc
+row_there (Some row) seen e = (row, refl, cc)
+
+block_input : (units : List UnitTable) (before : List ProgramUnit) (u : ProgramUnit) (h : Stands units before u) (type : VariableType) (number : ℕ) (name : Name) → numbered_type before type ≡ Some (numbered.Block number) →
+    (m : Member) → member_named (members_of before type) name ≡ Some m → is_input m.section ≡ true → is_some (numbered_input before type m) ≡ true
+block_input units before u h type number name e m found i =
+    let b = members_by units before u h type number name e in
+    let r = row_there (row_named b.stands.table.names b.stands.table.rows.items name) (seen_member m) (b.members ∙ ap (option_map seen_member) found) in
+    let row = r.0 in
+    let section : row.section ≡ m.section = ap (λ (s : Seen). s.section) r.2 in
+    let kind_is : kind_numbered row.declared ≡ elementary_kind m.type = ap (λ (s : Seen). s.kind) r.2 in
+    let f = from_row units b.earlier b.unit b.stands name [] row r.1 in
+    let plain = plain_input row.section row.declared (ap is_input section ∙ i) f.stands in
+    let zero = within_elementary b.earlier f.v plain.0 [] (Some 0) (f.declared ∙ ap Some plain.1) (λ k initial. refl) in
+    let at = sym (b.places (name ∷ [])) ∙ f.at_is ∙ ap (option_map (λ n. row.first + n)) (sym zero) in
+    numbered_by before type m plain.0 (row.first + 0) (sym kind_is ∙ ap kind_numbered plain.1) (ap (λ x. number_within before type (x ∷ [])) (found_name (members_of before type) name m found) ∙ at)
+
+-- and so are those of the standard blocks
+standard_numbered : (before : List ProgramUnit) (block : StandardBlock) → list_all (λ m. is_some (numbered_input before (Standard block) m)) (standard_members block) ≡ true
+standard_numbered before RTrig = refl
+standard_numbered before Sr = refl
+standard_numbered before Ctu = refl
+standard_numbered before Ton = refl
+standard_numbered before Tof = refl
+
+of_all : (q : Member → Bool) (ms : List Member) (name : Name) (m : Member) → list_all q ms ≡ true → member_named ms name ≡ Some m → q m ≡ true
+of_all q [] name m all e = cc
+of_all q (x ∷ ms) name m all e = by (same_name x.name name) (q x) refl all e (of_all q ms name m)
+  where
+    by : (same b : Bool) → q x ≡ b → (b && list_all q ms) ≡ true → cond same (Some x) (find (λ y. same_name y.name name) ms) ≡ Some m → (list_all q ms ≡ true → find (λ y. same_name y.name name) ms ≡ Some m → q m ≡ true) → q m ≡ true
+    by same false s a f rest = cc
+    by true true s a f rest = let one : m ≡ x = cc in ap q one ∙ s
+    by false true s a f rest = rest a f
+
+kept : (f : Member → Option FoundInput) (o : Option Member) → ((m : Member) → o ≡ Some m → is_input m.section ≡ true → is_some (f m) ≡ true) → is_some (option_and_then f (as_input o)) ≡ is_some (as_input o)
+kept f None h = refl
+kept f (Some m) h = by (is_input m.section) (h m refl)
+  where
+    by : (b : Bool) → (b ≡ true → is_some (f m) ≡ true) → is_some (option_and_then f (if b then Some m else None)) ≡ is_some (if b then Some m else None)
+    by true g = g refl
+    by false g = refl
+
+-- each input has a number
+pub inputs_numbered : (units : List UnitTable) (before : List ProgramUnit) (u : ProgramUnit) (h : Stands units before u) (type : VariableType) (declared : DeclaredType) (name : Name) → numbered_type before type ≡ Some declared →
+    is_some (option_and_then (numbered_input before type) (input_named (members_of before type) name)) ≡ is_some (input_named (members_of before type) name)
+inputs_numbered units before u h (Elementary kind) declared name e = refl
+inputs_numbered units before u h (Standard block) declared name e =
+    kept (numbered_input before (Standard block)) (member_named (standard_members block) name) (λ m found i. of_all (λ x. is_some (numbered_input before (Standard block) x)) (standard_members block) name m (standard_numbered before block) found)
+inputs_numbered units before u h (Block b) declared name e = by (type_case before (Some (Block b)) declared e)
+  where
+    by : TypeCase before (Some (Block b)) declared → is_some (option_and_then (numbered_input before (Block b)) (input_named (members_of before (Block b)) name)) ≡ is_some (input_named (members_of before (Block b)) name)
+    by (of_elementary k t d) = cc
+    by (of_standard s t d) = cc
+    by (of_block n unit us t f d) = kept (numbered_input before (Block b)) (member_named (members_of before (Block b)) name) (block_input units before u h (Block b) (length us) name (e ∙ ap Some d))

@@ -1,0 +1,16 @@
+pub mod KeyNames
+pub mod Lists
+pub mod Places
+pub mod Below
+pub mod Addresses
+pub mod Positions
+pub mod Frames
+pub mod Lookups
+pub mod ScopeTables
+pub mod Spread
+pub mod FirstSlots
+pub mod OwnNumbers
+pub mod MemberTables
+pub mod Entities
+pub mod Inputs
+pub mod PlainVariables

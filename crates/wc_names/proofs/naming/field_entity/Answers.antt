@@ -1,0 +1,44 @@
+use Rattle.std.proofs.Common.{◌≡◌, [], ◌∷◌, Option, Some, None, option_map, refl, ap, sym, ◌∙◌}
+use Rattle.std.specs.Prelude.{option_and_then, slice_get}
+use Rattle.wc_model.specs.Language.Names.{name_of}
+use Rattle.wc_model.specs.Language.Scopes.{Scope, type_of}
+use Rattle.wc_names.specs.Numbered.{numbered_type}
+use Rattle.wc_names.specs.declared.entity.Entity.{Entity}
+use Rattle.wc_names.proofs.Lookups.{from_row, named_rows, none_named, type_at_found, type_not_found}
+use Rattle.wc_names.proofs.ScopeTables.{frame_path}
+use Rattle.wc_model.specs.Language.Declarations.{VariableType}
+use Rattle.wc_names.specs.declared.declared_type.DeclaredType.{DeclaredType}
+use Rattle.wc_names.proofs.Entities.{field_named, no_field_named, no_instance}
+use Rattle.wc_names.proofs.naming.field_entity.Goals as goal
+
+-- a type that has a number
+known : (scope : Scope) (o : Option VariableType) (declared : DeclaredType) → option_and_then (numbered_type scope.before) o ≡ Some declared → (type : VariableType) × (o ≡ Some type) × (numbered_type scope.before type ≡ Some declared)
+known scope None declared e = cc
+known scope (Some type) declared e = (type, refl, e)
+
+pub returns-in_default : goal.returns-in_default
+returns-in_default c = λ scope h e.
+    let name = name_of c.args.instance.now in
+    let there = ap (slice_get c.args.units.now) e ∙ h.there in
+    no_instance scope name (name_of c.args.field.now) (type_not_found scope name (none_named c.args.units.now scope.before scope.unit h name (sym (c.row.ensures h.table there (named_rows c.args.units.now scope.before scope.unit h)) ∙ c.in_default.is)))
+
+pub returns-in-Some-member_of : goal.returns-in-Some-member_of
+returns-in-Some-member_of c = λ scope h e.
+    let name = name_of c.args.instance.now in
+    let field = name_of c.args.field.now in
+    let there = ap (slice_get c.args.units.now) e ∙ h.there in
+    let f = from_row c.args.units.now scope.before scope.unit h name [] c.in-Some.row (sym (c.row.ensures h.table there (named_rows c.args.units.now scope.before scope.unit h)) ∙ c.in-Some.is) in
+    let k = known scope (type_of scope name) c.in-Some.row.declared (ap (option_and_then (numbered_type scope.before)) (type_at_found scope name f.v f.named) ∙ f.declared) in
+    let seen = c.in-Some-member_of.member in
+    let place = c.place_at.ensures.place ∙ ap (option_map (λ n. record { 0 = n })) (c.number.ensures scope.before scope.unit h e ∙ sym (frame_path scope (name ∷ field ∷ []))) in
+    let found : Entity = record { kind = seen.kind; readable = c.is_result.result; writable = c.is_input.result; place = c.place_at.result } in
+    (λ i. Some (record found { readable = c.is_result.ensures i; writable = c.is_input.ensures i; place = place i }))
+    ∙ field_named scope name field k.0 seen k.1 (sym c.in-Some-member_of.is ∙ c.member_of.ensures scope.before scope.unit k.0 h k.2)
+
+pub returns-in-None : goal.returns-in-None
+returns-in-None c = λ scope h e.
+    let name = name_of c.args.instance.now in
+    let there = ap (slice_get c.args.units.now) e ∙ h.there in
+    let f = from_row c.args.units.now scope.before scope.unit h name [] c.in-Some.row (sym (c.row.ensures h.table there (named_rows c.args.units.now scope.before scope.unit h)) ∙ c.in-Some.is) in
+    let k = known scope (type_of scope name) c.in-Some.row.declared (ap (option_and_then (numbered_type scope.before)) (type_at_found scope name f.v f.named) ∙ f.declared) in
+    no_field_named scope name (name_of c.args.field.now) k.0 k.1 (sym c.in-None.is ∙ c.member_of.ensures scope.before scope.unit k.0 h k.2)

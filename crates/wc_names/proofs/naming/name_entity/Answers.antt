@@ -1,0 +1,23 @@
+use Rattle.std.proofs.Common.{[], ◌∷◌, Some, true, not, option_map, ap, sym, ◌∙◌}
+use Rattle.std.specs.Prelude.{slice_get}
+use Rattle.wc_model.specs.Language.Names.{name_of}
+use Rattle.wc_names.specs.declared.entity.Entity.{Entity}
+use Rattle.wc_names.proofs.Lookups.{from_row, named_rows, none_named}
+use Rattle.wc_names.proofs.ScopeTables.{frame_path}
+use Rattle.wc_names.proofs.Entities.{name_named, no_name_named}
+use Rattle.wc_names.proofs.naming.name_entity.Goals as goal
+
+pub returns-in-Some : goal.returns-in-Some
+returns-in-Some c = λ scope h e.
+    let name = name_of c.args.name.now in
+    let there = ap (slice_get c.args.units.now) e ∙ h.there in
+    let f = from_row c.args.units.now scope.before scope.unit h name [] c.in-Some.row (sym (c.row.ensures h.table there (named_rows c.args.units.now scope.before scope.unit h)) ∙ c.in-Some.is) in
+    let place = c.place_at.ensures.place ∙ ap (option_map (λ n. record { 0 = n })) (c.number.ensures scope.before scope.unit h e ∙ sym (frame_path scope (name ∷ []))) in
+    let found : Entity = record { kind = c.kind_of.result; readable = true; writable = not c.is_input.result; place = c.place_at.result } in
+    (λ i. Some (record found { kind = c.kind_of.ensures i; writable = not (c.is_input.ensures i); place = place i })) ∙ name_named scope name f.v c.in-Some.row f.named f.declared f.section f.spelled
+
+pub returns-in-None : goal.returns-in-None
+returns-in-None c = λ scope h e.
+    let name = name_of c.args.name.now in
+    let there = ap (slice_get c.args.units.now) e ∙ h.there in
+    no_name_named scope name (none_named c.args.units.now scope.before scope.unit h name (sym (c.row.ensures h.table there (named_rows c.args.units.now scope.before scope.unit h)) ∙ c.in-None.is))

@@ -1,0 +1,63 @@
+-- Units and types by their numbers, and what names stand for by numbers. (No rule of the language.)
+use Rattle.std.specs.Prelude.{◌≡◌, ℕ, Bool, true, ◌+◌, List, [], ◌∷◌, Option, Some, None, option_map, option_and_then, slice_get, length}
+use Rattle.std.specs.List.{position_from}
+use Rattle.wc_model.specs.Language.DeclarationRules.{is_own}
+use Rattle.wc_model.specs.Language.Declarations.{Member, VariableType, Elementary, Standard, Block, block_named}
+use Rattle.wc_model.specs.Language.Frames.{PlainVariable, frame_of, place_number, scopes_of}
+use Rattle.wc_model.specs.Language.Kinds.{elementary_kind}
+use Rattle.wc_model.specs.Language.Names.{Name, name_of}
+use Rattle.wc_model.specs.Language.Scopes.{Scope, Entity}
+use Rattle.wc_model.specs.Language.Store.{Path, block_places, same_path, variable_places}
+use Rattle.wc_model.specs.Language.Tree.{ProgramUnit, Text}
+use Rattle.wc_model.specs.declared.source.Section.{Section}
+use Rattle.wc_names.specs.declared.declared_type.DeclaredType.{DeclaredType}
+use Rattle.wc_names.specs.declared.declared_type.DeclaredType.TheVariants as numbered
+use Rattle.wc_names.specs.declared.entity.Entity.{Entity as FoundEntity}
+use Rattle.wc_names.specs.declared.field.Field.{Field}
+use Rattle.wc_names.specs.declared.input.Input.{Input}
+
+-- the unit of that number in the text, in text order from 0, with those before it
+abbrev pub IsUnit : Text → ℕ → Scope → Type 0
+IsUnit text unit scope = slice_get (scopes_of text) unit ≡ Some scope
+
+-- the text has no unit of that number
+abbrev pub IsNoUnit : Text → ℕ → Type 0
+IsNoUnit text unit = slice_get (scopes_of text) unit ≡ None
+
+-- a type by the number of its block: how many units stand before the block
+abbrev pub numbered_type : List ProgramUnit → VariableType → Option DeclaredType
+numbered_type before (Elementary kind) = Some (numbered.Elementary kind)
+numbered_type before (Standard block) = Some (numbered.Standard block)
+numbered_type before (Block name) = option_map (λ found. numbered.Block (length found.1)) (block_named before name)
+
+-- a variable of the type may stand in the section
+abbrev pub stands_in : Section → DeclaredType → Bool
+stands_in section (numbered.Elementary kind) = true
+stands_in section (numbered.Standard block) = is_own section
+stands_in section (numbered.Block number) = is_own section
+
+-- the number of a place among those of an instance of a type
+abbrev pub number_within : List ProgramUnit → VariableType → List Name → Option ℕ
+number_within before type names = position_from (λ entry. same_path entry.0 names) 0 (variable_places (block_places before) (Some type) None)
+
+-- an input by its kind, and by the number of its place among those of an instance of the type
+abbrev pub numbered_input : List ProgramUnit → VariableType → Member → Option Input
+numbered_input before type m = option_and_then (λ kind. option_map (λ n. record { kind = kind; place = n }) (number_within before type (m.name ∷ []))) (elementary_kind m.type)
+
+-- what a term names, by the number of its place in the unit's frame; an instance has no kind and no place
+abbrev pub numbered_entity : Scope → Entity → FoundEntity
+numbered_entity scope e = record {
+  kind = elementary_kind e.type;
+  readable = e.readable;
+  writable = e.writable;
+  place = option_map (λ n. record { 0 = n }) (option_and_then (place_number (frame_of scope)) e.place);
+}
+
+-- the places of a variable of this type stand in the unit's frame from this number on, in the order of the type's own
+abbrev pub StandsFrom : Scope → Name → VariableType → ℕ → Type 0
+StandsFrom scope name type first =
+    (names : List Name) → place_number (frame_of scope) (Path (name ∷ names)) ≡ option_map (λ n. first + n) (number_within scope.before type names)
+
+-- a plain variable with its name, section, kind and place
+abbrev pub plain_of_field : Field → PlainVariable
+plain_of_field f = record { name = name_of f.name.now; section = f.section; kind = f.kind; place = Some f.place.0 }

@@ -1,0 +1,174 @@
+ghost use Rattle.std.specs.Prelude.{◌≡◌, ◌+◌, ◌++◌, ◌∷◌, [], List, Option, Some, IfOk, OnOk, IsOkUnless, length, map, option_map, pos, replicate, slice_get};
+ghost use Rattle.wc_model.specs.Language.Frames.{content_number, first_numbers, frame_of, slot_kind_of, slot_kinds};
+ghost use Rattle.wc_model.specs.Language.Store.{first_content, standard_fields, unit_places, zero_of};
+ghost use Rattle.wc_model.specs.Language.Declarations.{is_block};
+ghost use Rattle.wc_model.specs.Language.DirectVariables.{direct_variables, kind_of_direct};
+ghost use Rattle.wc_model.specs.Language.Scopes.{Scope};
+ghost use Rattle.wc_model.specs.Language.Tree.{ProgramUnit};
+ghost use Rattle.wc_model.specs.declared.source.Initial.{Initial};
+ghost use Rattle.wc_soundness.specs.FirstNumbers.{IsFirst};
+ghost use Rattle.wc_soundness.specs.Typing.{slot_of_kind};
+ghost use Rattle.wc_names.specs.Slots.{AreFinished, EachHoldsFirst, HoldsFirst, IsBegun, IsGrown, contents_of};
+ghost use Rattle.wc_names.specs.StandsFor.{Stands};
+
+use crate::declared_type::DeclaredType;
+use crate::frame::{
+    Frame, append, first_number, no_slots, push, push_direct, push_standard, slot_of,
+};
+use crate::unit_table::UnitTable;
+use std::alloc::Global;
+use wc_model::Fault;
+
+/// Adds the slots of an instance of a unit before, of which they are finished.
+fn push_finished(frame: &mut Frame, finished: &[Frame], unit: usize) -> Result<(), Fault>
+    ensures kinds { OnOk result
+        ((more : Frame) → slice_get finished.now unit ≡ Some more
+        → frame.new.kinds.items ≡ frame.old.kinds.items ++ more.kinds.items) }
+    ensures initials { OnOk result
+        ((more : Frame) → slice_get finished.now unit ≡ Some more
+        → frame.new.initials.items ≡ frame.old.initials.items ++ more.initials.items) }
+    ensures first { OnOk result
+        (EachHoldsFirst finished.now → HoldsFirst frame.old → HoldsFirst frame.new) }
+    ensures memory { IsOkUnless result Fault.Memory }
+{
+    match finished.get(unit) {
+        Some(more) => append(frame, more),
+        None => Ok(()),
+    }
+}
+
+/// Adds the slots of a unit's variables. It goes over each variable once: the slots of instances are finished.
+fn push_unit<'a>(
+    frame: &mut Frame,
+    finished: &[Frame],
+    units: &[UnitTable<'a>],
+    unit: usize,
+) -> Result<(), Fault>
+    ensures grown { (before : List ProgramUnit) (u : ProgramUnit) → Stands units.now before u
+        → unit ≡ length before → AreFinished units.now unit finished.now
+        → OnOk result (IsGrown frame.old frame.new (contents_of (unit_places before u))) }
+    ensures first { OnOk result
+        (EachHoldsFirst finished.now → HoldsFirst frame.old → HoldsFirst frame.new) }
+    ensures memory { IsOkUnless result Fault.Memory }
+{
+    let Some(table) = units.get(unit) else {
+        return Ok(());
+    };
+    for row in &table.rows {
+        match row.declared {
+            DeclaredType::Elementary(kind) => {
+                if let Err(fault) = push(frame, slot_of(kind), first_number(kind, row.initial)) {
+                    return Err(fault);
+                }
+            }
+            DeclaredType::Standard(block) => {
+                if let Err(fault) = push_standard(frame, block) {
+                    return Err(fault);
+                }
+            }
+            DeclaredType::Block(block) => {
+                if let Err(fault) = push_finished(frame, finished, block) {
+                    return Err(fault);
+                }
+            }
+        }
+    }
+    Ok(())
+}
+
+/// Finishes the slots of an instance of the unit behind those that are finished.
+fn finish<'a>(
+    alloc: Global,
+    finished: &mut Vec<Frame>,
+    units: &[UnitTable<'a>],
+    unit: usize,
+) -> Result<(), Fault>
+    ensures finished { OnOk result
+        (AreFinished units.now unit finished.old.items
+        → AreFinished units.now (unit + 1) finished.new.items) }
+    ensures first { OnOk result
+        (EachHoldsFirst finished.old.items → EachHoldsFirst finished.new.items) }
+    ensures memory { IsOkUnless result Fault.Memory }
+{
+    let mut frame = no_slots(alloc);
+    if let Err(fault) = push_unit(&mut frame, finished, units, unit) {
+        return Err(fault);
+    }
+    if let Err(_) = finished.push(frame) {
+        return Err(Fault::Memory);
+    }
+    Ok(())
+}
+
+/// The slots of an instance of each unit before one. Each unit's are put together once, from those of the units
+/// before it, so that the work is that of all units' variables and places, however instances stand in one another.
+fn finish_before<'a>(
+    alloc: Global,
+    units: &[UnitTable<'a>],
+    unit: usize,
+) -> Result<Vec<Frame>, Fault>
+    ensures finished { IfOk result (λ frames. AreFinished units.now unit frames.items) }
+    ensures first { IfOk result (λ frames. EachHoldsFirst frames.items) }
+    ensures memory { IsOkUnless result Fault.Memory }
+{
+    let mut finished = Vec::new(alloc);
+    for number in 0..unit {
+        if let Err(fault) = finish(alloc, &mut finished, units, number) {
+            return Err(fault);
+        }
+    }
+    Ok(finished)
+}
+
+/// The slots that stand before those of a unit's variables.
+fn begun(alloc: Global, is_block: bool) -> Result<Frame, Fault>
+    ensures begins { IfOk result (IsBegun is_block) }
+    ensures first { IfOk result HoldsFirst }
+    ensures memory { IsOkUnless result Fault.Memory }
+{
+    let mut frame = no_slots(alloc);
+    if is_block {
+        return Ok(frame);
+    }
+    match push_direct(&mut frame) {
+        Ok(()) => Ok(frame),
+        Err(fault) => Err(fault),
+    }
+}
+
+/// Whether a unit is a function block.
+fn is_function_block<'a>(units: &[UnitTable<'a>], unit: usize) -> bool
+    ensures { (before : List ProgramUnit) (u : ProgramUnit) → Stands units.now before u
+        → unit ≡ length before
+        → result ≡ is_block u }
+{
+    match units.get(unit) {
+        Some(table) => table.is_block,
+        None => true,
+    }
+}
+
+/// The slots of a unit's frame: a program's begins with the directly represented variables.
+pub(crate) fn slots<'a>(alloc: Global, units: &[UnitTable<'a>], unit: usize) -> Result<Frame, Fault>
+    ensures kinds { (scope : Scope) → Stands units.now scope.before scope.unit
+        → unit ≡ length scope.before
+        → IfOk result (λ frame. frame.kinds.items ≡ slot_kinds (frame_of scope)) }
+    ensures initials { (scope : Scope) → Stands units.now scope.before scope.unit
+        → unit ≡ length scope.before
+        → IfOk result (λ frame. frame.initials.items ≡ first_numbers (frame_of scope)) }
+    ensures first { IfOk result HoldsFirst }
+    ensures memory { IsOkUnless result Fault.Memory }
+{
+    let finished = match finish_before(alloc, units, unit) {
+        Ok(finished) => finished,
+        Err(fault) => return Err(fault),
+    };
+    let mut frame = match begun(alloc, is_function_block(units, unit)) {
+        Ok(frame) => frame,
+        Err(fault) => return Err(fault),
+    };
+    match push_unit(&mut frame, &finished, units, unit) {
+        Ok(()) => Ok(frame),
+        Err(fault) => Err(fault),
+    }
+}

@@ -1,0 +1,188 @@
+ghost use Rattle.std.specs.Prelude.{◌≡◌, ◌+◌, ◌++◌, ◌∷◌, [], List, Option, Some, IfOk, OnOk, IsOkUnless, length, map, option_map, pos, replicate, slice_get};
+ghost use Rattle.wc_model.specs.Language.Frames.{content_number, first_numbers, frame_of, slot_kind_of, slot_kinds};
+ghost use Rattle.wc_model.specs.Language.Store.{first_content, standard_fields, unit_places, zero_of};
+ghost use Rattle.wc_model.specs.Language.Declarations.{is_block};
+ghost use Rattle.wc_model.specs.Language.DirectVariables.{direct_variables, kind_of_direct};
+ghost use Rattle.wc_model.specs.Language.Scopes.{Scope};
+ghost use Rattle.wc_model.specs.Language.Tree.{ProgramUnit};
+ghost use Rattle.wc_model.specs.declared.source.Initial.{Initial};
+ghost use Rattle.wc_soundness.specs.FirstNumbers.{IsFirst};
+ghost use Rattle.wc_soundness.specs.Typing.{slot_of_kind};
+ghost use Rattle.wc_names.specs.Slots.{AreFinished, EachHoldsFirst, HoldsFirst, IsBegun, IsGrown, contents_of};
+ghost use Rattle.wc_names.specs.StandsFor.{Stands};
+
+use std::alloc::Global;
+use wc_model::{Fault, Kind, SlotKind, StandardBlock, Value};
+
+/// The slots of a unit's frame, in the order of its places.
+#[derive(Drop)]
+pub struct Frame {
+    /// The kind of each.
+    pub kinds: Vec<SlotKind>,
+    /// The number that it holds at first: BOOL is 0 or 1, TIME is milliseconds.
+    pub initials: Vec<i64>,
+}
+
+/// Adds a slot that holds a number at first.
+pub(crate) fn push(frame: &mut Frame, kind: SlotKind, number: i64) -> Result<(), Fault>
+    ensures kinds { OnOk result
+        (frame.new.kinds.items ≡ frame.old.kinds.items ++ kind ∷ []) }
+    ensures initials { OnOk result
+        (frame.new.initials.items ≡ frame.old.initials.items ++ number ∷ []) }
+    ensures first { OnOk result
+        (IsFirst kind number → HoldsFirst frame.old → HoldsFirst frame.new) }
+    ensures memory { IsOkUnless result Fault.Memory }
+{
+    if frame.kinds.push(kind).is_err() {
+        return Err(Fault::Memory);
+    }
+    if frame.initials.push(number).is_err() {
+        return Err(Fault::Memory);
+    }
+    Ok(())
+}
+
+/// Adds slots of these kinds that hold 0 at first.
+fn push_zeros(frame: &mut Frame, kinds: &[SlotKind]) -> Result<(), Fault>
+    ensures kinds { OnOk result
+        (frame.new.kinds.items ≡ frame.old.kinds.items ++ kinds.now) }
+    ensures initials { OnOk result
+        (frame.new.initials.items
+        ≡ frame.old.initials.items ++ replicate (length kinds.now) (pos 0)) }
+    ensures first { OnOk result (HoldsFirst frame.old → HoldsFirst frame.new) }
+    ensures memory { IsOkUnless result Fault.Memory }
+{
+    for kind in kinds {
+        if let Err(fault) = push(frame, *kind, 0) {
+            return Err(fault);
+        }
+    }
+    Ok(())
+}
+
+/// The kind of the slot of a variable of this kind.
+pub(crate) fn slot_of(kind: Kind) -> SlotKind
+    ensures content { (initial : Option Initial)
+        → result ≡ slot_kind_of (first_content kind initial) }
+    ensures kind { result ≡ slot_of_kind kind }
+{
+    match kind {
+        Kind::Bool => SlotKind::Bool,
+        Kind::Dint => SlotKind::Dint,
+        Kind::Time => SlotKind::Time,
+    }
+}
+
+/// What a variable of this kind holds at first, with a literal or without.
+pub(crate) fn first_number(kind: Kind, literal: Option<Value>) -> i64
+    ensures content { (initial : Option Initial) → literal ≡ option_map (λ i. i.value) initial
+        → result ≡ content_number (first_content kind initial) }
+    ensures first { IsFirst (slot_of_kind kind) result }
+{
+    match (kind, literal) {
+        (Kind::Bool, Some(Value::Bool(true))) => 1,
+        (Kind::Bool, Some(Value::Dint(1))) => 1,
+        (Kind::Dint, Some(Value::Dint(number))) => i64::from(number),
+        (Kind::Time, Some(Value::Time(time))) => i64::from(time),
+        _ => 0,
+    }
+}
+
+/// Adds the slots of an instance of a standard function block.
+pub(crate) fn push_standard(frame: &mut Frame, block: StandardBlock) -> Result<(), Fault>
+    ensures grown { OnOk result
+        (IsGrown frame.old frame.new (map (λ f. f.1) (standard_fields block))) }
+    ensures first { OnOk result (HoldsFirst frame.old → HoldsFirst frame.new) }
+    ensures memory { IsOkUnless result Fault.Memory }
+{
+    match block {
+        StandardBlock::RTrig => push_zeros(frame, &[SlotKind::Bool; 3]),
+        StandardBlock::Sr => push_zeros(frame, &[SlotKind::Bool; 3]),
+        StandardBlock::Ctu => push_zeros(
+            frame,
+            &[
+                SlotKind::Bool,
+                SlotKind::Bool,
+                SlotKind::Dint,
+                SlotKind::Bool,
+                SlotKind::Dint,
+                SlotKind::Bool,
+            ],
+        ),
+        StandardBlock::Ton => push_zeros(
+            frame,
+            &[
+                SlotKind::Bool,
+                SlotKind::Time,
+                SlotKind::Bool,
+                SlotKind::Time,
+                SlotKind::Bool,
+                SlotKind::Moment,
+            ],
+        ),
+        StandardBlock::Tof => push_zeros(
+            frame,
+            &[
+                SlotKind::Bool,
+                SlotKind::Time,
+                SlotKind::Bool,
+                SlotKind::Time,
+                SlotKind::Phase,
+                SlotKind::Moment,
+            ],
+        ),
+    }
+}
+
+/// Adds the slots of another frame.
+pub(crate) fn append(frame: &mut Frame, more: &Frame) -> Result<(), Fault>
+    ensures kinds { OnOk result
+        (frame.new.kinds.items ≡ frame.old.kinds.items ++ more.now.kinds.items) }
+    ensures initials { OnOk result
+        (frame.new.initials.items ≡ frame.old.initials.items ++ more.now.initials.items) }
+    ensures first { OnOk result
+        (HoldsFirst more.now → HoldsFirst frame.old → HoldsFirst frame.new) }
+    ensures memory { IsOkUnless result Fault.Memory }
+{
+    if frame.kinds.extend_from_slice(&more.kinds).is_err() {
+        return Err(Fault::Memory);
+    }
+    if frame.initials.extend_from_slice(&more.initials).is_err() {
+        return Err(Fault::Memory);
+    }
+    Ok(())
+}
+
+/// No slots.
+pub(crate) fn no_slots(alloc: Global) -> Frame
+    ensures kinds { result.kinds.items ≡ [] }
+    ensures initials { result.initials.items ≡ [] }
+    ensures first { HoldsFirst result }
+{
+    Frame {
+        kinds: Vec::new(alloc),
+        initials: Vec::new(alloc),
+    }
+}
+
+/// Adds the slots of the directly represented variables.
+pub(crate) fn push_direct(frame: &mut Frame) -> Result<(), Fault>
+    ensures grown { OnOk result
+        (IsGrown frame.old frame.new (map (λ v. zero_of (kind_of_direct v)) direct_variables)) }
+    ensures first { OnOk result (HoldsFirst frame.old → HoldsFirst frame.new) }
+    ensures memory { IsOkUnless result Fault.Memory }
+{
+    if let Err(fault) = push_zeros(frame, &[SlotKind::Bool; 22]) {
+        return Err(fault);
+    }
+    if let Err(fault) = push_zeros(frame, &[SlotKind::Dint; 3]) {
+        return Err(fault);
+    }
+    if let Err(fault) = push_zeros(frame, &[SlotKind::Bool; 16]) {
+        return Err(fault);
+    }
+    if let Err(fault) = push_zeros(frame, &[SlotKind::Dint; 4]) {
+        return Err(fault);
+    }
+    Ok(())
+}

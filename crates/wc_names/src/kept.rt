@@ -1,0 +1,158 @@
+ghost use Rattle.std.specs.Prelude.{◌≡◌, ◌≤◌, ℕ, None, Some, IfOk, IfSome, IsOkUnless, is_some, length, map, option_and_then, option_map};
+ghost use Rattle.wc_model.specs.Language.BodyRules.{input_named};
+ghost use Rattle.wc_model.specs.Language.Declarations.{VariableType, members_of};
+ghost use Rattle.wc_model.specs.Language.Frames.{first_numbers, frame_of, location_of, number_of_path, place_number, plain_variables, slot_kinds};
+ghost use Rattle.wc_model.specs.Language.Names.{name_of};
+ghost use Rattle.wc_model.specs.Language.Scopes.{Scope, entity_of, type_of};
+ghost use Rattle.wc_model.specs.Language.Store.{Location};
+ghost use Rattle.wc_model.specs.Language.Tree.{Text};
+ghost use Rattle.wc_model.specs.Language.Views.{term_view};
+ghost use Rattle.wc_soundness.specs.FirstNumbers.{AreFirst};
+ghost use Rattle.wc_names.specs.StandsFor.{AreTables, first_number};
+ghost use Rattle.wc_names.specs.Numbered.{IsNoUnit, IsUnit, StandsFrom, numbered_entity, numbered_input, numbered_type, plain_of_field};
+
+use crate::declared_type::DeclaredType;
+use crate::entity::Entity;
+use crate::field::Field;
+use crate::finished::slots;
+use crate::frame::Frame;
+use crate::input::{Input, input_of};
+use crate::located::Located;
+use crate::lookup::{address, number, row};
+use crate::naming::{entity, place_at};
+use crate::unit_table::UnitTable;
+use std::alloc::Global;
+use wc_model::{Fault, Operand, Path, Place};
+
+/// The names of a text with what they stand for. They borrow the text, not its tree.
+#[derive(Drop)]
+pub struct Tables<'a> {
+    units: Vec<UnitTable<'a>>,
+}
+
+impl<'a> Tables<'a> {
+    /// The tables of these units, in text order.
+    pub fn new(units: Vec<UnitTable<'a>>) -> Tables<'a>
+        ensures { result.units ≡ units.entry }
+    {
+        Tables { units }
+    }
+
+    /// The place that a path names in a unit's frame. Fields of standard blocks that texts cannot name go by `m`,
+    /// `run`, `phase` and `start`.
+    pub fn place(&self, unit: usize, path: &Path<'_>) -> Option<Place>
+        ensures number { (text : Text) (scope : Scope) → AreTables self.now text
+            → IsUnit text unit scope
+            → option_map (λ p. p.0) result ≡ number_of_path scope path.now }
+        // No other place has this number: two instances share none.
+        ensures own { (text : Text) (scope : Scope) (other : Location) → AreTables self.now text
+            → IsUnit text unit scope
+            → IfSome result
+            (λ p. place_number (frame_of scope) other ≡ Some p.0
+            → location_of path.now ≡ Some other) }
+    {
+        match path {
+            Path::Address(text) => place_at(address(&self.units, unit, text)),
+            Path::Names(names) => place_at(number(&self.units, unit, names)),
+        }
+    }
+
+    /// What an operand names in the body of a unit.
+    pub fn entity(&self, unit: usize, operand: &Operand<'_>) -> Option<Entity>
+        ensures { (text : Text) (scope : Scope) → AreTables self.now text → IsUnit text unit scope
+            → result
+            ≡ option_map (numbered_entity scope) (entity_of scope (term_view operand.now)) }
+    {
+        entity(&self.units, unit, operand)
+    }
+
+    /// The type of a variable of a unit, and where its places begin in the unit's frame.
+    pub fn variable(&self, unit: usize, name: &[u8]) -> Option<Located>
+        ensures known { (text : Text) (scope : Scope) → AreTables self.now text
+            → IsUnit text unit scope → is_some result ≡ is_some (type_of scope (name_of name.now)) }
+        ensures declared { (text : Text) (scope : Scope) → AreTables self.now text
+            → IsUnit text unit scope
+            → option_map (λ v. v.declared) result
+            ≡ option_and_then (numbered_type scope.before) (type_of scope (name_of name.now)) }
+        ensures stands { (text : Text) (scope : Scope) (type : VariableType)
+            → AreTables self.now text → IsUnit text unit scope
+            → type_of scope (name_of name.now) ≡ Some type
+            → IfSome result (λ v. StandsFrom scope (name_of name.now) type v.first) }
+        ensures begins { (text : Text) (scope : Scope) → AreTables self.now text
+            → IsUnit text unit scope
+            → option_map (λ v. v.first) result ≡ first_number scope (name_of name.now) }
+    {
+        match row(&self.units, unit, name) {
+            Some(row) => Some(Located {
+                declared: row.declared,
+                first: row.first,
+            }),
+            None => None,
+        }
+    }
+
+    /// The input of that name of what has this type, with its kind and its place, counted from the first
+    /// place of an instance. It is `None` for other names: outputs and the block's own variables are none.
+    pub fn input(&self, declared: DeclaredType, name: &[u8]) -> Option<Input>
+        ensures found { (text : Text) (unit : ℕ) (scope : Scope) (type : VariableType)
+            → AreTables self.now text
+            → IsUnit text unit scope
+            → numbered_type scope.before type ≡ Some declared
+            → result ≡ option_and_then (numbered_input scope.before type)
+            (input_named (members_of scope.before type) (name_of name.now)) }
+        ensures known { (text : Text) (unit : ℕ) (scope : Scope) (type : VariableType)
+            → AreTables self.now text
+            → IsUnit text unit scope
+            → numbered_type scope.before type ≡ Some declared
+            → is_some result
+            ≡ is_some (input_named (members_of scope.before type) (name_of name.now)) }
+    {
+        input_of(&self.units, declared, name)
+    }
+
+    /// The plain variables of a unit, in the order of declaration; `None` where there is no such unit.
+    pub fn fields(&self, unit: usize) -> Option<&[Field<'a>]>
+        ensures fields { (text : Text) (scope : Scope)
+            → AreTables self.now text
+            → IsUnit text unit scope
+            → option_map (λ fields. map plain_of_field fields.now) result
+            ≡ Some (plain_variables scope) }
+        ensures no_unit { (text : Text) → AreTables self.now text → IsNoUnit text unit
+            → result ≡ None }
+    {
+        match self.units.get(unit) {
+            Some(table) => Some(table.fields.as_slice()),
+            None => None,
+        }
+    }
+
+    /// How many places a unit's frame has.
+    pub fn size(&self, unit: usize) -> usize
+        ensures { (text : Text) (scope : Scope) → AreTables self.now text → IsUnit text unit scope
+            → result ≡ length (frame_of scope) }
+    {
+        match self.units.get(unit) {
+            Some(table) => usize::from(table.size),
+            None => 0,
+        }
+    }
+
+    /// The slots of a unit's frame, in the order of its places. `Memory` is its only fault.
+    pub fn frame(&self, alloc: Global, unit: usize) -> Result<Frame, Fault>
+        ensures kinds { (text : Text) (scope : Scope) → AreTables self.now text
+            → IsUnit text unit scope
+            → IfOk result (λ frame. frame.kinds.items ≡ slot_kinds (frame_of scope)) }
+        ensures initials { (text : Text) (scope : Scope) → AreTables self.now text
+            → IsUnit text unit scope
+            → IfOk result (λ frame. frame.initials.items ≡ first_numbers (frame_of scope)) }
+        ensures few { (text : Text) (scope : Scope) → AreTables self.now text
+            → IsUnit text unit scope
+            → IfOk result (λ frame. length frame.kinds.items ≤ 4096) }
+        // Each is in the range of its slot's kind, and no timer has begun.
+        ensures first { IfOk result
+            (λ frame. AreFirst frame.kinds.items frame.initials.items) }
+        ensures memory { IsOkUnless result Fault.Memory }
+    {
+        slots(alloc, &self.units, unit)
+    }
+}

@@ -1,0 +1,33 @@
+//! Names of a text and what they stand for, by numbers: the tables of its units, the places of their frames, and what
+//! the slots of a frame hold at first.
+#![tactic(auto)]
+
+mod address;
+mod declared_type;
+mod entity;
+mod field;
+mod finished;
+mod frame;
+mod input;
+mod kept;
+mod key;
+mod located;
+mod lookup;
+mod member;
+mod names;
+mod naming;
+mod unit_table;
+mod variable;
+
+pub use address::variable_at;
+pub use declared_type::DeclaredType;
+pub use entity::Entity;
+pub use field::Field;
+pub use frame::Frame;
+pub use input::Input;
+pub use kept::Tables;
+pub use key::Key;
+pub use located::Located;
+pub use names::Names;
+pub use unit_table::UnitTable;
+pub use variable::Variable;

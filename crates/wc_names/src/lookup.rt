@@ -1,0 +1,249 @@
+ghost use Rattle.std.specs.Prelude.{◌≡◌, ◌<◌, ◌+◌, None, Option, [], ◌∷◌, ℕ, List, Some, map, length, slice_get, option_map, option_and_then};
+ghost use Rattle.std.specs.List.{position_from};
+ghost use Rattle.wc_model.specs.Language.Declarations.{same_name};
+ghost use Rattle.wc_model.specs.Language.DirectVariables.{variable_at};
+ghost use Rattle.wc_model.specs.Language.Frames.{frame_of, place_number};
+ghost use Rattle.wc_model.specs.Language.Names.{Name, name_of};
+ghost use Rattle.wc_model.specs.Language.Scopes.{Scope};
+ghost use Rattle.wc_model.specs.Language.Store.{Content, Direct, first_content, same_path, standard_fields, unit_places};
+ghost use Rattle.wc_model.specs.Language.Tree.{ProgramUnit};
+ghost use Rattle.wc_model.specs.declared.kind.Kind.{Kind};
+ghost use Rattle.wc_model.specs.declared.source.Initial.{Initial};
+ghost use Rattle.wc_names.specs.StandsFor.{Stands, first_place, row_named};
+ghost use Rattle.wc_names.specs.declared.unit_table.UnitTable.{UnitTable as Table};
+
+use crate::address::variable_at;
+use crate::declared_type::DeclaredType;
+use crate::unit_table::UnitTable;
+use crate::variable::Variable;
+use wc_model::{StandardBlock, is_word};
+
+/// The variable of that name of a unit.
+pub(crate) fn row<'a>(units: &[UnitTable<'a>], unit: usize, name: &[u8]) -> Option<Variable>
+    ensures { (table : Table) → slice_get units.now unit ≡ Some table
+        → length table.names ≡ length table.rows.items
+        → result ≡ row_named table.names table.rows.items (name_of name.now) }
+{
+    let Some(table) = units.get(unit) else {
+        return None;
+    };
+    let Some(number) = table.names.number(name) else {
+        return None;
+    };
+    match table.rows.get(number) {
+        Some(row) => Some(*row),
+        None => None,
+    }
+}
+
+/// The number of a field of R_TRIG.
+fn r_trig_field(name: &[u8]) -> Option<u16>
+    ensures { result
+        ≡ position_from (λ f. same_name f.0 (name_of name.now)) 0
+        (standard_fields StandardBlock.RTrig) }
+{
+    if is_word(b"clk", name) {
+        return Some(0);
+    }
+    if is_word(b"q", name) {
+        return Some(1);
+    }
+    if is_word(b"m", name) {
+        return Some(2);
+    }
+    None
+}
+
+/// The number of a field of SR.
+fn sr_field(name: &[u8]) -> Option<u16>
+    ensures { result
+        ≡ position_from (λ f. same_name f.0 (name_of name.now)) 0
+        (standard_fields StandardBlock.Sr) }
+{
+    if is_word(b"s1", name) {
+        return Some(0);
+    }
+    if is_word(b"r", name) {
+        return Some(1);
+    }
+    if is_word(b"q1", name) {
+        return Some(2);
+    }
+    None
+}
+
+/// The number of a field of CTU.
+fn ctu_field(name: &[u8]) -> Option<u16>
+    ensures { result
+        ≡ position_from (λ f. same_name f.0 (name_of name.now)) 0
+        (standard_fields StandardBlock.Ctu) }
+{
+    if is_word(b"cu", name) {
+        return Some(0);
+    }
+    if is_word(b"r", name) {
+        return Some(1);
+    }
+    if is_word(b"pv", name) {
+        return Some(2);
+    }
+    if is_word(b"q", name) {
+        return Some(3);
+    }
+    if is_word(b"cv", name) {
+        return Some(4);
+    }
+    if is_word(b"m", name) {
+        return Some(5);
+    }
+    None
+}
+
+/// The number of a field of TON.
+fn ton_field(name: &[u8]) -> Option<u16>
+    ensures { result
+        ≡ position_from (λ f. same_name f.0 (name_of name.now)) 0
+        (standard_fields StandardBlock.Ton) }
+{
+    if is_word(b"in", name) {
+        return Some(0);
+    }
+    if is_word(b"pt", name) {
+        return Some(1);
+    }
+    if is_word(b"q", name) {
+        return Some(2);
+    }
+    if is_word(b"et", name) {
+        return Some(3);
+    }
+    if is_word(b"run", name) {
+        return Some(4);
+    }
+    if is_word(b"start", name) {
+        return Some(5);
+    }
+    None
+}
+
+/// The number of a field of TOF.
+fn tof_field(name: &[u8]) -> Option<u16>
+    ensures { result
+        ≡ position_from (λ f. same_name f.0 (name_of name.now)) 0
+        (standard_fields StandardBlock.Tof) }
+{
+    if is_word(b"in", name) {
+        return Some(0);
+    }
+    if is_word(b"pt", name) {
+        return Some(1);
+    }
+    if is_word(b"q", name) {
+        return Some(2);
+    }
+    if is_word(b"et", name) {
+        return Some(3);
+    }
+    if is_word(b"phase", name) {
+        return Some(4);
+    }
+    if is_word(b"start", name) {
+        return Some(5);
+    }
+    None
+}
+
+/// The number of a field of a standard function block.
+pub(crate) fn field_named(block: StandardBlock, name: &[u8]) -> Option<u16>
+    ensures { result
+        ≡ position_from (λ f. same_name f.0 (name_of name.now)) 0 (standard_fields block) }
+{
+    match block {
+        StandardBlock::RTrig => r_trig_field(name),
+        StandardBlock::Sr => sr_field(name),
+        StandardBlock::Ctu => ctu_field(name),
+        StandardBlock::Ton => ton_field(name),
+        StandardBlock::Tof => tof_field(name),
+    }
+}
+
+/// The number of a path's place within a standard function block.
+fn field_at(block: StandardBlock, names: &[&[u8]]) -> Option<u16>
+    ensures { result
+        ≡ position_from
+        (λ (e : List Name × Content). same_path e.0 (map (λ n. name_of n.now) names.now)) 0
+        (map (λ f. (f.0 ∷ [], f.1)) (standard_fields block)) }
+{
+    let Some((name, rest)) = names.split_first() else {
+        return None;
+    };
+    if let Some(_) = rest.split_first() {
+        return None;
+    }
+    field_named(block, name)
+}
+
+/// The number of a path's place within a variable of an elementary type.
+fn plain_at(names: &[&[u8]]) -> Option<u16>
+    ensures { (kind : Kind) (initial : Option Initial)
+        → result
+        ≡ position_from
+        (λ (e : List Name × Content). same_path e.0 (map (λ n. name_of n.now) names.now)) 0
+        (([], first_content kind initial) ∷ []) }
+{
+    if names.is_empty() { Some(0) } else { None }
+}
+
+/// A number behind others.
+fn behind(first: u16, inner: Option<u16>) -> Option<u16>
+    ensures some { (n : ℕ) → inner ≡ Some n → first + n < 65536
+        → result ≡ Some (first + n) }
+    ensures none { inner ≡ None → result ≡ None }
+{
+    match inner {
+        Some(inner) => first.checked_add(inner),
+        None => None,
+    }
+}
+
+/// The number of a path's place in a unit's frame.
+pub(crate) fn number<'a>(units: &[UnitTable<'a>], unit: usize, names: &[&[u8]]) -> Option<u16>
+    ensures { (before : List ProgramUnit) (u : ProgramUnit) → Stands units.now before u
+        → unit ≡ length before
+        → result
+        ≡ position_from
+        (λ (e : List Name × Content). same_path e.0 (map (λ n. name_of n.now) names.now))
+        (first_place u) (unit_places before u) }
+{
+    let Some((name, rest)) = names.split_first() else {
+        return None;
+    };
+    let Some(row) = row(units, unit, name) else {
+        return None;
+    };
+    match row.declared {
+        DeclaredType::Elementary(_) => behind(row.first, plain_at(rest)),
+        DeclaredType::Standard(block) => behind(row.first, field_at(block, rest)),
+        DeclaredType::Block(block) => behind(row.first, number(units, block, rest)),
+    }
+}
+
+/// The number of an address's place in a unit's frame: a function block has none.
+pub(crate) fn address<'a>(units: &[UnitTable<'a>], unit: usize, text: &[u8]) -> Option<u16>
+    ensures { (scope : Scope) → Stands units.now scope.before scope.unit
+        → unit ≡ length scope.before
+        → result
+        ≡ option_and_then (place_number (frame_of scope))
+        (option_map Direct (variable_at (name_of text.now))) }
+{
+    let Some(table) = units.get(unit) else {
+        return None;
+    };
+    if table.is_block {
+        return None;
+    }
+    match variable_at(text) {
+        Some(number) => Some(u16::from(number)),
+        None => None,
+    }
+}

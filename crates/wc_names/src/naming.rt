@@ -1,0 +1,180 @@
+ghost use Rattle.std.specs.Prelude.{◌≡◌, ◌<◌, Some, None, true, false, not, option_map, length};
+ghost use Rattle.wc_model.specs.Language.DirectVariables.{is_output, kind_of_direct};
+ghost use Rattle.wc_model.specs.Language.Names.{name_of};
+ghost use Rattle.wc_model.specs.Language.Scopes.{Scope, entity_of, is_input, is_result, kind_of};
+ghost use Rattle.wc_model.specs.Language.Tree.{Address, Constant, Field, Variable as NameOf};
+ghost use Rattle.wc_model.specs.Language.Views.{term_view, word_view};
+ghost use Rattle.wc_names.specs.Direct.{direct_at};
+ghost use Rattle.wc_names.specs.Numbered.{numbered_entity};
+ghost use Rattle.wc_names.specs.StandsFor.{Stands};
+
+use crate::address::variable_at;
+use crate::entity::Entity;
+use crate::lookup::{address, number, row};
+use crate::member::{kind_of, member_of};
+use crate::unit_table::UnitTable;
+use wc_model::{Kind, Operand, Place, Section, Value, Word};
+
+/// A number as a place.
+pub(crate) fn place_at(number: Option<u16>) -> Option<Place>
+    ensures number { option_map (λ p. p.0) result ≡ number }
+    ensures place { result ≡ option_map (λ n. record { 0 = n }) number }
+{
+    match number {
+        Some(number) => Some(Place(number)),
+        None => None,
+    }
+}
+
+/// The kind of a literal.
+fn kind_of_value(value: Value) -> Kind
+    ensures { result ≡ kind_of value }
+{
+    match value {
+        Value::Bool(_) => Kind::Bool,
+        Value::Dint(_) => Kind::Dint,
+        Value::Time(_) => Kind::Time,
+    }
+}
+
+/// The kind of a directly represented variable.
+fn kind_of_direct(number: u8) -> Kind
+    requires { number < 45 }
+    ensures { result ≡ kind_of_direct (direct_at number) }
+{
+    if number < 16 {
+        Kind::Bool
+    } else if number < 22 {
+        Kind::Bool
+    } else if number < 25 {
+        Kind::Dint
+    } else if number < 41 {
+        Kind::Bool
+    } else {
+        Kind::Dint
+    }
+}
+
+/// Whether a directly represented variable is an output.
+fn is_output(number: u8) -> bool
+    requires { number < 45 }
+    ensures { result ≡ is_output (direct_at number) }
+{
+    if number < 16 {
+        false
+    } else if number < 22 {
+        false
+    } else if number < 25 {
+        false
+    } else if number < 41 {
+        true
+    } else {
+        true
+    }
+}
+
+/// Whether variables of a section are inputs.
+pub(crate) fn is_input(section: Section) -> bool
+    ensures { result ≡ is_input section }
+{
+    match section {
+        Section::Input => true,
+        _ => false,
+    }
+}
+
+/// Whether variables of a section are outputs.
+fn is_result(section: Section) -> bool
+    ensures { result ≡ is_result section }
+{
+    match section {
+        Section::Output => true,
+        _ => false,
+    }
+}
+
+/// What an address names in the body of a unit.
+fn address_entity<'a>(units: &[UnitTable<'a>], unit: usize, word: Word<'_>) -> Option<Entity>
+    ensures { (scope : Scope) → Stands units.now scope.before scope.unit
+        → unit ≡ length scope.before
+        → result
+        ≡ option_map (numbered_entity scope) (entity_of scope (Address (word_view word.entry))) }
+{
+    match variable_at(word.text) {
+        Some(number) => Some(Entity {
+            kind: Some(kind_of_direct(number)),
+            readable: true,
+            writable: is_output(number),
+            place: place_at(address(units, unit, word.text)),
+        }),
+        None => None,
+    }
+}
+
+/// What a name names in the body of a unit.
+fn name_entity<'a>(units: &[UnitTable<'a>], unit: usize, name: &[u8]) -> Option<Entity>
+    ensures { (scope : Scope) → Stands units.now scope.before scope.unit
+        → unit ≡ length scope.before
+        → result
+        ≡ option_map (numbered_entity scope) (entity_of scope (NameOf (name_of name.now))) }
+{
+    match row(units, unit, name) {
+        Some(row) => Some(Entity {
+            kind: kind_of(row.declared),
+            readable: true,
+            writable: !is_input(row.section),
+            place: place_at(number(units, unit, &[name])),
+        }),
+        None => None,
+    }
+}
+
+/// What a field of an instance names in the body of a unit.
+fn field_entity<'a>(
+    units: &[UnitTable<'a>],
+    unit: usize,
+    instance: &[u8],
+    field: &[u8],
+) -> Option<Entity>
+    ensures { (scope : Scope) → Stands units.now scope.before scope.unit
+        → unit ≡ length scope.before
+        → result
+        ≡ option_map (numbered_entity scope)
+        (entity_of scope (Field (name_of instance.now) (name_of field.now))) }
+{
+    let Some(row) = row(units, unit, instance) else {
+        return None;
+    };
+    match member_of(units, row.declared, field) {
+        Some(member) => Some(Entity {
+            kind: member.kind,
+            readable: is_result(member.section),
+            writable: is_input(member.section),
+            place: place_at(number(units, unit, &[instance, field])),
+        }),
+        None => None,
+    }
+}
+
+/// What an operand names in the body of a unit.
+pub(crate) fn entity<'a>(
+    units: &[UnitTable<'a>],
+    unit: usize,
+    operand: &Operand<'_>,
+) -> Option<Entity>
+    ensures { (scope : Scope) → Stands units.now scope.before scope.unit
+        → unit ≡ length scope.before
+        → result ≡ option_map (numbered_entity scope) (entity_of scope (term_view operand.now)) }
+{
+    match operand {
+        Operand::Literal(value) => Some(Entity {
+            kind: Some(kind_of_value(*value)),
+            readable: true,
+            writable: false,
+            place: None,
+        }),
+        Operand::Address(word) => address_entity(units, unit, *word),
+        Operand::Name(text) => name_entity(units, unit, text),
+        Operand::Field { instance, field } => { field_entity(units, unit, instance, field) }
+    }
+}

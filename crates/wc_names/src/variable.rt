@@ -1,0 +1,15 @@
+use crate::declared_type::DeclaredType;
+use wc_model::{Section, Value};
+
+/// A variable of a unit, as its table keeps it.
+#[derive(Clone, Copy, Debug)]
+pub struct Variable {
+    /// The section in which it is declared.
+    pub section: Section,
+    /// Its type.
+    pub declared: DeclaredType,
+    /// Its place in the unit's frame, or the first one of an instance.
+    pub first: u16,
+    /// The literal that it has at first, where one is written.
+    pub initial: Option<Value>,
+}
