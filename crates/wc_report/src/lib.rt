@@ -7,6 +7,4 @@ mod lines;
 mod memory;
 mod numbers;
 
-pub use lines::{
-    answer_line, path_line, put_answer_line, put_scan_line, refused_line, scan_line, unit_line,
-};
+pub use lines::{path_line, put_answer_line, put_scan_line, refused_line, unit_line};

@@ -10,20 +10,9 @@ use crate::numbers::{put_bytes, put_number, spaced_lines};
 use std::alloc::Global;
 use wc_model::{Fault, Outputs, Steps};
 
-/// The line of a scan: `S`, its moment in milliseconds, its steps, the bits of `%QX0` in four hexadecimal digits, and the
-/// words `%QD0` to `%QD3`, with a space between and a line feed at the end. Each value of each type can be written.
-/// `Memory` is the only fault.
-pub fn scan_line(alloc: Global, ms: u64, steps: Steps, outputs: &Outputs) -> Result<Vec<u8>, Fault>
-    ensures text { IfOk result (λ text. text.items ≡ line_text (ScanLine ms steps.0 outputs.now)) }
-    ensures memory { IsOkUnless result Fault.Memory }
-{
-    let mut text = Vec::new(alloc);
-    put_scan_line(&mut text, ms, steps, outputs)?;
-    Ok(text)
-}
-
-/// Puts the line of a scan behind a text, as `scan_line` gives it. No memory is taken where the text has room for it. After
-/// `Memory`, its only fault, a front of the line may stand behind the text.
+/// Puts the line of a scan behind a text: `S`, its moment in milliseconds, its steps, the bits of `%QX0` in four hexadecimal
+/// digits, and the words `%QD0` to `%QD3`, with a space between and a line feed at the end. Each value of each type can be
+/// written. After `Memory`, its only fault, a front of the line may stand behind the text.
 pub fn put_scan_line(
     text: &mut Vec<u8>,
     ms: u64,
@@ -59,19 +48,9 @@ fn scan_backward(ms: u64, steps: Steps, outputs: &Outputs, room: &mut [u8; SCAN_
     backward::put_byte(b'S', room, at)
 }
 
-/// The line of an answer: `L`, the moment of its row in milliseconds, and its bytes, two hexadecimal digits for each, with
-/// a space between and a line feed at the end. An answer of no bytes has no digits. `Memory` is the only fault.
-pub fn answer_line(alloc: Global, ms: u64, bytes: &[u8]) -> Result<Vec<u8>, Fault>
-    ensures text { IfOk result (λ text. text.items ≡ line_text (AnswerLine ms bytes.now)) }
-    ensures memory { IsOkUnless result Fault.Memory }
-{
-    let mut text = Vec::new(alloc);
-    put_answer_line(&mut text, ms, bytes)?;
-    Ok(text)
-}
-
-/// Puts the line of an answer behind a text, as `answer_line` gives it. No memory is taken where the text has room for it.
-/// After `Memory`, its only fault, a front of the line may stand behind the text.
+/// Puts the line of an answer behind a text: `L`, the moment of its row in milliseconds, and its bytes, two hexadecimal
+/// digits for each, with a space between and a line feed at the end. An answer of no bytes has no digits. After `Memory`, its
+/// only fault, a front of the line may stand behind the text.
 pub fn put_answer_line(text: &mut Vec<u8>, ms: u64, bytes: &[u8]) -> Result<(), Fault>
     ensures text { OnOk result
         (text.new.items ≡ text.old.items ++ line_text (AnswerLine ms bytes.now)) }
