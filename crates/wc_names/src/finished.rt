@@ -1,13 +1,9 @@
-ghost use Rattle.std.specs.Prelude.{◌≡◌, ◌+◌, ◌++◌, ◌∷◌, [], List, Option, Some, IfOk, OnOk, IsOkUnless, length, map, option_map, pos, replicate, slice_get};
-ghost use Rattle.wc_model.specs.Language.Frames.{content_number, first_numbers, frame_of, slot_kind_of, slot_kinds};
-ghost use Rattle.wc_model.specs.Language.Store.{first_content, standard_fields, unit_places, zero_of};
+ghost use Rattle.std.specs.Prelude.{◌≡◌, ◌+◌, ◌++◌, List, Some, IfOk, OnOk, IsOkUnless, length, slice_get};
+ghost use Rattle.wc_model.specs.Language.Frames.{first_numbers, frame_of, slot_kinds};
+ghost use Rattle.wc_model.specs.Language.Store.{unit_places};
 ghost use Rattle.wc_model.specs.Language.Declarations.{is_block};
-ghost use Rattle.wc_model.specs.Language.DirectVariables.{direct_variables, kind_of_direct};
 ghost use Rattle.wc_model.specs.Language.Scopes.{Scope};
 ghost use Rattle.wc_model.specs.Language.Tree.{ProgramUnit};
-ghost use Rattle.wc_model.specs.declared.source.Initial.{Initial};
-ghost use Rattle.wc_soundness.specs.FirstNumbers.{IsFirst};
-ghost use Rattle.wc_soundness.specs.Typing.{slot_of_kind};
 ghost use Rattle.wc_names.specs.Slots.{AreFinished, EachHoldsFirst, HoldsFirst, IsBegun, IsGrown, contents_of};
 ghost use Rattle.wc_names.specs.StandsFor.{Stands};
 
