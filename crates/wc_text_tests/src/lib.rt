@@ -1,22 +1,13 @@
-//! Tests of program texts through the public calls: tokens, trees, scans, checks, jobs and messages.
+//! Tests of program texts through the public calls: tokens, trees, and what is said of what is refused. Which texts are refused
+//! is tried on the program.
 #![tactic(auto)]
 
 #[cfg(test)]
-mod bodies;
-#[cfg(test)]
-mod costs;
-#[cfg(test)]
-mod declarations;
-#[cfg(test)]
-mod inputs;
-#[cfg(test)]
-mod jobs;
+mod findings;
 #[cfg(test)]
 mod messages;
 #[cfg(test)]
-mod programs;
-#[cfg(test)]
-mod runs;
+mod rows;
 #[cfg(test)]
 mod short_lines;
 #[cfg(test)]

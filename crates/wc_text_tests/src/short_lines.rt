@@ -1,6 +1,7 @@
 //! Short lines, which the reader takes in place, beside the same behind a label, which it goes over token by token.
 ghost use Rattle.std.specs.Prelude.{◌≤◌};
 
+use std::alloc::Global;
 use wc_model::{Condition, Instr, Operand, Operator, Storing, Value};
 use wc_reader::read;
 
@@ -91,8 +92,8 @@ fn numbers(instr: &Instr<'_>) -> (u8, (u8, i64), u32) {
 }
 
 /// The instruction that stands at that place of the program's body, counted from 0.
-fn instruction_at(rt: HostRuntime, text: &[u8], place: usize) -> (u8, (u8, i64), u32) {
-    let Ok(source) = read(rt.alloc(), text) else {
+fn instruction_at(alloc: Global, text: &[u8], place: usize) -> (u8, (u8, i64), u32) {
+    let Ok(source) = read(alloc, text) else {
         return (1, (0, 0), 0);
     };
     let Some(unit) = source.units.first() else {
@@ -108,8 +109,8 @@ fn instruction_at(rt: HostRuntime, text: &[u8], place: usize) -> (u8, (u8, i64),
 }
 
 /// How many letters and which line the label at that place of the program's body has.
-fn label_at(rt: HostRuntime, text: &[u8], place: usize) -> (usize, u32) {
-    let Ok(source) = read(rt.alloc(), text) else {
+fn label_at(alloc: Global, text: &[u8], place: usize) -> (usize, u32) {
+    let Ok(source) = read(alloc, text) else {
         return (0, 1);
     };
     let Some(unit) = source.units.first() else {
@@ -125,8 +126,8 @@ fn label_at(rt: HostRuntime, text: &[u8], place: usize) -> (usize, u32) {
 }
 
 /// How many letters the name and the type of the declaration at that place have, and their lines.
-fn declaration_at(rt: HostRuntime, text: &[u8], place: usize) -> (usize, u32, usize, u32) {
-    let Ok(source) = read(rt.alloc(), text) else {
+fn declaration_at(alloc: Global, text: &[u8], place: usize) -> (usize, u32, usize, u32) {
+    let Ok(source) = read(alloc, text) else {
         return (0, 1, 0, 0);
     };
     let Some(unit) = source.units.first() else {
@@ -149,80 +150,109 @@ fn declaration_at(rt: HostRuntime, text: &[u8], place: usize) -> (usize, u32, us
 
 #[test]
 fn an_operator_and_its_operand_are_a_line(rt: HostRuntime) {
-    assert_eq!(rt;
-        instruction_at(rt, b"PROGRAM P\nLDN abc\nEND_PROGRAM", 0),
-        (11, (5, 3), 2)
-    );
-    assert_eq!(rt;
-        instruction_at(rt, b"PROGRAM P\nL: LDN abc\nEND_PROGRAM", 0),
-        (11, (5, 3), 2)
-    );
-    assert_eq!(rt;
-        instruction_at(rt, b"PROGRAM P\nLD %IX0.7\nEND_PROGRAM", 0),
-        (10, (4, 6), 2)
-    );
-    assert_eq!(rt;
-        instruction_at(rt, b"PROGRAM P\nL: LD %IX0.7\nEND_PROGRAM", 0),
-        (10, (4, 6), 2)
-    );
-    assert_eq!(rt;
-        instruction_at(rt, b"PROGRAM P\nLD 1\nADD -5\nEND_PROGRAM", 1),
-        (31, (2, -5), 3)
-    );
-    assert_eq!(rt;
-        instruction_at(rt, b"PROGRAM P\nLD T#2s\nAND TRUE\nEND_PROGRAM", 0),
-        (10, (3, 2000), 2)
-    );
-    assert_eq!(rt;
-        instruction_at(rt, b"PROGRAM P\nLD T#2s\nAND TRUE\nEND_PROGRAM", 1),
-        (30, (1, 1), 3)
-    );
+    for (text, place, wanted) in [
+        (
+            b"PROGRAM P\nLDN abc\nEND_PROGRAM".as_slice(),
+            0,
+            (11, (5, 3), 2),
+        ),
+        (
+            b"PROGRAM P\nL: LDN abc\nEND_PROGRAM".as_slice(),
+            0,
+            (11, (5, 3), 2),
+        ),
+        (
+            b"PROGRAM P\nLD %IX0.7\nEND_PROGRAM".as_slice(),
+            0,
+            (10, (4, 6), 2),
+        ),
+        (
+            b"PROGRAM P\nL: LD %IX0.7\nEND_PROGRAM".as_slice(),
+            0,
+            (10, (4, 6), 2),
+        ),
+        (
+            b"PROGRAM P\nLD 1\nADD -5\nEND_PROGRAM".as_slice(),
+            1,
+            (31, (2, -5), 3),
+        ),
+        (
+            b"PROGRAM P\nLD T#2s\nAND TRUE\nEND_PROGRAM".as_slice(),
+            0,
+            (10, (3, 2000), 2),
+        ),
+        (
+            b"PROGRAM P\nLD T#2s\nAND TRUE\nEND_PROGRAM".as_slice(),
+            1,
+            (30, (1, 1), 3),
+        ),
+    ] {
+        assert!(rt; instruction_at(rt.alloc(), text, place) == wanted);
+    }
 }
 
 #[test]
 fn what_is_stored_is_a_line(rt: HostRuntime) {
     let text = b"PROGRAM P\nST abcd\nSTN b\nS c\nR %QX0.0\nL: R a\nEND_PROGRAM";
-    assert_eq!(rt; instruction_at(rt, text, 0), (20, (5, 4), 2));
-    assert_eq!(rt; instruction_at(rt, text, 1), (21, (5, 1), 3));
-    assert_eq!(rt; instruction_at(rt, text, 2), (22, (5, 1), 4));
-    assert_eq!(rt; instruction_at(rt, text, 3), (23, (4, 6), 5));
-    assert_eq!(rt; instruction_at(rt, text, 4), (23, (5, 1), 6));
+    for (place, wanted) in [
+        (0, (20, (5, 4), 2)),
+        (1, (21, (5, 1), 3)),
+        (2, (22, (5, 1), 4)),
+        (3, (23, (4, 6), 5)),
+        (4, (23, (5, 1), 6)),
+    ] {
+        assert!(rt; instruction_at(rt.alloc(), text, place) == wanted);
+    }
 }
 
 #[test]
 fn a_jump_and_its_label_are_a_line(rt: HostRuntime) {
     let text = b"PROGRAM P\nJMP on\nJMPC off\n\nJMPCN o\nL: JMPCN on\nEND_PROGRAM";
-    assert_eq!(rt; instruction_at(rt, text, 0), (40, (5, 2), 2));
-    assert_eq!(rt; instruction_at(rt, text, 1), (41, (5, 3), 3));
-    assert_eq!(rt; instruction_at(rt, text, 2), (42, (5, 1), 5));
-    assert_eq!(rt; instruction_at(rt, text, 3), (42, (5, 2), 6));
+    for (place, wanted) in [
+        (0, (40, (5, 2), 2)),
+        (1, (41, (5, 3), 3)),
+        (2, (42, (5, 1), 5)),
+        (3, (42, (5, 2), 6)),
+    ] {
+        assert!(rt; instruction_at(rt.alloc(), text, place) == wanted);
+    }
 }
 
 #[test]
 fn a_label_alone_is_a_line(rt: HostRuntime) {
     let text = b"PROGRAM P\n\non:\noff: LD 1\nEND_PROGRAM";
-    assert_eq!(rt; label_at(rt, text, 0), (2, 3));
-    assert_eq!(rt; instruction_at(rt, text, 0), (4, (0, 0), 0));
-    assert_eq!(rt; label_at(rt, text, 1), (3, 4));
-    assert_eq!(rt; instruction_at(rt, text, 1), (10, (2, 1), 4));
+    for (place, wanted) in [(0, (2, 3)), (1, (3, 4))] {
+        assert!(rt; label_at(rt.alloc(), text, place) == wanted);
+    }
+    for (place, wanted) in [(0, (4, (0, 0), 0)), (1, (10, (2, 1), 4))] {
+        assert!(rt; instruction_at(rt.alloc(), text, place) == wanted);
+    }
 }
 
 #[test]
 fn a_call_and_its_list_are_a_line(rt: HostRuntime) {
     let text =
         b"PROGRAM P\nCAL a(x := 1, y := b, z := %IX0.0)\nCALC a(x := 1)\nCALCN a\nL: CALCN a(x := 1, y := b)\nEND_PROGRAM";
-    assert_eq!(rt; instruction_at(rt, text, 0), (50, (7, 3), 2));
-    assert_eq!(rt; instruction_at(rt, text, 1), (51, (7, 1), 3));
-    assert_eq!(rt; instruction_at(rt, text, 2), (52, (7, 0), 4));
-    assert_eq!(rt; instruction_at(rt, text, 3), (52, (7, 2), 5));
+    for (place, wanted) in [
+        (0, (50, (7, 3), 2)),
+        (1, (51, (7, 1), 3)),
+        (2, (52, (7, 0), 4)),
+        (3, (52, (7, 2), 5)),
+    ] {
+        assert!(rt; instruction_at(rt.alloc(), text, place) == wanted);
+    }
 }
 
 #[test]
 fn a_name_and_its_type_are_a_declaration(rt: HostRuntime) {
     let text =
         b"PROGRAM P\nVAR abc : BOOL;\nde : DINT;\nf\n: TON; g : BOOL := TRUE;\nEND_VAR\nEND_PROGRAM";
-    assert_eq!(rt; declaration_at(rt, text, 0), (3, 2, 4, 2));
-    assert_eq!(rt; declaration_at(rt, text, 1), (2, 3, 4, 3));
-    assert_eq!(rt; declaration_at(rt, text, 2), (1, 4, 3, 5));
-    assert_eq!(rt; declaration_at(rt, text, 3), (1, 5, 4, 5));
+    for (place, wanted) in [
+        (0, (3, 2, 4, 2)),
+        (1, (2, 3, 4, 3)),
+        (2, (1, 4, 3, 5)),
+        (3, (1, 5, 4, 5)),
+    ] {
+        assert!(rt; declaration_at(rt.alloc(), text, place) == wanted);
+    }
 }

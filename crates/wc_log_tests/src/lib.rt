@@ -1,0 +1,16 @@
+//! Tests of what is read and written, through its public calls: the rows of a log, the lines of a report, the sections
+//! of a job. What a whole log or job is answered is tried on the program.
+#![tactic(auto)]
+
+#[cfg(test)]
+mod lines;
+#[cfg(test)]
+mod logs;
+#[cfg(test)]
+mod long_rows;
+#[cfg(test)]
+mod rows;
+#[cfg(test)]
+mod scans;
+#[cfg(test)]
+mod sections;
