@@ -2,6 +2,8 @@
 #![tactic(auto)]
 
 #[cfg(test)]
+mod around;
+#[cfg(test)]
 mod blocks;
 #[cfg(test)]
 mod devices;

@@ -2,13 +2,25 @@
 use std::alloc::Global;
 use std::test::Fail;
 use wc_model::{Fault, Outputs, Steps};
-use wc_report::{
-    answer_line, path_line, put_answer_line, put_scan_line, refused_line, scan_line, unit_line,
-};
+use wc_report::{path_line, put_answer_line, put_scan_line, refused_line, unit_line};
 
 /// Outputs with these bits and words.
 fn outputs(bits: u16, words: [i32; 4]) -> Outputs {
     Outputs { bits, words }
+}
+
+/// The line of a scan alone.
+fn scan_line(alloc: Global, ms: u64, steps: Steps, outputs: &Outputs) -> Result<Vec<u8>, Fault> {
+    let mut text = Vec::new(alloc);
+    put_scan_line(&mut text, ms, steps, outputs)?;
+    Ok(text)
+}
+
+/// The line of an answer alone.
+fn answer_line(alloc: Global, ms: u64, bytes: &[u8]) -> Result<Vec<u8>, Fault> {
+    let mut text = Vec::new(alloc);
+    put_answer_line(&mut text, ms, bytes)?;
+    Ok(text)
 }
 
 /// Whether a line was made, with this text.
