@@ -67,7 +67,7 @@ pub(crate) fn run_job(rt: &HostRuntime) -> u8 {
     let ending = answer_job(rt.alloc(), &mut reader, &mut writer);
     let keeping = reader.get_ref().get_ref();
     let reading = keeping.get_ref().cause();
-    let bytes = keeping.bytes();
+    let bytes = keeping.bytes_read();
     finish(rt, ending, reading, &gathered, &Sources::Job { bytes })
 }
 

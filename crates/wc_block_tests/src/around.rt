@@ -63,11 +63,11 @@ fn a_reader_keeps_what_it_reads(rt: HostRuntime) {
     let bytes: &[u8] = b"abc";
     let mut reader = Keeping::new(rt.alloc(), bytes);
     let mut room = [0_u8; 2];
-    assert!(rt; has_kept(reader.bytes(), b""));
+    assert!(rt; has_kept(reader.bytes_read(), b""));
     assert!(rt; moved(reader.read(&mut room)) == Some(2));
     assert!(rt; moved(reader.read(&mut room)) == Some(1));
     assert!(rt; moved(reader.read(&mut room)) == Some(0));
-    assert!(rt; has_kept(reader.bytes(), b"abc"));
+    assert!(rt; has_kept(reader.bytes_read(), b"abc"));
     assert!(rt; reader.get_ref().is_empty());
 }
 

@@ -36,7 +36,7 @@ impl<D> Keeping<D> {
     }
 
     /// All bytes that were read; nothing where memory for some of them was refused.
-    pub fn bytes(&self) -> Option<&[u8]>
+    pub fn bytes_read(&self) -> Option<&[u8]>
         ensures { option_map (λ bytes. bytes.now) result ≡ kept self.now }
     {
         if self.whole {

@@ -88,7 +88,10 @@ const BYTE_ORDER_MARK: &[u8] = b"\xef\xbb\xbf";
 fn tell_byte_order_mark(finding: &mut Finding, start: usize) -> Result<(), AllocError> {
     finding.point(start, 3);
     finding.help = Some("save the text as ASCII, or as UTF-8 without a byte order mark");
-    finding.tell(BYTE_ORDER_MARK, "is a byte order mark, and a program has none")
+    finding.tell(
+        BYTE_ORDER_MARK,
+        "is a byte order mark, and a program has none",
+    )
 }
 
 /// Says what is wrong with the bytes that are meant.
