@@ -232,6 +232,15 @@ pub(crate) fn shape_behind(tokens: &[Token<'_>], index: usize) -> Option<Shape> 
     None
 }
 
+/// What stands behind a word, line ends apart; of other tokens it is not asked, so that no line end is passed twice.
+fn shape_behind_word(tokens: &[Token<'_>], token: &Token<'_>, index: usize) -> Option<Shape> {
+    if token.shape == Shape::Identifier {
+        shape_behind(tokens, index)
+    } else {
+        None
+    }
+}
+
 /// What the names of a text are up to the end of a line. Pass 2 has taken the text.
 pub(crate) fn names_at<'a>(
     alloc: Global,
@@ -242,7 +251,7 @@ pub(crate) fn names_at<'a>(
     for index in 0..tokens.len() {
         match tokens.get(index) {
             Some(token) if token.line <= line => {
-                names.take(token, index, shape_behind(tokens, index))?;
+                names.take(token, index, shape_behind_word(tokens, token, index))?;
             }
             _ => return Ok(names),
         }
