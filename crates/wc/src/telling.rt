@@ -6,7 +6,7 @@ use wc_controller::{Ending, Input};
 use wc_messages::{Part, Refusal, RowSeeker, explained, section_of, shown};
 
 /// How a command ended, and what the system said of a read and of a write that failed.
-#[derive(Clone, Copy, Debug)]
+#[derive(Clone, Copy)]
 pub(crate) struct Met {
     pub(crate) ending: Ending,
     pub(crate) reading: Option<io::Error>,
@@ -15,7 +15,7 @@ pub(crate) struct Met {
 
 /// Where the inputs of a command come from: a job on standard input, with its bytes where they were kept, or files by their
 /// paths.
-#[derive(Clone, Copy, Debug)]
+#[derive(Clone, Copy)]
 pub(crate) enum Sources<'a> {
     Job {
         bytes: Option<&'a [u8]>,

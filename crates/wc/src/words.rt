@@ -5,7 +5,7 @@ use std::alloc::{AllocError, Global};
 /// tools/legal_digest computes. Whether a build was proved is not known to the program.
 const VERSION: &str = "0.1.0 (Narbeddo)
 toolchain rattle-kit-13b logic dac8208d650f15bf
-legal part sha256 bb388d788ded4b641fe3e1962eb0b5c553eae9962a38455a186cf7600c626d89";
+legal part sha256 febc523249f3552606a238c9bc1e6e40f085d3638a85461de3db726eeaca4f51";
 
 /// What the program does, with an example of each word.
 const ABOUT: &str =
@@ -25,14 +25,14 @@ was answered `L <ms> <hex>`; a refusal is the last line, `refused <number> <plac
 Exit status: 0 done, 1 refused, 2 wrong words, 3 a device failed, 4 no memory";
 
 /// The paths of a program and of the log that is run with it.
-#[derive(Clone, Copy, Debug)]
+#[derive(Clone, Copy)]
 pub(crate) struct ProgramFiles<'a> {
     pub(crate) program: &'a str,
     pub(crate) log: &'a str,
 }
 
 /// What the words of the command line ask for. Each text is the path of a file.
-#[derive(Clone, Copy, Debug)]
+#[derive(Clone, Copy)]
 pub(crate) enum Wanted<'a> {
     /// No words: a job from standard input.
     Job,

@@ -5,7 +5,7 @@ ghost use Rattle.wc_model.specs.Language.Blocks.{ctu_count, ctu_step};
 ghost use Rattle.wc_model.specs.Language.Histories.{CtuCall, FitsCtu};
 
 /// CTU, an up counter (IEC 61131-3:2003, table 36). It counts in DINT, which is the profile's own.
-#[derive(Clone, Copy, Debug, PartialEq, Eq)]
+#[derive(Clone, Copy, PartialEq, Eq)]
 pub struct Ctu {
     /// CU, whose rising edges are counted.
     pub cu: bool,

@@ -4,7 +4,7 @@ ghost use Rattle.wc_model.specs.Language.Blocks.{r_trig_step};
 ghost use Rattle.wc_model.specs.Language.Histories.{FitsRTrig};
 
 /// R_TRIG, a rising edge detector (IEC 61131-3:2003, table 35).
-#[derive(Clone, Copy, Debug, PartialEq, Eq)]
+#[derive(Clone, Copy, PartialEq, Eq)]
 pub struct RTrig {
     /// CLK, the input whose edge is looked for.
     pub clk: bool,

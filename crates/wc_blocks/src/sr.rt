@@ -5,7 +5,7 @@ ghost use Rattle.wc_model.specs.Language.Blocks.{sr_step};
 ghost use Rattle.wc_model.specs.Language.Histories.{FitsSr, SrCall};
 
 /// SR, a bistable whose set is dominant (IEC 61131-3:2003, table 34).
-#[derive(Clone, Copy, Debug, PartialEq, Eq)]
+#[derive(Clone, Copy, PartialEq, Eq)]
 pub struct Sr {
     /// S1, which sets.
     pub s1: bool,

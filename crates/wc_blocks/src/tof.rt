@@ -8,7 +8,7 @@ use crate::elapsed::{LAST_MOMENT, elapsed, preset};
 
 /// TOF, an off-delay timer (IEC 61131-3:2003, table 38). PT is read at each call, and a run starts at the
 /// first call that sees it: the profile's own.
-#[derive(Clone, Copy, Debug, PartialEq, Eq)]
+#[derive(Clone, Copy, PartialEq, Eq)]
 pub struct Tof {
     /// IN.
     pub input: bool,

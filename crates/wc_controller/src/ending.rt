@@ -8,7 +8,7 @@ use wc_model::ByteOut;
 use wc_run::RunFault;
 
 /// How a command ended.
-#[derive(Clone, Copy, Debug, PartialEq, Eq)]
+#[derive(Clone, Copy, PartialEq, Eq)]
 pub enum Ending {
     /// All was read, done and written.
     Done,

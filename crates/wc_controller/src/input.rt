@@ -1,7 +1,7 @@
 use wc_run::RunFault;
 
 /// What a command reads, in the order in which it is read.
-#[derive(Clone, Copy, Debug, PartialEq, Eq)]
+#[derive(Clone, Copy, PartialEq, Eq)]
 pub enum Input {
     /// A job, of which the others are sections.
     Job,
@@ -14,7 +14,7 @@ pub enum Input {
 }
 
 /// Why a command stopped, and the input that was being read or answered then.
-#[derive(Clone, Copy, Debug, PartialEq, Eq)]
+#[derive(Clone, Copy, PartialEq, Eq)]
 pub struct Stopped {
     /// The input.
     pub input: Input,

@@ -4,7 +4,7 @@ use wc_lexer::tokens;
 use wc_model::Fault;
 
 /// What stands next on a line.
-#[derive(Clone, Copy, Debug, PartialEq, Eq)]
+#[derive(Clone, Copy, PartialEq, Eq)]
 pub(crate) enum Next {
     /// So many bytes with which nothing is wrong.
     Passed(usize),

@@ -3,7 +3,7 @@ use wc_model::Fault;
 use wc_reader::read;
 
 /// A text that is tried behind the tokens before a fault, and what people call it.
-#[derive(Clone, Copy, Debug)]
+#[derive(Clone, Copy)]
 struct Probe {
     text: &'static str,
     name: &'static str,

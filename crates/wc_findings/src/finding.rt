@@ -3,7 +3,7 @@ ghost use Rattle.std.specs.Prelude.{◌≡◌, None, OnOk, Some, []};
 use std::alloc::{AllocError, Global};
 
 /// Bytes of a line that are meant.
-#[derive(Clone, Copy, Debug, PartialEq, Eq)]
+#[derive(Clone, Copy, PartialEq, Eq)]
 pub struct Spot {
     /// The first of them, counted from 0.
     pub start: usize,

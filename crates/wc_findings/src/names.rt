@@ -23,7 +23,7 @@ pub(crate) struct Names<'a> {
 }
 
 /// Where a text is.
-#[derive(Clone, Copy, Debug, PartialEq, Eq)]
+#[derive(Clone, Copy, PartialEq, Eq)]
 enum Place {
     /// Between units.
     Outside,

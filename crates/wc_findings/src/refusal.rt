@@ -1,5 +1,5 @@
 /// An input of the program, or a section of a job.
-#[derive(Clone, Copy, Debug, PartialEq, Eq)]
+#[derive(Clone, Copy, PartialEq, Eq)]
 pub enum Part {
     /// A job, whose sections are the others.
     Job,
@@ -12,7 +12,7 @@ pub enum Part {
 }
 
 /// A refusal, and what is at hand to explain it.
-#[derive(Clone, Copy, Debug)]
+#[derive(Clone, Copy)]
 pub struct Refusal<'a> {
     /// The rule's number, by the list of refusals.
     pub number: u16,

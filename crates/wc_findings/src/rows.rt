@@ -3,7 +3,7 @@ use crate::lines::{behind, front, piece};
 use std::alloc::AllocError;
 
 /// A field of a row: where it starts, and its bytes.
-#[derive(Clone, Copy, Debug)]
+#[derive(Clone, Copy)]
 struct Field<'a> {
     start: usize,
     text: &'a [u8],

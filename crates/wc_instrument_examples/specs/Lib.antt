@@ -1,2 +1,4 @@
 pub mod Worked
 pub mod Numerals
+pub mod FirstJob
+pub mod Changes

@@ -9,7 +9,7 @@ use std::io;
 use wc_model::ByteIn;
 
 /// Why the bytes of a job are not known.
-#[derive(Clone, Copy, Debug)]
+#[derive(Clone, Copy)]
 pub enum ReadFault {
     /// There are more than 1048576.
     TooLong,

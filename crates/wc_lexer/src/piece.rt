@@ -13,7 +13,7 @@ use crate::shapes::{is_name, shape};
 use crate::spaces::{from_bracket, opens_comment, starts_space};
 
 /// What stands at a place of a text.
-#[derive(Clone, Copy, Debug, PartialEq, Eq)]
+#[derive(Clone, Copy, PartialEq, Eq)]
 pub(crate) enum Piece {
     /// A space, a tab, or a CR before LF.
     Space,

@@ -1,5 +1,5 @@
 /// What a token is.
-#[derive(Clone, Copy, Debug, PartialEq, Eq)]
+#[derive(Clone, Copy, PartialEq, Eq)]
 pub enum Shape {
     /// An identifier.
     Identifier,
@@ -36,7 +36,7 @@ pub enum Shape {
 }
 
 /// A token of a text.
-#[derive(Clone, Copy, Debug, PartialEq, Eq)]
+#[derive(Clone, Copy, PartialEq, Eq)]
 pub struct Token<'a> {
     /// What it is.
     pub shape: Shape,

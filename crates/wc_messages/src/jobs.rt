@@ -7,7 +7,7 @@ use wc_findings::Part;
 use wc_job::sections;
 
 /// A section of a job.
-#[derive(Clone, Copy, Debug)]
+#[derive(Clone, Copy)]
 pub struct Section<'a> {
     /// Its bytes.
     pub text: &'a [u8],

@@ -3,7 +3,7 @@ ghost use Rattle.wc_messages.specs.Numbers.{is_refusal};
 
 /// What is said of a refusal beside its sentence and its hint: where it is met, its place, and a smallest input with the
 /// place in the answer to it, as docs/REFUSALS.md has them. In the input ` / ` ends a line.
-#[derive(Clone, Copy, Debug)]
+#[derive(Clone, Copy)]
 pub(crate) struct Page {
     pub(crate) pass: &'static str,
     pub(crate) place: &'static str,

@@ -3,7 +3,7 @@ ghost use Rattle.std.specs.List.{list_all};
 ghost use Rattle.wc_messages.specs.Rows.{is_ordinary};
 
 /// How far a row is found.
-#[derive(Clone, Copy, Debug, PartialEq, Eq)]
+#[derive(Clone, Copy, PartialEq, Eq)]
 pub(crate) enum Progress {
     Seeking,
     Found,
@@ -29,7 +29,7 @@ pub struct RowSeeker {
 }
 
 /// A row that was found.
-#[derive(Clone, Copy, Debug)]
+#[derive(Clone, Copy)]
 pub struct Row<'a> {
     /// Its line, counted from 1.
     pub line: u32,

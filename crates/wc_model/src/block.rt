@@ -1,5 +1,5 @@
 /// A standard function block (IEC 61131-3:2003, 2.5.2.3).
-#[derive(Clone, Copy, Debug, PartialEq, Eq)]
+#[derive(Clone, Copy, PartialEq, Eq)]
 pub enum StandardBlock {
     /// R_TRIG, rising edge detector.
     RTrig,

@@ -3,7 +3,7 @@ ghost use Rattle.wc_model.specs.Run.Devices.{device_inner, device_failures, devi
 
 /// A reader or a writer of std that counts what failed and what was spent. Its bytes are known where
 /// those of the inner one are.
-#[derive(Debug, Drop)]
+#[derive(Drop)]
 pub struct Device<D> {
     pub(crate) inner: D,
     pub(crate) failures: u64,

@@ -7,7 +7,7 @@ use std::io::Read;
 
 /// A reader for tests: it hands out a head, then a piece so many times, one in each read that has room for
 /// it, and then ends or fails at each call.
-#[derive(Debug, Drop)]
+#[derive(Drop)]
 pub struct FuseIn<'t> {
     pub(crate) left: &'t [u8],
     pub(crate) piece: &'t [u8],

@@ -4,7 +4,7 @@ use std::alloc::Global;
 
 /// A writer for tests: it takes at most so many bytes in a call and so many in all, and then fails. It takes
 /// no memory once it is made.
-#[derive(Debug, Drop)]
+#[derive(Drop)]
 pub struct FuseOut {
     pub(crate) room: Vec<u8, Global>,
     pub(crate) taken: usize,

@@ -1,5 +1,5 @@
 /// What a scan sees of the inputs and the indicator.
-#[derive(Clone, Copy, Debug, PartialEq, Eq)]
+#[derive(Clone, Copy, PartialEq, Eq)]
 pub struct Image {
     /// `%IX0.0` to `%IX0.15`; bit i is `%IX0.i`.
     pub inputs: u16,
@@ -10,7 +10,7 @@ pub struct Image {
 }
 
 /// What a scan leaves at the outputs.
-#[derive(Clone, Copy, Debug, PartialEq, Eq)]
+#[derive(Clone, Copy, PartialEq, Eq)]
 pub struct Outputs {
     /// `%QX0.0` to `%QX0.15`; bit i is `%QX0.i`.
     pub bits: u16,
@@ -19,5 +19,5 @@ pub struct Outputs {
 }
 
 /// How many items a scan executed.
-#[derive(Clone, Copy, Debug, PartialEq, Eq)]
+#[derive(Clone, Copy, PartialEq, Eq)]
 pub struct Steps(pub u32);

@@ -1,5 +1,5 @@
 /// The elementary data types of the profile (IEC 61131-3:2003, 2.3.1).
-#[derive(Clone, Copy, Debug, PartialEq, Eq)]
+#[derive(Clone, Copy, PartialEq, Eq)]
 pub enum Kind {
     /// TRUE or FALSE.
     Bool,
@@ -10,7 +10,7 @@ pub enum Kind {
 }
 
 /// What a place of a frame holds.
-#[derive(Clone, Copy, Debug, PartialEq, Eq)]
+#[derive(Clone, Copy, PartialEq, Eq)]
 pub enum SlotKind {
     /// 0 for FALSE or 1 for TRUE.
     Bool,

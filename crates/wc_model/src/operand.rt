@@ -1,7 +1,7 @@
 use crate::value::Value;
 
 /// A piece of the text, and the line of its token.
-#[derive(Clone, Copy, Debug)]
+#[derive(Clone, Copy)]
 pub struct Word<'a> {
     /// As it is spelled.
     pub text: &'a [u8],
@@ -10,7 +10,7 @@ pub struct Word<'a> {
 }
 
 /// What an instruction works on (IEC 61131-3:2003, 3.2.2).
-#[derive(Clone, Copy, Debug)]
+#[derive(Clone, Copy)]
 pub enum Operand<'a> {
     /// A literal. A whole number is a `Dint`, also where it serves as a BOOL.
     Literal(Value),

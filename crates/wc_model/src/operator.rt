@@ -1,6 +1,6 @@
 /// An operator with two operands (IEC 61131-3:2003, table 52), which may also be deferred by a
 /// parenthesis.
-#[derive(Clone, Copy, Debug, PartialEq, Eq)]
+#[derive(Clone, Copy, PartialEq, Eq)]
 pub enum Operator {
     /// AND and `&`.
     And,
@@ -39,7 +39,7 @@ pub enum Operator {
 }
 
 /// When a jump, a call or a return acts (IEC 61131-3:2003, table 51, modifiers C and N).
-#[derive(Clone, Copy, Debug, PartialEq, Eq)]
+#[derive(Clone, Copy, PartialEq, Eq)]
 pub enum Condition {
     /// Always: JMP, CAL, RET.
     Always,
@@ -50,7 +50,7 @@ pub enum Condition {
 }
 
 /// What is stored of the current result (IEC 61131-3:2003, table 52).
-#[derive(Clone, Copy, Debug, PartialEq, Eq)]
+#[derive(Clone, Copy, PartialEq, Eq)]
 pub enum Storing {
     /// ST: the result.
     Result,

@@ -4,14 +4,14 @@ use crate::value::Value;
 use std::alloc::Global;
 
 /// A program text as a tree. Names borrow the text.
-#[derive(Debug, Drop)]
+#[derive(Drop)]
 pub struct Source<'a> {
     /// The function blocks in text order, and then the program.
     pub units: Vec<Unit<'a>, Global>,
 }
 
 /// What a program organisation unit is (IEC 61131-3:2003, 2.5).
-#[derive(Clone, Copy, Debug, PartialEq, Eq)]
+#[derive(Clone, Copy, PartialEq, Eq)]
 pub enum UnitKind {
     /// FUNCTION_BLOCK.
     FunctionBlock,
@@ -20,7 +20,7 @@ pub enum UnitKind {
 }
 
 /// A program organisation unit (IEC 61131-3:2003, 2.5).
-#[derive(Debug, Drop)]
+#[derive(Drop)]
 pub struct Unit<'a> {
     /// A function block or the program.
     pub kind: UnitKind,
@@ -35,7 +35,7 @@ pub struct Unit<'a> {
 }
 
 /// Which variables a section declares (IEC 61131-3:2003, table 16a).
-#[derive(Clone, Copy, Debug, PartialEq, Eq)]
+#[derive(Clone, Copy, PartialEq, Eq)]
 pub enum Section {
     /// VAR_INPUT.
     Input,
@@ -46,7 +46,7 @@ pub enum Section {
 }
 
 /// A declaration: names of one type, with a value that they have at first.
-#[derive(Debug, Drop)]
+#[derive(Drop)]
 pub struct Decl<'a> {
     /// The section in which it stands.
     pub section: Section,
@@ -59,7 +59,7 @@ pub struct Decl<'a> {
 }
 
 /// The value after `:=` in a declaration.
-#[derive(Clone, Copy, Debug)]
+#[derive(Clone, Copy)]
 pub struct Initial {
     /// The literal. A whole number is a `Dint`, also where it serves as a BOOL.
     pub value: Value,

@@ -4,7 +4,7 @@ use std::alloc::Global;
 
 /// A line of a body: a label, an instruction, or both.
 #[cycle(tree)]
-#[derive(Debug, Drop)]
+#[derive(Drop)]
 pub struct Line<'a> {
     /// The label before the instruction, with its line.
     pub label: Option<Word<'a>>,
@@ -14,7 +14,7 @@ pub struct Line<'a> {
 
 /// An instruction (IEC 61131-3:2003, 3.2). `line` is the line of its first token after any label.
 #[cycle(tree)]
-#[derive(Debug, Drop)]
+#[derive(Drop)]
 pub enum Instr<'a> {
     /// LD, or LDN where negated.
     Load {
@@ -91,7 +91,7 @@ pub enum Instr<'a> {
 }
 
 /// `name := value` in a call.
-#[derive(Debug, Drop)]
+#[derive(Drop)]
 pub struct Argument<'a> {
     /// The input, as it is spelled.
     pub name: &'a [u8],

@@ -1,7 +1,7 @@
 use wc_model::{Kind, StandardBlock};
 
 /// The type of a variable (IEC 61131-3:2003, 2.3 and 2.5.2).
-#[derive(Clone, Copy, Debug, PartialEq, Eq)]
+#[derive(Clone, Copy, PartialEq, Eq)]
 pub enum DeclaredType {
     /// An elementary type.
     Elementary(Kind),

@@ -1,7 +1,7 @@
 use wc_model::{Kind, Place};
 
 /// What an operand names, as a unit's body sees it.
-#[derive(Clone, Copy, Debug, PartialEq, Eq)]
+#[derive(Clone, Copy, PartialEq, Eq)]
 pub struct Entity {
     /// Its kind; an instance has none.
     pub kind: Option<Kind>,

@@ -1,7 +1,7 @@
 use wc_model::{Kind, Place, Section};
 
 /// A plain variable of a unit: one of an elementary type.
-#[derive(Clone, Copy, Debug)]
+#[derive(Clone, Copy)]
 pub struct Field<'a> {
     /// The name, as it is spelled.
     pub name: &'a [u8],

@@ -14,7 +14,7 @@ use crate::unit_table::UnitTable;
 use wc_model::Kind;
 
 /// An input of an instance.
-#[derive(Clone, Copy, Debug, PartialEq, Eq)]
+#[derive(Clone, Copy, PartialEq, Eq)]
 pub struct Input {
     /// Its kind.
     pub kind: Kind,

@@ -1,7 +1,7 @@
 use crate::declared_type::DeclaredType;
 
 /// A variable of a unit: its type, and where its places begin in the unit's frame.
-#[derive(Clone, Copy, Debug, PartialEq, Eq)]
+#[derive(Clone, Copy, PartialEq, Eq)]
 pub struct Located {
     /// The type.
     pub declared: DeclaredType,

@@ -13,7 +13,7 @@ use crate::unit_table::UnitTable;
 use wc_model::{Kind, Section, StandardBlock, is_word};
 
 /// A name that can stand behind an instance and a dot.
-#[derive(Clone, Copy, Debug)]
+#[derive(Clone, Copy)]
 pub(crate) struct Member {
     /// The section in which its block declares it.
     pub(crate) section: Section,

@@ -2,7 +2,7 @@ use crate::declared_type::DeclaredType;
 use wc_model::{Section, Value};
 
 /// A variable of a unit, as its table keeps it.
-#[derive(Clone, Copy, Debug)]
+#[derive(Clone, Copy)]
 pub struct Variable {
     /// The section in which it is declared.
     pub section: Section,

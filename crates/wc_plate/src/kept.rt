@@ -4,7 +4,7 @@ ghost use Rattle.wc_model.specs.Instrument.Plates.{IsPlate};
 use std::marker::Model;
 
 /// What is written on an instrument. Every plate keeps the ranges of a class III instrument.
-#[derive(Clone, Copy, Debug)]
+#[derive(Clone, Copy)]
 pub struct Plate {
     pub(crate) unit: [u8; 3],
     pub(crate) decimals: u32,

@@ -8,7 +8,7 @@ use std::marker::Model;
 use wc_model::{Fault, Outputs};
 
 /// What is kept of a scan.
-#[derive(Clone, Copy, Debug, PartialEq, Eq)]
+#[derive(Clone, Copy, PartialEq, Eq)]
 pub struct Record {
     /// Its moment in milliseconds.
     pub ms: u64,

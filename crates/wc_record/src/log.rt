@@ -20,7 +20,7 @@ use wc_model::ByteIn;
 const MOST_ROWS: u32 = 1000000;
 
 /// How a log ended.
-#[derive(Clone, Copy, Debug, PartialEq, Eq)]
+#[derive(Clone, Copy, PartialEq, Eq)]
 pub(crate) enum LogEnd {
     /// No row is left.
     AllRead,

@@ -8,7 +8,7 @@ use memchr::{memchr, memrchr};
 const MOST_READ: u32 = 65536;
 
 /// What the next byte may be.
-#[derive(Clone, Copy, Debug, PartialEq, Eq)]
+#[derive(Clone, Copy, PartialEq, Eq)]
 pub(crate) enum Spot {
     /// The first of a log, where a byte order mark may stand.
     LogStart,
@@ -26,7 +26,7 @@ pub(crate) enum Spot {
 }
 
 /// The place in the bytes of a log at which a reader stands.
-#[derive(Clone, Copy, Debug, PartialEq, Eq)]
+#[derive(Clone, Copy, PartialEq, Eq)]
 pub(crate) struct Place {
     /// What the next byte may be.
     pub(crate) spot: Spot,

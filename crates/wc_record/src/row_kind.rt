@@ -1,5 +1,5 @@
 /// A row of a log.
-#[derive(Clone, Copy, Debug)]
+#[derive(Clone, Copy)]
 pub struct Row {
     /// Its number; that of the first row, `ms,kind,data`, is 1. At most 1000000.
     pub number: u32,
@@ -10,7 +10,7 @@ pub struct Row {
 }
 
 /// What a row of a log brings.
-#[derive(Clone, Copy, Debug)]
+#[derive(Clone, Copy)]
 pub enum RowKind {
     /// A sample of the sensor, -8388608..8388607.
     Counts(i32),

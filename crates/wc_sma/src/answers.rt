@@ -7,7 +7,7 @@ use crate::weight::weight_field;
 use wc_indicator::Indicator;
 
 /// Which weight is asked for.
-#[derive(Clone, Copy, Debug, PartialEq, Eq)]
+#[derive(Clone, Copy, PartialEq, Eq)]
 pub enum Mode {
     /// What the indicator shows.
     Shown,
@@ -16,7 +16,7 @@ pub enum Mode {
 }
 
 /// What an answer is to.
-#[derive(Clone, Copy, Debug, PartialEq, Eq)]
+#[derive(Clone, Copy, PartialEq, Eq)]
 pub enum Asked {
     /// A question, or a command that was accepted.
     Plain,

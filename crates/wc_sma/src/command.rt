@@ -4,7 +4,7 @@ ghost use Rattle.wc_model.specs.Instrument.Answers as told;
 ghost use Rattle.wc_sma.specs.Seen.{seen_in, asked_by, command_told};
 
 /// What the line knows of a request's text so far.
-#[derive(Clone, Copy, Debug, PartialEq, Eq)]
+#[derive(Clone, Copy, PartialEq, Eq)]
 pub(crate) enum Seen {
     /// No byte has come.
     Nothing,
@@ -15,7 +15,7 @@ pub(crate) enum Seen {
 }
 
 /// What a request asks of the indicator.
-#[derive(Clone, Copy, Debug, PartialEq, Eq)]
+#[derive(Clone, Copy, PartialEq, Eq)]
 pub(crate) enum Command {
     AskWeight,
     Zero,

@@ -5,7 +5,7 @@ ghost use Rattle.wc_store.specs.Inside.{number_view, tag_view};
 use wc_model::SlotKind;
 
 /// A number with its kind.
-#[derive(Clone, Copy, Debug, PartialEq, Eq)]
+#[derive(Clone, Copy, PartialEq, Eq)]
 pub(crate) enum TaggedNumber {
     /// FALSE or TRUE.
     Bool(bool),

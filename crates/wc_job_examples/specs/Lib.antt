@@ -1,2 +1,0 @@
-pub mod FirstJob
-pub mod Changes
