@@ -4,7 +4,7 @@ use std::alloc::{AllocError, Global};
 /// The product's version, the toolchain that its sources are for, and the digest of the legally relevant sources, which
 /// tools/legal_digest computes. Whether a build was proved is not known to the program.
 const VERSION: &str = "0.1.0 (Narbeddo)
-toolchain rattle-kit-13b logic dac8208d650f15bf
+toolchain rattle-kit-13f logic dac8208d650f15bf
 legal part sha256 febc523249f3552606a238c9bc1e6e40f085d3638a85461de3db726eeaca4f51";
 
 /// What the program does, with an example of each word.
