@@ -1,10 +1,10 @@
 -- The pulse timer: its calls, a program with one, and programs that take its place.
-use Rattle.std.specs.Prelude.{ℕ, Bool, true, false, List, [], ◌∷◌, ℤ, pos, negsuc, Some}
+use Rattle.std.specs.Prelude.{ℕ, Bool, true, false, List, [], ◌∷◌, map, ℤ, pos, negsuc, Some, codes}
 use Prim.Native.String.{String}
 use Rattle.wc_language_examples.specs.Writing.{at, dot, ld, st, call, arg, declares, program, ms}
 use Rattle.wc_model.specs.Language.Blocks.{TpFields, tp_step}
 use Rattle.wc_model.specs.Language.Histories.{TimerCall}
-use Rattle.wc_model.specs.Language.Store.{Content, Store}
+use Rattle.wc_model.specs.Language.Store.{Content, Location, Path, Store}
 use Rattle.wc_model.specs.Language.Tree.{Text, End, Lines}
 use Rattle.wc_model.specs.declared.source.Section.TheVariants.{Own}
 
