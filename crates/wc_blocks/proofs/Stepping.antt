@@ -2,10 +2,9 @@
 use Rattle.std.proofs.Common.{◌≡◌, ℕ, List, ◌∷◌, sym, subst}
 use Rattle.wc_language_laws.proofs.Counting.{ctu_fits}
 use Rattle.wc_language_laws.proofs.Delaying.{tof_fits}
-use Rattle.wc_language_laws.proofs.Pulsing.{tp_fits}
-use Rattle.wc_language_laws.specs.Laws.{ctu_call, tof_call, tp_call}
-use Rattle.wc_model.specs.Language.Blocks.{CtuFields, TofFields, TpFields, ctu_step, tof_step, tp_step}
-use Rattle.wc_model.specs.Language.Histories.{CtuCall, TimerCall, FitsCtu, FitsTof, FitsTp}
+use Rattle.wc_language_laws.specs.Laws.{ctu_call, tof_call}
+use Rattle.wc_model.specs.Language.Blocks.{CtuFields, TofFields, ctu_step, tof_step}
+use Rattle.wc_model.specs.Language.Histories.{CtuCall, TimerCall, FitsCtu, FitsTof}
 
 -- CTU
 pub ctu_goes_on : (calls : List CtuCall) (old new : CtuFields) → new ≡ ctu_step old → FitsCtu calls old → FitsCtu (ctu_call old ∷ calls) new
@@ -14,7 +13,3 @@ ctu_goes_on calls old new e fits = let P : CtuFields → Type 0 = λ f. FitsCtu 
 -- TOF
 pub tof_goes_on : (now : ℕ) (calls : List TimerCall) (old new : TofFields) → new ≡ tof_step now old → FitsTof calls old → FitsTof (tof_call now old ∷ calls) new
 tof_goes_on now calls old new e fits = let P : TofFields → Type 0 = λ f. FitsTof (tof_call now old ∷ calls) f in subst P (sym e) (tof_fits now calls old fits)
-
--- TP
-pub tp_goes_on : (now : ℕ) (calls : List TimerCall) (old new : TpFields) → new ≡ tp_step now old → FitsTp calls old → FitsTp (tp_call now old ∷ calls) new
-tp_goes_on now calls old new e fits = let P : TpFields → Type 0 = λ f. FitsTp (tp_call now old ∷ calls) f in subst P (sym e) (tp_fits now calls old fits)

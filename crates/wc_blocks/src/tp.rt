@@ -1,7 +1,7 @@
-ghost use Rattle.std.specs.Prelude.{◌≡◌, ◌≤◌, ◌<◌, ◌-◌, List, false, pos, [], ◌∷◌};
+ghost use Rattle.std.specs.Prelude.{◌≡◌, ◌≤◌, List, false, pos, [], ◌∷◌};
 ghost use Rattle.wc_blocks.specs.Views.{tp_view};
 ghost use Rattle.wc_language_laws.specs.Laws.{tp_call};
-ghost use Rattle.wc_model.specs.Language.Blocks.{preset, tp_begun, tp_idle, tp_over, tp_pulsing, tp_step};
+ghost use Rattle.wc_model.specs.Language.Blocks.{tp_begun, tp_idle, tp_over, tp_step};
 ghost use Rattle.wc_model.specs.Language.Histories.{FitsTp, TimerCall};
 
 use crate::elapsed::{LAST_MOMENT, preset};
