@@ -4,13 +4,17 @@
 mod ctu;
 mod elapsed;
 mod r_trig;
+mod rs;
 mod sr;
 mod tof;
 mod ton;
+mod tp;
 
 pub use ctu::Ctu;
 pub use elapsed::LAST_MOMENT;
 pub use r_trig::RTrig;
+pub use rs::Rs;
 pub use sr::Sr;
 pub use tof::Tof;
 pub use ton::Ton;
+pub use tp::Tp;

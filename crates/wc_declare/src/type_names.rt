@@ -32,6 +32,9 @@ pub(crate) fn standard(text: &[u8]) -> Option<StandardBlock>
     if is_word(b"sr", text) {
         return Some(StandardBlock::Sr);
     }
+    if is_word(b"rs", text) {
+        return Some(StandardBlock::Rs);
+    }
     if is_word(b"ctu", text) {
         return Some(StandardBlock::Ctu);
     }
@@ -40,6 +43,9 @@ pub(crate) fn standard(text: &[u8]) -> Option<StandardBlock>
     }
     if is_word(b"tof", text) {
         return Some(StandardBlock::Tof);
+    }
+    if is_word(b"tp", text) {
+        return Some(StandardBlock::Tp);
     }
     None
 }
@@ -51,7 +57,7 @@ pub(crate) fn is_kind_word(text: &[u8]) -> bool
     is_word(text, b"bool") || is_word(text, b"dint") || is_word(text, b"time")
 }
 
-/// The standard function blocks, TP and RS among them, which cannot be used yet.
+/// The standard function blocks.
 pub(crate) fn is_block_word(text: &[u8]) -> bool
     ensures { result ≡ is_among block_words (name_of text.now) }
 {

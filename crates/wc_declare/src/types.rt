@@ -48,8 +48,8 @@ pub(crate) fn standard_size(block: StandardBlock) -> u16
     ensures { result ≡ length (standard_fields block) }
 {
     match block {
-        StandardBlock::RTrig | StandardBlock::Sr => 3,
-        StandardBlock::Ctu | StandardBlock::Ton | StandardBlock::Tof => 6,
+        StandardBlock::RTrig | StandardBlock::Sr | StandardBlock::Rs => 3,
+        StandardBlock::Ctu | StandardBlock::Ton | StandardBlock::Tof | StandardBlock::Tp => 6,
     }
 }
 

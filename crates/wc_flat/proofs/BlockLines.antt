@@ -10,8 +10,8 @@ use Rattle.wc_flat.specs.Contents.{AreContents}
 use Rattle.wc_flat.specs.Laid.{first_place}
 use Rattle.wc_flat.specs.NumberBlocks.{field_numbers, is_slot, number_from, with_numbers, given_bit, given_natural, block_called}
 use Rattle.wc_flat.specs.NumberOperators.{given}
-use Rattle.wc_model.specs.Language.BlockCalls.{field_at, with_truth, with_dint, with_time, with_moment, with_phase, with_fields, r_trig_contents, sr_contents, ctu_contents, ton_contents, tof_contents, standard_called}
-use Rattle.wc_model.specs.Language.Blocks.{RTrigFields, SrFields, CtuFields, TonFields, TofFields, r_trig_step, sr_step, ctu_step, ton_step, tof_step}
+use Rattle.wc_model.specs.Language.BlockCalls.{field_at, with_truth, with_dint, with_time, with_moment, with_phase, with_fields, r_trig_contents, sr_contents, rs_contents, ctu_contents, ton_contents, tof_contents, tp_contents, standard_called}
+use Rattle.wc_model.specs.Language.Blocks.{RTrigFields, SrFields, RsFields, CtuFields, TonFields, TofFields, TpFields, r_trig_step, sr_step, rs_step, ctu_step, ton_step, tof_step, tp_step}
 use Rattle.wc_model.specs.Language.Declarations.{Variable, VariableType, Standard, type_named, variable_named}
 use Rattle.wc_model.specs.Language.Frames.{content_number, place_number, slot_kind_of, slot_kinds}
 use Rattle.wc_model.specs.Language.Names.{Name}
@@ -19,7 +19,7 @@ use Rattle.wc_model.specs.Language.Reasons.{Reason}
 use Rattle.wc_model.specs.Language.Scopes.{Scope}
 use Rattle.wc_model.specs.Language.Store.{Location, Path, Content, Plain, Moment, Phase, Store, with_content, standard_fields, variable_places, block_places}
 use Rattle.wc_model.specs.declared.block.StandardBlock.{StandardBlock}
-use Rattle.wc_model.specs.declared.block.StandardBlock.TheVariants.{RTrig, Sr, Ctu, Ton, Tof}
+use Rattle.wc_model.specs.declared.block.StandardBlock.TheVariants.{RTrig, Sr, Rs, Ctu, Ton, Tof, Tp}
 use Rattle.wc_model.specs.declared.kind.SlotKind.{SlotKind}
 use Rattle.wc_model.specs.declared.kind.SlotKind.TheVariants as slots
 use Rattle.wc_model.specs.declared.value.Value.TheVariants.{Bool as Truth, Dint, Time}
@@ -135,6 +135,18 @@ block_follows frame Sr now store numbers contents names at h =
 
     slot : (place : Location) (n : ℕ) → place_number frame place ≡ Some n → (content : Content) → store place ≡ Some content → slice_get (slot_kinds frame) n ≡ Some (slot_kind_of content)
     slot place n e content found = field_slot frame store numbers contents place n e content found
+block_follows frame Rs now store numbers contents names at h =
+    truth_given frame (field_at store names (codes "s")) (number_from slots.Bool (slot_kinds frame) numbers at 0) (read slots.Bool (Path (names ++ codes "s" ∷ [])) at h.0) _ _ (λ s e0.
+    truth_given frame (field_at store names (codes "r1")) (number_from slots.Bool (slot_kinds frame) numbers at 1) (read slots.Bool (Path (names ++ codes "r1" ∷ [])) (suc at) h.1.0) _ _ (λ r1 e1.
+    truth_given frame (field_at store names (codes "q1")) (number_from slots.Bool (slot_kinds frame) numbers at 2) (read slots.Bool (Path (names ++ codes "q1" ∷ [])) (suc (suc at)) h.1.1.0) _ _ (λ q1 e2.
+    let f : RsFields = rs_step (record { s = s; r1 = r1; q1 = q1 }) in
+    (with_numbers numbers at (field_numbers (rs_contents f)), fields_written frame store numbers contents names at (rs_contents f) h (slot (Path (names ++ codes "s" ∷ [])) at h.0 (Plain (Truth s)) e0, (slot (Path (names ++ codes "r1" ∷ [])) (suc at) h.1.0 (Plain (Truth r1)) e1, (slot (Path (names ++ codes "q1" ∷ [])) (suc (suc at)) h.1.1.0 (Plain (Truth q1)) e2, tt))), refl))))
+  where
+    read : (kind : SlotKind) (place : Location) (n : ℕ) → place_number frame place ≡ Some n → ReadsField kind (store place) (number_from kind (slot_kinds frame) numbers n 0)
+    read kind place n e = field_read frame store numbers contents kind place n e
+
+    slot : (place : Location) (n : ℕ) → place_number frame place ≡ Some n → (content : Content) → store place ≡ Some content → slice_get (slot_kinds frame) n ≡ Some (slot_kind_of content)
+    slot place n e content found = field_slot frame store numbers contents place n e content found
 block_follows frame Ctu now store numbers contents names at h =
     truth_given frame (field_at store names (codes "cu")) (number_from slots.Bool (slot_kinds frame) numbers at 0) (read slots.Bool (Path (names ++ codes "cu" ∷ [])) at h.0) _ _ (λ cu e0.
     truth_given frame (field_at store names (codes "r")) (number_from slots.Bool (slot_kinds frame) numbers at 1) (read slots.Bool (Path (names ++ codes "r" ∷ [])) (suc at) h.1.0) _ _ (λ r e1.
@@ -180,6 +192,21 @@ block_follows frame Tof now store numbers contents names at h =
 
     slot : (place : Location) (n : ℕ) → place_number frame place ≡ Some n → (content : Content) → store place ≡ Some content → slice_get (slot_kinds frame) n ≡ Some (slot_kind_of content)
     slot place n e content found = field_slot frame store numbers contents place n e content found
+block_follows frame Tp now store numbers contents names at h =
+    truth_given frame (field_at store names (codes "in")) (number_from slots.Bool (slot_kinds frame) numbers at 0) (read slots.Bool (Path (names ++ codes "in" ∷ [])) at h.0) _ _ (λ input e0.
+    time_given frame (field_at store names (codes "pt")) (number_from slots.Time (slot_kinds frame) numbers at 1) (read slots.Time (Path (names ++ codes "pt" ∷ [])) (suc at) h.1.0) _ _ (λ pt e1.
+    truth_given frame (field_at store names (codes "q")) (number_from slots.Bool (slot_kinds frame) numbers at 2) (read slots.Bool (Path (names ++ codes "q" ∷ [])) (suc (suc at)) h.1.1.0) _ _ (λ q e2.
+    time_given frame (field_at store names (codes "et")) (number_from slots.Time (slot_kinds frame) numbers at 3) (read slots.Time (Path (names ++ codes "et" ∷ [])) (suc (suc (suc at))) h.1.1.1.0) _ _ (λ et e3.
+    phase_given frame (field_at store names (codes "phase")) (number_from slots.Phase (slot_kinds frame) numbers at 4) (read slots.Phase (Path (names ++ codes "phase" ∷ [])) (suc (suc (suc (suc at)))) h.1.1.1.1.0) _ _ (λ phase e4.
+    moment_given frame (field_at store names (codes "start")) (number_from slots.Moment (slot_kinds frame) numbers at 5) (read slots.Moment (Path (names ++ codes "start" ∷ [])) (suc (suc (suc (suc (suc at))))) h.1.1.1.1.1.0) _ _ (λ start e5.
+    let f : TpFields = tp_step now (record { input = input; pt = pt; q = q; et = et; phase = phase; start = start }) in
+    (with_numbers numbers at (field_numbers (tp_contents f)), fields_written frame store numbers contents names at (tp_contents f) h (slot (Path (names ++ codes "in" ∷ [])) at h.0 (Plain (Truth input)) e0, (slot (Path (names ++ codes "pt" ∷ [])) (suc at) h.1.0 (Plain (Time pt)) e1, (slot (Path (names ++ codes "q" ∷ [])) (suc (suc at)) h.1.1.0 (Plain (Truth q)) e2, (slot (Path (names ++ codes "et" ∷ [])) (suc (suc (suc at))) h.1.1.1.0 (Plain (Time et)) e3, (slot (Path (names ++ codes "phase" ∷ [])) (suc (suc (suc (suc at)))) h.1.1.1.1.0 (Phase phase) e4, (slot (Path (names ++ codes "start" ∷ [])) (suc (suc (suc (suc (suc at))))) h.1.1.1.1.1.0 (Moment start) e5, tt)))))), refl)))))))
+  where
+    read : (kind : SlotKind) (place : Location) (n : ℕ) → place_number frame place ≡ Some n → ReadsField kind (store place) (number_from kind (slot_kinds frame) numbers n 0)
+    read kind place n e = field_read frame store numbers contents kind place n e
+
+    slot : (place : Location) (n : ℕ) → place_number frame place ≡ Some n → (content : Content) → store place ≡ Some content → slice_get (slot_kinds frame) n ≡ Some (slot_kind_of content)
+    slot place n e content found = field_slot frame store numbers contents place n e content found
 
 -- a field of an instance, by where it stands in its block
 pub field_place : (frame : List (Location × Content)) (scope : Scope) (names : List Name) (base : ℕ) → IsBased frame scope names base → (instance : Name) (v : Variable) → variable_named scope.unit instance ≡ Some v → (at : ℕ) → first_place scope instance ≡ Some at → (field : Name) (i n : ℕ) → path_from 0 (places_of scope.before v) (field ∷ []) ≡ Some i → base + at + i ≡ n → place_number frame (Path ((names ++ instance ∷ []) ++ field ∷ [])) ≡ Some n
@@ -198,6 +225,8 @@ fields_at frame scope names base based instance v found block typed at first = e
     each : (b : StandardBlock) → places_of scope.before v ≡ map (λ f. (f.0 ∷ [], f.1)) (standard_fields b) → FieldsAt frame (names ++ instance ∷ []) (base + at) (standard_fields b)
     each RTrig p = (field RTrig p (codes "clk") 0 (base + at) refl (omega arith), (field RTrig p (codes "q") 1 (suc (base + at)) refl (omega arith), (field RTrig p (codes "m") 2 (suc (suc (base + at))) refl (omega arith), tt)))
     each Sr p = (field Sr p (codes "s1") 0 (base + at) refl (omega arith), (field Sr p (codes "r") 1 (suc (base + at)) refl (omega arith), (field Sr p (codes "q1") 2 (suc (suc (base + at))) refl (omega arith), tt)))
+    each Rs p = (field Rs p (codes "s") 0 (base + at) refl (omega arith), (field Rs p (codes "r1") 1 (suc (base + at)) refl (omega arith), (field Rs p (codes "q1") 2 (suc (suc (base + at))) refl (omega arith), tt)))
     each Ctu p = (field Ctu p (codes "cu") 0 (base + at) refl (omega arith), (field Ctu p (codes "r") 1 (suc (base + at)) refl (omega arith), (field Ctu p (codes "pv") 2 (suc (suc (base + at))) refl (omega arith), (field Ctu p (codes "q") 3 (suc (suc (suc (base + at)))) refl (omega arith), (field Ctu p (codes "cv") 4 (suc (suc (suc (suc (base + at))))) refl (omega arith), (field Ctu p (codes "m") 5 (suc (suc (suc (suc (suc (base + at)))))) refl (omega arith), tt))))))
     each Ton p = (field Ton p (codes "in") 0 (base + at) refl (omega arith), (field Ton p (codes "pt") 1 (suc (base + at)) refl (omega arith), (field Ton p (codes "q") 2 (suc (suc (base + at))) refl (omega arith), (field Ton p (codes "et") 3 (suc (suc (suc (base + at)))) refl (omega arith), (field Ton p (codes "run") 4 (suc (suc (suc (suc (base + at))))) refl (omega arith), (field Ton p (codes "start") 5 (suc (suc (suc (suc (suc (base + at)))))) refl (omega arith), tt))))))
     each Tof p = (field Tof p (codes "in") 0 (base + at) refl (omega arith), (field Tof p (codes "pt") 1 (suc (base + at)) refl (omega arith), (field Tof p (codes "q") 2 (suc (suc (base + at))) refl (omega arith), (field Tof p (codes "et") 3 (suc (suc (suc (base + at)))) refl (omega arith), (field Tof p (codes "phase") 4 (suc (suc (suc (suc (base + at))))) refl (omega arith), (field Tof p (codes "start") 5 (suc (suc (suc (suc (suc (base + at)))))) refl (omega arith), tt))))))
+    each Tp p = (field Tp p (codes "in") 0 (base + at) refl (omega arith), (field Tp p (codes "pt") 1 (suc (base + at)) refl (omega arith), (field Tp p (codes "q") 2 (suc (suc (base + at))) refl (omega arith), (field Tp p (codes "et") 3 (suc (suc (suc (base + at)))) refl (omega arith), (field Tp p (codes "phase") 4 (suc (suc (suc (suc (base + at))))) refl (omega arith), (field Tp p (codes "start") 5 (suc (suc (suc (suc (suc (base + at)))))) refl (omega arith), tt))))))

@@ -5,6 +5,8 @@ pub mod NumberPrograms
 pub mod Parentheses
 pub mod Jumps
 pub mod Timers
+pub mod Pulses
+pub mod Bistables
 pub mod Counters
 pub mod CountingBlock
 pub mod Refused

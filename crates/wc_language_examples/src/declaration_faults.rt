@@ -43,6 +43,10 @@ pub fn types_are_refused()
         ≡ refused 302 2 }
     ensures not_own { declaration_fault (declaring (declares Input 2 "t" "ton" ∷ []))
         ≡ refused 302 2 }
+    ensures pulse_timer { declaration_fault (declaring (declares Own 2 "t" "tp" ∷ [])) ≡ None }
+    ensures reset_dominant { declaration_fault (declaring (declares Own 2 "b" "rs" ∷ [])) ≡ None }
+    ensures no_own_pulse_timer { declaration_fault (declaring (declares Input 2 "t" "tp" ∷ []))
+        ≡ refused 302 2 }
     ensures no_bit { declaration_fault (declaring (starts_at_two ∷ [])) ≡ refused 303 2 }
     ensures names_come_first { declaration_fault
         (declaring (declares Own 2 "d" "dint" ∷ declares Own 3 "d" "foo" ∷ [])) ≡ refused 301 3 }

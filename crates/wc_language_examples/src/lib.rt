@@ -2,9 +2,11 @@
 //! example, and the gate proves it.
 #![tactic(auto)]
 
+mod bistables;
 mod body_faults;
 mod declaration_faults;
 mod meaning;
 mod numbers;
 mod paths;
+mod pulses;
 mod timers;

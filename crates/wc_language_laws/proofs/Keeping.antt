@@ -2,7 +2,7 @@
 use Rattle.std.proofs.Common.{◌≡◌, true, Option, Some, refl, subst, sym}
 use Rattle.wc_language_laws.specs.Laws.{ATextKeepsItsPlaces}
 use Rattle.wc_model.specs.Language.Carried.{Lead, ToPlace, ToField, same_lead}
-use Rattle.wc_model.specs.declared.block.StandardBlock.TheVariants.{RTrig, Sr, Ctu, Ton, Tof}
+use Rattle.wc_model.specs.declared.block.StandardBlock.TheVariants.{RTrig, Sr, Rs, Ctu, Ton, Tof, Tp}
 use Rattle.wc_model.specs.declared.kind.Kind.TheVariants.{Bool as KindBool, Dint, Time}
 
 -- where names lead is the same as itself
@@ -12,9 +12,11 @@ same_as_itself (ToPlace Dint) = refl
 same_as_itself (ToPlace Time) = refl
 same_as_itself (ToField RTrig) = refl
 same_as_itself (ToField Sr) = refl
+same_as_itself (ToField Rs) = refl
 same_as_itself (ToField Ctu) = refl
 same_as_itself (ToField Ton) = refl
 same_as_itself (ToField Tof) = refl
+same_as_itself (ToField Tp) = refl
 
 -- so each place keeps
 pub keeps_its_places : ATextKeepsItsPlaces

@@ -8,4 +8,5 @@ pub mod TracesArePaths
 pub mod UnitBounds
 pub mod Returning
 pub mod Keeping
+pub mod Pulsing
 pub mod OneBound

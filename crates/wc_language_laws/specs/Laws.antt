@@ -1,9 +1,9 @@
 -- Statements about the definitions of the language.
 use Rattle.std.specs.Prelude.{◌≡◌, ℕ, suc, ◌≤◌, true, List, [], ◌∷◌, ◌↔◌, ◌⊎◌, length, Option, Some, None, ℤ}
-use Rattle.wc_model.specs.Language.Blocks.{RTrigFields, SrFields, CtuFields, TonFields, TofFields, r_trig_step, sr_step, ctu_step, ton_step, tof_step}
+use Rattle.wc_model.specs.Language.Blocks.{RTrigFields, SrFields, RsFields, CtuFields, TonFields, TofFields, TpFields, r_trig_step, sr_step, rs_step, ctu_step, ton_step, tof_step, tp_step}
 use Rattle.wc_model.specs.Language.Checks.{Check, Refusal, Spot, IsFirstBroken, first_broken, spots_of}
 use Rattle.wc_model.specs.Language.Faults.{MOST_STEPS}
-use Rattle.wc_model.specs.Language.Histories.{SrCall, CtuCall, TimerCall, FitsRTrig, FitsSr, FitsCtu, FitsTon, FitsTof}
+use Rattle.wc_model.specs.Language.Histories.{SrCall, RsCall, CtuCall, TimerCall, FitsRTrig, FitsSr, FitsRs, FitsCtu, FitsTon, FitsTof, FitsTp}
 use Rattle.wc_model.specs.Language.Loading.{IsLoaded}
 use Rattle.wc_model.specs.Language.Meaning.{Context, Outcome, Done, Stuck, Running, Seeking, Returned, ahead, means, program_means}
 use Rattle.wc_model.specs.Language.Carried.{Lead, keeps, lead_of}
@@ -49,6 +49,9 @@ ATextKeepsItsPlaces = (text : Text) (place : Location) (lead : Lead) → lead_of
 abbrev pub sr_call : SrFields → SrCall
 sr_call f = record { s1 = f.s1; r = f.r }
 
+abbrev pub rs_call : RsFields → RsCall
+rs_call f = record { s = f.s; r1 = f.r1 }
+
 abbrev pub ctu_call : CtuFields → CtuCall
 ctu_call f = record { cu = f.cu; r = f.r; pv = f.pv }
 
@@ -58,12 +61,18 @@ ton_call now f = record { moment = now; input = f.input; pt = f.pt }
 abbrev pub tof_call : ℕ → TofFields → TimerCall
 tof_call now f = record { moment = now; input = f.input; pt = f.pt }
 
+abbrev pub tp_call : ℕ → TpFields → TimerCall
+tp_call now f = record { moment = now; input = f.input; pt = f.pt }
+
 -- fields that fit a history fit, after a call, that history followed by this call
 abbrev pub RTrigKeepsItsHistory : Type 0
 RTrigKeepsItsHistory = (clks : List Bool) (f : RTrigFields) → FitsRTrig clks f → FitsRTrig (f.clk ∷ clks) (r_trig_step f)
 
 abbrev pub SrKeepsItsHistory : Type 0
 SrKeepsItsHistory = (calls : List SrCall) (f : SrFields) → FitsSr calls f → FitsSr (sr_call f ∷ calls) (sr_step f)
+
+abbrev pub RsKeepsItsHistory : Type 0
+RsKeepsItsHistory = (calls : List RsCall) (f : RsFields) → FitsRs calls f → FitsRs (rs_call f ∷ calls) (rs_step f)
 
 abbrev pub CtuKeepsItsHistory : Type 0
 CtuKeepsItsHistory = (calls : List CtuCall) (f : CtuFields) → FitsCtu calls f → FitsCtu (ctu_call f ∷ calls) (ctu_step f)
@@ -73,6 +82,9 @@ TonKeepsItsHistory = (now : ℕ) (calls : List TimerCall) (f : TonFields) → Fi
 
 abbrev pub TofKeepsItsHistory : Type 0
 TofKeepsItsHistory = (now : ℕ) (calls : List TimerCall) (f : TofFields) → FitsTof calls f → FitsTof (tof_call now f ∷ calls) (tof_step now f)
+
+abbrev pub TpKeepsItsHistory : Type 0
+TpKeepsItsHistory = (now : ℕ) (calls : List TimerCall) (f : TpFields) → FitsTp calls f → FitsTp (tp_call now f ∷ calls) (tp_step now f)
 
 -- the first fault is a broken rule, and no rule that is asked before it is broken; and there is one where any is broken
 abbrev pub FirstFaultIsFirst : Type 0

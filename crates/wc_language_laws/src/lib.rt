@@ -1,7 +1,7 @@
 //! Laws about the definitions of the language. Each function has an empty body: its clause is the law.
 #![tactic(auto)]
 
-ghost use Rattle.wc_language_laws.specs.Laws.{WrapIsTheOnlyOne, JumpGoesOnAhead, ReturnEndsTheBody, ATextKeepsItsPlaces, RTrigKeepsItsHistory, SrKeepsItsHistory, CtuKeepsItsHistory, TonKeepsItsHistory, TofKeepsItsHistory, FirstFaultIsFirst, WorstPathIsLongest, EachUnitHasAWorstPath, EachLoadedUnitHasABound, AUnitHasOneBound, ThePrintedBoundIsThePrograms, NoRunIsLongerThanThePaths};
+ghost use Rattle.wc_language_laws.specs.Laws.{WrapIsTheOnlyOne, JumpGoesOnAhead, ReturnEndsTheBody, ATextKeepsItsPlaces, RTrigKeepsItsHistory, SrKeepsItsHistory, RsKeepsItsHistory, CtuKeepsItsHistory, TonKeepsItsHistory, TofKeepsItsHistory, TpKeepsItsHistory, FirstFaultIsFirst, WorstPathIsLongest, EachUnitHasAWorstPath, EachLoadedUnitHasABound, AUnitHasOneBound, ThePrintedBoundIsThePrograms, NoRunIsLongerThanThePaths};
 
 /// Arithmetic wraps to the one number of 32 bits that is equal modulo 2^32.
 pub fn wrap_is_the_only_one()
@@ -33,6 +33,11 @@ pub fn sr_keeps_its_history()
     ensures { SrKeepsItsHistory }
 {}
 
+/// RS: the step agrees with what the history of calls tells.
+pub fn rs_keeps_its_history()
+    ensures { RsKeepsItsHistory }
+{}
+
 /// CTU: the step agrees with what the history of calls tells.
 pub fn ctu_keeps_its_history()
     ensures { CtuKeepsItsHistory }
@@ -46,6 +51,11 @@ pub fn ton_keeps_its_history()
 /// TOF: the step agrees with what the history of calls tells.
 pub fn tof_keeps_its_history()
     ensures { TofKeepsItsHistory }
+{}
+
+/// TP: the step agrees with what the history of calls tells.
+pub fn tp_keeps_its_history()
+    ensures { TpKeepsItsHistory }
 {}
 
 /// The first fault of a pass breaks a rule at its place, and no earlier place breaks one.

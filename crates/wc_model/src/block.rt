@@ -5,10 +5,14 @@ pub enum StandardBlock {
     RTrig,
     /// SR, bistable whose set is dominant.
     Sr,
+    /// RS, bistable whose reset is dominant.
+    Rs,
     /// CTU, up counter, in DINT.
     Ctu,
     /// TON, on-delay timer.
     Ton,
     /// TOF, off-delay timer.
     Tof,
+    /// TP, pulse timer.
+    Tp,
 }

@@ -10,7 +10,7 @@ use Rattle.wc_model.specs.Language.Scopes.{is_input}
 use Rattle.wc_model.specs.Language.Store.{standard_fields}
 use Rattle.wc_model.specs.Language.Tree.{ProgramUnit}
 use Rattle.wc_model.specs.declared.block.StandardBlock.{StandardBlock}
-use Rattle.wc_model.specs.declared.block.StandardBlock.TheVariants.{RTrig, Sr, Ctu, Ton, Tof}
+use Rattle.wc_model.specs.declared.block.StandardBlock.TheVariants.{RTrig, Sr, Rs, Ctu, Ton, Tof, Tp}
 use Rattle.wc_model.specs.declared.kind.Kind.{Kind}
 use Rattle.wc_model.specs.declared.source.Section.{Section}
 use Rattle.wc_model.specs.declared.source.Section.TheVariants.{Input, Output, Own}
@@ -133,9 +133,11 @@ block_input units before u h type number name e m found i =
 standard_numbered : (before : List ProgramUnit) (block : StandardBlock) → list_all (λ m. is_some (numbered_input before (Standard block) m)) (standard_members block) ≡ true
 standard_numbered before RTrig = refl
 standard_numbered before Sr = refl
+standard_numbered before Rs = refl
 standard_numbered before Ctu = refl
 standard_numbered before Ton = refl
 standard_numbered before Tof = refl
+standard_numbered before Tp = refl
 
 of_all : (q : Member → Bool) (ms : List Member) (name : Name) (m : Member) → list_all q ms ≡ true → member_named ms name ≡ Some m → q m ≡ true
 of_all q [] name m all e = cc

@@ -92,8 +92,9 @@ pub(crate) fn push_standard(frame: &mut Frame, block: StandardBlock) -> Result<(
     ensures memory { IsOkUnless result Fault.Memory }
 {
     match block {
-        StandardBlock::RTrig => push_zeros(frame, &[SlotKind::Bool; 3]),
-        StandardBlock::Sr => push_zeros(frame, &[SlotKind::Bool; 3]),
+        StandardBlock::RTrig | StandardBlock::Sr | StandardBlock::Rs => {
+            push_zeros(frame, &[SlotKind::Bool; 3])
+        }
         StandardBlock::Ctu => push_zeros(
             frame,
             &[
@@ -116,7 +117,7 @@ pub(crate) fn push_standard(frame: &mut Frame, block: StandardBlock) -> Result<(
                 SlotKind::Moment,
             ],
         ),
-        StandardBlock::Tof => push_zeros(
+        StandardBlock::Tof | StandardBlock::Tp => push_zeros(
             frame,
             &[
                 SlotKind::Bool,

@@ -72,6 +72,24 @@ fn sr_field(name: &[u8]) -> Option<u16>
     None
 }
 
+/// The number of a field of RS.
+fn rs_field(name: &[u8]) -> Option<u16>
+    ensures { result
+        ≡ position_from (λ f. same_name f.0 (name_of name.now)) 0
+        (standard_fields StandardBlock.Rs) }
+{
+    if is_word(b"s", name) {
+        return Some(0);
+    }
+    if is_word(b"r1", name) {
+        return Some(1);
+    }
+    if is_word(b"q1", name) {
+        return Some(2);
+    }
+    None
+}
+
 /// The number of a field of CTU.
 fn ctu_field(name: &[u8]) -> Option<u16>
     ensures { result
@@ -126,8 +144,8 @@ fn ton_field(name: &[u8]) -> Option<u16>
     None
 }
 
-/// The number of a field of TOF.
-fn tof_field(name: &[u8]) -> Option<u16>
+/// The number of a field of TOF and of TP, which have the same.
+fn phased_timer_field(name: &[u8]) -> Option<u16>
     ensures { result
         ≡ position_from (λ f. same_name f.0 (name_of name.now)) 0
         (standard_fields StandardBlock.Tof) }
@@ -161,9 +179,10 @@ pub(crate) fn field_named(block: StandardBlock, name: &[u8]) -> Option<u16>
     match block {
         StandardBlock::RTrig => r_trig_field(name),
         StandardBlock::Sr => sr_field(name),
+        StandardBlock::Rs => rs_field(name),
         StandardBlock::Ctu => ctu_field(name),
         StandardBlock::Ton => ton_field(name),
-        StandardBlock::Tof => tof_field(name),
+        StandardBlock::Tof | StandardBlock::Tp => phased_timer_field(name),
     }
 }
 

@@ -74,6 +74,24 @@ fn sr_member(name: &[u8]) -> Option<Member>
     None
 }
 
+/// The input or output of that name of RS.
+fn rs_member(name: &[u8]) -> Option<Member>
+    ensures { result
+        ≡ option_map seen_member
+        (member_named (standard_members StandardBlock.Rs) (name_of name.now)) }
+{
+    if is_word(b"s", name) {
+        return Some(plain(Section::Input, Kind::Bool));
+    }
+    if is_word(b"r1", name) {
+        return Some(plain(Section::Input, Kind::Bool));
+    }
+    if is_word(b"q1", name) {
+        return Some(plain(Section::Output, Kind::Bool));
+    }
+    None
+}
+
 /// The input or output of that name of CTU.
 fn ctu_member(name: &[u8]) -> Option<Member>
     ensures { result
@@ -98,32 +116,11 @@ fn ctu_member(name: &[u8]) -> Option<Member>
     None
 }
 
-/// The input or output of that name of TON.
-fn ton_member(name: &[u8]) -> Option<Member>
+/// The input or output of that name of TON, TOF and TP, which have the same.
+fn timer_member(name: &[u8]) -> Option<Member>
     ensures { result
         ≡ option_map seen_member
         (member_named (standard_members StandardBlock.Ton) (name_of name.now)) }
-{
-    if is_word(b"in", name) {
-        return Some(plain(Section::Input, Kind::Bool));
-    }
-    if is_word(b"pt", name) {
-        return Some(plain(Section::Input, Kind::Time));
-    }
-    if is_word(b"q", name) {
-        return Some(plain(Section::Output, Kind::Bool));
-    }
-    if is_word(b"et", name) {
-        return Some(plain(Section::Output, Kind::Time));
-    }
-    None
-}
-
-/// The input or output of that name of TOF.
-fn tof_member(name: &[u8]) -> Option<Member>
-    ensures { result
-        ≡ option_map seen_member
-        (member_named (standard_members StandardBlock.Tof) (name_of name.now)) }
 {
     if is_word(b"in", name) {
         return Some(plain(Section::Input, Kind::Bool));
@@ -148,9 +145,9 @@ fn standard_member(block: StandardBlock, name: &[u8]) -> Option<Member>
     match block {
         StandardBlock::RTrig => r_trig_member(name),
         StandardBlock::Sr => sr_member(name),
+        StandardBlock::Rs => rs_member(name),
         StandardBlock::Ctu => ctu_member(name),
-        StandardBlock::Ton => ton_member(name),
-        StandardBlock::Tof => tof_member(name),
+        StandardBlock::Ton | StandardBlock::Tof | StandardBlock::Tp => timer_member(name),
     }
 }
 

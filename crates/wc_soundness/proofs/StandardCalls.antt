@@ -2,15 +2,15 @@
 use Rattle.std.proofs.Common.{◌≡◌, ℕ, Bool, List, [], ◌∷◌, ◌++◌, map, Option, Some, None, Result, ℤ, append_assoc, refl, ap, ◌∙◌}
 use Rattle.std.specs.Option.{option_map}
 use Rattle.std.specs.Prelude.{codes}
-use Rattle.wc_model.specs.Language.BlockCalls.{field_at, with_truth, with_dint, with_time, with_moment, with_phase, with_fields, r_trig_contents, r_trig_called, sr_contents, sr_called, ctu_contents, ctu_called, ton_contents, ton_called, tof_contents, tof_called, standard_called}
-use Rattle.wc_model.specs.Language.Blocks.{RTrigFields, SrFields, CtuFields, TonFields, TofFields, r_trig_step, sr_step, ctu_step, ton_step, tof_step}
+use Rattle.wc_model.specs.Language.BlockCalls.{field_at, with_truth, with_dint, with_time, with_moment, with_phase, with_fields, r_trig_contents, r_trig_called, sr_contents, sr_called, rs_contents, rs_called, ctu_contents, ctu_called, ton_contents, ton_called, tof_contents, tof_called, tp_contents, tp_called, standard_called}
+use Rattle.wc_model.specs.Language.Blocks.{RTrigFields, SrFields, RsFields, CtuFields, TonFields, TofFields, TpFields, r_trig_step, sr_step, rs_step, ctu_step, ton_step, tof_step, tp_step}
 use Rattle.wc_model.specs.Language.Declarations.{Variable, VariableType, Standard, type_named, variable_named}
 use Rattle.wc_model.specs.Language.Names.{Name}
 use Rattle.wc_model.specs.Language.Reasons.{Reason}
 use Rattle.wc_model.specs.Language.Scopes.{Scope}
 use Rattle.wc_model.specs.Language.Store.{Path, Content, Plain, Moment, Phase, Store, with_content, standard_fields, variable_places, block_places}
 use Rattle.wc_model.specs.declared.block.StandardBlock.{StandardBlock}
-use Rattle.wc_model.specs.declared.block.StandardBlock.TheVariants.{RTrig, Sr, Ctu, Ton, Tof}
+use Rattle.wc_model.specs.declared.block.StandardBlock.TheVariants.{RTrig, Sr, Rs, Ctu, Ton, Tof, Tp}
 use Rattle.wc_model.specs.declared.kind.SlotKind.TheVariants.{Bool as SlotBool, Dint as SlotDint, Time as SlotTime, Moment as SlotMoment, Phase as SlotPhase}
 use Rattle.wc_model.specs.declared.value.Value.TheVariants.{Bool as Truth, Dint, Time}
 use Rattle.wc_soundness.proofs.Entities.{Writes}
@@ -100,6 +100,17 @@ sr-safe store instance h =
     let f : SrFields = sr_step (record { s1 = a; r = b; q1 = d }) in
     (with_fields store instance (sr_contents f), refl, with_fields-keeps store instance (sr_contents f) (s1, (r, (q1, tt)))))))
 
+pub rs-safe : (store : Store) (instance : List Name) → HoldsBlock store instance Rs → Writes store (rs_called store instance)
+rs-safe store instance h =
+    let s = h (codes "s") _ refl in
+    let r1 = h (codes "r1") _ refl in
+    let q1 = h (codes "q1") _ refl in
+    truth-given store (field_at store instance (codes "s")) s _ (λ a.
+    truth-given store (field_at store instance (codes "r1")) r1 _ (λ b.
+    truth-given store (field_at store instance (codes "q1")) q1 _ (λ d.
+    let f : RsFields = rs_step (record { s = a; r1 = b; q1 = d }) in
+    (with_fields store instance (rs_contents f), refl, with_fields-keeps store instance (rs_contents f) (s, (r1, (q1, tt)))))))
+
 pub ctu-safe : (store : Store) (instance : List Name) → HoldsBlock store instance Ctu → Writes store (ctu_called store instance)
 ctu-safe store instance h =
     let cu = h (codes "cu") _ refl in
@@ -151,12 +162,31 @@ tof-safe now store instance h =
     let f : TofFields = tof_step now (record { input = a1; pt = a2; q = a3; et = a4; phase = a5; start = a6 }) in
     (with_fields store instance (tof_contents f), refl, with_fields-keeps store instance (tof_contents f) (input, (pt, (q, (et, (phase, (start, tt)))))))))))))
 
+pub tp-safe : (now : ℕ) (store : Store) (instance : List Name) → HoldsBlock store instance Tp → Writes store (tp_called now store instance)
+tp-safe now store instance h =
+    let input = h (codes "in") _ refl in
+    let pt = h (codes "pt") _ refl in
+    let q = h (codes "q") _ refl in
+    let et = h (codes "et") _ refl in
+    let phase = h (codes "phase") _ refl in
+    let start = h (codes "start") _ refl in
+    truth-given store (field_at store instance (codes "in")) input _ (λ a1.
+    time-given store (field_at store instance (codes "pt")) pt _ (λ a2.
+    truth-given store (field_at store instance (codes "q")) q _ (λ a3.
+    time-given store (field_at store instance (codes "et")) et _ (λ a4.
+    phase-given store (field_at store instance (codes "phase")) phase _ (λ a5.
+    moment-given store (field_at store instance (codes "start")) start _ (λ a6.
+    let f : TpFields = tp_step now (record { input = a1; pt = a2; q = a3; et = a4; phase = a5; start = a6 }) in
+    (with_fields store instance (tp_contents f), refl, with_fields-keeps store instance (tp_contents f) (input, (pt, (q, (et, (phase, (start, tt)))))))))))))
+
 pub standard-safe : (block : StandardBlock) (now : ℕ) (store : Store) (instance : List Name) → HoldsBlock store instance block → Writes store (standard_called block now store instance)
 standard-safe RTrig now store instance h = r_trig-safe store instance h
 standard-safe Sr now store instance h = sr-safe store instance h
+standard-safe Rs now store instance h = rs-safe store instance h
 standard-safe Ctu now store instance h = ctu-safe store instance h
 standard-safe Ton now store instance h = ton-safe now store instance h
 standard-safe Tof now store instance h = tof-safe now store instance h
+standard-safe Tp now store instance h = tp-safe now store instance h
 
 -- an instance of a unit is held
 pub block_held : (store : Store) (names : List Name) (scope : Scope) → FitsScope store names scope → (instance : Name) (v : Variable) → variable_named scope.unit instance ≡ Some v → (block : StandardBlock) → type_named scope.before v.type_name ≡ Some (Standard block) → HoldsBlock store (names ++ instance ∷ []) block

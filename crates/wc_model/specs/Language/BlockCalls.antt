@@ -1,12 +1,12 @@
 -- A call of an instance of a standard block: its fields are taken from the store, and written back after one step (IEC
 -- 61131-3:2003, 2.5.2.1 and 2.5.2.3).
 use Rattle.std.specs.Prelude.{ℕ, Bool, List, [], ◌∷◌, ◌++◌, Option, Some, Result, Ok, Err, ℤ, codes}
-use Rattle.wc_model.specs.Language.Blocks.{RTrigFields, SrFields, CtuFields, TonFields, TofFields, r_trig_step, sr_step, ctu_step, ton_step, tof_step}
+use Rattle.wc_model.specs.Language.Blocks.{RTrigFields, SrFields, RsFields, CtuFields, TonFields, TofFields, TpFields, r_trig_step, sr_step, rs_step, ctu_step, ton_step, tof_step, tp_step}
 use Rattle.wc_model.specs.Language.Names.{Name}
 use Rattle.wc_model.specs.Language.Reasons.{Reason, NoSuchPlace}
 use Rattle.wc_model.specs.Language.Store.{Path, Content, Plain, Moment, Phase, Store, with_content}
 use Rattle.wc_model.specs.declared.block.StandardBlock.{StandardBlock}
-use Rattle.wc_model.specs.declared.block.StandardBlock.TheVariants.{RTrig, Sr, Ctu, Ton, Tof}
+use Rattle.wc_model.specs.declared.block.StandardBlock.TheVariants.{RTrig, Sr, Rs, Ctu, Ton, Tof, Tp}
 use Rattle.wc_model.specs.declared.value.Value.TheVariants.{Bool as Truth, Dint, Time}
 
 -- the content of a field of an instance
@@ -61,6 +61,17 @@ sr_called store instance =
     with_truth (field_at store instance (codes "q1")) (λ q1.
     Ok (with_fields store instance (sr_contents (sr_step (record { s1 = s1; r = r; q1 = q1 })))))))
 
+-- RS
+abbrev pub rs_contents : RsFields → List (Name × Content)
+rs_contents f = (codes "s", Plain (Truth f.s)) ∷ (codes "r1", Plain (Truth f.r1)) ∷ (codes "q1", Plain (Truth f.q1)) ∷ []
+
+abbrev pub rs_called : Store → List Name → Result Store Reason
+rs_called store instance =
+    with_truth (field_at store instance (codes "s")) (λ s.
+    with_truth (field_at store instance (codes "r1")) (λ r1.
+    with_truth (field_at store instance (codes "q1")) (λ q1.
+    Ok (with_fields store instance (rs_contents (rs_step (record { s = s; r1 = r1; q1 = q1 })))))))
+
 -- CTU
 abbrev pub ctu_contents : CtuFields → List (Name × Content)
 ctu_contents f = (codes "cu", Plain (Truth f.cu)) ∷ (codes "r", Plain (Truth f.r)) ∷ (codes "pv", Plain (Dint f.pv)) ∷ (codes "q", Plain (Truth f.q)) ∷ (codes "cv", Plain (Dint f.cv)) ∷ (codes "m", Plain (Truth f.m)) ∷ []
@@ -103,10 +114,26 @@ tof_called now store instance =
     with_moment (field_at store instance (codes "start")) (λ start.
     Ok (with_fields store instance (tof_contents (tof_step now (record { input = input; pt = pt; q = q; et = et; phase = phase; start = start }))))))))))
 
+-- TP, at a moment
+abbrev pub tp_contents : TpFields → List (Name × Content)
+tp_contents f = (codes "in", Plain (Truth f.input)) ∷ (codes "pt", Plain (Time f.pt)) ∷ (codes "q", Plain (Truth f.q)) ∷ (codes "et", Plain (Time f.et)) ∷ (codes "phase", Phase f.phase) ∷ (codes "start", Moment f.start) ∷ []
+
+abbrev pub tp_called : ℕ → Store → List Name → Result Store Reason
+tp_called now store instance =
+    with_truth (field_at store instance (codes "in")) (λ input.
+    with_time (field_at store instance (codes "pt")) (λ pt.
+    with_truth (field_at store instance (codes "q")) (λ q.
+    with_time (field_at store instance (codes "et")) (λ et.
+    with_phase (field_at store instance (codes "phase")) (λ phase.
+    with_moment (field_at store instance (codes "start")) (λ start.
+    Ok (with_fields store instance (tp_contents (tp_step now (record { input = input; pt = pt; q = q; et = et; phase = phase; start = start }))))))))))
+
 -- the store after a call of the instance to which these names lead
 abbrev pub standard_called : StandardBlock → ℕ → Store → List Name → Result Store Reason
 standard_called RTrig now store instance = r_trig_called store instance
 standard_called Sr now store instance = sr_called store instance
+standard_called Rs now store instance = rs_called store instance
 standard_called Ctu now store instance = ctu_called store instance
 standard_called Ton now store instance = ton_called now store instance
 standard_called Tof now store instance = tof_called now store instance
+standard_called Tp now store instance = tp_called now store instance

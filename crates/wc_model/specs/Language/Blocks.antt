@@ -14,6 +14,12 @@ pub record SrFields : Type 0 where
   pub r : Bool
   pub q1 : Bool
 
+-- RS
+pub record RsFields : Type 0 where
+  pub s : Bool
+  pub r1 : Bool
+  pub q1 : Bool
+
 -- CTU: `m` is CU at the call before
 pub record CtuFields : Type 0 where
   pub cu : Bool
@@ -41,6 +47,16 @@ pub record TofFields : Type 0 where
   pub phase : ℕ
   pub start : ℕ
 
+-- TP: in phase 0 no pulse has begun, in phase 1 it began at the moment `start` and is on, in phase 2 it is over and IN has
+-- not been FALSE since
+pub record TpFields : Type 0 where
+  pub input : Bool
+  pub pt : ℤ
+  pub q : Bool
+  pub et : ℤ
+  pub phase : ℕ
+  pub start : ℕ
+
 -- Q is TRUE at a call whose CLK is TRUE and was not at the call before
 abbrev pub r_trig_step : RTrigFields → RTrigFields
 r_trig_step f = record { clk = f.clk; q = f.clk && not f.m; m = f.clk }
@@ -48,6 +64,10 @@ r_trig_step f = record { clk = f.clk; q = f.clk && not f.m; m = f.clk }
 -- `Q1 := S1 OR (NOT R AND Q1)`
 abbrev pub sr_step : SrFields → SrFields
 sr_step f = record { s1 = f.s1; r = f.r; q1 = f.s1 || (not f.r && f.q1) }
+
+-- `Q1 := NOT R1 AND (S OR Q1)`
+abbrev pub rs_step : RsFields → RsFields
+rs_step f = record { s = f.s; r1 = f.r1; q1 = not f.r1 && (f.s || f.q1) }
 
 -- 0 where R is TRUE; else one more at an edge of CU, short of the greatest number
 abbrev pub ctu_count : CtuFields → ℤ
@@ -95,3 +115,33 @@ tof_held f = record { input = f.input; pt = f.pt; q = true; et = pos 0; phase = 
 -- a call of TOF at a moment
 abbrev pub tof_step : ℕ → TofFields → TofFields
 tof_step now f = if f.input then tof_held f else tof_released f.phase f now
+
+-- the pulse that began at the moment `start` is on, and ET is the time since then
+abbrev pub tp_pulsing : TpFields → ℕ → ℕ → TpFields
+tp_pulsing f now start = record { input = f.input; pt = f.pt; q = true; et = pos (now - start); phase = 1; start = start }
+
+-- no pulse has begun, or IN is FALSE behind its end
+abbrev pub tp_idle : TpFields → TpFields
+tp_idle f = record { input = f.input; pt = f.pt; q = false; et = pos 0; phase = 0; start = f.start }
+
+-- the pulse that began at the moment `start` is over, and IN is TRUE: ET is the preset time
+abbrev pub tp_held : TpFields → ℕ → TpFields
+tp_held f start = record { input = f.input; pt = f.pt; q = false; et = pos (preset f.pt); phase = 2; start = start }
+
+-- it is over, and stands so until IN is FALSE
+abbrev pub tp_over : TpFields → ℕ → TpFields
+tp_over f start = if f.input then tp_held f start else tp_idle f
+
+-- a pulse that began at the moment `start` is over once the preset time has passed
+abbrev pub tp_begun : TpFields → ℕ → ℕ → TpFields
+tp_begun f now start = if nat_le (preset f.pt) (now - start) then tp_over f start else tp_pulsing f now start
+
+-- a call of TP, by the phase that it finds
+abbrev pub tp_from : ℕ → TpFields → ℕ → TpFields
+tp_from zero f now = if f.input then tp_begun f now now else tp_idle f
+tp_from (suc zero) f now = tp_begun f now f.start
+tp_from (suc (suc phase)) f now = tp_over f f.start
+
+-- a call of TP at a moment
+abbrev pub tp_step : ℕ → TpFields → TpFields
+tp_step now f = tp_from f.phase f now

@@ -1,5 +1,5 @@
 -- The store of a new text after a change between two scans: what keeps its value, place by place. (The profile's own.)
-use Rattle.std.specs.Prelude.{Bool, true, false, List, [], ◌∷◌, reverse, Option, Some, None, if◌then◌else◌}
+use Rattle.std.specs.Prelude.{Bool, false, List, [], ◌∷◌, reverse, Option, Some, None, if◌then◌else◌}
 use Rattle.std.specs.List.{list_any}
 use Rattle.wc_model.specs.Language.Declarations.{VariableType, Elementary, Standard, Block, same_name, type_named, variable_named, block_named}
 use Rattle.wc_model.specs.Language.DirectVariables.{DirectVariable, direct_variables, kind_of_direct}
@@ -8,8 +8,8 @@ use Rattle.wc_model.specs.Language.Names.{Name}
 use Rattle.wc_model.specs.Language.Scans.{initial_of}
 use Rattle.wc_model.specs.Language.Store.{Location, Direct, Path, Store, same_direct, standard_fields}
 use Rattle.wc_model.specs.Language.Tree.{ProgramUnit, Text}
+use Rattle.wc_model.specs.Text.Keywords.{block_word}
 use Rattle.wc_model.specs.declared.block.StandardBlock.{StandardBlock}
-use Rattle.wc_model.specs.declared.block.StandardBlock.TheVariants.{RTrig, Sr, Ctu, Ton, Tof}
 use Rattle.wc_model.specs.declared.kind.Kind.{Kind}
 
 -- what names lead to: a place of a kind, or a field of an instance of a standard block
@@ -17,14 +17,9 @@ pub data Lead : Type 0 where
   ToPlace : (kind : Kind) → Lead
   ToField : (block : StandardBlock) → Lead
 
--- one standard block and the other are the same
+-- one standard block and the other are the same: they have the same name
 abbrev pub same_block : StandardBlock → StandardBlock → Bool
-same_block RTrig RTrig = true
-same_block Sr Sr = true
-same_block Ctu Ctu = true
-same_block Ton Ton = true
-same_block Tof Tof = true
-same_block a b = false
+same_block a b = same_name (block_word a) (block_word b)
 
 -- the one name behind an instance of a standard block is that of a field
 abbrev pub field_lead : StandardBlock → List Name → Option Lead

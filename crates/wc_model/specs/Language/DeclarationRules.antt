@@ -45,7 +45,7 @@ is_own Input = false
 is_own Output = false
 is_own Own = true
 
--- the names that are types in every text, TP and RS among them, which cannot be used yet
+-- the names that are types in every text
 abbrev pub type_words : List Name
 type_words = kind_words ++ block_words
 

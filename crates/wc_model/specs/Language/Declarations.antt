@@ -6,7 +6,7 @@ use Rattle.wc_model.specs.Language.Names.{Name}
 use Rattle.wc_model.specs.Language.Tree.{Declaration, ProgramUnit}
 use Rattle.wc_model.specs.Text.Keywords.{block_word, kind_word}
 use Rattle.wc_model.specs.declared.block.StandardBlock.{StandardBlock}
-use Rattle.wc_model.specs.declared.block.StandardBlock.TheVariants.{RTrig, Sr, Ctu, Ton, Tof}
+use Rattle.wc_model.specs.declared.block.StandardBlock.TheVariants.{RTrig, Sr, Rs, Ctu, Ton, Tof, Tp}
 use Rattle.wc_model.specs.declared.kind.Kind.{Kind}
 use Rattle.wc_model.specs.declared.kind.Kind.TheVariants.{Bool as KindBool, Dint as KindDint, Time as KindTime}
 use Rattle.wc_model.specs.declared.source.Initial.{Initial}
@@ -47,7 +47,8 @@ elementary_types = (kind_word KindBool, KindBool) ∷ (kind_word KindDint, KindD
 -- the standard blocks, by name
 abbrev pub standard_blocks : List (Name × StandardBlock)
 standard_blocks =
-    (block_word RTrig, RTrig) ∷ (block_word Sr, Sr) ∷ (block_word Ctu, Ctu) ∷ (block_word Ton, Ton) ∷ (block_word Tof, Tof) ∷ []
+    (block_word RTrig, RTrig) ∷ (block_word Sr, Sr) ∷ (block_word Rs, Rs) ∷ (block_word Ctu, Ctu) ∷ (block_word Ton, Ton) ∷ (block_word Tof, Tof)
+    ∷ (block_word Tp, Tp) ∷ []
 
 -- what stands beside a name
 abbrev pub named_in : {X : Type 0} → List (Name × X) → Name → Option X
@@ -91,9 +92,11 @@ member name section kind = record { name = name; section = section; type = Eleme
 abbrev pub standard_members : StandardBlock → List Member
 standard_members RTrig = member (codes "clk") Input KindBool ∷ member (codes "q") Output KindBool ∷ []
 standard_members Sr = member (codes "s1") Input KindBool ∷ member (codes "r") Input KindBool ∷ member (codes "q1") Output KindBool ∷ []
+standard_members Rs = member (codes "s") Input KindBool ∷ member (codes "r1") Input KindBool ∷ member (codes "q1") Output KindBool ∷ []
 standard_members Ctu = member (codes "cu") Input KindBool ∷ member (codes "r") Input KindBool ∷ member (codes "pv") Input KindDint ∷ member (codes "q") Output KindBool ∷ member (codes "cv") Output KindDint ∷ []
 standard_members Ton = member (codes "in") Input KindBool ∷ member (codes "pt") Input KindTime ∷ member (codes "q") Output KindBool ∷ member (codes "et") Output KindTime ∷ []
 standard_members Tof = member (codes "in") Input KindBool ∷ member (codes "pt") Input KindTime ∷ member (codes "q") Output KindBool ∷ member (codes "et") Output KindTime ∷ []
+standard_members Tp = member (codes "in") Input KindBool ∷ member (codes "pt") Input KindTime ∷ member (codes "q") Output KindBool ∷ member (codes "et") Output KindTime ∷ []
 
 -- a variable of a block as a member, where its type is known
 abbrev pub as_member : List ProgramUnit → Variable → List Member

@@ -1,12 +1,17 @@
 -- What the outputs of the standard blocks are after a history of calls, told without any field (IEC 61131-3:2003,
 -- 2.5.2.3: the timing diagrams of table 38 and the bodies of tables 34 to 36). A history has the newest call first.
-use Rattle.std.specs.Prelude.{◌≡◌, ℕ, ◌-◌, min, Bool, true, false, not, ◌&&◌, ◌||◌, ℤ, pos, int_le, nat_le, nat_lt, List, [], ◌∷◌, Some, None, find, count_by, take_while}
-use Rattle.wc_model.specs.Language.Blocks.{RTrigFields, SrFields, CtuFields, TonFields, TofFields, preset}
+use Rattle.std.specs.Prelude.{◌≡◌, ℕ, ◌-◌, min, Bool, true, false, not, ◌&&◌, ◌||◌, ℤ, pos, int_le, nat_le, nat_lt, List, [], ◌∷◌, Some, None, find, count_by, take_while, if◌then◌else◌}
+use Rattle.std.specs.List.{list_any}
+use Rattle.wc_model.specs.Language.Blocks.{RTrigFields, SrFields, RsFields, CtuFields, TonFields, TofFields, TpFields, preset}
 
--- a call of SR, of CTU, and of a timer with its moment; a call of R_TRIG is its CLK
+-- a call of SR, of RS, of CTU, and of a timer with its moment; a call of R_TRIG is its CLK
 pub record SrCall : Type 0 where
   pub s1 : Bool
   pub r : Bool
+
+pub record RsCall : Type 0 where
+  pub s : Bool
+  pub r1 : Bool
 
 pub record CtuCall : Type 0 where
   pub cu : Bool
@@ -51,6 +56,14 @@ latched calls = elim (find (λ c. c.s1 || c.r) calls) [ Some c ↦ c.s1 | None �
 -- SR: Q1 is the S1 of the last call with S1 or R TRUE
 pub record FitsSr (calls : List SrCall) (f : SrFields) : Type 0 where
   pub q1 : f.q1 ≡ latched calls
+
+-- whether the last call with S or R1 TRUE has R1 FALSE
+abbrev pub latched_by_set : List RsCall → Bool
+latched_by_set calls = elim (find (λ c. c.s || c.r1) calls) [ Some c ↦ not c.r1 | None ↦ false ]
+
+-- RS: Q1 is not the R1 of the last call with S or R1 TRUE
+pub record FitsRs (calls : List RsCall) (f : RsFields) : Type 0 where
+  pub q1 : f.q1 ≡ latched_by_set calls
 
 -- the CU of each call
 abbrev pub cus : List CtuCall → List Bool
@@ -139,3 +152,55 @@ FitsTofReleased c earlier f = elim (was_held earlier) [ true ↦ FitsTofFalling 
 abbrev pub FitsTof : List TimerCall → TofFields → Type 0
 FitsTof [] f = FitsTofNever f
 FitsTof (c ∷ earlier) f = elim c.input [ true ↦ FitsTofHeld f | false ↦ FitsTofReleased c earlier f ]
+
+-- TP cuts the history into idle calls, which have IN FALSE, and spans. A span begins at a call with IN TRUE. Its end is its
+-- first call whose time since the begin is at least the PT of that call, and its close the first call from the end on with
+-- IN FALSE. What follows gives a span that is not closed by its calls, the newest first.
+
+-- the moment at which a span began
+abbrev pub span_start : List TimerCall → ℕ
+span_start span = oldest_moment 0 span
+
+-- a span has come to its end
+abbrev pub has_ended : List TimerCall → Bool
+has_ended span = list_any (λ c. nat_le (preset c.pt) (c.moment - span_start span)) span
+
+-- a span goes on with a call, unless it is closed by it
+abbrev pub span_with : TimerCall → List TimerCall → List TimerCall
+span_with c span = if has_ended (c ∷ span) && not c.input then [] else c ∷ span
+
+-- what is open behind a call: where nothing was open, a call with IN TRUE begins a span
+abbrev pub open_with : TimerCall → List TimerCall → List TimerCall
+open_with c [] = if c.input then c ∷ [] else []
+open_with c (d ∷ span) = span_with c (d ∷ span)
+
+-- the span that is not closed at the end of a history, if there is one
+abbrev pub open_span : List TimerCall → List TimerCall
+open_span [] = []
+open_span (c ∷ earlier) = open_with c (open_span earlier)
+
+-- TP, in idle calls and where a span closes; in a span before its end; and from its end on
+pub record FitsTpIdle (f : TpFields) : Type 0 where
+  pub phase : f.phase ≡ 0
+  pub q : f.q ≡ false
+  pub et : f.et ≡ pos 0
+
+pub record FitsTpPulse (c : TimerCall) (start : ℕ) (f : TpFields) : Type 0 where
+  pub phase : f.phase ≡ 1
+  pub start_is : f.start ≡ start
+  pub q : f.q ≡ true
+  pub et : f.et ≡ pos (c.moment - start)
+
+pub record FitsTpOver (c : TimerCall) (start : ℕ) (f : TpFields) : Type 0 where
+  pub phase : f.phase ≡ 2
+  pub start_is : f.start ≡ start
+  pub q : f.q ≡ false
+  pub et : f.et ≡ pos (preset c.pt)
+
+-- by the span that is open, whose newest call is the last of the history
+abbrev pub FitsTpSpan : List TimerCall → TpFields → Type 0
+FitsTpSpan [] f = FitsTpIdle f
+FitsTpSpan (c ∷ span) f = elim (has_ended (c ∷ span)) [ true ↦ FitsTpOver c (span_start (c ∷ span)) f | false ↦ FitsTpPulse c (span_start (c ∷ span)) f ]
+
+abbrev pub FitsTp : List TimerCall → TpFields → Type 0
+FitsTp calls f = FitsTpSpan (open_span calls) f

@@ -7,7 +7,7 @@ use Rattle.wc_model.specs.Language.Names.{Name}
 use Rattle.wc_model.specs.Language.Reasons.{Reason, NoSuchPlace, WrongKind}
 use Rattle.wc_model.specs.Language.Tree.{ProgramUnit}
 use Rattle.wc_model.specs.declared.block.StandardBlock.{StandardBlock}
-use Rattle.wc_model.specs.declared.block.StandardBlock.TheVariants.{RTrig, Sr, Ctu, Ton, Tof}
+use Rattle.wc_model.specs.declared.block.StandardBlock.TheVariants.{RTrig, Sr, Rs, Ctu, Ton, Tof, Tp}
 use Rattle.wc_model.specs.declared.kind.Kind.{Kind}
 use Rattle.wc_model.specs.declared.kind.Kind.TheVariants.{Bool as KindBool, Dint as KindDint, Time as KindTime}
 use Rattle.wc_model.specs.declared.source.Initial.{Initial}
@@ -99,9 +99,11 @@ first_content kind (Some initial) = literal_as kind initial.value
 abbrev pub standard_fields : StandardBlock → List (Name × Content)
 standard_fields RTrig = (codes "clk", zero_of KindBool) ∷ (codes "q", zero_of KindBool) ∷ (codes "m", zero_of KindBool) ∷ []
 standard_fields Sr = (codes "s1", zero_of KindBool) ∷ (codes "r", zero_of KindBool) ∷ (codes "q1", zero_of KindBool) ∷ []
+standard_fields Rs = (codes "s", zero_of KindBool) ∷ (codes "r1", zero_of KindBool) ∷ (codes "q1", zero_of KindBool) ∷ []
 standard_fields Ctu = (codes "cu", zero_of KindBool) ∷ (codes "r", zero_of KindBool) ∷ (codes "pv", zero_of KindDint) ∷ (codes "q", zero_of KindBool) ∷ (codes "cv", zero_of KindDint) ∷ (codes "m", zero_of KindBool) ∷ []
 standard_fields Ton = (codes "in", zero_of KindBool) ∷ (codes "pt", zero_of KindTime) ∷ (codes "q", zero_of KindBool) ∷ (codes "et", zero_of KindTime) ∷ (codes "run", zero_of KindBool) ∷ (codes "start", Moment 0) ∷ []
 standard_fields Tof = (codes "in", zero_of KindBool) ∷ (codes "pt", zero_of KindTime) ∷ (codes "q", zero_of KindBool) ∷ (codes "et", zero_of KindTime) ∷ (codes "phase", Phase 0) ∷ (codes "start", Moment 0) ∷ []
+standard_fields Tp = (codes "in", zero_of KindBool) ∷ (codes "pt", zero_of KindTime) ∷ (codes "q", zero_of KindBool) ∷ (codes "et", zero_of KindTime) ∷ (codes "phase", Phase 0) ∷ (codes "start", Moment 0) ∷ []
 
 -- places below a name
 abbrev pub below : Name → List (List Name × Content) → List (List Name × Content)

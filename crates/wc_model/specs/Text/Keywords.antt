@@ -3,7 +3,7 @@
 use Rattle.std.specs.Prelude.{Bool, true, false, List, [], ◌∷◌, ◌++◌, map, codes}
 use Rattle.wc_model.specs.Language.Names.{Name}
 use Rattle.wc_model.specs.declared.block.StandardBlock.{StandardBlock}
-use Rattle.wc_model.specs.declared.block.StandardBlock.TheVariants.{RTrig, Sr, Ctu, Ton, Tof}
+use Rattle.wc_model.specs.declared.block.StandardBlock.TheVariants.{RTrig, Sr, Rs, Ctu, Ton, Tof, Tp}
 use Rattle.wc_model.specs.declared.kind.Kind.{Kind}
 use Rattle.wc_model.specs.declared.kind.Kind.TheVariants.{Bool as KindBool, Dint as KindDint, Time as KindTime}
 use Rattle.wc_model.specs.declared.operator.Condition.{Condition}
@@ -106,9 +106,11 @@ kind_word KindTime = codes "time"
 abbrev pub block_word : StandardBlock → Name
 block_word RTrig = codes "r_trig"
 block_word Sr = codes "sr"
+block_word Rs = codes "rs"
 block_word Ctu = codes "ctu"
 block_word Ton = codes "ton"
 block_word Tof = codes "tof"
+block_word Tp = codes "tp"
 
 -- the operators with an operand
 abbrev pub operator_words : List Name
@@ -136,9 +138,9 @@ kind_words = map kind_word (KindBool ∷ KindDint ∷ KindTime ∷ [])
 abbrev pub truth_words : List Name
 truth_words = truth_word true ∷ truth_word false ∷ []
 
--- the standard function blocks, TP and RS among them, which cannot be used yet
+-- the standard function blocks
 abbrev pub block_words : List Name
-block_words = block_word Ton ∷ block_word Tof ∷ codes "tp" ∷ block_word Ctu ∷ block_word RTrig ∷ block_word Sr ∷ codes "rs" ∷ []
+block_words = map block_word (Ton ∷ Tof ∷ Tp ∷ Ctu ∷ RTrig ∷ Sr ∷ Rs ∷ [])
 
 -- words that the standard keeps for what this language leaves out
 abbrev pub kept_words : List Name
