@@ -6,6 +6,7 @@ pub mod FirstParts
 pub mod Fractions
 pub mod PartSums
 pub mod Steps
+pub mod Spots
 pub mod Feeds
 pub mod BracketBytes
 pub mod NameFronts

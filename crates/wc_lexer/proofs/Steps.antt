@@ -4,7 +4,9 @@ use Rattle.std.proofs.Math.Seq.{take-add}
 use Rattle.std.proofs.lemmas.List.{append-nil, drop-drop}
 use Rattle.std.proofs.lemmas.List.Sums.{sum_by-append}
 use Rattle.wc_lexer.proofs.PartSums.{empty}
+use Rattle.wc_lexer.proofs.Spots.{is_stuck_length}
 use Rattle.wc_lexer.specs.Refusals.{AtToken, WantsRoom}
+use Rattle.wc_lexer.specs.Spots.{IsSpotAt, IsTokenSpot, Piece, stuck_length}
 use Rattle.wc_token_laws.specs.Sights.{Pass, Refuse, Sight, Take, sight}
 use Rattle.wc_token_laws.proofs.FoundTokens.{Holds, sight_holds}
 use Rattle.wc_token_laws.proofs.TokenSteps.{blank_is_filled, lexeme_is_filled}
@@ -12,7 +14,7 @@ use Rattle.wc_model.specs.Text.Blanks.{Blank}
 use Rattle.wc_model.specs.Text.Characters.{is_line_feed}
 use Rattle.wc_model.specs.Text.Lexemes.{IsLongestLexeme}
 use Rattle.wc_model.specs.Text.Shapes.{Shape, shape_of}
-use Rattle.wc_model.specs.Text.Tokens.{AtEnd, Cuts, Faulty, IsCut, IsFirstTokenFault, Nothing, Skipped, Stands, Taken, Token, line_after, most_bytes, token_behind}
+use Rattle.wc_model.specs.Text.Tokens.{AtEnd, Cuts, FaultAt, IsCut, Nothing, Skipped, Taken, Token, line_after, most_bytes, token_behind}
 
 -- what goes on from here completes these tokens
 abbrev pub Goes : (List ℕ → List ℕ → Type 0) → List ℕ → ℕ → List Token → Type 0
@@ -22,7 +24,7 @@ Goes Ends text n tokens = (more : List Token) → Cuts Ends (take n text) (drop 
 pub record Going (text : List ℕ) (n : ℕ) (tokens : List Token) : Type 0 where
   pub at_end : Goes AtEnd text n tokens
   pub at_token : Goes AtToken text n tokens
-  pub at_fault : (number line : ℕ) → Goes (Faulty number line) text n tokens
+  pub at_fault : (number line start count : ℕ) → Goes (IsSpotAt number line start count) text n tokens
 
 -- a cut from a later place is one from behind a piece
 pub moved : (Ends : List ℕ → List ℕ → Type 0) (text : List ℕ) (n count : ℕ) (more : List Token) → Cuts Ends (take (n + count) text) (drop (n + count) text) more → Cuts Ends (take n text ++ take count (drop n text)) (drop count (drop n text)) more
@@ -51,7 +53,7 @@ some_left text n h = omega (arith, length-drop n text)
 pub going_on : (text rest : List ℕ) (n count : ℕ) (tokens : List Token) → rest ≡ drop n text → n < length text → Pass count ≡ sight rest → Going text n tokens → Going text (n + count) tokens
 going_on text rest n count tokens r h e going =
     let blank : Holds (drop n text) (Pass count) = holds_at (drop n text) (Pass count) (some_left text n h) (e ∙ ap sight r) in
-    record { at_end = blank_goes AtEnd text n count tokens blank going.at_end; at_token = blank_goes AtToken text n count tokens blank going.at_token; at_fault = λ number line. blank_goes (Faulty number line) text n count tokens blank (going.at_fault number line) }
+    record { at_end = blank_goes AtEnd text n count tokens blank going.at_end; at_token = blank_goes AtToken text n count tokens blank going.at_token; at_fault = λ number line start size. blank_goes (IsSpotAt number line start size) text n count tokens blank (going.at_fault number line start size) }
 
 -- a token is taken
 pub going_with : (text rest : List ℕ) (n count : ℕ) (tokens : List Token) (token : Token) → rest ≡ drop n text → n < length text → Take count token.shape ≡ sight rest → token.text ≡ take count rest → token.start ≡ n → token.line ≡ line_after (take n text) → Going text n tokens → Going text (n + count) (tokens ++ (token ∷ []))
@@ -60,7 +62,7 @@ going_with text rest n count tokens token r h e piece started counted going =
     let held : Holds (drop n text) (Take count shape) = holds_at (drop n text) (Take count shape) (some_left text n h) (e ∙ ap sight r) in
     let here : Token = token_behind (take n text) shape (take count (drop n text)) in
     let same : here ≡ token = ap (λ t. record { shape = shape; text = t; start = length (take n text); line = line_after (take n text) }) (sym (piece ∙ ap (take count) r)) ∙ ap (λ s. record { shape = shape; text = token.text; start = s; line = line_after (take n text) }) (length-take-le n text (omega arith) ∙ sym started) ∙ ap (λ l. record { shape = shape; text = token.text; start = token.start; line = l }) (sym counted) in
-    subst (λ t. Going text (n + count) (tokens ++ (t ∷ []))) same (record { at_end = token_goes AtEnd text n count tokens shape held.0 held.1 going.at_end; at_token = token_goes AtToken text n count tokens shape held.0 held.1 going.at_token; at_fault = λ number line. token_goes (Faulty number line) text n count tokens shape held.0 held.1 (going.at_fault number line) })
+    subst (λ t. Going text (n + count) (tokens ++ (t ∷ []))) same (record { at_end = token_goes AtEnd text n count tokens shape held.0 held.1 going.at_end; at_token = token_goes AtToken text n count tokens shape held.0 held.1 going.at_token; at_fault = λ number line start size. token_goes (IsSpotAt number line start size) text n count tokens shape held.0 held.1 (going.at_fault number line start size) })
 
 -- lines are counted on
 pub counted_on : (text rest piece : List ℕ) (n count line feeds : ℕ) → rest ≡ drop n text → piece ≡ take count rest → line ≡ line_after (take n text) → feeds ≡ count_by is_line_feed piece → line + feeds ≡ line_after (take (n + count) text)
@@ -75,11 +77,13 @@ pub cut_at_end : (text : List ℕ) (n : ℕ) (tokens : List Token) → length te
 cut_at_end text n tokens h going =
     subst (IsCut text) (append-nil tokens) (going.at_end [] (Nothing (empty (drop n text) (omega (arith, length-drop n text)))))
 
--- at a fault it is the first
-pub fault_here : (text rest : List ℕ) (n number line : ℕ) (tokens : List Token) → length text ≤ most_bytes → rest ≡ drop n text → n < length text → Refuse number ≡ sight rest → line ≡ line_after (take n text) → Going text n tokens → IsFirstTokenFault text number line
-fault_here text rest n number line tokens short r h e l going =
-    let held = holds_at (drop n text) (Refuse number) (some_left text n h) (e ∙ ap sight r) in
-    Stands (tokens ++ []) short (going.at_fault number line [] (Nothing (record { fault = held; here = l })))
+-- at a fault it is the first, and its piece stands here
+pub fault_here : (text rest : List ℕ) (n number line count : ℕ) → count ≡ stuck_length rest → (tokens : List Token) → length text ≤ most_bytes → rest ≡ drop n text → n < length text → Refuse number ≡ sight rest → line ≡ line_after (take n text) → Going text n tokens → IsTokenSpot text number line n count
+fault_here text rest n number line count size tokens short r h e l going =
+    let held : FaultAt (drop n text) number = holds_at (drop n text) (Refuse number) (some_left text n h) (e ∙ ap sight r) in
+    let started : n ≡ length (take n text) = sym (length-take-le n text (omega arith)) in
+    let counted = size ∙ ap stuck_length r ∙ is_stuck_length (drop n text) number held in
+    Piece (tokens ++ []) short (going.at_fault number line n count [] (Nothing (record { fault = held; here = l; starts = started; counted = counted })))
 
 -- at a token room is wanted
 pub room_here : (text rest : List ℕ) (n count : ℕ) (shape : Shape) (tokens : List Token) → length text ≤ most_bytes → rest ≡ drop n text → n < length text → Take count shape ≡ sight rest → Going text n tokens → WantsRoom text

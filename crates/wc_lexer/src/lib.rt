@@ -12,7 +12,9 @@ mod piece;
 mod shape;
 mod shapes;
 mod spaces;
+mod stop;
 mod text;
 
 pub use shape::{Shape, Token};
-pub use text::tokens;
+pub use stop::Stop;
+pub use text::{tokens, tokens_or_stop};

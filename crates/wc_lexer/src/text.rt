@@ -1,28 +1,76 @@
-ghost use Rattle.std.specs.Prelude.{◌≤◌, IfErr, IfOk, length, map};
+ghost use Rattle.std.specs.Prelude.{◌≡◌, ◌+◌, ◌≤◌, IfErr, IfOk, length, map};
 ghost use Rattle.wc_lexer.specs.Refusals.{Names};
+ghost use Rattle.wc_lexer.specs.Spots.{StopsAt, stuck_length};
 ghost use Rattle.wc_lexer.specs.Views.{token_view};
 ghost use Rattle.wc_model.specs.Text.Tokens.{IsCut, most_bytes};
 
-use crate::Token;
+use crate::lengths::lexeme_length;
 use crate::piece::{Piece, first_piece};
-use crate::spaces::{first_feeds, line_feeds};
+use crate::spaces::{first_feeds, line_feeds, opens_comment};
+use crate::{Stop, Token};
 use std::alloc::Global;
 use wc_model::Fault;
 
 /// The greatest length of a text, in bytes.
 const MOST_BYTES: usize = 65536;
 
-/// The tokens of a text, or its first fault. `Err(Memory)` is want of memory: no text that is too
-/// long is told so, and none that has no token before its first fault.
-pub fn tokens<'a>(alloc: Global, text: &'a [u8]) -> Result<Vec<Token<'a>>, Fault>
+/// How many bytes the piece has at which a text can't be cut on.
+fn stuck_length(text: &[u8]) -> usize
+    ensures counted { result ≡ stuck_length text.now }
+    ensures within { result ≤ length text.now + 2 }
+{
+    if opens_comment(text) {
+        return 2;
+    }
+    let count = lexeme_length(text);
+    if count == 0 { 1 } else { count }
+}
+
+/// The fault of that number on that line, with the piece at which a text can't be cut on.
+fn stop_at(number: u16, line: u32, place: usize, rest: &[u8]) -> Stop
+    requires { place + length rest.now ≤ most_bytes }
+    ensures { result ≡ record {
+      fault = Fault.Refused number line;
+      start = place;
+      length = stuck_length rest.now;
+    } }
+{
+    Stop {
+        fault: Fault::Refused {
+            number,
+            place: line,
+        },
+        start: place as u32,
+        length: stuck_length(rest) as u32,
+    }
+}
+
+/// Want of memory, which no piece is the cause of.
+fn stop_for_memory() -> Stop
+    ensures { result ≡ record { fault = Fault.Memory; start = 0; length = 0 } }
+{
+    Stop {
+        fault: Fault::Memory,
+        start: 0,
+        length: 0,
+    }
+}
+
+/// The tokens of a text, or its first fault with the piece at which it stands: the byte that belongs
+/// to nothing, the opening of the comment, or the lexeme of no allowed form.
+pub fn tokens_or_stop<'a>(alloc: Global, text: &'a [u8]) -> Result<Vec<Token<'a>>, Stop>
     ensures cut { IfOk result
         (λ tokens. (length text.now ≤ most_bytes) × IsCut text.now (map token_view tokens.items)) }
-    ensures refused { IfErr result (λ fault. Names text.now fault) }
+    ensures stopped { IfErr result (λ stop. StopsAt text.now stop.fault stop.start stop.length) }
 {
     if text.len() > MOST_BYTES {
-        return Err(Fault::Refused {
-            number: 107,
-            place: 0,
+        return Err(Stop {
+            fault: Fault::Refused {
+                number: 107,
+                place: 0,
+            },
+            start: 0,
+            length: 0,
         });
     }
     let mut tokens = Vec::new(alloc);
@@ -31,10 +79,7 @@ pub fn tokens<'a>(alloc: Global, text: &'a [u8]) -> Result<Vec<Token<'a>>, Fault
     while start < text.len() {
         let (_, rest) = text.split_at(start);
         let (count, feeds) = match first_piece(rest) {
-            Piece::Fault(number) => return Err(Fault::Refused {
-                number,
-                place: line,
-            }),
+            Piece::Fault(number) => return Err(stop_at(number, line, start, rest)),
             Piece::Space => (1, 0),
             Piece::Comment(count) => {
                 let (comment, _) = rest.split_at(count);
@@ -49,7 +94,7 @@ pub fn tokens<'a>(alloc: Global, text: &'a [u8]) -> Result<Vec<Token<'a>>, Fault
                     line,
                 };
                 if tokens.push(token).is_err() {
-                    return Err(Fault::Memory);
+                    return Err(stop_for_memory());
                 }
                 (count, first_feeds(rest))
             }
@@ -58,4 +103,17 @@ pub fn tokens<'a>(alloc: Global, text: &'a [u8]) -> Result<Vec<Token<'a>>, Fault
         start += count;
     }
     Ok(tokens)
+}
+
+/// The tokens of a text, or its first fault. `Err(Memory)` is want of memory: no text that is too
+/// long is told so, and none that has no token before its first fault.
+pub fn tokens<'a>(alloc: Global, text: &'a [u8]) -> Result<Vec<Token<'a>>, Fault>
+    ensures cut { IfOk result
+        (λ tokens. (length text.now ≤ most_bytes) × IsCut text.now (map token_view tokens.items)) }
+    ensures refused { IfErr result (λ fault. Names text.now fault) }
+{
+    match tokens_or_stop(alloc, text) {
+        Ok(tokens) => Ok(tokens),
+        Err(stop) => Err(stop.fault),
+    }
 }

@@ -1,6 +1,6 @@
 use Rattle.std.proofs.Common.{◌≡◌, ◌+◌, ◌-◌, ◌≤◌, length, map, take}
 use Rattle.wc_lexer.proofs.Steps.{Going}
-use Rattle.wc_lexer.proofs.text.tokens.Given as goal
+use Rattle.wc_lexer.proofs.text.tokens_or_stop.Given as goal
 use Rattle.wc_lexer.specs.Views.{token_view}
 use Rattle.wc_model.specs.Text.Tokens.{line_after}
 
