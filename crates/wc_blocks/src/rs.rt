@@ -5,7 +5,7 @@ ghost use Rattle.wc_model.specs.Language.Blocks.{rs_step};
 ghost use Rattle.wc_model.specs.Language.Histories.{FitsRs, RsCall};
 
 /// RS, a bistable whose reset is dominant (IEC 61131-3:2003, table 34).
-#[derive(Clone, Copy, Debug, PartialEq, Eq)]
+#[derive(Clone, Copy, PartialEq, Eq)]
 pub struct Rs {
     /// S, which sets where R1 is FALSE.
     pub s: bool,

@@ -8,7 +8,7 @@ use crate::elapsed::{LAST_MOMENT, preset};
 
 /// TP, a pulse timer (IEC 61131-3:2003, table 38). PT is read at each call, and a pulse begins at the first
 /// call that sees IN: the profile's own.
-#[derive(Clone, Copy, Debug, PartialEq, Eq)]
+#[derive(Clone, Copy, PartialEq, Eq)]
 pub struct Tp {
     /// IN.
     pub input: bool,
