@@ -5,7 +5,7 @@ use std::alloc::{AllocError, Global};
 /// tools/legal_digest computes. Whether a build was proved is not known to the program.
 const VERSION: &str = "0.1.0 (Narbeddo)
 toolchain rattle-kit-13b logic dac8208d650f15bf
-legal part sha256 bb388d788ded4b641fe3e1962eb0b5c553eae9962a38455a186cf7600c626d89";
+legal part sha256 afe45674304d3a7784ba2ae577c49ccf3160afdf43d687f71dcda0aa61431a5a";
 
 /// What the program does, with an example of each word.
 const ABOUT: &str =
