@@ -5,7 +5,7 @@ use std::alloc::{AllocError, Global};
 /// tools/legal_digest computes. Whether a build was proved is not known to the program.
 const VERSION: &str = "0.1.0 (Narbeddo)
 toolchain rattle-kit-13f logic dac8208d650f15bf
-legal part sha256 febc523249f3552606a238c9bc1e6e40f085d3638a85461de3db726eeaca4f51";
+legal part sha256 0ccb477b01753e0d9eaf50bbfb118f3d6b8572c65376126a6556a5cb04aefcc5";
 
 /// What the program does, with an example of each word.
 const ABOUT: &str =

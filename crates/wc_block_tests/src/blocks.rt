@@ -1,5 +1,5 @@
 //! The standard function blocks at their edges, call by call (IEC 61131-3:2003, 2.5.2.3).
-use wc_blocks::{Ctu, LAST_MOMENT, RTrig, Sr, Tof, Ton};
+use wc_blocks::{Ctu, LAST_MOMENT, RTrig, Rs, Sr, Tof, Ton, Tp};
 
 /// Q and ET of a TON behind a call with these inputs; nothing where the moment is not one to call at.
 fn ton_at(block: &mut Ton, now: u64, input: bool, pt: i32) -> Option<(bool, i32)> {
@@ -14,6 +14,17 @@ fn ton_at(block: &mut Ton, now: u64, input: bool, pt: i32) -> Option<(bool, i32)
 
 /// Q and ET of a TOF behind a call with these inputs; nothing where the moment is not one to call at.
 fn tof_at(block: &mut Tof, now: u64, input: bool, pt: i32) -> Option<(bool, i32)> {
+    block.input = input;
+    block.pt = pt;
+    if now < block.start || now > LAST_MOMENT {
+        return None;
+    }
+    block.call(now);
+    Some((block.q, block.et))
+}
+
+/// Q and ET of a TP behind a call with these inputs; nothing where the moment is not one to call at.
+fn tp_at(block: &mut Tp, now: u64, input: bool, pt: i32) -> Option<(bool, i32)> {
     block.input = input;
     block.pt = pt;
     if now < block.start || now > LAST_MOMENT {
@@ -109,6 +120,50 @@ fn an_off_delay_over_all_moments(rt: HostRuntime) {
 }
 
 #[test]
+fn a_pulse(rt: HostRuntime) {
+    let mut block = Tp::new();
+    for (now, input, pt, q, et) in [
+        (0, false, 100, false, 0),
+        (10, true, 100, true, 0),
+        (60, false, 100, true, 50),
+        (109, true, 100, true, 99),
+        (110, true, 100, false, 100),
+        (111, true, 600, false, 600),
+        (112, false, 600, false, 0),
+        (113, true, 20, true, 0),
+        (132, false, 30, true, 19),
+        (143, false, 30, false, 0),
+        (143, true, 30, true, 0),
+        (153, true, 10, false, 10),
+        (154, false, 10, false, 0),
+        (155, true, -1, false, 0),
+        (156, false, -2147483648, false, 0),
+        (157, true, 0, false, 0),
+        (158, true, 5, false, 5),
+    ] {
+        assert!(rt; tp_at(&mut block, now, input, pt) == Some((q, et)));
+    }
+}
+
+#[test]
+fn a_pulse_over_all_moments(rt: HostRuntime) {
+    let mut block = Tp::new();
+    for (now, input, pt, q, et) in [
+        (0, true, 2147483647, true, 0),
+        (2147483646, false, 2147483647, true, 2147483646),
+        (2147483647, true, 2147483647, false, 2147483647),
+        (1099511627775, true, 2147483647, false, 2147483647),
+        (1099511627775, false, 2147483647, false, 0),
+        (1099511627775, true, 1, true, 0),
+        (1099511627775, true, 0, false, 0),
+    ] {
+        assert!(rt; tp_at(&mut block, now, input, pt) == Some((q, et)));
+    }
+    assert!(rt; tp_at(&mut block, 1099511627776, true, 0) == None);
+    assert!(rt; tp_at(&mut block, 1099511627774, true, 0) == None);
+}
+
+#[test]
 fn a_count_up(rt: HostRuntime) {
     let mut block = Ctu::new();
     for (cu, r, pv, q, cv) in [
@@ -170,6 +225,26 @@ fn set_is_dominant(rt: HostRuntime) {
     ] {
         block.s1 = s1;
         block.r = r;
+        block.call();
+        assert!(rt; block.q1 == q1);
+    }
+}
+
+#[test]
+fn reset_is_dominant(rt: HostRuntime) {
+    let mut block = Rs::new();
+    for (s, r1, q1) in [
+        (false, false, false),
+        (true, true, false),
+        (true, false, true),
+        (false, false, true),
+        (true, true, false),
+        (false, false, false),
+        (true, false, true),
+        (false, true, false),
+    ] {
+        block.s = s;
+        block.r1 = r1;
         block.call();
         assert!(rt; block.q1 == q1);
     }

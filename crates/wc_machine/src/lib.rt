@@ -15,11 +15,13 @@ mod outputs;
 mod places;
 mod r_trig;
 mod results;
+mod rs;
 mod sr;
 mod standard;
 mod step;
 mod tof;
 mod ton;
+mod tp;
 mod written;
 
 pub use machine::Machine;

@@ -2,7 +2,7 @@ ghost use Rattle.std.specs.Prelude.{◌≡◌, ◌≤◌, Some, IsSome, length};
 ghost use Rattle.wc_flat.specs.NumberBlocks.{block_called};
 ghost use Rattle.wc_machine.specs.Lines.{AreBefore};
 
-use crate::{ctu, r_trig, sr, tof, ton};
+use crate::{ctu, r_trig, rs, sr, tof, ton, tp};
 use wc_model::StandardBlock;
 use wc_store::Store;
 
@@ -21,8 +21,10 @@ pub(crate) fn call<S: Store>(store: &mut S, block: StandardBlock, at: usize, now
     match block {
         StandardBlock::RTrig => r_trig::call(store, at),
         StandardBlock::Sr => sr::call(store, at),
+        StandardBlock::Rs => rs::call(store, at),
         StandardBlock::Ctu => ctu::call(store, at),
         StandardBlock::Ton => ton::call(store, at, now),
         StandardBlock::Tof => tof::call(store, at, now),
+        StandardBlock::Tp => tp::call(store, at, now),
     }
 }

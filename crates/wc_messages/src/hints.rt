@@ -54,7 +54,7 @@ fn declaration_hint(number: u16) -> &'static str {
     match number {
         301 => "choose another name; letter case makes no difference",
         302 => {
-            "the types are BOOL, DINT and TIME, and in VAR also R_TRIG, SR, CTU, TON, TOF and the blocks of the text above"
+            "the types are BOOL, DINT and TIME, and in VAR also R_TRIG, SR, RS, CTU, TON, TOF, TP and the blocks of the text above"
         }
         303 => "a BOOL takes TRUE, FALSE, 0 or 1, a DINT a whole number, a TIME a duration",
         304 => {

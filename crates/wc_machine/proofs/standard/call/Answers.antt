@@ -19,3 +19,8 @@ pub call-requires-in-Tof-clause-slots : goal.call-requires-in-Tof-clause-slots
 call-requires-in-Tof-clause-slots g c =
     slots_there blocks.Tof c.args.now (g.S.Store.slot_kinds c.args.store.now) (g.S.Store.numbers c.args.store.now) c.args.at
     (subst (λ b. IsSome (block_called b c.args.now (g.S.Store.slot_kinds c.args.store.now) (g.S.Store.numbers c.args.store.now) c.args.at)) c.in-Tof.is c.requires.there)
+
+pub call-requires-in-Tp-clause-slots : goal.call-requires-in-Tp-clause-slots
+call-requires-in-Tp-clause-slots g c =
+    slots_there blocks.Tp c.args.now (g.S.Store.slot_kinds c.args.store.now) (g.S.Store.numbers c.args.store.now) c.args.at
+    (subst (λ b. IsSome (block_called b c.args.now (g.S.Store.slot_kinds c.args.store.now) (g.S.Store.numbers c.args.store.now) c.args.at)) c.in-Tp.is c.requires.there)
