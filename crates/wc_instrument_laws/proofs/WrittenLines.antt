@@ -8,7 +8,7 @@ use Rattle.std.proofs.lemmas.Grind.{flat_map-append}
 use Rattle.wc_model.specs.Instrument.Plates.{PlateData}
 use Rattle.wc_model.specs.Run.JobSections.{onto_first_line, whole_lines}
 use Rattle.wc_model.specs.Run.Rows.{LogRow, Past, answer_of_row}
-use Rattle.wc_model.specs.Say.Report.{ReportLine, ScanLine, AnswerLine, Scans, answer_line, answer_lines, is_answer_line, is_scan_line, line_text, report_lines, report_text}
+use Rattle.wc_model.specs.Say.Report.{ReportLine, ScanLine, AnswerLine, Scans, answer_line, answer_lines, is_answer_line, is_scan_line, line_report, line_text, report_lines, report_text}
 use Rattle.wc_instrument_laws.specs.WrittenLines.{ScanLinesComeOut, begins_with_s, without_scan_lines}
 use Rattle.wc_instrument_laws.proofs.Independence.{answers_kept, is_free_of_programs}
 use Rattle.wc_instrument_laws.proofs.LineBytes.{AreAboveLineFeed, body_above, body_of, line_is}
@@ -73,6 +73,10 @@ scans_behind lines from =
     ∙ left_of_text (answers ++ scans)
     ∙ ap report_text (filter-append is_answer_line answers scans ∙ (λ i. answers_again lines i ++ no_answers from lines i) ∙ append-nil answers)
 
+-- with no program there is no line of a scan
+pub line_stays : (p : PlateData) (rows : List LogRow) → without_scan_lines (line_report p rows) ≡ line_report p rows
+line_stays p rows = left_of_text (answer_lines p [] rows) ∙ ap report_text (all_answers p [] rows)
+
 -- the lines of scans come out of what a run writes
 pub scan_lines_come_out : {State : Type 0} (p : PlateData) (scan : Scans State) (start : State) (rows : List LogRow) → ScanLinesComeOut p scan start rows
 scan_lines_come_out p scan start rows =
@@ -81,5 +85,5 @@ scan_lines_come_out p scan start rows =
     record {
       whole = left_of_text lines ∙ free.bytes;
       last = λ n. scans_behind lines (length (filter is_scan_line lines) - n) ∙ free.bytes;
-      line = left_of_text (answer_lines p [] rows) ∙ ap report_text (all_answers p [] rows);
+      line = line_stays p rows;
     }
