@@ -12,7 +12,7 @@ use crate::path::worst_lines;
 use crate::ways::ways;
 use std::alloc::Global;
 use std::marker::Model;
-use std::str::from_utf8_unchecked;
+use std::str::from_utf8;
 use wc_model::{Code, Fault, Path, Place, SlotKind};
 use wc_verify::Checked;
 
@@ -59,8 +59,11 @@ impl<'a> Loaded<'a> {
             ≡ Some result.now }
     {
         let spelled = self.checked.source().units[unit].name.text;
-        // A name is ASCII, so it is UTF-8 and needs no test.
-        unsafe { from_utf8_unchecked(spelled) }
+        match from_utf8(spelled) {
+            Ok(name) => name,
+            // A name is ASCII, so it is UTF-8, and this is never reached.
+            Err(_) => "",
+        }
     }
 
     /// The flat lines of a unit's body.

@@ -1,4 +1,4 @@
-ghost use Rattle.std.specs.Prelude.{◌≡◌, ℕ, ◌≤◌, List, IfOk, IsOkUnless, length};
+ghost use Rattle.std.specs.Prelude.{◌≡◌, ℕ, ◌≤◌, List, IfErr, IfOk, IsOkUnless, length};
 ghost use Rattle.wc_names.specs.StandsFor.{AreTables};
 ghost use Rattle.wc_flat.specs.FlatPaths.{sources_of, worst_of};
 ghost use Rattle.wc_flat.specs.Laid.{IsLaid, flat_length};
@@ -36,10 +36,12 @@ fn longest(alloc: Global, units: &[LaidUnit], code: &[Code]) -> Result<u64, Faul
 
 /// A laid body with its bound, or 411 at the unit's line.
 fn bounded(code: Vec<Code>, lines: Vec<u32>, steps: u64, line: u32) -> Result<LaidUnit, Fault>
-    ensures { (bounds : List ℕ) (scope : Scope) → IsLaid scope scope.unit.body code.items
+    ensures measured { (bounds : List ℕ) (scope : Scope) → IsLaid scope scope.unit.body code.items
         → lines.items ≡ sources_of scope.unit.body
         → steps ≡ (worst_of bounds code.items (sources_of scope.unit.body)).steps
         → line ≡ scope.unit.line → MeasuresUnit bounds scope result }
+    // It takes no memory, so a refusal is not told as want of it.
+    ensures refuses { IfErr result (λ fault. fault ≡ Fault.Memory → ⊥) }
 {
     if steps > 1000000 {
         return Err(Fault::Refused {

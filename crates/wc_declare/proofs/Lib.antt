@@ -5,3 +5,4 @@ pub mod RowsSoFar
 pub mod DeclaredSoFar
 pub mod LineViews
 pub mod UnitsSoFar
+pub mod SpelledSoFar

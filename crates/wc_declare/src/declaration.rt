@@ -1,12 +1,13 @@
 ghost use Rattle.std.specs.Prelude.{◌≡◌, ℕ, ◌≤◌, [], ◌∷◌, ◌++◌, List, Some, option_map, OnOk, IfOk, IfErr, map, length, true, false};
 ghost use Rattle.wc_model.specs.Language.Checks.{Check, first_broken};
-ghost use Rattle.wc_model.specs.Language.DeclarationRules.{Taken, and_more, declaration_checks, initial_checks, is_among, is_closed_before, is_new, is_own, name_of_word, names_are_new, not_reserved, places_of_type, room_checks, suits_kind, type_checks, unit_declaration_checks};
+ghost use Rattle.wc_model.specs.Language.DeclarationRules.{Taken, and_more, declaration_checks, initial_checks, is_among, is_closed_before, is_new, is_own, name_of_word, names_are_new, not_reserved, places_of_type, reserved_words, room_checks, suits_kind, type_checks, unit_declaration_checks};
 ghost use Rattle.wc_model.specs.Language.Declarations.{Variable as Declared, declared_by};
 ghost use Rattle.wc_model.specs.Language.Names.{Name, name_of};
 ghost use Rattle.wc_model.specs.Language.Tree.{ProgramUnit, Text};
 ghost use Rattle.wc_model.specs.Language.Views.{declaration_view, name_view, unit_view, word_view};
 ghost use Rattle.wc_model.specs.Language.Judging.{Judges};
 ghost use Rattle.wc_names.specs.Numbered.{stands_in};
+ghost use Rattle.wc_names.specs.Spelled.{is_elementary, is_plain, spelled_in, spelled_in_table, spelled_of_unit, spelled_where};
 ghost use Rattle.wc_declare.specs.Rows.{HasTaken, HoldsRows, IsEmptyOf, SameNames, suits_numbered};
 ghost use Rattle.wc_names.specs.StandsFor.{AreDifferent, IsTableOf, type_at};
 ghost use Rattle.wc_declare.specs.SoFar.{AreUnitsOf};
@@ -29,6 +30,11 @@ pub(crate) fn declare_name<'a>(names: &mut Names<'a>, word: Word<'a>) -> Result<
         (first_broken rest) result }
     ensures added { OnOk result (names.new ≡ names.old ++ name_view word.entry ∷ []) }
     ensures new { OnOk result (is_among names.old (name_view word.entry) ≡ false) }
+    // Only a name that breaks neither rule takes memory, so no refusal is told as want of it.
+    ensures known { IfErr result
+        (λ fault. fault ≡ Fault.Memory → is_among names.old (name_view word.entry) ≡ false) }
+    ensures reserved { IfErr result
+        (λ fault. fault ≡ Fault.Memory → is_among reserved_words (name_view word.entry) ≡ false) }
 {
     if is_reserved(word.text) {
         return Err(refused(307, word.line));
@@ -100,6 +106,8 @@ fn judge_type<'a>(units: &Units<'a>, declaration: &Decl<'a>) -> Result<DeclaredT
         (λ declared. (text : Text) (before : List ProgramUnit) → AreUnitsOf text before units.now
         → type_at before (name_view declaration.now.type_name) ≡ Some declared) }
     ensures stands { IfOk result (λ declared. stands_in declaration.now.section declared ≡ true) }
+    ensures plain { IfOk result
+        (λ declared. is_elementary declared ≡ is_plain declaration.now.type_name) }
     // It takes no memory, so a refusal is not told as want of it.
     ensures refuses { IfErr result (λ fault. fault ≡ Fault.Memory → ⊥) }
 {
@@ -200,6 +208,9 @@ fn declare_variables<'a>(
         → places_of_type before (name_view declaration.now.type_name) ≡ width
         → stands_in declaration.now.section declared ≡ true → HoldsRows before first vs table.old
         → HoldsRows before first (vs ++ declared_by (declaration_view declaration.now)) table.new) }
+    ensures spelled { OnOk result
+        (spelled_in_table table.new ≡ spelled_in_table table.old
+        ++ spelled_where (is_elementary declared) declaration.now.names.items) }
     ensures names { OnOk result (table.new.names ≡ table.old.names) }
     ensures is_block { OnOk result (table.new.is_block ≡ table.old.is_block) }
 {
@@ -242,6 +253,8 @@ fn judge_declaration<'a>(
         ((text : Text) (before : List ProgramUnit) (first : ℕ) (vs : List Declared)
         → AreUnitsOf text before units.now → HoldsRows before first vs table.old
         → HoldsRows before first (vs ++ declared_by (declaration_view declaration.now)) table.new) }
+    ensures spelled { OnOk result
+        (spelled_in_table table.new ≡ spelled_in_table table.old ++ spelled_in declaration.now) }
     ensures names { OnOk result
         (table.new.names ≡ table.old.names
         ++ map name_of_word (map word_view declaration.now.names.items)) }
@@ -275,6 +288,8 @@ pub(crate) fn judge_declarations<'a>(
         ((text : Text) (before : List ProgramUnit) → AreUnitsOf text before units.now
         → IsEmptyOf (unit_view unit.now) table.old
         → IsTableOf before (unit_view unit.now) table.new) }
+    ensures spelled { OnOk result
+        (spelled_in_table table.new ≡ spelled_in_table table.old ++ spelled_of_unit unit.now) }
 {
     for declaration in &unit.declarations {
         if let Err(fault) = judge_declaration(units, table, declaration) {

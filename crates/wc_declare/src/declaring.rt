@@ -1,10 +1,11 @@
-ghost use Rattle.std.specs.Prelude.{◌≡◌, ◌&&◌, ◌||◌, [], None, OnOk, IfOk, IsOkUnless};
+ghost use Rattle.std.specs.Prelude.{◌≡◌, ◌&&◌, ◌||◌, ◌++◌, [], None, OnOk, IfOk, IsOkUnless, map};
 ghost use Rattle.wc_model.specs.Language.DeclarationRules.{is_among, names_block_of};
 ghost use Rattle.wc_model.specs.Language.Declarations.{is_block, same_name};
 ghost use Rattle.wc_model.specs.Language.Faults.{declaration_fault};
 ghost use Rattle.wc_model.specs.Language.Names.{Name};
 ghost use Rattle.wc_model.specs.Language.Views.{name_view, text_view, unit_view};
 ghost use Rattle.wc_model.specs.Language.Judging.{Judges};
+ghost use Rattle.wc_names.specs.Spelled.{AreSpelledAs, spelled_in_table, spelled_of_unit};
 ghost use Rattle.wc_names.specs.StandsFor.{AreTables, AreUnits, onto};
 ghost use Rattle.wc_declare.specs.SoFar.{AreUnitsOf};
 
@@ -56,6 +57,10 @@ fn judge_units<'a>(alloc: Global, units: &mut Units<'a>, source: &Source<'a>) ->
     ensures tables { OnOk result
         (AreUnitsOf (text_view source.now) [] units.old
         → AreUnits (onto (text_view source.now) []) units.new.tables.items) }
+    ensures spelled { OnOk result
+        (map spelled_in_table units.new.tables.items
+        ≡ map spelled_in_table units.old.tables.items
+        ++ map spelled_of_unit source.now.units.items) }
 {
     for unit in &source.units {
         let table = match judge_unit(alloc, units, unit) {
@@ -72,6 +77,7 @@ fn judge_units<'a>(alloc: Global, units: &mut Units<'a>, source: &Source<'a>) ->
 /// What is kept before the first unit of a text is judged.
 fn no_units<'a>(alloc: Global, source: &Source<'a>) -> Result<Units<'a>, Fault>
     ensures units { IfOk result (λ units. AreUnitsOf (text_view source.now) [] units) }
+    ensures none { IfOk result (λ units. units.tables.items ≡ []) }
     ensures memory { IsOkUnless result Fault.Memory }
 {
     match block_names(alloc, source) {
@@ -87,6 +93,8 @@ fn no_units<'a>(alloc: Global, source: &Source<'a>) -> Result<Units<'a>, Fault>
 /// The tables of a text, or the first of the refusals 301 to 308, at its line.
 pub fn tables<'a>(alloc: Global, source: &Source<'a>) -> Result<Tables<'a>, Fault>
     ensures accepted { IfOk result (λ tables. AreTables tables (text_view source.now)) }
+    // The names of plain variables are the bytes of the tree, as they are spelled.
+    ensures spelled { IfOk result (λ tables. AreSpelledAs tables source.now) }
     ensures judged { Judges (declaration_fault (text_view source.now)) None result }
 {
     let mut units = match no_units(alloc, source) {

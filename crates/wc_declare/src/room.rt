@@ -1,8 +1,9 @@
-ghost use Rattle.std.specs.Prelude.{◌≡◌, ◌+◌, ◌≤◌, [], ◌∷◌, ◌++◌, List, None, OnOk, IfSome, IsOkUnless, is_some, length, nat_le, ◌&&◌, map};
+ghost use Rattle.std.specs.Prelude.{◌≡◌, ◌+◌, ◌≤◌, [], ◌∷◌, ◌++◌, List, None, OnOk, IfErr, IfSome, IsOkUnless, true, is_some, length, nat_le, ◌&&◌, map};
 ghost use Rattle.wc_model.specs.Language.Checks.{Check, asks, first_broken};
 ghost use Rattle.wc_model.specs.Language.DeclarationRules.{Taken, and_more, has_room};
 ghost use Rattle.wc_model.specs.Language.Judging.{Judges};
 ghost use Rattle.wc_names.specs.Numbered.{plain_of_field};
+ghost use Rattle.wc_names.specs.Spelled.{is_elementary, spelled, spelled_in_table, spelled_where};
 ghost use Rattle.wc_declare.specs.Rows.{HasTaken, plain_of};
 
 use crate::word::refused;
@@ -37,6 +38,9 @@ fn push_field<'a>(
     ensures fields { OnOk result
         (map plain_of_field fields.new.items ≡ map plain_of_field fields.old.items
         ++ plain_of word.entry variable) }
+    ensures spelled { OnOk result
+        (map spelled fields.new.items ≡ map spelled fields.old.items
+        ++ spelled_where (is_elementary variable.declared) (word.entry ∷ [])) }
     ensures memory { IsOkUnless result Fault.Memory }
 {
     let DeclaredType::Elementary(kind) = variable.declared else {
@@ -65,10 +69,16 @@ pub(crate) fn add_variable<'a>(
         → Judges
         (first_broken (asks 306 word.entry.line (has_room (and_more t 1 width)) ∷ rest))
         (first_broken rest) result }
+    // Only a variable for which there is room takes memory, so 306 is not told as want of it.
+    ensures refuses { (t : Taken) → HasTaken t table.old
+        → IfErr result (λ fault. fault ≡ Fault.Memory → has_room (and_more t 1 width) ≡ true) }
     ensures rows { OnOk result (table.new.rows.items ≡ table.old.rows.items ++ variable ∷ []) }
     ensures fields { OnOk result
         (map plain_of_field table.new.fields.items ≡ map plain_of_field table.old.fields.items
         ++ plain_of word.entry variable) }
+    ensures spelled { OnOk result
+        (spelled_in_table table.new ≡ spelled_in_table table.old
+        ++ spelled_where (is_elementary variable.declared) (word.entry ∷ [])) }
     ensures size { OnOk result (table.new.size ≡ table.old.size + width) }
     ensures small { OnOk result (table.new.size ≤ 4096) }
     ensures names { OnOk result (table.new.names ≡ table.old.names) }

@@ -1,9 +1,10 @@
-ghost use Rattle.std.specs.Prelude.{◌≡◌, List, Some, option_map, length, if◌then◌else◌};
+ghost use Rattle.std.specs.Prelude.{◌≡◌, List, Some, IfSome, is_some, option_map, length, if◌then◌else◌};
 ghost use Rattle.wc_model.specs.Language.DeclarationRules.{is_own, may_stand, places_of_type};
-ghost use Rattle.wc_model.specs.Language.Declarations.{block_named};
+ghost use Rattle.wc_model.specs.Language.Declarations.{block_named, elementary_types, named_in};
 ghost use Rattle.wc_model.specs.Language.Names.{Name, name_of};
 ghost use Rattle.wc_model.specs.Language.Store.{standard_fields};
 ghost use Rattle.wc_model.specs.Language.Tree.{ProgramUnit, Text};
+ghost use Rattle.wc_names.specs.Spelled.{is_elementary};
 ghost use Rattle.wc_names.specs.StandsFor.{type_at};
 ghost use Rattle.wc_declare.specs.SoFar.{AreUnitsOf};
 
@@ -28,8 +29,11 @@ pub(crate) fn block<'a>(units: &Units<'a>, name: &[u8]) -> Option<usize>
 
 /// The type of that name behind the units so far.
 pub(crate) fn type_at<'a>(units: &Units<'a>, name: &[u8]) -> Option<DeclaredType>
-    ensures { (text : Text) (before : List ProgramUnit) → AreUnitsOf text before units.now
+    ensures declared { (text : Text) (before : List ProgramUnit) → AreUnitsOf text before units.now
         → result ≡ type_at before (name_of name.now) }
+    ensures elementary { IfSome result
+        (λ declared. is_elementary declared
+        ≡ is_some (named_in elementary_types (name_of name.now))) }
 {
     if let Some(kind) = elementary(name) {
         return Some(DeclaredType::Elementary(kind));

@@ -1,4 +1,4 @@
-ghost use Rattle.std.specs.Prelude.{◌≡◌, ◌∷◌, ◌++◌, List, OnOk, IfOk, IsOkUnless, false};
+ghost use Rattle.std.specs.Prelude.{◌≡◌, [], ◌∷◌, ◌++◌, List, OnOk, IfErr, IfOk, IsOkUnless, false};
 ghost use Rattle.wc_model.specs.Language.Checks.{Check, first_broken};
 ghost use Rattle.wc_model.specs.Language.DeclarationRules.{is_among, is_new, not_reserved, unit_checks};
 ghost use Rattle.wc_model.specs.Language.Declarations.{is_block};
@@ -7,6 +7,7 @@ ghost use Rattle.wc_model.specs.Language.Tree.{ProgramUnit, Text};
 ghost use Rattle.wc_model.specs.Language.Views.{name_view, unit_view, word_view};
 ghost use Rattle.wc_model.specs.Language.Judging.{Judges};
 ghost use Rattle.wc_declare.specs.Rows.{SameNames};
+ghost use Rattle.wc_names.specs.Spelled.{spelled_in_table, spelled_of_unit};
 ghost use Rattle.wc_names.specs.StandsFor.{IsTableOf};
 ghost use Rattle.wc_declare.specs.SoFar.{AreUnitsOf};
 
@@ -37,6 +38,8 @@ fn judge_name<'a>(names: &Names<'a>, word: Word<'a>) -> Result<(), Fault>
         (not_reserved (word_view word.entry) ∷ is_new known (word_view word.entry) ∷ rest))
         (first_broken rest) result }
     ensures new { OnOk result (is_among names.now (name_view word.entry) ≡ false) }
+    // It takes no memory, so a refusal is not told as want of it.
+    ensures refuses { IfErr result (λ fault. fault ≡ Fault.Memory → ⊥) }
 {
     if is_reserved(word.text) {
         return Err(refused(307, word.line));
@@ -60,6 +63,7 @@ pub(crate) fn judge_unit<'a>(
     ensures table { IfOk result
         (λ table. (text : Text) (before : List ProgramUnit) → AreUnitsOf text before units.now
         → IsTableOf before (unit_view unit.now) table) }
+    ensures spelled { IfOk result (λ table. spelled_in_table table ≡ spelled_of_unit unit.now) }
     ensures new { OnOk result (is_among units.now.names (name_view unit.now.name) ≡ false) }
 {
     if let Err(fault) = judge_name(&units.names, unit.name) {
@@ -87,6 +91,8 @@ pub(crate) fn add_unit<'a>(
         → AreUnitsOf text before units.old → unit.name.name ≡ name_view name.entry
         → is_among units.old.names (name_view name.entry) ≡ false
         → IsTableOf before unit table.entry → AreUnitsOf text (unit ∷ before) units.new) }
+    ensures tables { OnOk result
+        (units.new.tables.items ≡ units.old.tables.items ++ table.entry ∷ []) }
     ensures memory { IsOkUnless result Fault.Memory }
 {
     if let Err(fault) = units.names.add(name.text) {

@@ -93,7 +93,7 @@ is_free_of_scans p = record {
 }
 
 -- the answer's line is one
-answers_kept : (ms : ℕ) (bytes : List ℕ) → filter is_answer_line (answer_line ms bytes) ≡ answer_line ms bytes
+pub answers_kept : (ms : ℕ) (bytes : List ℕ) → filter is_answer_line (answer_line ms bytes) ≡ answer_line ms bytes
 answers_kept ms [] = refl
 answers_kept ms (byte ∷ bytes) = refl
 

@@ -6,3 +6,5 @@ pub mod PlateTable
 pub mod Answers
 pub mod JobParts
 pub mod LogRows
+pub mod LineBytes
+pub mod WrittenLines

@@ -4,6 +4,7 @@ ghost use Rattle.std.specs.Prelude.{◌≡◌, ◌∷◌, ◌++◌, ℕ, ◌<◌
 ghost use Rattle.std.specs.List.{list_all};
 ghost use Rattle.wc_instrument_laws.specs.Jobs.{JobIsItsSections};
 ghost use Rattle.wc_instrument_laws.specs.Logs.{RowsAreInOrder};
+ghost use Rattle.wc_instrument_laws.specs.WrittenLines.{ScanLinesComeOut};
 ghost use Rattle.wc_model.specs.Instrument.Answers.{Asked, Mode, answer};
 ghost use Rattle.wc_model.specs.Instrument.Effects.{EffectsOf};
 ghost use Rattle.wc_model.specs.Instrument.WeighingHistories.{History, samples};
@@ -36,6 +37,13 @@ pub fn streams_are_cut_anywhere()
 pub fn answers_are_free_of_programs<State>()
     ensures { (p : PlateData) (scan : Scans State) (start : State) (rows : List LogRow)
         → IsFreeOfPrograms p scan start rows }
+{}
+
+/// The lines of scans can be taken out of the bytes that a run writes: those that begin with an S. What is left are the
+/// bytes of a run with no program.
+pub fn scan_lines_come_out<State>()
+    ensures { (p : PlateData) (scan : Scans State) (start : State) (rows : List LogRow)
+        → ScanLinesComeOut p scan start rows }
 {}
 
 /// A table that is accepted gives a plate in its ranges.

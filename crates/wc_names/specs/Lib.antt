@@ -4,3 +4,4 @@ pub mod Keys
 pub mod Slots
 pub mod Direct
 pub mod Members
+pub mod Spelled

@@ -1,4 +1,4 @@
-ghost use Rattle.std.specs.Prelude.{◌≡◌, ◌≤◌, ℕ, None, Some, IfOk, IfSome, IsOkUnless, is_some, length, map, option_and_then, option_map};
+ghost use Rattle.std.specs.Prelude.{◌≡◌, ◌≤◌, ℕ, None, Some, IfOk, IfSome, IsOkUnless, is_some, length, map, option_and_then, option_map, slice_get};
 ghost use Rattle.wc_model.specs.Language.BodyRules.{input_named};
 ghost use Rattle.wc_model.specs.Language.Declarations.{VariableType, members_of};
 ghost use Rattle.wc_model.specs.Language.Frames.{first_numbers, frame_of, location_of, number_of_path, place_number, plain_variables, slot_kinds};
@@ -9,6 +9,8 @@ ghost use Rattle.wc_model.specs.Language.Tree.{Text};
 ghost use Rattle.wc_model.specs.Language.Views.{term_view};
 ghost use Rattle.wc_soundness.specs.FirstNumbers.{AreFirst};
 ghost use Rattle.wc_names.specs.StandsFor.{AreTables, first_number};
+ghost use Rattle.wc_model.specs.declared.source.Source.{Source};
+ghost use Rattle.wc_names.specs.Spelled.{AreSpelledAs, spelled, spelled_of_unit};
 ghost use Rattle.wc_names.specs.Numbered.{IsNoUnit, IsUnit, StandsFrom, numbered_entity, numbered_input, numbered_type, plain_of_field};
 
 use crate::declared_type::DeclaredType;
@@ -119,6 +121,10 @@ impl<'a> Tables<'a> {
             ≡ Some (plain_variables scope) }
         ensures no_unit { (text : Text) → AreTables self.now text → IsNoUnit text unit
             → result ≡ None }
+        // The definitions fold letter case; the names are the bytes of the tree, as they are spelled.
+        ensures spelled { (source : Source) → AreSpelledAs self.now source
+            → option_map (λ fields. map spelled fields.now) result
+            ≡ slice_get (map spelled_of_unit source.units.items) unit }
     {
         match self.units.get(unit) {
             Some(table) => Some(table.fields.as_slice()),

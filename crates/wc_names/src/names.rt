@@ -1,4 +1,4 @@
-ghost use Rattle.std.specs.Prelude.{◌≡◌, [], ◌∷◌, ◌++◌, List, IfOk, IsOkUnless, not, if◌then◌else◌};
+ghost use Rattle.std.specs.Prelude.{◌≡◌, [], ◌∷◌, ◌++◌, List, IfOk, OnErr, IsOkUnless, false, not, if◌then◌else◌};
 ghost use Rattle.std.specs.List.{position_from};
 ghost use Rattle.wc_model.specs.Language.DeclarationRules.{is_among};
 ghost use Rattle.wc_model.specs.Language.Declarations.{same_name};
@@ -53,6 +53,8 @@ impl<'a> Names<'a> {
         ensures names { IfOk result
             (λ new. self.new ≡ (if new then self.old ++ name_of name.now ∷ [] else self.old)) }
         ensures memory { IsOkUnless result Fault.Memory }
+        // A name that is there takes no memory, so want of it is told of a new one alone.
+        ensures fails { OnErr result (is_among self.old (name_of name.now) ≡ false) }
     {
         match self.keys.insert(Key { text: name }) {
             Ok(new) => Ok(new),

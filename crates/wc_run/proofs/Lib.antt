@@ -3,3 +3,4 @@ pub mod Puttings
 pub mod RunsOn
 pub mod RunEnds
 pub mod ScaleRows
+pub mod LeftLines

@@ -5,6 +5,7 @@ use Rattle.wc_model.specs.Run.Log.{LogOf}
 use Rattle.wc_model.specs.Instrument.Plates.{PlateData}
 use Rattle.wc_model.specs.Run.Rows.{LogRow}
 use Rattle.wc_model.specs.Say.Report.{line_report}
+use Rattle.wc_instrument_laws.specs.WrittenLines.{without_scan_lines}
 use Rattle.wc_run.specs.Logics.{Logic, run_report, run_report_last}
 use Rattle.wc_run.specs.declared.fault.RunFault.{RunFault}
 use Rattle.wc_run.specs.declared.fault.RunFault.TheVariants.{Refused, Read, Write, Memory}
@@ -35,3 +36,22 @@ Reports plate logic log answer old new = ReportsBy (run_report plate logic) (run
 -- run with no program, and those scans behind them: the report of the last scans.
 abbrev pub ReportsLast : ℕ → PlateData → Option Logic → LogOf → Result ℕ RunFault → Option (List ℕ) → Option (List ℕ) → Type 0
 ReportsLast number plate logic log answer old new = ReportsBy (run_report_last number plate logic) (line_report plate) log answer old new
+
+-- What was written is the line's answers to the rows, once the lines that begin with an S are taken
+-- out of it.
+abbrev pub AppendsLine : PlateData → List LogRow → Option (List ℕ) → Option (List ℕ) → Type 0
+AppendsLine plate rows old new = (text : List ℕ) × Appends old new text × (without_scan_lines text ≡ line_report plate rows)
+
+-- so of the first of these rows
+abbrev pub AppendsLineOfFirst : PlateData → List LogRow → Option (List ℕ) → Option (List ℕ) → Type 0
+AppendsLineOfFirst plate rows old new = (first : List LogRow) × (left : List LogRow) × (rows ≡ first ++ left) × AppendsLine plate first old new
+
+-- Whatever the program, what is left of the bytes that a run writes without its lines of scans is
+-- what a run with no program writes: of all rows, of those before the refused one, or, after a read
+-- fault or want of memory, of the first of them. Behind a write fault stands a front of such a text.
+abbrev pub LeavesLine : PlateData → LogOf → Result ℕ RunFault → Option (List ℕ) → Option (List ℕ) → Type 0
+LeavesLine plate log (Ok count) old new = AppendsLine plate log.rows old new
+LeavesLine plate log (Err (Refused number place)) old new = AppendsLine plate log.rows old new
+LeavesLine plate log (Err Read) old new = AppendsLineOfFirst plate log.rows old new
+LeavesLine plate log (Err Write) old new = Unit {0}
+LeavesLine plate log (Err Memory) old new = AppendsLineOfFirst plate log.rows old new

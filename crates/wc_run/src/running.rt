@@ -7,7 +7,7 @@ ghost use Rattle.wc_record.specs.Reading.{records_of};
 ghost use Rattle.wc_run.specs.Deferring.{HoldsScans};
 ghost use Rattle.wc_run.specs.Doing.{Ends, IsJudged, is_cut_short};
 ghost use Rattle.wc_run.specs.Logics.{Logic, StandsAt};
-ghost use Rattle.wc_run.specs.Runs.{Reports, ReportsLast};
+ghost use Rattle.wc_run.specs.Runs.{LeavesLine, Reports, ReportsLast};
 ghost use Rattle.wc_run.specs.Standing.{IsNotBehind, Stands};
 
 use crate::fault::RunFault;
@@ -208,6 +208,11 @@ pub fn run<R: ByteIn, W: ByteOut>(
         (λ bytes. (logic : Option Logic) → StandsAt machine.entry logic
         → Reports plate.now logic (log_of (records_of bytes)) result (W.bytes_taken writer.old)
         (W.bytes_taken writer.new)) }
+    // Whatever the program: without the lines of scans the bytes are those of a run with none.
+    ensures line { IfSome (R.bytes_left reader.old)
+        (λ bytes. (logic : Option Logic) → StandsAt machine.entry logic
+        → LeavesLine plate.now (log_of (records_of bytes)) result (W.bytes_taken writer.old)
+        (W.bytes_taken writer.new)) }
     ensures read { IsErrOf result RunFault.Read
         → HasCause (R.failure_count reader.old) (R.failure_count reader.new)
         (R.spent_count reader.old) (R.spent_count reader.new) }
@@ -244,6 +249,11 @@ pub fn run_last<R: ByteIn, W: ByteOut>(
         (λ bytes. (logic : Option Logic) → StandsAt machine.entry logic
         → ReportsLast number plate.now logic (log_of (records_of bytes)) result
         (W.bytes_taken writer.old) (W.bytes_taken writer.new)) }
+    // Whatever the program: without the lines of scans the bytes are those of a run with none.
+    ensures line { IfSome (R.bytes_left reader.old)
+        (λ bytes. (logic : Option Logic) → StandsAt machine.entry logic
+        → LeavesLine plate.now (log_of (records_of bytes)) result (W.bytes_taken writer.old)
+        (W.bytes_taken writer.new)) }
     ensures read { IsErrOf result RunFault.Read
         → HasCause (R.failure_count reader.old) (R.failure_count reader.new)
         (R.spent_count reader.old) (R.spent_count reader.new) }

@@ -19,5 +19,5 @@ returns-in-Ok-longest c = λ scope is same may short small.
     let code = c.into_lines-code.ensures.code in
     let count : length c.deref-2.result.now ≡ flat_length body = ap (λ (l : List Code). length l) (c.deref-2.ensures.value ∙ code) ∙ laid_length scope body c.in-Ok.flat.code laid in
     let few : length c.deref-2.result.now ≤ 65536 = omega (arith, count, short) in
-    c.bounded.ensures bounds scope (subst (IsLaid scope body) (sym code) laid) (c.into_lines-code.ensures.sources ∙ flat.1 ∙ ap sources_of (sym seen))
+    c.bounded.ensures.measured bounds scope (subst (IsLaid scope body) (sym code) laid) (c.into_lines-code.ensures.sources ∙ flat.1 ∙ ap sources_of (sym seen))
     (c.in-Ok-longest.ensures.longest small few (sources_of body) ∙ ap (λ (l : List Code). (worst_of bounds l (sources_of body)).steps) c.deref-2.ensures.value) (sym (ap (λ (u : ProgramUnit). u.line) same))

@@ -11,6 +11,8 @@ use Rattle.wc_names.specs.declared.unit_table.UnitTable.{UnitTable}
 use Rattle.wc_names.proofs.Lists.{from_index_or}
 use Rattle.wc_declare.proofs.Judging.{judges_err, judges_ok}
 use Rattle.wc_declare.proofs.RowsSoFar.{RoomBehind, as_variable, one_further, room_first, room_more, room_of}
+use Rattle.wc_names.specs.Spelled.{is_elementary, spelled_in_table, spelled_where}
+use Rattle.wc_declare.proofs.SpelledSoFar.{spelled_all, spelled_on, where_more, where_none}
 use Rattle.wc_declare.proofs.declaration.declare_variables.Goals as goal
 
 -- the words that are left begin with this one
@@ -19,7 +21,7 @@ begin : (start own : UnitTable) (d : Declaration) (declared : DeclaredType) (wid
 begin start own d declared width all items i below h = subst (λ xs. RoomBehind start own d declared width all (map word_view xs)) (from_index_or items i (record { text = record { ref_ptr = (0, 0); now = [] }; line = 0 }) below) h
 
 pub loop-word-init : goal.loop-word-init
-loop-word-init c = room_first c.args.table.now (declaration_view c.args.declaration.now) c.args.declared c.args.width (map word_view c.deref-word-items.result.now)
+loop-word-init c = (room_first c.args.table.now (declaration_view c.args.declaration.now) c.args.declared c.args.width (map word_view c.deref-word-items.result.now), refl)
 
 pub returns-in-Err-clause-judged : goal.returns-in-Err-clause-judged
 returns-in-Err-clause-judged c = λ t rest taken.
@@ -27,7 +29,7 @@ returns-in-Err-clause-judged c = λ t rest taken.
     let items = c.deref-word-items.result.now in
     let word : Word = get_or items i (record { text = record { ref_ptr = (0, 0); now = [] }; line = 0 }) in
     let left = map word_view (drop (i + 1) items) in
-    let h = begin c.args.table.now c.loop-word.table (declaration_view c.args.declaration.now) c.args.declared c.args.width (map word_view items) items i c.loop-word-test.true c.loop-word.invariant in
+    let h = begin c.args.table.now c.loop-word.table (declaration_view c.args.declaration.now) c.args.declared c.args.width (map word_view items) items i c.loop-word-test.true c.loop-word.invariant.0 in
     let more = map (room_of t c.args.width) (spots_behind (word_view word ∷ h.before) left) ++ rest in
     let now = and_more t (length h.before) c.args.width in
     judges_err (Unit {0}) (Unit {0}) (first_broken (room_checks t c.args.width (map word_view c.args.declaration.now.names.items) ++ rest))
@@ -41,22 +43,26 @@ loop-word-preserved c =
     let items = c.deref-word-items.result.now in
     let word : Word = get_or items i (record { text = record { ref_ptr = (0, 0); now = [] }; line = 0 }) in
     let d = declaration_view c.args.declaration.now in
-    let h = begin c.args.table.now c.loop-word.table d c.args.declared c.args.width (map word_view items) items i c.loop-word-test.true c.loop-word.invariant in
-    room_more c.args.table.now c.loop-word.table c.add_variable.new.table d c.args.declared c.args.width (map word_view items) (word_view word) (map word_view (drop (i + 1) items))
-    (record { section = c.args.declaration.now.section; declared = c.args.declared; first = c.loop-word.table.size; initial = c.literal-initial.result }) h
-    (λ t rest taken. judges_ok (first_broken (asks 306 word.line (has_room (and_more t 1 c.args.width)) ∷ rest)) (first_broken rest) c.add_variable.result c.in_default.field-0 c.in_default.is (c.add_variable.ensures.judged t rest taken))
-    refl refl refl c.literal-initial.ensures c.in_default.ensures.rows c.in_default.ensures.size c.in_default.ensures.fields c.in_default.ensures.names c.in_default.ensures.small c.in_default.ensures.is_block
+    let h = begin c.args.table.now c.loop-word.table d c.args.declared c.args.width (map word_view items) items i c.loop-word-test.true c.loop-word.invariant.0 in (
+      room_more c.args.table.now c.loop-word.table c.add_variable.new.table d c.args.declared c.args.width (map word_view items) (word_view word) (map word_view (drop (i + 1) items))
+          (record { section = c.args.declaration.now.section; declared = c.args.declared; first = c.loop-word.table.size; initial = c.literal-initial.result }) h
+          (λ t rest taken. judges_ok (first_broken (asks 306 word.line (has_room (and_more t 1 c.args.width)) ∷ rest)) (first_broken rest) c.add_variable.result c.in_default.field-0 c.in_default.is (c.add_variable.ensures.judged t rest taken))
+          refl refl refl c.literal-initial.ensures c.in_default.ensures.rows c.in_default.ensures.size c.in_default.ensures.fields c.in_default.ensures.names c.in_default.ensures.small c.in_default.ensures.is_block,
+      spelled_on (spelled_in_table c.args.table.now) (spelled_in_table c.loop-word.table) (spelled_in_table c.add_variable.new.table) (spelled_where (is_elementary c.args.declared) (word ∷ [])) (spelled_where (is_elementary c.args.declared) (drop (i + 1) items)) (spelled_where (is_elementary c.args.declared) items)
+          (ap (λ xs. spelled_in_table c.loop-word.table ++ xs) (sym (ap (spelled_where (is_elementary c.args.declared)) (from_index_or items i (record { text = record { ref_ptr = (0, 0); now = [] }; line = 0 }) c.loop-word-test.true) ∙ where_more (is_elementary c.args.declared) word (drop (i + 1) items))) ∙ c.loop-word.invariant.1)
+          c.in_default.ensures.spelled,
+    )
 
 pub returns-clause-judged : goal.returns-clause-judged
 returns-clause-judged c = λ t rest taken.
     let end : drop c.loop-word.word-index c.deref-word-items.result.now ≡ [] = drop_all c.loop-word.word-index c.deref-word-items.result.now c.loop-word-test.false in
-    let h = subst (λ xs. RoomBehind c.args.table.now c.loop-word.table (declaration_view c.args.declaration.now) c.args.declared c.args.width (map word_view c.deref-word-items.result.now) (map word_view xs)) end c.loop-word.invariant in
+    let h = subst (λ xs. RoomBehind c.args.table.now c.loop-word.table (declaration_view c.args.declaration.now) c.args.declared c.args.width (map word_view c.deref-word-items.result.now) (map word_view xs)) end c.loop-word.invariant.0 in
     ap (λ xs. first_broken (room_checks t c.args.width (map word_view xs) ++ rest)) (sym c.deref-word-items.ensures.value) ∙ h.found t rest taken
 
 pub returns-clause-taken : goal.returns-clause-taken
 returns-clause-taken c = λ t taken.
     let end : drop c.loop-word.word-index c.deref-word-items.result.now ≡ [] = drop_all c.loop-word.word-index c.deref-word-items.result.now c.loop-word-test.false in
-    let h = subst (λ xs. RoomBehind c.args.table.now c.loop-word.table (declaration_view c.args.declaration.now) c.args.declared c.args.width (map word_view c.deref-word-items.result.now) (map word_view xs)) end c.loop-word.invariant in
+    let h = subst (λ xs. RoomBehind c.args.table.now c.loop-word.table (declaration_view c.args.declaration.now) c.args.declared c.args.width (map word_view c.deref-word-items.result.now) (map word_view xs)) end c.loop-word.invariant.0 in
     let all : length h.before ≡ length (map word_view c.deref-word-items.result.now) = let e = h.counted in omega (arith, e) in
     subst (λ n. HasTaken (and_more t n c.args.width) c.loop-word.table) (all ∙ ap (λ xs. length (map word_view xs)) c.deref-word-items.ensures.value) (h.taken t taken)
 
@@ -64,6 +70,15 @@ pub returns-clause-held : goal.returns-clause-held
 returns-clause-held c = λ before first vs type wide stands held.
     let end : drop c.loop-word.word-index c.deref-word-items.result.now ≡ [] = drop_all c.loop-word.word-index c.deref-word-items.result.now c.loop-word-test.false in
     let d = declaration_view c.args.declaration.now in
-    let h = subst (λ xs. RoomBehind c.args.table.now c.loop-word.table d c.args.declared c.args.width (map word_view c.deref-word-items.result.now) (map word_view xs)) end c.loop-word.invariant in
+    let h = subst (λ xs. RoomBehind c.args.table.now c.loop-word.table d c.args.declared c.args.width (map word_view c.deref-word-items.result.now) (map word_view xs)) end c.loop-word.invariant.0 in
     let all = sym (append-nil h.done) ∙ h.joined ∙ ap (λ xs. map (as_variable d) (map word_view xs)) c.deref-word-items.ensures.value in
     subst (λ xs. HoldsRows before first (vs ++ xs) c.loop-word.table) all (h.held before first vs type wide stands held)
+
+pub returns-clause-spelled : goal.returns-clause-spelled
+returns-clause-spelled c =
+    let plain = is_elementary c.args.declared in
+    let items = c.deref-word-items.result.now in
+    let end : drop c.loop-word.word-index items ≡ [] = drop_all c.loop-word.word-index items c.loop-word-test.false in
+    spelled_all (spelled_in_table c.args.table.now) (spelled_in_table c.loop-word.table) (spelled_where plain (drop c.loop-word.word-index items)) (spelled_where plain items)
+    (ap (spelled_where plain) end ∙ where_none plain) c.loop-word.invariant.1
+    ∙ ap (λ xs. spelled_in_table c.args.table.now ++ spelled_where plain xs) c.deref-word-items.ensures.value

@@ -5,6 +5,7 @@ use Rattle.wc_model.specs.Language.Views.{declaration_view, name_view, word_view
 use Rattle.wc_declare.specs.Rows.{HasTaken}
 use Rattle.wc_names.specs.declared.declared_type.DeclaredType.{DeclaredType}
 use Rattle.wc_declare.proofs.Judging.{judges_err, judges_ok, judges_same, on_ok, pieces}
+use Rattle.wc_names.specs.Spelled.{spelled_in_table, spelled_where}
 use Rattle.wc_declare.proofs.declaration.judge_declaration.Goals as goal
 
 pub returns-in-Err-clause-judged : goal.returns-in-Err-clause-judged
@@ -62,3 +63,7 @@ returns-clause-held c = on_ok c.declare_variables.result c.declare_variables.ens
     let name = name_view c.args.declaration.now.type_name in
     let typed = c.in-Ok.ensures.declared text before units in
     holds before first vs typed (sym (c.width.ensures text before name units typed)) c.in-Ok.ensures.stands (record { rows = h.rows; size = h.size; fields = h.fields }))
+
+pub returns-clause-spelled : goal.returns-clause-spelled
+returns-clause-spelled c = on_ok c.declare_variables.result c.declare_variables.ensures.spelled (λ holds.
+    holds ∙ ap (λ plain. spelled_in_table c.args.table.now ++ spelled_where plain c.args.declaration.now.names.items) c.in-Ok.ensures.plain)

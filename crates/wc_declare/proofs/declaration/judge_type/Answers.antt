@@ -12,17 +12,17 @@ returns-in_default-clause-judged c = λ text before rest h.
     let name = name_of d.type_name.text.now in
     rw c.refused-in_default.ensures (
     passed 308 d.type_name.line _ (asks 302 d.type_name.line (is_usable_type before d.section name) ∷ rest) (sym (c.is_closed_before.ensures text before h) ∙ c.if-not-is_closed_before.false)
-    ∙ broken 302 d.type_name.line (is_usable_type before d.section name) rest (unusable_type before d.section name (sym (c.type_at.ensures text before h) ∙ c.in_default.is)))
+    ∙ broken 302 d.type_name.line (is_usable_type before d.section name) rest (unusable_type before d.section name (sym (c.type_at.ensures.declared text before h) ∙ c.in_default.is)))
 
 pub returns-then-stands_in-clause-judged : goal.returns-then-stands_in-clause-judged
 returns-then-stands_in-clause-judged c = λ text before rest h.
     let d = c.args.declaration.now in
     let name = name_of d.type_name.text.now in
     passed 308 d.type_name.line _ (asks 302 d.type_name.line (is_usable_type before d.section name) ∷ rest) (sym (c.is_closed_before.ensures text before h) ∙ c.if-not-is_closed_before.false)
-    ∙ passed 302 d.type_name.line (is_usable_type before d.section name) rest (usable_type before d.section name c.in-Some.declared (sym (c.type_at.ensures text before h) ∙ c.in-Some.is) ∙ sym c.stands_in.ensures ∙ c.if-stands_in.true)
+    ∙ passed 302 d.type_name.line (is_usable_type before d.section name) rest (usable_type before d.section name c.in-Some.declared (sym (c.type_at.ensures.declared text before h) ∙ c.in-Some.is) ∙ sym c.stands_in.ensures ∙ c.if-stands_in.true)
 
 pub returns-then-stands_in-clause-declared : goal.returns-then-stands_in-clause-declared
-returns-then-stands_in-clause-declared c = λ text before h. sym (c.type_at.ensures text before h) ∙ c.in-Some.is
+returns-then-stands_in-clause-declared c = λ text before h. sym (c.type_at.ensures.declared text before h) ∙ c.in-Some.is
 
 pub returns-else-stands_in-clause-judged : goal.returns-else-stands_in-clause-judged
 returns-else-stands_in-clause-judged c = λ text before rest h.
@@ -30,7 +30,7 @@ returns-else-stands_in-clause-judged c = λ text before rest h.
     let name = name_of d.type_name.text.now in
     rw c.refused-else-stands_in.ensures (
     passed 308 d.type_name.line _ (asks 302 d.type_name.line (is_usable_type before d.section name) ∷ rest) (sym (c.is_closed_before.ensures text before h) ∙ c.if-not-is_closed_before.false)
-    ∙ broken 302 d.type_name.line (is_usable_type before d.section name) rest (usable_type before d.section name c.in-Some.declared (sym (c.type_at.ensures text before h) ∙ c.in-Some.is) ∙ sym c.stands_in.ensures ∙ c.if-stands_in.false))
+    ∙ broken 302 d.type_name.line (is_usable_type before d.section name) rest (usable_type before d.section name c.in-Some.declared (sym (c.type_at.ensures.declared text before h) ∙ c.in-Some.is) ∙ sym c.stands_in.ensures ∙ c.if-stands_in.false))
 
 pub returns-then-stands_in-clause-stands : goal.returns-then-stands_in-clause-stands
 returns-then-stands_in-clause-stands c = sym c.stands_in.ensures ∙ c.if-stands_in.true

@@ -1,8 +1,9 @@
-use Rattle.std.proofs.Common.{[], None, sym, subst}
+use Rattle.std.proofs.Common.{[], None, ◌++◌, map, ap, sym, subst, ◌∙◌}
 use Rattle.wc_model.specs.Language.Faults.{declaration_fault}
 use Rattle.wc_model.specs.Language.Views.{text_view}
 use Rattle.wc_names.specs.StandsFor.{AreUnits, onto}
 use Rattle.wc_declare.proofs.Judging.{judges_ok}
+use Rattle.wc_names.specs.Spelled.{spelled_in_table, spelled_of_unit}
 use Rattle.wc_declare.proofs.declaring.tables.Goals as goal
 
 pub returns-clause-accepted : goal.returns-clause-accepted
@@ -10,3 +11,8 @@ returns-clause-accepted c = subst (λ tables. AreUnits (onto (text_view c.args.s
 
 pub returns-clause-judged : goal.returns-clause-judged
 returns-clause-judged c = judges_ok (declaration_fault (text_view c.args.source.now)) None c.judge_units.result c.in_default.field-0 c.in_default.is (c.judge_units.ensures.judged c.in-Ok.ensures.units)
+
+pub returns-clause-spelled : goal.returns-clause-spelled
+returns-clause-spelled c =
+    ap (λ units. map spelled_in_table units.items) c.new.ensures ∙ c.in_default.ensures.spelled
+    ∙ ap (λ tables. map spelled_in_table tables ++ map spelled_of_unit c.args.source.now.units.items) c.in-Ok.ensures.none

@@ -1,4 +1,4 @@
-use Rattle.std.proofs.Common.{◌≡◌, Bool, [], ◌++◌, refl, ap, sym, ◌∙◌, append_assoc}
+use Rattle.std.proofs.Common.{◌≡◌, Bool, [], ◌++◌, map, refl, ap, sym, ◌∙◌, append_assoc}
 use Rattle.std.specs.Prelude.{if◌then◌else◌}
 use Rattle.wc_model.specs.Language.Checks.{first_broken}
 use Rattle.wc_model.specs.Language.DeclarationRules.{body_name_checks, unit_checks, unit_declaration_checks}
@@ -8,6 +8,7 @@ use Rattle.wc_model.specs.Language.Tree.{ProgramUnit}
 use Rattle.wc_declare.specs.Rows.{IsEmptyOf}
 use Rattle.wc_names.specs.declared.unit_table.UnitTable.{UnitTable}
 use Rattle.wc_declare.proofs.Judging.{judges_err, judges_ok}
+use Rattle.wc_names.specs.Spelled.{spelled, spelled_of_unit}
 use Rattle.wc_declare.proofs.unit.judge_unit.Goals as goal
 
 -- a new table is that of a unit of which nothing is declared yet
@@ -68,3 +69,7 @@ returns-clause-table c = λ text before units.
     let unit = unit_view c.args.unit.now in
     c.in_default-judge_declarations.ensures.table text before units
     (empty unit c.is_block-in_block.result c.new-table.result c.is_block-in_block.ensures c.new-table.ensures.is_block c.new-table.ensures.names c.new-table.ensures.rows c.new-table.ensures.fields c.new-table.ensures.size)
+
+pub returns-clause-spelled : goal.returns-clause-spelled
+returns-clause-spelled c =
+    c.in_default-judge_declarations.ensures.spelled ∙ ap (λ fields. map spelled fields ++ spelled_of_unit c.args.unit.now) c.new-table.ensures.fields

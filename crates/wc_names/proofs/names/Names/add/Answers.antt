@@ -1,4 +1,4 @@
-use Rattle.std.proofs.Common.{not, ap, ◌∙◌}
+use Rattle.std.proofs.Common.{not, ap, sym, ◌∙◌}
 use Rattle.wc_model.specs.Language.DeclarationRules.{is_among}
 use Rattle.wc_model.specs.Language.Names.{name_of}
 use Rattle.wc_names.proofs.KeyNames.{keys_any, keys_more}
@@ -15,4 +15,10 @@ pub returns-clause-names : goal.returns-clause-names
 returns-clause-names c = elim c.match-insert.branch [
   | in-Ok w ↦ rw w.result-is (keys_more (record { text = c.args.name }) c.self.inside.keys.keys c.insert.new.self.keys c.args.self.now w.in-Ok.new c.self.view_is w.in-Ok.ensures.keys w.in-Ok.ensures.added)
   | in-Err w ↦ rw w.result-is tt
+]
+
+pub returns-clause-fails : goal.returns-clause-fails
+returns-clause-fails c = elim c.match-insert.branch [
+  | in-Ok w ↦ rw w.result-is tt
+  | in-Err w ↦ rw w.result-is (sym (keys_any (record { text = c.args.name }) c.self.inside.keys.keys ∙ ap (λ names. is_among names (name_of c.args.name.now)) c.self.view_is) ∙ w.in-Err.ensures.absent)
 ]
