@@ -51,7 +51,7 @@ first_stands (Skipped piece after e blank more) some = Skipped piece after e bla
 first_stands (Taken shape piece after e longest s more) some = Nothing (shape, piece, after, e, longest, s)
 
 -- room is wanted for the tokens of a text that has some
-wants_room : (bytes : List ℕ) (tokens : List Token) → length bytes ≤ most_bytes → IsCut bytes tokens → 0 < length tokens → WantsRoom bytes
+pub wants_room : (bytes : List ℕ) (tokens : List Token) → length bytes ≤ most_bytes → IsCut bytes tokens → 0 < length tokens → WantsRoom bytes
 wants_room bytes tokens short cut some = record { short = short; tokens = []; cut = first_stands cut some }
 
 -- what a fault that the walk meets says

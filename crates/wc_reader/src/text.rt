@@ -8,6 +8,7 @@ ghost use Rattle.wc_model.specs.Language.Tree.{ProgramUnit};
 ghost use Rattle.wc_model.specs.Language.Views.{text_view};
 ghost use Rattle.wc_lexer.specs.Views.{token_view};
 ghost use Rattle.wc_reader.specs.ReadTexts.{IsRefusedAs};
+ghost use Rattle.wc_reader.specs.ReadingSpots.{StopsIn, state_at_stop};
 ghost use Rattle.wc_short_lines.specs.Several.{GoesOn};
 ghost use Rattle.wc_reader.specs.TextViews.{IsUndeclared, IsStateCounted, reading_view, state_view};
 ghost use Rattle.wc_reader.specs.Told.{IsUnexpected, IsUnexpectedAt, TellsReading, TellsFault};
@@ -100,6 +101,16 @@ fn read_token<'a>(
         → TellsFault
         (moves.reading (reading_view reading.old)
         (mark_of_token (token_view token.entry) ∷ behind) last) fault) }
+    ensures leads { OnOk result
+        ((behind : List Mark) → colon_next behind false ≡ colon
+        → state_at_stop (reading_view reading.old)
+        (mark_of_token (token_view token.entry) ∷ behind)
+        ≡ state_at_stop (reading_view reading.new) behind) }
+    ensures stays { IfErr result
+        (λ fault. (behind : List Mark) → colon_next behind false ≡ colon
+        → StopsIn
+        (state_at_stop (reading_view reading.old)
+        (mark_of_token (token_view token.entry) ∷ behind)) (reading_view reading.old) fault) }
     ensures counted { OnOk result (IsStateCounted reading.new.state) }
 {
     match fault_at(reading, token, colon) {
@@ -110,7 +121,7 @@ fn read_token<'a>(
 
 /// Goes on behind the token at that index, or says what is wrong with it.
 #[inline(always)]
-fn read_at<'a>(
+pub(crate) fn read_at<'a>(
     alloc: Global,
     reading: &mut Reading<'a>,
     tokens: &[Token<'a>],
@@ -127,6 +138,13 @@ fn read_at<'a>(
         → TellsFault
         (moves.reading (reading_view reading.old) (marks_of (drop index tokens.now)) last)
         fault) }
+    ensures leads { OnOk result
+        (state_at_stop (reading_view reading.old) (marks_of (drop index tokens.now))
+        ≡ state_at_stop (reading_view reading.new) (marks_of (drop (index + 1) tokens.now))) }
+    ensures stays { IfErr result
+        (λ fault.
+        StopsIn (state_at_stop (reading_view reading.old) (marks_of (drop index tokens.now)))
+        (reading_view reading.old) fault) }
     ensures counted { OnOk result (IsStateCounted reading.new.state) }
 {
     let (_, left) = tokens.split_at(index);
@@ -315,7 +333,7 @@ fn line_feeds(text: &[u8]) -> usize
 }
 
 /// The number of the text's last line.
-fn last_line(text: &[u8]) -> u32
+pub(crate) fn last_line(text: &[u8]) -> u32
     requires { length text.now ≤ most_bytes }
     ensures { result ≡ last_line text.now }
 {
