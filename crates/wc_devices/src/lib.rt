@@ -2,9 +2,12 @@
 //! interrupted and keeps why it failed, and one that keeps what it read.
 #![tactic(auto)]
 
+mod gathered;
+mod gathering;
 mod keeping;
 mod noting;
 mod trying;
 
+pub use gathered::Gathering;
 pub use keeping::Keeping;
 pub use noting::Noting;

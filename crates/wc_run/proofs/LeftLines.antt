@@ -30,13 +30,13 @@ last_leaves number plate (Some logic) rows = (scan_lines_come_out plate (scans_o
 -- of the first rows too
 first_leaves : (plate : PlateData) (text : List LogRow → List ℕ) → LeavesAnswers plate text → (rows : List LogRow) (old new : Option (List ℕ)) →
     AppendsFirst text rows old new → AppendsLineOfFirst plate rows old new
-first_leaves plate text leaves rows old new (first, (left, (joined, appends))) = (first, (left, (joined, (text first, (appends, leaves first)))))
+first_leaves plate text leaves rows old new (first, left, joined, appends) = (first, left, joined, (text first, appends, leaves first))
 
 -- each answer of a run says so
 by_answer : (plate : PlateData) (whole coming : List LogRow → List ℕ) → LeavesAnswers plate whole → LeavesAnswers plate coming →
     (log : LogOf) (answer : Result ℕ RunFault) (old new : Option (List ℕ)) → ReportsBy whole coming log answer old new → LeavesLine plate log answer old new
-by_answer plate whole coming leaves first log (Ok count) old new says = (whole log.rows, (says.1.1, leaves log.rows))
-by_answer plate whole coming leaves first log (Err (Refused number place)) old new says = (whole log.rows, (says.1, leaves log.rows))
+by_answer plate whole coming leaves first log (Ok count) old new says = (whole log.rows, says.2, leaves log.rows)
+by_answer plate whole coming leaves first log (Err (Refused number place)) old new says = (whole log.rows, says.1, leaves log.rows)
 by_answer plate whole coming leaves first log (Err Read) old new says = first_leaves plate coming first log.rows old new says
 by_answer plate whole coming leaves first log (Err Write) old new says = tt
 by_answer plate whole coming leaves first log (Err Memory) old new says = first_leaves plate coming first log.rows old new says

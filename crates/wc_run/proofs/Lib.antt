@@ -4,3 +4,4 @@ pub mod RunsOn
 pub mod RunEnds
 pub mod ScaleRows
 pub mod LeftLines
+pub mod ReaderFailures

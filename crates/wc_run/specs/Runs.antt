@@ -1,5 +1,5 @@
 -- What an answer of a run says of the log and of what was written.
-use Rattle.std.specs.Prelude.{◌≡◌, ℕ, List, ◌++◌, length, Option, Some, None, Result, Ok, Err}
+use Rattle.std.specs.Prelude.{◌≡◌, ◌≤◌, ℕ, List, ◌++◌, length, Option, Some, None, Result, Ok, Err}
 use Rattle.std.specs.Io.KnownBytes.{Appends}
 use Rattle.wc_model.specs.Run.Log.{LogOf}
 use Rattle.wc_model.specs.Instrument.Plates.{PlateData}
@@ -55,3 +55,11 @@ LeavesLine plate log (Err (Refused number place)) old new = AppendsLine plate lo
 LeavesLine plate log (Err Read) old new = AppendsLineOfFirst plate log.rows old new
 LeavesLine plate log (Err Write) old new = Unit {0}
 LeavesLine plate log (Err Memory) old new = AppendsLineOfFirst plate log.rows old new
+
+-- The log's reader has not failed where a run came to the log's end or to a refused row.
+abbrev pub HasNotFailed : Result ℕ RunFault → ℕ → ℕ → Type 0
+HasNotFailed (Ok count) old new = new ≤ old
+HasNotFailed (Err (Refused number place)) old new = new ≤ old
+HasNotFailed (Err Read) old new = Unit {0}
+HasNotFailed (Err Write) old new = Unit {0}
+HasNotFailed (Err Memory) old new = Unit {0}

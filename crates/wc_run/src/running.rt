@@ -5,9 +5,9 @@ ghost use Rattle.wc_model.specs.Run.Writing.{HasFailedSince};
 ghost use Rattle.wc_record.specs.Left.{HasCause};
 ghost use Rattle.wc_record.specs.Reading.{records_of};
 ghost use Rattle.wc_run.specs.Deferring.{HoldsScans};
-ghost use Rattle.wc_run.specs.Doing.{Ends, IsJudged, is_cut_short};
+ghost use Rattle.wc_run.specs.Doing.{Ends, IsJudged, RunsRows, is_cut_short};
 ghost use Rattle.wc_run.specs.Logics.{Logic, StandsAt};
-ghost use Rattle.wc_run.specs.Runs.{LeavesLine, Reports, ReportsLast};
+ghost use Rattle.wc_run.specs.Runs.{HasNotFailed, LeavesLine, Reports, ReportsLast};
 ghost use Rattle.wc_run.specs.Standing.{IsNotBehind, Stands};
 
 use crate::fault::RunFault;
@@ -34,6 +34,39 @@ fn is_cut_short(answer: &Result<u32, RunFault>) -> bool
     }
 }
 
+/// Runs a log. Where its reader failed, that is told, also if every row was read all the same: the
+/// library that reads records does not promise to tell each failure.
+fn run_told<R: ByteIn, W: ByteOut>(
+    alloc: Global,
+    scale: &mut Scale<'_>,
+    recorder: &mut Option<Recorder>,
+    reader: &mut R,
+    writer: &mut W,
+) -> Result<u32, RunFault>
+    requires { IsNotBehind scale.old 0 }
+    ensures reports { IfSome (R.bytes_left reader.old)
+        (λ bytes. (plate : PlateData) (logic : Option Logic) (number : Option ℕ)
+        → Stands scale.old plate logic [] → HoldsScans recorder.old number []
+        → RunsRows number plate logic (log_of (records_of bytes)) recorder.new result
+        (W.bytes_taken writer.old) (W.bytes_taken writer.new)) }
+    ensures write { IsErrOf result RunFault.Write
+        → HasFailedSince (W.failure_count writer.old) (W.failure_count writer.new) }
+    ensures steady { ¬ IsErrOf result RunFault.Write
+        → W.failure_count writer.new ≡ W.failure_count writer.old }
+    ensures reader { HasNotFailed result (R.failure_count reader.old)
+        (R.failure_count reader.new) }
+{
+    let before = reader.failures();
+    let answer = run_log(alloc, scale, recorder, reader, writer);
+    if is_cut_short(&answer) {
+        return answer;
+    }
+    if reader.failures() > before {
+        return Err(RunFault::Read);
+    }
+    answer
+}
+
 /// Runs a log, and behind its rows writes the lines of the scans that are kept, unless a device
 /// failed or memory was refused.
 fn run_to_end<R: ByteIn, W: ByteOut>(
@@ -53,8 +86,10 @@ fn run_to_end<R: ByteIn, W: ByteOut>(
         → HasFailedSince (W.failure_count writer.old) (W.failure_count writer.new) }
     ensures steady { ¬ IsErrOf result RunFault.Write
         → W.failure_count writer.new ≡ W.failure_count writer.old }
+    ensures reader { HasNotFailed result (R.failure_count reader.old)
+        (R.failure_count reader.new) }
 {
-    let answer = run_log(alloc, scale, recorder, reader, writer);
+    let answer = run_told(alloc, scale, recorder, reader, writer);
     if is_cut_short(&answer) {
         return answer;
     }
@@ -98,6 +133,8 @@ fn run_scale<R: ByteIn, W: ByteOut>(
         → HasFailedSince (W.failure_count writer.old) (W.failure_count writer.new) }
     ensures steady { ¬ IsErrOf result RunFault.Write
         → W.failure_count writer.new ≡ W.failure_count writer.old }
+    ensures reader { HasNotFailed result (R.failure_count reader.old)
+        (R.failure_count reader.new) }
 {
     match Scale::new(alloc, plate, machine) {
         Ok(mut scale) => run_to_end(alloc, &mut scale, recorder, reader, writer),
@@ -125,6 +162,8 @@ fn run_recorded<R: ByteIn, W: ByteOut>(
         → HasFailedSince (W.failure_count writer.old) (W.failure_count writer.new) }
     ensures steady { ¬ IsErrOf result RunFault.Write
         → W.failure_count writer.new ≡ W.failure_count writer.old }
+    ensures reader { HasNotFailed result (R.failure_count reader.old)
+        (R.failure_count reader.new) }
 {
     match recorder_of(alloc, number) {
         Ok(mut recorder) => run_scale(alloc, plate, machine, &mut recorder, reader, writer),
@@ -180,6 +219,8 @@ fn run_judged<R: ByteIn, W: ByteOut>(
         → HasFailedSince (W.failure_count writer.old) (W.failure_count writer.new) }
     ensures steady { ¬ IsErrOf result RunFault.Write
         → W.failure_count writer.new ≡ W.failure_count writer.old }
+    ensures reader { HasNotFailed result (R.failure_count reader.old)
+        (R.failure_count reader.new) }
 {
     let failures = reader.failures();
     let spent = reader.spent();
@@ -195,7 +236,11 @@ fn run_judged<R: ByteIn, W: ByteOut>(
 /// much was read as may be (134217728 bytes and calls), `Write` only where the writer failed in it,
 /// `Memory` where a growth was refused, or a read failed, without such a cause; what is written is
 /// then the report of the first rows, at a write fault a front of the report. With no machine the
-/// answers of the line are written alone.
+/// answers of the line are written alone. No scan is stuck, and none shows a line that only a stuck
+/// one would: a machine is made by `Machine::new` alone, of a text that every pass accepts, and its
+/// `scan` promises that each scan is done. That takes two things of whoever calls it: the machine
+/// has run no scan (`first`), and it stands for the logic that the report speaks of, as `new`
+/// promises of the text and its first store.
 pub fn run<R: ByteIn, W: ByteOut>(
     alloc: Global,
     plate: &Plate,
@@ -224,6 +269,9 @@ pub fn run<R: ByteIn, W: ByteOut>(
         → HasFailedSince (W.failure_count writer.old) (W.failure_count writer.new) }
     ensures steady { ¬ IsErrOf result RunFault.Write
         → W.failure_count writer.new ≡ W.failure_count writer.old }
+    // Behind the last row, or a refused one, its reader has not failed.
+    ensures reader { HasNotFailed result (R.failure_count reader.old)
+        (R.failure_count reader.new) }
 {
     run_judged(alloc, None, plate, machine, reader, writer)
 }
@@ -265,6 +313,9 @@ pub fn run_last<R: ByteIn, W: ByteOut>(
         → HasFailedSince (W.failure_count writer.old) (W.failure_count writer.new) }
     ensures steady { ¬ IsErrOf result RunFault.Write
         → W.failure_count writer.new ≡ W.failure_count writer.old }
+    // Behind the last row, or a refused one, its reader has not failed.
+    ensures reader { HasNotFailed result (R.failure_count reader.old)
+        (R.failure_count reader.new) }
 {
     run_judged(alloc, Some(number), plate, machine, reader, writer)
 }

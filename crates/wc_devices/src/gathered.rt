@@ -1,0 +1,13 @@
+ghost use Rattle.std.specs.Prelude.{◌≤◌, length};
+
+/// A writer that gathers what it takes, and hands it on where it is emptied or has no room for more. What it has taken is
+/// what the writer inside has, and then what is gathered. Once it has failed it takes no more.
+#[derive(Drop)]
+pub struct Gathering<D> {
+    pub(crate) inner: D,
+    pub(crate) gathered: Vec<u8>,
+    pub(crate) given: usize,
+    pub(crate) room: usize,
+    pub(crate) failed: bool,
+    ghost within: { given ≤ length gathered.items },
+}

@@ -1,0 +1,150 @@
+ghost use Rattle.std.specs.Prelude.{◌≡◌, ◌<◌, ◌≤◌, [], IfOk, OnOk, length};
+ghost use Rattle.std.specs.Io.{WritesAtMost};
+ghost use Rattle.std.specs.Io.KnownBytes.{Keeps, WriteAppends};
+ghost use Rattle.wc_devices.specs.Inside.{gathering_inner, pending, taken};
+
+use crate::gathered::Gathering;
+use std::alloc::{AllocError, Global};
+use std::io;
+use std::io::Write;
+
+impl<D: Drop> Gathering<D> {
+    /// One with room for so many bytes, which has gathered nothing. The room is made here.
+    pub fn new(alloc: Global, inner: D, room: usize) -> Result<Gathering<D>, AllocError>
+        ensures inner { IfOk result (λ g. gathering_inner g ≡ inner) }
+        ensures nothing { IfOk result (λ g. pending g ≡ []) }
+    {
+        let gathered = Vec::with_capacity(alloc, room)?;
+        Ok(Gathering {
+            inner,
+            gathered,
+            given: 0,
+            room,
+            failed: false,
+        })
+    }
+}
+
+impl<D> Gathering<D> {
+    /// The writer inside.
+    pub fn get_ref(&self) -> &D
+        ensures { result.now ≡ gathering_inner self.now }
+    {
+        &self.inner
+    }
+}
+
+/// The error of a writer that has failed before.
+fn failed_before() -> io::Error {
+    io::Error::from(io::ErrorKind::BrokenPipe)
+}
+
+impl<D: Write> Gathering<D> {
+    /// Hands on some of what is gathered.
+    fn give_some(&mut self) -> io::Result<()>
+        requires { self.old.given < length self.old.gathered.items }
+        ensures bytes { Keeps (taken D.contents self.old) (taken D.contents self.new) }
+        ensures items { self.new.gathered.items ≡ self.old.gathered.items }
+        ensures more { OnOk result (self.old.given < self.new.given) }
+    {
+        let (_, rest) = self.gathered.as_slice().split_at(self.given);
+        match self.inner.write(rest) {
+            Ok(count) => {
+                if count == 0 {
+                    return Err(io::Error::from(io::ErrorKind::WriteZero));
+                }
+                self.given += count;
+                Ok(())
+            }
+            Err(error) => Err(error),
+        }
+    }
+
+    /// Hands on all that is gathered.
+    fn give_all(&mut self) -> io::Result<()>
+        ensures bytes { Keeps (taken D.contents self.old) (taken D.contents self.new) }
+        ensures all { OnOk result (length self.new.gathered.items ≤ self.new.given) }
+    {
+        while self.given < self.gathered.len() {
+            if let Err(error) = self.give_some() {
+                self.failed = true;
+                return Err(error);
+            }
+        }
+        Ok(())
+    }
+
+    /// Hands on all that is gathered, so that nothing is pending; or it fails, now or before, and loses nothing of it.
+    pub fn empty(&mut self) -> io::Result<()>
+        ensures bytes { Keeps (taken D.contents self.old) (taken D.contents self.new) }
+        ensures none { OnOk result (pending self.new ≡ []) }
+    {
+        if self.failed {
+            return Err(failed_before());
+        }
+        if let Err(error) = self.give_all() {
+            return Err(error);
+        }
+        self.gathered.clear();
+        self.given = 0;
+        Ok(())
+    }
+
+    /// Gathers a piece.
+    fn keep(&mut self, piece: &[u8]) -> io::Result<usize>
+        ensures bound { WritesAtMost result piece.now }
+        ensures bytes { WriteAppends (taken D.contents self.old) (taken D.contents self.new)
+            result piece.now }
+    {
+        match self.gathered.extend_from_slice(piece) {
+            Ok(()) => Ok(piece.len()),
+            Err(_) => Err(io::Error::from(io::ErrorKind::OutOfMemory)),
+        }
+    }
+
+    /// Hands on a piece at once, behind which nothing is gathered.
+    fn pass(&mut self, piece: &[u8]) -> io::Result<usize>
+        requires { pending self.old ≡ [] }
+        ensures bound { WritesAtMost result piece.now }
+        ensures bytes { WriteAppends (taken D.contents self.old) (taken D.contents self.new)
+            result piece.now }
+    {
+        match self.inner.write(piece) {
+            Ok(count) => Ok(count),
+            Err(error) => {
+                self.failed = true;
+                Err(error)
+            }
+        }
+    }
+}
+
+impl<D: Write> Write for Gathering<D> {
+    ghost contents = { λ g. taken D.contents g };
+
+    fn write(&mut self, piece: &[u8]) -> io::Result<usize>
+        ensures bound { WritesAtMost result piece.now }
+        ensures bytes { WriteAppends (taken D.contents self.old) (taken D.contents self.new)
+            result piece.now }
+    {
+        if self.failed {
+            return Err(failed_before());
+        }
+        if piece.len() <= self.room.saturating_sub(self.gathered.len()) {
+            return self.keep(piece);
+        }
+        if let Err(error) = self.empty() {
+            return Err(error);
+        }
+        // A piece that is larger than the room goes on as it is, so that none takes memory.
+        if piece.len() > self.room {
+            self.pass(piece)
+        } else {
+            self.keep(piece)
+        }
+    }
+
+    fn flush(&mut self) -> io::Result<()> {
+        self.empty()
+    }
+}
