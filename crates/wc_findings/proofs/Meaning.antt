@@ -1,10 +1,13 @@
 -- What is meant on a line, from the token at hand up to the tokens of the text.
-use Rattle.std.proofs.Common.{◌≡◌, ℕ, zero, suc, List, [], ◌∷◌, Option, Some, None, IfSome, Result, Ok, Err, IfOk, drop, length, map, min, slice_get, take, sym, ap, subst, ◌∙◌, arith}
+use Rattle.std.proofs.Common.{◌≡◌, ◌<◌, ◌≤◌, refl, ℕ, zero, suc, List, [], ◌∷◌, Option, Some, None, IfSome, Result, Ok, Err, IfOk, drop, length, map, min, slice_get, take, sym, ap, subst, ◌∙◌, arith}
 use Rattle.std.proofs.lemmas.List.{drop_min, length-take, take_min}
 use Rattle.std.proofs.lemmas.Option.{slice_get-map}
 use Rattle.std.specs.List.{All}
 use Rattle.std.specs.Prelude.{option_map}
-use Rattle.wc_findings.specs.Meant.{AtOne, AtToken, FoundToken, HasToken, IsToken, PointsToOne, StandsAt}
+use Rattle.wc_findings.specs.Meant.{AtOne, AtToken, FoundToken, HasStop, HasToken, IsKept, IsMeantBy, IsStop, IsStoppedBy, IsToken, MeansStop, MeansToken, PointsToOne, StandsAt}
+use Rattle.wc_findings.specs.Showing.{line_of_part}
+use Rattle.wc_findings.specs.declared.refusal.Part.{Part}
+use Rattle.wc_findings.specs.declared.refusal.Part.TheVariants.{Job, Plate, Program, Log}
 use Rattle.wc_findings.specs.declared.finding.Finding.{Finding}
 use Rattle.wc_findings.specs.declared.finding.Spot.{Spot}
 use Rattle.wc_lexer.specs.Views.{token_view}
@@ -70,3 +73,39 @@ pub has_token : {E : Type 0} (r : Result Unit E) (text : List ℕ) (items given 
 has_token (Ok x) text items given finding line same cut e points =
     spot_of text items finding.line line finding.subject.items finding.spot cut e (rw same at points)
 has_token (Err x) text items given finding line same cut e points = tt
+
+-- the reader's stop is that of the line that is shown
+stop_shown : (number line : ℕ) (text : List ℕ) (old new : Finding) (spot : Option Spot) → HasStop text number line old → IfSome spot (λ s. IsKept old new line s)
+    → IfSome spot (λ s. MeansStop text number new.line new.shown.items s)
+stop_shown number line text old new None has kept = tt
+stop_shown number line text old new (Some s) has kept =
+    let was : IsStop text number line kept.found.start kept.found.length = subst (λ o. IfSome o (λ x. IsStop text number line x.start x.length)) kept.was has in
+    let sized : IsStop text number line kept.found.start s.length = subst (λ n. IsStop text number line kept.found.start n) (sym kept.size) was in
+    (kept.found.start, subst (λ l. IsStop text number l kept.found.start s.length) (sym kept.on) sized, kept.start)
+
+-- so is the token that is found
+token_shown : (line : ℕ) (text : List ℕ) (old new : Finding) (spot : Option Spot) → HasToken text line old → IfSome spot (λ s. IsKept old new line s)
+    → IfSome spot (λ s. MeansToken text new.line new.shown.items s.start new.subject.items)
+token_shown line text old new None has kept = tt
+token_shown line text old new (Some s) has kept =
+    let was : FoundToken text line kept.found.start old.subject.items = subst (λ o. IfSome o (λ x. FoundToken text line x.start old.subject.items)) kept.was has in
+    let quoted : FoundToken text line kept.found.start new.subject.items = subst (λ q. FoundToken text line kept.found.start q) (sym kept.quoted) was in
+    (kept.found.start, subst (λ l. FoundToken text l kept.found.start new.subject.items) (sym kept.on) quoted, kept.start)
+
+-- what a refusal of the tokens or of the reading means
+pub stopped_kept : (part : Part) (number place first other line : ℕ) (text : List ℕ) (old new : Finding) → line ≡ line_of_part part place first
+    → (part ≡ Program → number < 300 → HasStop text number line old) → IfSome new.spot (λ s. IsKept old new (line_of_part part place other) s) → IsStoppedBy part number text new
+stopped_kept Job number place first other line text old new e has kept = tt
+stopped_kept Plate number place first other line text old new e has kept = tt
+stopped_kept Log number place first other line text old new e has kept = tt
+stopped_kept Program number place first other line text old new e has kept =
+    λ below. stop_shown number place text old new new.spot (subst (λ l. HasStop text number l old) e (has refl below)) kept
+
+-- what a later one means
+pub meant_kept : (part : Part) (number place first other line : ℕ) (text : List ℕ) (old new : Finding) → line ≡ line_of_part part place first
+    → (part ≡ Program → 300 ≤ number → HasToken text line old) → IfSome new.spot (λ s. IsKept old new (line_of_part part place other) s) → IsMeantBy part number text new
+meant_kept Job number place first other line text old new e has kept = tt
+meant_kept Plate number place first other line text old new e has kept = tt
+meant_kept Log number place first other line text old new e has kept = tt
+meant_kept Program number place first other line text old new e has kept =
+    λ above. token_shown place text old new new.spot (subst (λ l. HasToken text l old) e (has refl above)) kept

@@ -1,6 +1,6 @@
 -- What a finding promises of a refusal.
 use Rattle.std.specs.Prelude.{◌≡◌, ◌≤◌, ℕ, List, [], None, IfSome, length}
-use Rattle.wc_findings.specs.Meant.{IsMeantBy}
+use Rattle.wc_findings.specs.Meant.{IsMeantBy, IsStoppedBy}
 use Rattle.wc_findings.specs.Showing.{IsLineOf, ShowsLine}
 use Rattle.wc_findings.specs.declared.finding.Finding.{Finding}
 use Rattle.wc_findings.specs.declared.refusal.Refusal.{Refusal}
@@ -9,6 +9,7 @@ use Rattle.wc_findings.specs.declared.refusal.Refusal.{Refusal}
 pub record FindsIn (refusal : Refusal) (text : List ℕ) (finding : Finding) : Type 0 where
   pub shows : ShowsLine text finding.line finding.shown.items
   pub part : IsLineOf refusal.part refusal.place text finding.line
+  pub stopped : IsStoppedBy refusal.part refusal.number text finding
   pub meant : IsMeantBy refusal.part refusal.number text finding
 
 -- nothing is found without a text, and nothing is meant outside the line that is shown

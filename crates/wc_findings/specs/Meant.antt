@@ -1,5 +1,5 @@
 -- What is meant on a line of a program's text that has tokens.
-use Rattle.std.specs.Prelude.{◌≡◌, ◌≤◌, ℕ, List, Some, IfSome, drop, length, min, slice_get, take}
+use Rattle.std.specs.Prelude.{◌≡◌, ◌≤◌, ◌<◌, ℕ, List, Some, IfSome, drop, length, min, slice_get, take}
 use Rattle.wc_findings.specs.Lines.{column_at}
 use Rattle.wc_findings.specs.declared.finding.Finding.{Finding}
 use Rattle.wc_findings.specs.declared.finding.Spot.{Spot}
@@ -7,6 +7,9 @@ use Rattle.wc_findings.specs.declared.refusal.Part.{Part}
 use Rattle.wc_findings.specs.declared.refusal.Part.TheVariants.{Job, Plate, Program, Log}
 use Rattle.wc_lexer.specs.declared.shape.Token as lexer
 use Rattle.wc_model.specs.Text.Tokens.{IsCut, Token}
+use Rattle.wc_model.specs.declared.fault.Fault.TheVariants.{Refused}
+use Rattle.wc_reader.specs.ReadingSpots.{StopsReading}
+use Rattle.wc_reader.specs.declared.awaits.Awaits.{Awaits}
 
 -- this piece stands in the text, from that place on
 abbrev pub StandsAt : List ℕ → ℕ → List ℕ → Type 0
@@ -28,12 +31,38 @@ abbrev pub MeansToken : List ℕ → ℕ → List ℕ → ℕ → List ℕ → T
 MeansToken text line shown start quoted =
     (column : ℕ) × FoundToken text line column quoted × (start ≡ min column (length shown))
 
--- what a refusal of that number means in its part: from pass 2 on a token of the program's text
+-- the reader stops there with the fault of that number on that line: the piece begins behind so many
+-- bytes of its line, and has so many
+pub record IsStop (text : List ℕ) (number line column count : ℕ) : Type 0 where
+  pub start : ℕ
+  pub awaits : Awaits
+  pub stops : StopsReading text (Refused number line) start count awaits
+  pub column_is : column ≡ column_at text start
+
+-- the piece begins there, or where the shown line ends before it
+abbrev pub MeansStop : List ℕ → ℕ → ℕ → List ℕ → Spot → Type 0
+MeansStop text number line shown spot =
+    (column : ℕ) × IsStop text number line column spot.length × (spot.start ≡ min column (length shown))
+
+-- what a refusal of the tokens or of the reading means: the piece at which the reader stops
+abbrev pub IsStoppedBy : Part → ℕ → List ℕ → Finding → Type 0
+IsStoppedBy Job number text finding = Unit {0}
+IsStoppedBy Plate number text finding = Unit {0}
+IsStoppedBy Program number text finding =
+    number < 300 → IfSome finding.spot (λ spot. MeansStop text number finding.line finding.shown.items spot)
+IsStoppedBy Log number text finding = Unit {0}
+
+-- the same, while the line is not cut out yet
+abbrev pub HasStop : List ℕ → ℕ → ℕ → Finding → Type 0
+HasStop text number line finding =
+    IfSome finding.spot (λ spot. IsStop text number line spot.start spot.length)
+
+-- what a later refusal of that number means in its part: a token of the program's text
 abbrev pub IsMeantBy : Part → ℕ → List ℕ → Finding → Type 0
 IsMeantBy Job number text finding = Unit {0}
 IsMeantBy Plate number text finding = Unit {0}
 IsMeantBy Program number text finding =
-    200 ≤ number
+    300 ≤ number
     → IfSome finding.spot (λ spot. MeansToken text finding.line finding.shown.items spot.start finding.subject.items)
 IsMeantBy Log number text finding = Unit {0}
 
@@ -75,4 +104,5 @@ pub record IsKept (old new : Finding) (line : ℕ) (spot : Spot) : Type 0 where
   pub was : old.spot ≡ Some found
   pub on : new.line ≡ line
   pub start : spot.start ≡ min found.start (length new.shown.items)
+  pub size : spot.length ≡ found.length
   pub quoted : new.subject.items ≡ old.subject.items

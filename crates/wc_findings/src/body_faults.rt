@@ -3,8 +3,8 @@ ghost use Rattle.wc_findings.specs.Meant.{PointsToOne};
 
 use crate::finding::Finding;
 use crate::lines::{column_at, piece};
+use crate::meant_tokens::{tell_of, token_at};
 use crate::names::{Names, names_at, shape_at, shape_behind};
-use crate::reading_faults::{tell_of, token_at};
 use std::alloc::{AllocError, Global};
 use wc_lexer::{Shape, Token};
 

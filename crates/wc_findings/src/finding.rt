@@ -26,8 +26,8 @@ pub struct Finding {
     pub says: Option<&'static str>,
     /// What stands behind the headline; empty: nothing.
     pub detail: String,
-    /// What could stand at the spot.
-    pub expected: Vec<&'static str>,
+    /// What could stand at the spot; empty: that is not known.
+    pub expected: &'static str,
     /// What to write instead; nothing where the number's own hint says all.
     pub help: Option<&'static str>,
     /// What to write instead, with the values that are at hand; empty: nothing beyond the help.
@@ -47,7 +47,7 @@ impl Finding {
             subject: Vec::new(alloc),
             says: None,
             detail: String::new(alloc),
-            expected: Vec::new(alloc),
+            expected: "",
             help: None,
             advice: String::new(alloc),
         }

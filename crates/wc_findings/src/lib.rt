@@ -1,19 +1,18 @@
-//! What exactly is wrong with a refused text, found from the refusal's number, its place and the text. Where that is not sure,
-//! nothing is found beyond what the number says.
+//! What exactly is wrong with a refused text. Of tokens and reading the passes tell it; the rest is found from the refusal's
+//! number, its place and the text: where that is not sure, nothing is found beyond what the number says.
 #![tactic(auto)]
 
 mod body_faults;
-mod cutting;
-mod expected;
 mod finding;
 mod lines;
+mod meant_tokens;
 mod names;
+mod pieces;
 mod plates;
-mod reading_faults;
 mod refusal;
 mod rows;
 mod searching;
-mod token_faults;
+mod stops;
 
 pub use finding::{Finding, Spot};
 pub use refusal::{Part, Refusal};

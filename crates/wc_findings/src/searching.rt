@@ -1,36 +1,17 @@
-ghost use Rattle.std.specs.Prelude.{◌≡◌, ◌≤◌, IfOk, IfSome, None, Some, [], length};
+ghost use Rattle.std.specs.Prelude.{◌≡◌, ◌≤◌, ◌<◌, IfOk, IfSome, None, Some, [], length};
 ghost use Rattle.wc_findings.specs.Finds.{Finds};
-ghost use Rattle.wc_findings.specs.Meant.{HasToken, IsKept, PointsToOne};
+ghost use Rattle.wc_findings.specs.Meant.{HasStop, HasToken, IsKept};
 ghost use Rattle.wc_findings.specs.Showing.{ShowsLine, known_line, line_of_part};
 
 use crate::body_faults::find_body_fault;
 use crate::finding::Finding;
 use crate::lines::line_at;
 use crate::plates::find_plate_fault;
-use crate::reading_faults::find_reading_fault;
 use crate::refusal::{Part, Refusal};
 use crate::rows::find_row_fault;
-use crate::token_faults::find_token_fault;
+use crate::stops::find_stop;
 use std::alloc::{AllocError, Global};
-use wc_lexer::{Token, tokens};
-
-/// Finds what a refusal of pass 2, 3 or 4 means among the tokens of a program's text.
-fn find_meant(
-    alloc: Global,
-    finding: &mut Finding,
-    text: &[u8],
-    tokens: &[Token<'_>],
-    number: u16,
-) -> Result<(), AllocError>
-    requires { finding.old.spot ≡ None }
-    ensures meant { IfOk result (λ _. PointsToOne text.now tokens.now finding.new) }
-    ensures line { finding.new.line ≡ finding.old.line }
-{
-    if number < 300 {
-        return find_reading_fault(alloc, finding, text, tokens, number);
-    }
-    find_body_fault(alloc, finding, text, tokens, number)
-}
+use wc_lexer::tokens;
 
 /// Finds the fault of a program's text on its line.
 fn find_program_fault(
@@ -40,17 +21,19 @@ fn find_program_fault(
     number: u16,
 ) -> Result<(), AllocError>
     requires { finding.old.spot ≡ None }
-    ensures { 200 ≤ number
+    ensures stopped { number < 300
+        → IfOk result (λ _. HasStop text.now number finding.old.line finding.new) }
+    ensures meant { 300 ≤ number
         → IfOk result (λ _. HasToken text.now finding.old.line finding.new) }
 {
     if finding.line == 0 {
         return Ok(());
     }
-    if number < 200 {
-        return find_token_fault(alloc, finding, text, number);
+    if number < 300 {
+        return find_stop(alloc, finding, text, number);
     }
     match tokens(alloc, text) {
-        Ok(tokens) => find_meant(alloc, finding, text, &tokens, number),
+        Ok(tokens) => find_body_fault(alloc, finding, text, &tokens, number),
         Err(_) => Ok(()),
     }
 }
@@ -63,7 +46,10 @@ fn find_in(
     text: &[u8],
 ) -> Result<(), AllocError>
     requires { finding.old.spot ≡ None }
-    ensures { refusal.now.part ≡ Part.Program → 200 ≤ refusal.now.number
+    ensures stopped { refusal.now.part ≡ Part.Program → refusal.now.number < 300
+        → IfOk result
+        (λ _. HasStop text.now refusal.now.number finding.old.line finding.new) }
+    ensures meant { refusal.now.part ≡ Part.Program → 300 ≤ refusal.now.number
         → IfOk result (λ _. HasToken text.now finding.old.line finding.new) }
 {
     match refusal.part {

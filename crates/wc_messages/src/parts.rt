@@ -85,26 +85,12 @@ fn told(alloc: Global, finding: &Finding, said: &Message) -> Result<Message, All
     Ok(message)
 }
 
-/// What stands before one of so many names.
-fn joint(index: usize, count: usize) -> &'static str {
-    if index == 0 {
-        ""
-    } else if index.saturating_add(1) == count {
-        " or "
-    } else {
-        ", "
-    }
-}
-
 /// What could stand at the spot; nothing where that is not known.
-fn expected(alloc: Global, names: &[&'static str]) -> Result<Message, AllocError>
+fn expected(alloc: Global, words: &str) -> Result<Message, AllocError>
     ensures { IfOk result (λ message. IsShown message.bytes.items) }
 {
     let mut message = Message::new(alloc);
-    for (index, name) in names.iter().enumerate() {
-        message.say(joint(index, names.len()))?;
-        message.say(*name)?;
-    }
+    message.say(words)?;
     Ok(message)
 }
 
@@ -134,7 +120,7 @@ pub(crate) fn parts_of(alloc: Global, refusal: &Refusal<'_>) -> Result<Parts, Al
     let finding = find(alloc, refusal)?;
     let line = named_line(refusal, finding.line);
     let said = said(alloc, refusal.number, &finding)?;
-    let words = expected(alloc, &finding.expected)?;
+    let words = expected(alloc, finding.expected)?;
     Ok(Parts {
         line,
         told: told(alloc, &finding, &said)?,

@@ -21,7 +21,7 @@ fn is_found(alloc: Global) -> Result<bool, AllocError> {
         });
     let shown = finding.line == 3 && finding.shown.as_slice() == b"NOT %IX0.0".as_slice();
     let subject = finding.subject.as_slice() == b"%IX0.0".as_slice();
-    Ok(spot && shown && subject && finding.expected.len() == 1)
+    Ok(spot && shown && subject && finding.expected == "the end of the line")
 }
 
 #[test]
