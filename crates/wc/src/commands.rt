@@ -1,7 +1,7 @@
 ghost use Rattle.std.specs.Prelude.{◌≤◌, IfSome};
 
 use crate::opening::Opening;
-use crate::output::{Emptying, Gathered, Gathering};
+use crate::output::{Emptying, Gathered, Sharing, shared_output};
 use crate::telling::{Met, Sources, end, without_memory};
 use crate::words::ProgramFiles;
 use std::cell::RefCell;
@@ -33,7 +33,7 @@ fn finish(
     sources: &Sources<'_>,
 ) -> u8 {
     let (written, writing) = match gathered.try_borrow_mut() {
-        Ok(mut gathered) => (gathered.empty(), gathered.cause()),
+        Ok(mut gathered) => (gathered.empty().is_ok(), gathered.get_ref().cause()),
         Err(_) => (false, None),
     };
     let met = Met {
@@ -55,15 +55,15 @@ fn tell_waiting(rt: &HostRuntime) {
 
 /// Answers a job on standard input: the exit status.
 pub(crate) fn run_job(rt: &HostRuntime) -> u8 {
-    let gathered = match Gathered::new(rt) {
-        Ok(gathered) => RefCell::new(gathered),
+    let gathered = match shared_output(rt) {
+        Ok(gathered) => gathered,
         Err(_) => return without_memory(rt),
     };
     tell_waiting(rt);
     let input: Noting<Stdin> = Noting::new(rt.stdin());
     let keeping = Keeping::new(rt.alloc(), input);
     let mut reader = Device::new(Emptying::new(&gathered, keeping));
-    let mut writer = Device::new(Gathering::new(&gathered));
+    let mut writer = Device::new(Sharing::new(&gathered));
     let ending = answer_job(rt.alloc(), &mut reader, &mut writer);
     let keeping = reader.get_ref().get_ref();
     let reading = keeping.get_ref().cause();
@@ -73,12 +73,12 @@ pub(crate) fn run_job(rt: &HostRuntime) -> u8 {
 
 /// Checks the program in a file: the exit status.
 pub(crate) fn check_words(rt: &HostRuntime, program: &str, paths: bool) -> u8 {
-    let gathered = match Gathered::new(rt) {
-        Ok(gathered) => RefCell::new(gathered),
+    let gathered = match shared_output(rt) {
+        Ok(gathered) => gathered,
         Err(_) => return without_memory(rt),
     };
     let mut reader = source(rt, program, &gathered);
-    let mut writer = Device::new(Gathering::new(&gathered));
+    let mut writer = Device::new(Sharing::new(&gathered));
     let ending = check_file(rt.alloc(), paths, &mut reader, &mut writer);
     finish(
         rt,
@@ -98,14 +98,14 @@ pub(crate) fn run_words(
 ) -> u8
     requires { IfSome last (λ n. (1 ≤ n) × (n ≤ 1000)) }
 {
-    let gathered = match Gathered::new(rt) {
-        Ok(gathered) => RefCell::new(gathered),
+    let gathered = match shared_output(rt) {
+        Ok(gathered) => gathered,
         Err(_) => return without_memory(rt),
     };
     let mut plate_reader = source(rt, plate, &gathered);
     let mut program_reader = source(rt, files.program, &gathered);
     let mut log_reader = source(rt, files.log, &gathered);
-    let mut writer = Device::new(Gathering::new(&gathered));
+    let mut writer = Device::new(Sharing::new(&gathered));
     let ending = run_files(
         rt.alloc(),
         last,
@@ -128,13 +128,13 @@ pub(crate) fn run_words(
 
 /// Runs the log in a file with no program: the exit status.
 pub(crate) fn line_words(rt: &HostRuntime, plate: &str, log: &str) -> u8 {
-    let gathered = match Gathered::new(rt) {
-        Ok(gathered) => RefCell::new(gathered),
+    let gathered = match shared_output(rt) {
+        Ok(gathered) => gathered,
         Err(_) => return without_memory(rt),
     };
     let mut plate_reader = source(rt, plate, &gathered);
     let mut log_reader = source(rt, log, &gathered);
-    let mut writer = Device::new(Gathering::new(&gathered));
+    let mut writer = Device::new(Sharing::new(&gathered));
     let ending = line_files(rt.alloc(), &mut plate_reader, &mut log_reader, &mut writer);
     let reading = cause(&plate_reader).or(cause(&log_reader));
     finish(
