@@ -49,6 +49,16 @@ pub enum Condition {
     IfFalse,
 }
 
+/// Which way a value goes where a block is called (IEC 61131-3:2003, annex B.3.1,
+/// il_param_assignment and il_param_out_assignment).
+#[derive(Clone, Copy, PartialEq, Eq)]
+pub enum Direction {
+    /// `:=`, from an operand to an input, before the block's body.
+    Into,
+    /// `=>`, from an output to a target, behind the block's body.
+    OutOf,
+}
+
 /// What is stored of the current result (IEC 61131-3:2003, table 52).
 #[derive(Clone, Copy, PartialEq, Eq)]
 pub enum Storing {

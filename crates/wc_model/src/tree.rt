@@ -1,5 +1,5 @@
 use crate::operand::{Operand, Word};
-use crate::operator::{Condition, Operator, Storing};
+use crate::operator::{Condition, Direction, Operator, Storing};
 use std::alloc::Global;
 
 /// A line of a body: a label, an instruction, or both.
@@ -76,7 +76,7 @@ pub enum Instr<'a> {
         condition: Condition,
         /// The instance whose block is called, as it is spelled.
         instance: &'a [u8],
-        /// The inputs that are assigned, in written order.
+        /// The inputs that are assigned and the outputs that are given out, in written order.
         arguments: Vec<Argument<'a>, Global>,
         /// Its line.
         line: u32,
@@ -90,11 +90,13 @@ pub enum Instr<'a> {
     },
 }
 
-/// `name := value` in a call.
+/// `name := value` or `name => target` in a call.
 #[derive(Drop)]
 pub struct Argument<'a> {
-    /// The input, as it is spelled.
+    /// Whether an input is assigned or an output is given out.
+    pub direction: Direction,
+    /// The input or the output, as it is spelled.
     pub name: &'a [u8],
-    /// What it is assigned.
+    /// What the input is assigned, or where the output is written.
     pub value: Operand<'a>,
 }

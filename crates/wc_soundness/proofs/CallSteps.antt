@@ -1,24 +1,26 @@
 -- A call that breaks no rule goes well.
-use Rattle.std.proofs.Common.{◌≡◌, ℕ, Bool, true, false, ◌&&◌, ◌||◌, List, [], ◌∷◌, ◌++◌, map, Option, Some, None, Result, Ok, Err, append_assoc, refl, sym, ap, subst, ◌∙◌, inl, inr, ⊎_elim}
+use Rattle.std.proofs.Common.{◌≡◌, ℕ, Bool, true, false, not, ◌&&◌, ◌||◌, List, [], ◌∷◌, ◌++◌, map, Option, Some, None, Result, Ok, Err, append_assoc, refl, sym, ap, subst, ◌∙◌, inl, inr, ⊎_elim}
 use Rattle.std.specs.List.{flat_map}
 use Rattle.std.specs.Prelude.{if◌then◌else◌, is_some}
-use Rattle.wc_model.specs.Language.BodyRules.{is_readable, is_of, is_bit_literal, input_named, suits_input, argument_checks, members_called, call_checks, condition_checks, is_instance}
+use Rattle.wc_model.specs.Language.BodyRules.{is_readable, is_writable, is_of, is_bit_literal, input_named, output_named, formal_named, suits_input, suits_output, actual_checks, argument_checks, members_called, call_checks, condition_checks, is_instance}
 use Rattle.wc_model.specs.Language.Checks.{Spot, spots_behind, spots_of}
 use Rattle.wc_model.specs.Language.Declarations.{Variable, VariableType, Elementary, Standard, Block, Member, type_named, variable_named, members_of, member_named, block_named, named_in, elementary_types, standard_blocks, standard_type, block_type}
 use Rattle.wc_model.specs.Language.Kinds.{BodyLine, is_kind, elementary_kind, term_kind}
-use Rattle.wc_model.specs.Language.Meaning.{Outcome, Done, Stuck, Mode, Running, Goes, Fails, Context, value_of, input_kind, argument_term, assigned_input, assigned_one, assigned, body_outcome, made, called_type, call_effect, step_effect}
+use Rattle.wc_model.specs.Language.Meaning.{Outcome, Done, Stuck, Mode, Running, Goes, Fails, Context, value_of, input_kind, argument_term, assigned_input, assigned_one, assigned, given_one, given_out, written_to, call_trace, body_outcome, made, called_type, call_effect, step_effect}
 use Rattle.wc_model.specs.Language.Names.{Name}
 use Rattle.wc_model.specs.Language.Reasons.{Reason, NoSuchPlace}
-use Rattle.wc_model.specs.Language.Scopes.{Scope, kind_of, type_of, entity_of, is_input}
+use Rattle.wc_model.specs.Language.Scopes.{Scope, Entity, kind_of, type_of, entity_of, member_entity, is_input, is_result}
 use Rattle.wc_model.specs.Language.Store.{Path, Content, Store, written, unit_places, variable_places, block_places}
 use Rattle.wc_model.specs.Language.Traces.{At, StandardBody, Called}
-use Rattle.wc_model.specs.Language.Tree.{Term, Assignment, Call, ProgramUnit}
+use Rattle.wc_model.specs.Language.Tree.{Term, Field, Assignment, inputs_of, outputs_of, Call, ProgramUnit}
 use Rattle.wc_model.specs.declared.block.StandardBlock.{StandardBlock}
 use Rattle.wc_model.specs.declared.kind.Kind.{Kind}
 use Rattle.wc_model.specs.declared.kind.Kind.TheVariants.{Bool as KindBool, Dint as KindDint, Time as KindTime}
 use Rattle.wc_model.specs.declared.operator.Condition.{Condition}
+use Rattle.wc_model.specs.declared.operator.Direction.{Direction}
+use Rattle.wc_model.specs.declared.operator.Direction.TheVariants.{Into, OutOf}
 use Rattle.wc_model.specs.declared.value.Value.{Value}
-use Rattle.wc_soundness.proofs.Entities.{GivesKind, Writes, term_read, field_typed, found_member_name, elementary-is}
+use Rattle.wc_soundness.proofs.Entities.{GivesKind, Writes, term_read, term_written, writable_is_stored, field_typed, found_member_name, elementary-is}
 use Rattle.wc_soundness.proofs.Places.{SameSlots-refl, SameSlots-trans, FitsScope-same, Some-same, written-there, places_of, own_content, block_places-found}
 use Rattle.wc_soundness.proofs.StandardCalls.{standard-safe, block_held}
 use Rattle.wc_soundness.proofs.Steps.{clean_first, clean_second, some_of, is_of-sound, or-true, store_goes, beside_truth, chosen_goes}
@@ -65,32 +67,104 @@ argument_value here store fits m term r s = go (elementary_kind m.type) refl s
         let is = elementary-is m.type kind e in
         (kind, is, subst (λ (type : VariableType). GivesKind kind (value_of here store (argument_term type term))) (sym is) (plain kind t))
 
--- an argument is assigned
-pub argument_assigned : (here : Context) (store : Store) → FitsScope store here.instance here.scope → (instance : Name) (type : VariableType) → IsInstance here.scope instance type → (argument : Assignment) → is_some (input_named (members_of here.scope.before type) argument.input) ≡ true → is_readable (entity_of here.scope argument.value) ≡ true → suits_input here.scope (input_named (members_of here.scope.before type) argument.input) argument.value ≡ true → Writes store (assigned_one here store (members_of here.scope.before type) instance argument)
+-- an input is assigned
+pub argument_assigned : (here : Context) (store : Store) → FitsScope store here.instance here.scope → (instance : Name) (type : VariableType) → IsInstance here.scope instance type → (argument : Assignment) → is_some (input_named (members_of here.scope.before type) argument.formal) ≡ true → is_readable (entity_of here.scope argument.actual) ≡ true → suits_input here.scope (input_named (members_of here.scope.before type) argument.formal) argument.actual ≡ true → Writes store (assigned_one here store (members_of here.scope.before type) instance argument)
 argument_assigned here store fits instance type is argument found r s =
-    let m = some_of (input_named (members_of here.scope.before type) argument.input) found in
-    let both = input_found (members_of here.scope.before type) argument.input m.0 m.1 in
-    let v = argument_value here store fits m.0 argument.value r (subst (λ (o : Option Member). suits_input here.scope o argument.value ≡ true) m.1 s) in
-    let place = field_typed store here.instance here.scope fits instance is.variable is.found type is.typed argument.input m.0 both.0 v.0 v.1 in
-    let named : m.0.name ≡ argument.input = found_member_name (members_of here.scope.before type) argument.input m.0 both.0 in
-    let there : slot_at store (Path (here.instance ++ instance ∷ argument.input ∷ [])) ≡ Some (slot_of_kind (kind_of v.2.0)) = ap (λ (n : Name). slot_at store (Path (here.instance ++ instance ∷ n ∷ []))) (sym named) ∙ (place ∙ ap (λ (k : Kind). Some (slot_of_kind k)) (sym v.2.2)) in
-    let w = written-there store (Path (here.instance ++ instance ∷ argument.input ∷ [])) v.2.0 there in
+    let m = some_of (input_named (members_of here.scope.before type) argument.formal) found in
+    let both = input_found (members_of here.scope.before type) argument.formal m.0 m.1 in
+    let v = argument_value here store fits m.0 argument.actual r (subst (λ (o : Option Member). suits_input here.scope o argument.actual ≡ true) m.1 s) in
+    let place = field_typed store here.instance here.scope fits instance is.variable is.found type is.typed argument.formal m.0 both.0 v.0 v.1 in
+    let named : m.0.name ≡ argument.formal = found_member_name (members_of here.scope.before type) argument.formal m.0 both.0 in
+    let there : slot_at store (Path (here.instance ++ instance ∷ argument.formal ∷ [])) ≡ Some (slot_of_kind (kind_of v.2.0)) = ap (λ (n : Name). slot_at store (Path (here.instance ++ instance ∷ n ∷ []))) (sym named) ∙ (place ∙ ap (λ (k : Kind). Some (slot_of_kind k)) (sym v.2.2)) in
+    let w = written-there store (Path (here.instance ++ instance ∷ argument.formal ∷ [])) v.2.0 there in
     subst (λ (o : Option VariableType). Writes store (elim o [ Some t ↦ assigned_input here store instance argument t | None ↦ Err NoSuchPlace ])) (sym both.1)
-    (subst (λ (x : Result Value Reason). Writes store (elim x [ Ok value ↦ written store (Path (here.instance ++ instance ∷ argument.input ∷ [])) value | Err reason ↦ Err reason ])) (sym v.2.1) w)
+    (subst (λ (x : Result Value Reason). Writes store (elim x [ Ok value ↦ written store (Path (here.instance ++ instance ∷ argument.formal ∷ [])) value | Err reason ↦ Err reason ])) (sym v.2.1) w)
 
--- all arguments are assigned, in order
-pub arguments_assigned : (here : Context) (instance : Name) (type : VariableType) → IsInstance here.scope instance type → (line : ℕ) (before arguments : List Assignment) (store : Store) → FitsScope store here.instance here.scope → Clean (flat_map (argument_checks here.scope line (members_of here.scope.before type)) (spots_behind before arguments)) → Writes store (assigned here (members_of here.scope.before type) instance arguments store)
-arguments_assigned here instance type is line before [] store fits c = (store, refl, SameSlots-refl store)
-arguments_assigned here instance type is line before (argument ∷ arguments) store fits c =
-    let this : Spot Assignment = record { before = before; item = argument; behind = arguments } in
-    let first = clean_first (argument_checks here.scope line (members_of here.scope.before type) this) (flat_map (argument_checks here.scope line (members_of here.scope.before type)) (spots_behind (argument ∷ before) arguments)) c in
-    let rest = clean_second (argument_checks here.scope line (members_of here.scope.before type) this) (flat_map (argument_checks here.scope line (members_of here.scope.before type)) (spots_behind (argument ∷ before) arguments)) c in
-    let w = argument_assigned here store fits instance type is argument first.0 first.1.1.1.0 first.1.1.1.1.0 in
-    let more = arguments_assigned here instance type is line (argument ∷ before) arguments w.0 (FitsScope-same store w.0 here.instance here.scope w.2 fits) rest in (
+-- an output that is named
+pub output_found : (members : List Member) (name : Name) (m : Member) → output_named members name ≡ Some m → (member_named members name ≡ Some m) × (is_result m.section ≡ true)
+output_found members name m e = go (member_named members name) refl e
+  where
+    step : (n : Member) (b : Bool) → is_result n.section ≡ b → (if b then Some n else None) ≡ Some m → (Some n ≡ Some m) × (is_result m.section ≡ true)
+    step n true s g = (g, ap (λ (o : Member). is_result o.section) (Some-same n m g) ∙ s)
+    step n false s g = cc
+
+    go : (found : Option Member) → member_named members name ≡ found → (elim found [ Some n ↦ (if is_result n.section then Some n else None) | None ↦ None ]) ≡ Some m → (found ≡ Some m) × (is_result m.section ≡ true)
+    go None f g = cc
+    go (Some n) f g = step n (is_result n.section) refl g
+
+-- a field of an instance is the member of that name
+pub field_found : (scope : Scope) (instance field : Name) (type : VariableType) (m : Member) → type_of scope instance ≡ Some type → member_named (members_of scope.before type) field ≡ Some m → entity_of scope (Field instance field) ≡ Some (member_entity instance m)
+field_found scope instance field type m t e =
+    ap (λ (o : Option VariableType). elim o as (λ x. Option Entity) [ Some known ↦ elim (member_named (members_of scope.before known) field) as (λ x. Option Entity) [ Some n ↦ Some (member_entity instance n) | None ↦ None ] | None ↦ None ]) t
+    ∙ ap (λ (o : Option Member). elim o as (λ x. Option Entity) [ Some n ↦ Some (member_entity instance n) | None ↦ None ]) e
+
+-- the kind of an output, which its target has
+pub output_kind : (scope : Scope) (m : Member) (target : Term) → suits_output scope (Some m) target ≡ true → (kind : Kind) × (elementary_kind m.type ≡ Some kind) × (term_kind scope target ≡ Some kind)
+output_kind scope m target s = go (elementary_kind m.type) refl s
+  where
+    go : (k : Option Kind) → elementary_kind m.type ≡ k → (elim k as (λ x. Bool) [ Some kind ↦ is_of (is_kind kind) (term_kind scope target) | None ↦ false ]) ≡ true → (kind : Kind) × (elementary_kind m.type ≡ Some kind) × (term_kind scope target ≡ Some kind)
+    go None e t = cc
+    go (Some kind) e t = (kind, e, is_of-sound kind (term_kind scope target) t)
+
+-- an output is given out
+pub output_given : (here : Context) (store : Store) → FitsScope store here.instance here.scope → (instance : Name) (type : VariableType) → type_of here.scope instance ≡ Some type → (output : Assignment) → is_some (output_named (members_of here.scope.before type) output.formal) ≡ true → is_some (entity_of here.scope output.actual) ≡ true → is_writable (entity_of here.scope output.actual) ≡ true → suits_output here.scope (output_named (members_of here.scope.before type) output.formal) output.actual ≡ true → Writes store (given_one here store instance output)
+output_given here store fits instance type t output found known writable s =
+    let m = some_of (output_named (members_of here.scope.before type) output.formal) found in
+    let both = output_found (members_of here.scope.before type) output.formal m.0 m.1 in
+    let field = field_found here.scope instance output.formal type m.0 t both.0 in
+    let k = output_kind here.scope m.0 output.actual (subst (λ (o : Option Member). suits_output here.scope o output.actual ≡ true) m.1 s) in
+    let v = term_read here store fits (Field instance output.formal) k.0 (ap (λ (e : Option Entity). elim e as (λ x. Option Kind) [ Some f ↦ elementary_kind f.type | None ↦ None ]) field ∙ k.1) (ap is_readable field ∙ both.1) in
+    let w = term_written here store fits output.actual v.0 (k.2 ∙ ap Some (sym v.2)) writable (writable_is_stored here.scope output.actual known writable) in
+    subst (λ (x : Result Value Reason). Writes store (elim x [ Ok value ↦ written_to here store output.actual value | Err reason ↦ Err reason ])) (sym v.1) w
+
+-- one more is written before others
+pub written_more : (here : Context) (store : Store) (one : Result Store Reason) (others : Store → Result Store Reason) → Writes store one → ((new : Store) → SameSlots store new → Writes new (others new)) → Writes store (elim one [ Ok new ↦ others new | Err reason ↦ Err reason ])
+written_more here store one others w go =
+    let more = go w.0 w.2 in (
       more.0,
-      ap (λ (r : Result Store Reason). elim r as (λ x. Result Store Reason) [ Ok new ↦ assigned here (members_of here.scope.before type) instance arguments new | Err reason ↦ Err reason ]) w.1 ∙ more.1,
+      ap (λ (r : Result Store Reason). elim r as (λ x. Result Store Reason) [ Ok new ↦ others new | Err reason ↦ Err reason ]) w.1 ∙ more.1,
       SameSlots-trans store w.0 more.0 w.2 more.2,
     )
+
+-- all inputs of a call's list are assigned, in order
+pub inputs_assigned : (here : Context) (instance : Name) (type : VariableType) → IsInstance here.scope instance type → (line : ℕ) (before arguments : List Assignment) (store : Store) → FitsScope store here.instance here.scope → Clean (flat_map (argument_checks here.scope line (members_of here.scope.before type)) (spots_behind before arguments)) → Writes store (assigned here (members_of here.scope.before type) instance (inputs_of arguments) store)
+inputs_assigned here instance type is line before [] store fits c = (store, refl, SameSlots-refl store)
+inputs_assigned here instance type is line before (argument ∷ arguments) store fits c =
+    let members = members_of here.scope.before type in
+    let this : Spot Assignment = record { before = before; item = argument; behind = arguments } in
+    let first = clean_first (argument_checks here.scope line members this) (flat_map (argument_checks here.scope line members) (spots_behind (argument ∷ before) arguments)) c in
+    let rest = clean_second (argument_checks here.scope line members this) (flat_map (argument_checks here.scope line members) (spots_behind (argument ∷ before) arguments)) c in
+    step argument.direction first.0 first.1.1
+    (λ new same. inputs_assigned here instance type is line (argument ∷ before) arguments new (FitsScope-same store new here.instance here.scope same fits) rest)
+  where
+    Others : Type 0
+    Others = (new : Store) → SameSlots store new → Writes new (assigned here (members_of here.scope.before type) instance (inputs_of arguments) new)
+
+    step : (way : Direction) → is_some (formal_named way (members_of here.scope.before type) argument.formal) ≡ true → Clean (actual_checks here.scope line way (formal_named way (members_of here.scope.before type) argument.formal) argument.actual) → Others → Writes store (assigned here (members_of here.scope.before type) instance (if (elim way [ Into ↦ true | OutOf ↦ false ]) then argument ∷ inputs_of arguments else inputs_of arguments) store)
+    step Into named actual others =
+        written_more here store (assigned_one here store (members_of here.scope.before type) instance argument) (assigned here (members_of here.scope.before type) instance (inputs_of arguments))
+        (argument_assigned here store fits instance type is argument named actual.1.0 actual.1.1.0) others
+    step OutOf named actual others = others store (SameSlots-refl store)
+
+-- all outputs of a call's list are given out, in order
+pub outputs_given : (here : Context) (instance : Name) (type : VariableType) → type_of here.scope instance ≡ Some type → (line : ℕ) (before arguments : List Assignment) (store : Store) → FitsScope store here.instance here.scope → Clean (flat_map (argument_checks here.scope line (members_of here.scope.before type)) (spots_behind before arguments)) → Writes store (given_out here instance (outputs_of arguments) store)
+outputs_given here instance type t line before [] store fits c = (store, refl, SameSlots-refl store)
+outputs_given here instance type t line before (argument ∷ arguments) store fits c =
+    let members = members_of here.scope.before type in
+    let this : Spot Assignment = record { before = before; item = argument; behind = arguments } in
+    let first = clean_first (argument_checks here.scope line members this) (flat_map (argument_checks here.scope line members) (spots_behind (argument ∷ before) arguments)) c in
+    let rest = clean_second (argument_checks here.scope line members this) (flat_map (argument_checks here.scope line members) (spots_behind (argument ∷ before) arguments)) c in
+    step argument.direction first.0 first.1.1
+    (λ new same. outputs_given here instance type t line (argument ∷ before) arguments new (FitsScope-same store new here.instance here.scope same fits) rest)
+  where
+    Others : Type 0
+    Others = (new : Store) → SameSlots store new → Writes new (given_out here instance (outputs_of arguments) new)
+
+    step : (way : Direction) → is_some (formal_named way (members_of here.scope.before type) argument.formal) ≡ true → Clean (actual_checks here.scope line way (formal_named way (members_of here.scope.before type) argument.formal) argument.actual) → Others → Writes store (given_out here instance (if not (elim way [ Into ↦ true | OutOf ↦ false ]) then argument ∷ outputs_of arguments else outputs_of arguments) store)
+    step Into named actual others = others store (SameSlots-refl store)
+    step OutOf named actual others =
+        written_more here store (given_one here store instance argument) (given_out here instance (outputs_of arguments))
+        (output_given here store fits instance type t argument named actual.0 actual.1.0 actual.1.1.0) others
 
 -- a type that is a block of the text is one that is there
 pub block_known : (before : List ProgramUnit) (type_name name : Name) → type_named before type_name ≡ Some (Block name) → (found : ProgramUnit × List ProgramUnit) × (block_named before name ≡ Some found)
@@ -135,10 +209,13 @@ body_ends here store fits calls (Block name) instance i is =
     ended (Done inner new trace) h = h
     ended (Stuck reason) h = h
 
--- the body of an instance whose arguments are assigned
-pub made_goes : (P : Mode → Type 0) (old store : Store) → SameSlots old store → (o : Outcome) → EndsWell (λ result. Unit {0}) store o → (line : ℕ) (arguments : List Assignment) (result : Option Value) → P (Running result) → GoesWell P old (made o line arguments result)
-made_goes P old store same (Done inner new trace) h line arguments result p = (p, SameSlots-trans old store new same h.1)
-made_goes P old store same (Stuck reason) h line arguments result p = h
+-- the body of an instance whose inputs are assigned, and then its outputs
+pub made_goes : (here : Context) (instance : Name) (P : Mode → Type 0) (old store : Store) → SameSlots old store → (o : Outcome) → EndsWell (λ result. Unit {0}) store o → (line : ℕ) (arguments : List Assignment) (result : Option Value) → P (Running result) → ((new : Store) → SameSlots store new → Writes new (given_out here instance (outputs_of arguments) new)) → GoesWell P old (made here instance o line arguments result)
+made_goes here instance P old store same (Done inner new trace) h line arguments result p outputs =
+    let w = outputs new h.1 in
+    store_goes P old (given_out here instance (outputs_of arguments) new) (λ last. Goes (Running result) last (call_trace line arguments trace)) w.0 w.1
+    (p, SameSlots-trans old new w.0 (SameSlots-trans old store new same h.1) w.2)
+made_goes here instance P old store same (Stuck reason) h line arguments result p outputs = h
 
 -- a call
 pub call_goes : (here : Context) (store : Store) → FitsScope store here.instance here.scope → CallsEndWell here.scope.before here.calls → (line : ℕ) (condition : Condition) (instance : Name) (arguments : List Assignment) (behind : List BodyLine) (kind : Option Kind) (result : Option Value) → Agrees kind result → Clean (call_checks here.scope line condition instance arguments kind) → GoesWell (LeadsTo here.scope (Call condition instance arguments) behind kind) store (step_effect here line (Call condition instance arguments) result store)
@@ -155,9 +232,11 @@ call_goes here store fits calls line condition instance arguments behind kind re
     typed None e s i r = cc
     typed (Some type) e s i r =
         let is = type_of-found here.scope instance type e in
-        let w = arguments_assigned here instance type is line [] arguments store fits r in
-        store_goes (LeadsTo here.scope (Call condition instance arguments) behind kind) store (assigned here (members_of here.scope.before type) instance arguments store) (λ new. made (body_outcome here type instance new) line arguments result) w.0 w.1
-        (made_goes (LeadsTo here.scope (Call condition instance arguments) behind kind) store w.0 w.2 (body_outcome here type instance w.0) (body_ends here w.0 (FitsScope-same store w.0 here.instance here.scope w.2 fits) calls type instance i is) line arguments result (a, refl))
+        let w = inputs_assigned here instance type is line [] arguments store fits r in
+        let outputs : (new : Store) → SameSlots w.0 new → Writes new (given_out here instance (outputs_of arguments) new)
+            = λ new same. outputs_given here instance type e line [] arguments new (FitsScope-same store new here.instance here.scope (SameSlots-trans store w.0 new w.2 same) fits) r in
+        store_goes (LeadsTo here.scope (Call condition instance arguments) behind kind) store (assigned here (members_of here.scope.before type) instance (inputs_of arguments) store) (λ new. made here instance (body_outcome here type instance new) line arguments result) w.0 w.1
+        (made_goes here instance (LeadsTo here.scope (Call condition instance arguments) behind kind) store w.0 w.2 (body_outcome here type instance w.0) (body_ends here w.0 (FitsScope-same store w.0 here.instance here.scope w.2 fits) calls type instance i is) line arguments result (a, refl) outputs)
 
     called : GoesWell (LeadsTo here.scope (Call condition instance arguments) behind kind) store (call_effect here line instance arguments result store)
     called = typed (type_of here.scope instance) refl c.0 c.1.0 checks

@@ -8,12 +8,14 @@ use Rattle.wc_model.specs.Language.Declarations.{VariableType, Elementary, Stand
 use Rattle.wc_model.specs.Language.Kinds.{is_kind, same_result, elementary_kind, term_kind, kind_after_operator, kind_after_step, BodyLine, AloneLine, PlainLine, NestedLine, lines_of, label_of, kind_at, opening_kind, kind_behind}
 use Rattle.wc_model.specs.Language.Meaning.{carries, takes_truth}
 use Rattle.wc_model.specs.Language.Names.{Name}
-use Rattle.wc_model.specs.Language.Scopes.{Scope, Entity, entity_of, type_of, is_input}
+use Rattle.wc_model.specs.Language.Scopes.{Scope, Entity, entity_of, type_of, is_input, is_result}
 use Rattle.wc_model.specs.Language.Tree.{Word, Term, Constant, Assignment, Step, Load, Store, Apply, Negate, Jump, Call, Return, Lines, End, Alone, Plain, Nested, Text}
 use Rattle.wc_model.specs.declared.kind.Kind.{Kind}
 use Rattle.wc_model.specs.declared.kind.Kind.TheVariants.{Bool as KindBool, Dint as KindDint}
 use Rattle.wc_model.specs.declared.operator.Condition.{Condition}
 use Rattle.wc_model.specs.declared.operator.Condition.TheVariants.{Always, IfTrue, IfFalse}
+use Rattle.wc_model.specs.declared.operator.Direction.{Direction}
+use Rattle.wc_model.specs.declared.operator.Direction.TheVariants.{Into, OutOf}
 use Rattle.wc_model.specs.declared.operator.Operator.{Operator}
 use Rattle.wc_model.specs.declared.operator.Operator.TheVariants.{And, Andn, Or, Orn, Xor, Xorn, Add, Sub, Mul, Div, Mod, Gt, Ge, Eq, Ne, Le, Lt}
 use Rattle.wc_model.specs.declared.operator.Storing.{Storing}
@@ -127,18 +129,38 @@ store_checks scope line Negation target kind = writing_checks scope line target 
 store_checks scope line Set target kind = writing_checks scope line target ++ truth_checks line kind ++ asks 402 line (suits_target scope target kind) ∷ []
 store_checks scope line Reset target kind = writing_checks scope line target ++ truth_checks line kind ++ asks 402 line (suits_target scope target kind) ∷ []
 
--- an argument: 409 an input of that name, 410 not assigned before, and then a value of its kind
+-- what a call's list may name: an input that is assigned, an output that is given out
 abbrev pub input_named : List Member → Name → Option Member
 input_named members name = elim (member_named members name) [ Some m ↦ (if is_input m.section then Some m else None) | None ↦ None ]
 
+abbrev pub output_named : List Member → Name → Option Member
+output_named members name = elim (member_named members name) [ Some m ↦ (if is_result m.section then Some m else None) | None ↦ None ]
+
+abbrev pub formal_named : Direction → List Member → Name → Option Member
+formal_named Into members name = input_named members name
+formal_named OutOf members name = output_named members name
+
+-- 402: the value is of the input's kind, or a literal 0 or 1 for a BOOL
 abbrev pub suits_input : Scope → Option Member → Term → Bool
 suits_input scope None term = false
 suits_input scope (Some m) term = elim (elementary_kind m.type) [ Some kind ↦ is_of (is_kind kind) (term_kind scope term) || (is_kind KindBool kind && is_bit_literal term) | None ↦ false ]
 
+-- 402: the target is of the output's kind
+abbrev pub suits_output : Scope → Option Member → Term → Bool
+suits_output scope None target = false
+suits_output scope (Some m) target = elim (elementary_kind m.type) [ Some kind ↦ is_of (is_kind kind) (term_kind scope target) | None ↦ false ]
+
+-- a value that may be read, or a target that may be written, of the kind of what it goes to or comes from
+abbrev pub actual_checks : Scope → ℕ → Direction → Option Member → Term → List Check
+actual_checks scope line Into formal term = reading_checks scope line term ++ asks 402 line (suits_input scope formal term) ∷ []
+actual_checks scope line OutOf formal term = writing_checks scope line term ++ asks 402 line (suits_output scope formal term) ∷ []
+
+-- one of a call's list: 409 there is such an input or output, 410 it is not named before, and then what goes in or where it
+-- goes
 abbrev pub argument_checks : Scope → ℕ → List Member → Spot Assignment → List Check
 argument_checks scope line members spot =
-    asks 409 line (is_some (input_named members spot.item.input)) ∷ asks 410 line (not (list_any (λ a. same_name a.input spot.item.input) spot.before)) ∷ reading_checks scope line spot.item.value
-    ++ asks 402 line (suits_input scope (input_named members spot.item.input) spot.item.value) ∷ []
+    asks 409 line (is_some (formal_named spot.item.direction members spot.item.formal)) ∷ asks 410 line (not (list_any (λ a. same_name a.formal spot.item.formal) spot.before))
+    ∷ actual_checks scope line spot.item.direction (formal_named spot.item.direction members spot.item.formal) spot.item.actual
 
 -- an instance is what is called
 abbrev pub is_instance : Option VariableType → Bool

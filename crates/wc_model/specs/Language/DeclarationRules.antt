@@ -156,7 +156,7 @@ abbrev pub step_checks : ProgramUnit → Step → List Check
 step_checks unit (Load negated operand) = term_checks unit operand
 step_checks unit (Store storing target) = term_checks unit target
 step_checks unit (Apply operator operand) = term_checks unit operand
-step_checks unit (Call condition instance arguments) = flat_map (λ argument. term_checks unit argument.value) arguments
+step_checks unit (Call condition instance arguments) = flat_map (λ argument. term_checks unit argument.actual) arguments
 step_checks unit Negate = []
 step_checks unit (Jump condition label) = []
 step_checks unit (Return condition) = []

@@ -2,10 +2,10 @@
 -- calls. The bound of a unit is the length of a longest one. (The profile's own.)
 use Rattle.std.specs.Prelude.{◌≡◌, ℕ, ◌≤◌, List, [], ◌∷◌, ◌++◌, map, length, reverse, ◌⊎◌, Option, Some, None, true, false}
 use Rattle.wc_model.specs.Language.Declarations.{VariableType, Elementary, Standard, Block, same_name}
-use Rattle.wc_model.specs.Language.Meaning.{carries}
+use Rattle.wc_model.specs.Language.Meaning.{call_trace, carries}
 use Rattle.wc_model.specs.Language.Names.{Name}
 use Rattle.wc_model.specs.Language.Scopes.{Scope, type_of}
-use Rattle.wc_model.specs.Language.Traces.{Item, At, Argument, StandardBody, Called}
+use Rattle.wc_model.specs.Language.Traces.{Item, At, StandardBody, Called}
 use Rattle.wc_model.specs.Language.Tree.{Word, Assignment, Step, Load, Store, Apply, Negate, Jump, Call, Return, Lines, End, Alone, Plain, Nested, ProgramUnit, Text}
 use Rattle.wc_model.specs.declared.operator.Condition.{Condition}
 use Rattle.wc_model.specs.declared.operator.Condition.TheVariants.{Always, IfTrue, IfFalse}
@@ -28,7 +28,8 @@ EndsThere Onward path = path ≡ []
 EndsThere Back path = path ≡ []
 EndsThere (Toward label) path = ⊥
 
--- the items of a call that is made, behind its own line: its arguments, and its block's body
+-- the items of a call that is made, behind its own line: the inputs that it assigns, its block's body, and the outputs that
+-- it gives out
 abbrev pub IsBodyPath : (Name → List Item → Type 0) → Option VariableType → List Item → Type 0
 IsBodyPath block_path None items = ⊥
 IsBodyPath block_path (Some (Elementary kind)) items = ⊥
@@ -37,7 +38,7 @@ IsBodyPath block_path (Some (Block name)) items = (path : List Item) × block_pa
 
 abbrev pub IsCallPath : (Name → List Item → Type 0) → Scope → ℕ → Name → List Assignment → List Item → Type 0
 IsCallPath block_path scope line instance arguments items =
-    (body : List Item) × IsBodyPath block_path (type_of scope instance) body × (items ≡ At line ∷ map (λ argument. Argument) arguments ++ body)
+    (body : List Item) × IsBodyPath block_path (type_of scope instance) body × (items ≡ call_trace line arguments body)
 
 -- a conditional step acts, or it goes on to the next line; one that always acts has no choice
 abbrev pub MayAct : Condition → Type 0 → Type 0 → Type 0

@@ -1,7 +1,9 @@
 -- A program text as a tree (IEC 61131-3:2003, 2.5 and 3.2), with the lines at which its parts stand.
-use Rattle.std.specs.Prelude.{ℕ, Bool, List, Option}
+use Rattle.std.specs.Prelude.{ℕ, Bool, true, false, not, List, filter, Option}
 use Rattle.wc_model.specs.Language.Names.{Name}
 use Rattle.wc_model.specs.declared.operator.Condition.{Condition}
+use Rattle.wc_model.specs.declared.operator.Direction.{Direction}
+use Rattle.wc_model.specs.declared.operator.Direction.TheVariants.{Into, OutOf}
 use Rattle.wc_model.specs.declared.operator.Operator.{Operator}
 use Rattle.wc_model.specs.declared.operator.Storing.{Storing}
 use Rattle.wc_model.specs.declared.source.Initial.{Initial}
@@ -21,10 +23,22 @@ pub data Term : Type 0 where
   Variable : (name : Name) → Term
   Field : (instance field : Name) → Term
 
--- `input := value` in a call
+-- `formal := actual` or `formal => actual` in a call: the formal parameter is an input or an output of the block
 pub record Assignment : Type 0 where
-  pub input : Name
-  pub value : Term
+  pub direction : Direction
+  pub formal : Name
+  pub actual : Term
+
+-- whether it assigns an input
+abbrev pub goes_in : Assignment → Bool
+goes_in assignment = elim assignment.direction [ Into ↦ true | OutOf ↦ false ]
+
+-- the inputs that a call's list assigns, and the outputs that it gives out, in written order
+abbrev pub inputs_of : List Assignment → List Assignment
+inputs_of list = filter goes_in list
+
+abbrev pub outputs_of : List Assignment → List Assignment
+outputs_of list = filter (λ assignment. not (goes_in assignment)) list
 
 -- what a line does that opens no parenthesis
 pub data Step : Type 0 where

@@ -29,7 +29,7 @@ term_view (operands.Field instance field) = Field (name_of instance.now) (name_o
 
 -- an argument
 abbrev pub assignment_view : Argument → Assignment
-assignment_view argument = record { input = name_of argument.name.now; value = term_view argument.value }
+assignment_view argument = record { direction = argument.direction; formal = name_of argument.name.now; actual = term_view argument.value }
 
 -- lines, each of which stands before the rest
 abbrev pub joined : List (Lines → Lines) → Lines

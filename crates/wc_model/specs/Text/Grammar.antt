@@ -4,9 +4,11 @@ use Rattle.std.specs.Prelude.{◌≡◌, ◌≢◌, ℕ, Bool, List, [], ◌∷�
 use Rattle.std.specs.Bool.{⊤}
 use Rattle.wc_model.specs.Language.Names.{Name, name_of}
 use Rattle.wc_model.specs.Language.Tree.{Word, Term, Constant, Address, Variable, Field, Assignment, Step, Load, Store, Apply, Negate, Jump, Call, Return, Lines, End, Alone, Plain, Nested, Declaration, ProgramUnit, Text}
-use Rattle.wc_model.specs.Text.Marks.{Symbol, Identifier, Whole, Duration, Truth, Ampersand, AmpersandN, OpeningBracket, ClosingBracket, Comma, Colon, Semicolon, Point, Assign, LineEnd, Mark, is_line_end, IsSymbol, IsNamed, IsWord, IsAddress}
+use Rattle.wc_model.specs.Text.Marks.{Symbol, Identifier, Whole, Duration, Truth, Ampersand, AmpersandN, OpeningBracket, ClosingBracket, Comma, Colon, Semicolon, Point, Assign, Arrow, LineEnd, Mark, is_line_end, IsSymbol, IsNamed, IsWord, IsAddress}
 use Rattle.wc_model.specs.Text.Languages.{Language, nothing, empty, one, many, ◌then◌, ◌or◌, ◌given◌, optional, each, separated, skipping, front_of}
 use Rattle.wc_model.specs.Text.Keywords.{unit_word, end_word, section_word, end_var, truth_word, load_word, store_word, operator_word, not_word, jump_word, call_word, return_word}
+use Rattle.wc_model.specs.declared.operator.Direction.{Direction}
+use Rattle.wc_model.specs.declared.operator.Direction.TheVariants.{Into, OutOf}
 use Rattle.wc_model.specs.declared.operator.Operator.{Operator}
 use Rattle.wc_model.specs.declared.operator.Operator.TheVariants.{And, Andn}
 use Rattle.wc_model.specs.declared.source.Initial.{Initial}
@@ -44,9 +46,14 @@ operand (Address word) = one (IsAddress word)
 operand (Variable name) = variable name
 operand (Field instance field) = variable instance then symbol Point then identifier field
 
--- `input := value`
+-- the sign between a formal and an actual parameter
+abbrev pub sign_of : Direction → Symbol
+sign_of Into = Assign
+sign_of OutOf = Arrow
+
+-- `input := value` or `output => target`
 abbrev pub argument : Assignment → Language Mark
-argument a = identifier a.input then symbol Assign then operand a.value
+argument a = identifier a.formal then symbol (sign_of a.direction) then operand a.actual
 
 -- the list of a call, on one line or on several
 abbrev pub bracketed : List Assignment → Language Mark
