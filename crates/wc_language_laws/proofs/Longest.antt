@@ -1,15 +1,16 @@
 -- A longest path of a body, computed from its end, and that it is one. Where two ways are equally long, it takes the next line.
-use Rattle.std.proofs.Common.{◌≡◌, ℕ, ◌<◌, ◌≤◌, Bool, true, false, cond, List, [], ◌∷◌, ◌++◌, map, length, length-append, Option, Some, None, ltb, refl, sym, ap, subst, ◌∙◌, arith, ◌⊎◌, inl, inr, ⊎_elim}
+use Rattle.std.proofs.Common.{◌≡◌, ℕ, ◌+◌, ◌<◌, ◌≤◌, Bool, true, false, cond, List, [], ◌∷◌, ◌++◌, map, length, length-append, Option, Some, None, ltb, refl, sym, ap, subst, ◌∙◌, arith, ◌⊎◌, inl, inr, ⊎_elim}
 use Rattle.std.proofs.lemmas.Bool.{ltb-true, ltb-false}
 use Rattle.std.proofs.Math.Nat.{le_of_eq}
 use Rattle.std.proofs.lemmas.List.{length-map}
 use Rattle.std.specs.Prelude.{MatchOption}
 use Rattle.wc_model.specs.Language.Declarations.{VariableType, Elementary, Standard, Block, same_name}
+use Rattle.wc_model.specs.Language.Meaning.{call_trace}
 use Rattle.wc_model.specs.Language.Names.{Name}
 use Rattle.wc_model.specs.Language.Paths.{Way, Onward, Toward, Back, arriving_way, IsBodyPath, IsCallPath, MayAct, GoesOn, MayStep, MayPass, Joined, IsNestedPath, IsPathFrom, IsBlockPath, IsPath, IsLongest}
 use Rattle.wc_model.specs.Language.Scopes.{Scope, type_of}
-use Rattle.wc_model.specs.Language.Traces.{Item, At, Argument, StandardBody, Called, own_lines}
-use Rattle.wc_model.specs.Language.Tree.{Assignment, Step, Load, Store, Apply, Negate, Jump, Call, Return, Lines, End, Alone, Plain, Nested, ProgramUnit}
+use Rattle.wc_model.specs.Language.Traces.{Item, At, Argument, StandardBody, Called, GivenOut, own_lines}
+use Rattle.wc_model.specs.Language.Tree.{Assignment, inputs_of, outputs_of, Step, Load, Store, Apply, Negate, Jump, Call, Return, Lines, End, Alone, Plain, Nested, ProgramUnit}
 use Rattle.wc_model.specs.Language.WorstPaths.{StaysOnward, ChoosesWorst, IsWorstFrom, IsWorstPath, AreWorstLines}
 use Rattle.wc_model.specs.declared.operator.Condition.{Condition}
 use Rattle.wc_model.specs.declared.operator.Condition.TheVariants.{Always, IfTrue, IfFalse}
@@ -32,7 +33,7 @@ longer (Some a) (Some b) = Some (cond (ltb (length a) (length b)) b a)
 -- the items of a call, where its block has a path
 abbrev pub call_items : ℕ → List Assignment → Found → Found
 call_items line arguments None = None
-call_items line arguments (Some body) = Some (At line ∷ map (λ argument. Argument) arguments ++ body)
+call_items line arguments (Some body) = Some (call_trace line arguments body)
 
 -- the longest items of a block's body
 abbrev pub body_items : (Name → Found) → Option VariableType → Found
@@ -202,6 +203,13 @@ greatest_body block_path block known (Some (Block name)) = go (block name) (know
     go None none = λ q h. none h.0 h.1
     go (Some path) best = ((path, best.0, refl), λ q h. let l = best.1 h.0 h.1 in omega (arith, l, ap length h.2, length-map h.0 Called, length-map path Called))
 
+-- a call that is made executes one for its line, for each input and output, and for each item of the body
+pub trace_length : (line : ℕ) (arguments : List Assignment) (body : List Item) → length (call_trace line arguments body) ≡ 1 + length (inputs_of arguments) + length body + length (outputs_of arguments)
+trace_length line arguments body =
+    let inputs : List Item = map (λ (input : Assignment). Argument) (inputs_of arguments) in
+    let outputs : List Item = map (λ (output : Assignment). GivenOut) (outputs_of arguments) in
+    omega (arith, length-append (At line ∷ inputs ++ body) outputs, length-append (At line ∷ inputs) body, length-map (inputs_of arguments) (λ (input : Assignment). Argument), length-map (outputs_of arguments) (λ (output : Assignment). GivenOut))
+
 -- the longest items of a call
 pub greatest_call : (block_path : Name → List Item → Type 0) (scope : Scope) (line : ℕ) (instance : Name) (arguments : List Assignment) (body : Found) → Greatest (IsBodyPath block_path (type_of scope instance)) body → Greatest (IsCallPath block_path scope line instance arguments) (call_items line arguments body)
 greatest_call block_path scope line instance arguments None none = λ q h. none h.0 h.1
@@ -209,7 +217,7 @@ greatest_call block_path scope line instance arguments (Some body) best = (
   (body, best.0, refl),
   λ q h.
       let l = best.1 h.0 h.1 in
-      omega (arith, l, ap length h.2, length-append (At line ∷ map (λ (a : Assignment). Argument) arguments) h.0, length-append (At line ∷ map (λ (a : Assignment). Argument) arguments) body),
+      omega (arith, l, ap length h.2, trace_length line arguments h.0, trace_length line arguments body),
 )
 
 -- a step that is executed

@@ -1,7 +1,7 @@
 -- The trace of a meaning is a path: what a run executes, some way through the conditionals executes.
 use Rattle.std.proofs.Common.{◌≡◌, ℕ, Bool, true, false, List, [], ◌∷◌, ◌++◌, map, Option, Some, None, Result, Ok, Err, refl, sym, subst, ◌⊎◌, inl, inr}
 use Rattle.wc_model.specs.Language.Declarations.{VariableType, Elementary, Standard, Block, same_name, members_of}
-use Rattle.wc_model.specs.Language.Meaning.{Outcome, Done, Stuck, Mode, Running, Seeking, Returned, Effect, Goes, Fails, Context, means, at_end, arriving, carries, after, continued, given, from_value, from_store, acts, chosen, stored, set_where, store_effect, next, made, body_outcome, called_type, call_effect, step_effect, line_effect, closed, opened, nested_effect, assigned, value_of, written_to, beside, called, body_means, program_means}
+use Rattle.wc_model.specs.Language.Meaning.{Outcome, Done, Stuck, Mode, Running, Seeking, Returned, Effect, Goes, Fails, Context, means, at_end, arriving, carries, after, continued, given, from_value, from_store, acts, chosen, stored, set_where, store_effect, next, call_trace, given_out, made, body_outcome, called_type, call_effect, step_effect, line_effect, closed, opened, nested_effect, assigned, value_of, written_to, beside, called, body_means, program_means}
 use Rattle.wc_model.specs.Language.BlockCalls.{standard_called}
 use Rattle.wc_model.specs.Language.Names.{Name}
 use Rattle.wc_model.specs.Language.Operators.{apply, negated}
@@ -10,7 +10,7 @@ use Rattle.wc_model.specs.Language.Reasons.{Reason}
 use Rattle.wc_model.specs.Language.Scopes.{Scope, type_of}
 use Rattle.wc_model.specs.Language.Store.{Store}
 use Rattle.wc_model.specs.Language.Traces.{Item, At, StandardBody, Called}
-use Rattle.wc_model.specs.Language.Tree.{Word, Term, Assignment, Step, Load, Store as StoreStep, Apply, Negate, Jump, Call, Return, Lines, End, Alone, Plain, Nested, ProgramUnit}
+use Rattle.wc_model.specs.Language.Tree.{Word, Term, Assignment, inputs_of, outputs_of, Step, Load, Store as StoreStep, Apply, Negate, Jump, Call, Return, Lines, End, Alone, Plain, Nested, ProgramUnit}
 use Rattle.wc_model.specs.declared.operator.Condition.{Condition}
 use Rattle.wc_model.specs.declared.operator.Condition.TheVariants.{Always, IfTrue, IfFalse}
 use Rattle.wc_model.specs.declared.operator.Operator.{Operator}
@@ -116,9 +116,11 @@ body_is block_path here known (Block name) instance store = go (here.calls name 
     go (Stuck reason) h = tt
 
 -- a call that is made
-pub made_is : (block_path : Name → List Item → Type 0) (scope : Scope) (line : ℕ) (instance : Name) (arguments : List Assignment) (result : Option Value) (type : VariableType) → type_of scope instance ≡ Some type → (o : Outcome) → TraceIs (IsBodyPath block_path (Some type)) o → EffectIs (λ i n. IsCallPath block_path scope line instance arguments i × (n ≡ Onward)) (made o line arguments result)
-made_is block_path scope line instance arguments result type is (Done inner store trace) h = ((trace, subst (λ (t : Option VariableType). IsBodyPath block_path t trace) (sym is) h, refl), refl)
-made_is block_path scope line instance arguments result type is (Stuck reason) h = tt
+pub made_is : (block_path : Name → List Item → Type 0) (here : Context) (line : ℕ) (instance : Name) (arguments : List Assignment) (result : Option Value) (type : VariableType) → type_of here.scope instance ≡ Some type → (o : Outcome) → TraceIs (IsBodyPath block_path (Some type)) o → EffectIs (λ i n. IsCallPath block_path here.scope line instance arguments i × (n ≡ Onward)) (made here instance o line arguments result)
+made_is block_path here line instance arguments result type is (Done inner store trace) h =
+    from_store_is (λ i n. IsCallPath block_path here.scope line instance arguments i × (n ≡ Onward)) (given_out here instance (outputs_of arguments) store) (λ new. Goes (Running result) new (call_trace line arguments trace))
+    (λ new. ((trace, subst (λ (t : Option VariableType). IsBodyPath block_path t trace) (sym is) h, refl), refl))
+made_is block_path here line instance arguments result type is (Stuck reason) h = tt
 
 pub call_is : (block_path : Name → List Item → Type 0) (here : Context) → CallsArePaths block_path here → (line : ℕ) (instance : Name) (arguments : List Assignment) (result : Option Value) (store : Store) → EffectIs (λ i n. IsCallPath block_path here.scope line instance arguments i × (n ≡ Onward)) (call_effect here line instance arguments result store)
 call_is block_path here known line instance arguments result store = go (type_of here.scope instance) refl
@@ -126,8 +128,8 @@ call_is block_path here known line instance arguments result store = go (type_of
     go : (t : Option VariableType) → type_of here.scope instance ≡ t → EffectIs (λ i n. IsCallPath block_path here.scope line instance arguments i × (n ≡ Onward)) (elim t [ Some type ↦ called_type here type line instance arguments result store | None ↦ Fails Rattle.wc_model.specs.Language.Reasons.NoSuchPlace ])
     go None e = tt
     go (Some type) e =
-        from_store_is (λ i n. IsCallPath block_path here.scope line instance arguments i × (n ≡ Onward)) (assigned here (members_of here.scope.before type) instance arguments store) (λ new. made (body_outcome here type instance new) line arguments result)
-        (λ new. made_is block_path here.scope line instance arguments result type e (body_outcome here type instance new) (body_is block_path here known type instance new))
+        from_store_is (λ i n. IsCallPath block_path here.scope line instance arguments i × (n ≡ Onward)) (assigned here (members_of here.scope.before type) instance (inputs_of arguments) store) (λ new. made here instance (body_outcome here type instance new) line arguments result)
+        (λ new. made_is block_path here line instance arguments result type e (body_outcome here type instance new) (body_is block_path here known type instance new))
 
 -- a step that is executed
 pub step_is : (block_path : Name → List Item → Type 0) (here : Context) → CallsArePaths block_path here → (line : ℕ) (step : Step) (result : Option Value) (store : Store) → EffectIs (MayStep block_path here.scope line step) (step_effect here line step result store)
