@@ -4,7 +4,7 @@ use Rattle.std.proofs.lemmas.Bool.{lt-ltb}
 use Rattle.std.proofs.lemmas.List.{length-append}
 use Rattle.std.specs.Option.{option_map}
 use Rattle.std.specs.Prelude.{if◌then◌else◌, nat_lt}
-use Rattle.wc_flat.proofs.CallLines.{answer_given, arguments_length, call_follows}
+use Rattle.wc_flat.proofs.CallLines.{answer_given, laid_behind, call_follows}
 use Rattle.wc_flat.proofs.Counts.{counted_none, counted_twice, passed_over, ended_over}
 use Rattle.wc_flat.proofs.Lines.{operand_number, operand_read, load_follows, load_negated_follows, store_follows, apply_follows, not_follows}
 use Rattle.wc_flat.proofs.Sides.{Sides, flat, BodyFollows, AreAlike, state_of, then_counted, OnwardFollows, line_onward, IsCourse, result_in, EffectFollows, onward_effect, by_choice}
@@ -59,8 +59,8 @@ staying_follows w alike put_by number store numbers contents result rest Negate 
     (line_onward w Not put_by (state_of result put_by numbers) (step_effect w.here number Negate result store) (not_follows w put_by number store numbers contents result))
 staying_follows w alike put_by number store numbers contents result rest (Jump condition label) s own laid = cc
 staying_follows w alike put_by number store numbers contents result rest (Call condition instance arguments) s own laid =
-    subst (λ (c : List Code). OnwardFollows w c put_by (state_of result put_by numbers) (step_effect w.here number (Call condition instance arguments) result store)) (sym laid.4)
-    (call_follows w alike number result put_by store numbers contents condition instance arguments laid.0 laid.1 laid.2 laid.3)
+    subst (λ (c : List Code). OnwardFollows w c put_by (state_of result put_by numbers) (step_effect w.here number (Call condition instance arguments) result store)) (sym laid.is)
+    (call_follows w alike number result put_by store numbers contents condition instance arguments own laid)
 staying_follows w alike put_by number store numbers contents result rest (Return condition) s own laid = cc
 
 -- flat lines follow lines inside a parenthesis, which are executed one after another
@@ -185,10 +185,9 @@ step_laid_length scope rest Negate own laid = ap (λ (c : List Code). length c) 
 step_laid_length scope rest (Jump condition label) own laid = ap (λ (c : List Code). length c) laid.2
 step_laid_length scope rest (Return condition) own laid = ap (λ (c : List Code). length c) laid
 step_laid_length scope rest (Call condition instance arguments) own laid =
-    let a = arguments_length scope instance arguments laid.0 laid.2 in
-    let b = length-append laid.0 (laid.1 ∷ []) in
-    let c = ap (λ (c : List Code). length c) laid.4 in
-    omega (arith, a, b, c)
+    let a = laid_behind scope condition instance arguments own laid in
+    let b = ap (λ (c : List Code). length c) laid.is in
+    omega (arith, a, b)
 
 pub laid_length : (scope : Scope) (lines : Lines) (code : List Code) → IsLaid scope lines code → length code ≡ flat_length lines
 laid_length scope End code laid = ap (λ (c : List Code). length c) laid

@@ -4,17 +4,17 @@ use Rattle.std.proofs.lemmas.List.{length-append, append-nil}
 use Rattle.std.specs.List.{AllByRecursion}
 use Rattle.std.specs.Option.{option_map}
 use Rattle.std.specs.Prelude.{if◌then◌else◌, slice_get}
-use Rattle.wc_flat.proofs.CallLines.{arguments_length}
+use Rattle.wc_flat.proofs.CallLines.{laid_behind}
 use Rattle.wc_flat.proofs.Bodies.{laid_length, step_laid_length}
 use Rattle.wc_flat.specs.Depths.{depth_after, depth_at, IsDepthRight}
-use Rattle.wc_flat.specs.Laid.{Operand, Number, At, load_line, apply_line, short_line, argument_line, AreArguments, IsUnitBody, IsBodyOf, IsStepLaid, IsOpening, step_length, flat_length, lines_ahead, IsLaid, AreLaidBehind}
+use Rattle.wc_flat.specs.Laid.{Operand, Number, At, load_line, apply_line, short_line, argument_line, AreArguments, AreOutputs, IsUnitBody, IsBodyOf, IsStepLaid, IsOpening, step_length, flat_length, lines_ahead, IsLaid, AreLaidBehind}
 use Rattle.wc_flat.specs.Laws.{LaidCodeNests}
 use Rattle.wc_model.specs.Language.Declarations.{VariableType, Elementary, Standard, Block, block_named}
 use Rattle.wc_model.specs.Text.Limits.{depth, IsBodyWithinLimits}
 use Rattle.wc_model.specs.Language.Meaning.{carries}
 use Rattle.wc_model.specs.Language.Names.{Name}
 use Rattle.wc_model.specs.Language.Scopes.{Scope, type_of}
-use Rattle.wc_model.specs.Language.Tree.{Term, Assignment, Step, Load, Store as StoreStep, Apply, Negate, Jump as JumpStep, Call as CallStep, Return as ReturnStep, Lines, End, Alone, Plain, Nested, ProgramUnit}
+use Rattle.wc_model.specs.Language.Tree.{Term, Assignment, inputs_of, outputs_of, Step, Load, Store as StoreStep, Apply, Negate, Jump as JumpStep, Call as CallStep, Return as ReturnStep, Lines, End, Alone, Plain, Nested, ProgramUnit}
 use Rattle.wc_model.specs.declared.code.Code.{Code}
 use Rattle.wc_model.specs.declared.code.Code.TheVariants.{LoadNumber, LoadPlace, Store, ApplyNumber, ApplyPlace, Not, Open, OpenNumber, OpenPlace, Close, Jump, Return, Call, ArgumentNumber, ArgumentPlace, Standard as StandardLine, Body}
 use Rattle.wc_model.specs.declared.operator.Operator.{Operator}
@@ -118,6 +118,14 @@ arguments_level scope instance (argument ∷ arguments) (line ∷ lines) are =
     let is = are.0 in
     level_joined (line ∷ []) lines (line_level line (ap is_level is.4 ∙ argument_level is.0 is.1)) (arguments_level scope instance arguments lines are.1)
 
+pub outputs_level : (scope : Scope) (instance : Name) (outputs : List Assignment) (lines : List Code) → AreOutputs scope instance outputs lines → IsLevel lines
+outputs_level scope instance [] [] are = none_level
+outputs_level scope instance [] (line ∷ lines) are = absurd are
+outputs_level scope instance (output ∷ outputs) [] are = absurd are
+outputs_level scope instance (output ∷ outputs) (line ∷ lines) are =
+    let is = are.0 in
+    level_joined (line ∷ []) lines (line_level line (ap is_level is.4 ∙ argument_level is.0 is.1)) (outputs_level scope instance outputs lines are.1)
+
 pub body_level : (scope : Scope) (instance : Name) (type : Option VariableType) (body : Code) → IsBodyOf scope instance type body → is_level body ≡ true
 body_level scope instance None body is = absurd is
 body_level scope instance (Some (Elementary kind)) body is = absurd is
@@ -159,7 +167,7 @@ step_matched scope rest (JumpStep condition label) own laid d others ahead =
     subst (λ (c : List Code). (AllDeepEnough d others → AllDeepEnough d (c ++ others)) × ((n : ℕ) → depth_at d (c ++ others) (length c + n) ≡ depth_at d others n)) (sym laid.2)
     (λ h. (ahead label laid.0 laid.1, h), λ n. ap (depth_at d (Jump condition laid.0 ∷ others)) (let a : length (Jump condition laid.0 ∷ []) + n ≡ 1 + n = omega arith in a) ∙ one_more_line d (Jump condition laid.0) others n)
 step_matched scope rest (CallStep condition instance arguments) own laid d others ahead =
-    subst (λ (c : List Code). (AllDeepEnough d others → AllDeepEnough d (c ++ others)) × ((n : ℕ) → depth_at d (c ++ others) (length c + n) ≡ depth_at d others n)) (sym laid.4) (
+    subst (λ (c : List Code). (AllDeepEnough d others → AllDeepEnough d (c ++ others)) × ((n : ℕ) → depth_at d (c ++ others) (length c + n) ≡ depth_at d others n)) (sym laid.is) (
       λ h. (passed, (level d others).0 h),
       λ n. ap (depth_at d (line ∷ (lines ++ others))) (let a : length (line ∷ lines) + n ≡ 1 + (length lines + n) = omega arith in a) ∙ (one_more_line d line (lines ++ others) (length lines + n) ∙ (level d others).1 n),
     )
@@ -168,16 +176,17 @@ step_matched scope rest (CallStep condition instance arguments) own laid d other
     line = Call condition (1 + length arguments)
 
     lines : List Code
-    lines = laid.0 ++ laid.1 ∷ []
+    lines = laid.assigned ++ laid.body ∷ laid.given
 
     level : IsLevel lines
-    level = level_joined laid.0 (laid.1 ∷ []) (arguments_level scope instance arguments laid.0 laid.2) (line_level laid.1 (body_level scope instance (type_of scope instance) laid.1 laid.3))
+    level =
+        level_joined laid.assigned (laid.body ∷ laid.given) (arguments_level scope instance (inputs_of arguments) laid.assigned laid.inputs)
+        (level_joined (laid.body ∷ []) laid.given (line_level laid.body (body_level scope instance (type_of scope instance) laid.body laid.called)) (outputs_level scope instance (outputs_of arguments) laid.given laid.outputs))
 
     passed : depth_at d (lines ++ others) (1 + length arguments) ≡ d
     passed =
-        let a : length lines ≡ length laid.0 + 1 = length-append laid.0 (laid.1 ∷ []) in
-        let b = arguments_length scope instance arguments laid.0 laid.2 in
-        ap (depth_at d (lines ++ others)) (let e : 1 + length arguments ≡ length lines + 0 = omega (arith, a, b) in e) ∙ ((level d others).1 0 ∙ at_first d others)
+        let a = laid_behind scope condition instance arguments own laid in
+        ap (depth_at d (lines ++ others)) (let e : 1 + length arguments ≡ length lines + 0 = omega (arith, a) in e) ∙ ((level d others).1 0 ∙ at_first d others)
 
 -- an opening line
 pub opening_deep : (scope : Scope) (operand : Option Term) (line : Code) → IsOpening scope operand line → (d : ℕ) (behind : List Code) → d < 8 → IsDeepEnough d line behind × (depth_after d line ≡ suc d)

@@ -4,18 +4,18 @@ use Rattle.std.proofs.lemmas.Bool.{ltb-true, ltb-false}
 use Rattle.std.proofs.lemmas.List.{length-append, length-map}
 use Rattle.std.specs.Option.{option_map}
 use Rattle.std.specs.Prelude.{if◌then◌else◌, slice_index}
-use Rattle.wc_flat.proofs.CallLines.{arguments_length}
+use Rattle.wc_flat.proofs.CallLines.{all_parts, laid_behind}
 use Rattle.wc_flat.proofs.Bodies.{regrouped, step_laid_length, laid_length}
 use Rattle.wc_flat.specs.FlatPaths.{step_sources, sources_of, Worst, no_more, one_more, some_more, worse, from_line, turned, line_worst, worst_from}
-use Rattle.wc_flat.specs.Laid.{Operand, Number, At, load_line, apply_line, short_line, argument_line, AreArguments, IsUnitBody, IsBodyOf, IsStepLaid, IsOpening, step_length, flat_length, lines_ahead, IsLaid}
-use Rattle.wc_language_laws.proofs.Longest.{Found, prefixed, longer, call_items, body_items, from_items, chosen, best_step, best_pass, nested_items, best}
+use Rattle.wc_flat.specs.Laid.{Operand, Number, At, load_line, apply_line, short_line, argument_line, AreArguments, AreOutputs, IsUnitBody, IsBodyOf, IsStepLaid, IsOpening, step_length, flat_length, lines_ahead, IsLaid}
+use Rattle.wc_language_laws.proofs.Longest.{Found, prefixed, longer, trace_length, call_items, body_items, from_items, chosen, best_step, best_pass, nested_items, best}
 use Rattle.wc_model.specs.Language.Declarations.{VariableType, Elementary, Standard, Block, block_named}
-use Rattle.wc_model.specs.Language.Meaning.{carries}
+use Rattle.wc_model.specs.Language.Meaning.{call_trace, carries}
 use Rattle.wc_model.specs.Language.Names.{Name}
 use Rattle.wc_model.specs.Language.Paths.{Way, Onward, Toward, Back, arriving_way}
 use Rattle.wc_model.specs.Language.Scopes.{Scope, type_of}
-use Rattle.wc_model.specs.Language.Traces.{Item, At as AtLine, Argument, StandardBody, Called, own_lines}
-use Rattle.wc_model.specs.Language.Tree.{Word, Term, Assignment, Step, Load, Store as StoreStep, Apply, Negate, Jump, Call, Return, Lines, End, Alone, Plain, Nested, ProgramUnit}
+use Rattle.wc_model.specs.Language.Traces.{Item, At as AtLine, Argument, StandardBody, Called, GivenOut, own_lines}
+use Rattle.wc_model.specs.Language.Tree.{Word, Term, Assignment, inputs_of, outputs_of, Step, Load, Store as StoreStep, Apply, Negate, Jump, Call, Return, Lines, End, Alone, Plain, Nested, ProgramUnit}
 use Rattle.wc_model.specs.declared.code.Code.{Code}
 use Rattle.wc_model.specs.declared.code.Code.TheVariants.{Close}
 use Rattle.wc_model.specs.declared.operator.Condition.{Condition}
@@ -29,6 +29,7 @@ pub own_lines-append : (xs ys : List Item) → own_lines (xs ++ ys) ≡ own_line
 own_lines-append [] ys = refl
 own_lines-append (AtLine line ∷ xs) ys = ap (λ (ls : List ℕ). line ∷ ls) (own_lines-append xs ys)
 own_lines-append (Argument ∷ xs) ys = own_lines-append xs ys
+own_lines-append (GivenOut ∷ xs) ys = own_lines-append xs ys
 own_lines-append (StandardBody ∷ xs) ys = own_lines-append xs ys
 own_lines-append (Called item ∷ xs) ys = own_lines-append xs ys
 
@@ -39,6 +40,10 @@ no_own_lines (x ∷ xs) = no_own_lines xs
 pub no_lines_of_arguments : (arguments : List Assignment) (ys : List Item) → own_lines (map (λ argument. Argument) arguments ++ ys) ≡ own_lines ys
 no_lines_of_arguments [] ys = refl
 no_lines_of_arguments (argument ∷ arguments) ys = no_lines_of_arguments arguments ys
+
+pub no_lines_of_outputs : (outputs : List Assignment) → own_lines (map (λ output. GivenOut) outputs) ≡ []
+no_lines_of_outputs [] = refl
+no_lines_of_outputs (output ∷ outputs) = no_lines_of_outputs outputs
 
 -- a path has these steps and these lines
 abbrev pub MeasuredAs : Found → Worst → Type 0
@@ -230,7 +235,11 @@ some_none way = ap (λ n. let w : Worst = record { steps = n; lines = way.lines 
 pub some_twice : (a b : ℕ) (way : Worst) → some_more a (some_more b way) ≡ some_more (a + b) way
 some_twice a b way = ap (λ n. let w : Worst = record { steps = n; lines = way.lines } in w) (let e : a + (b + way.steps) ≡ a + b + way.steps = omega arith in e)
 
--- the arguments of a call
+-- one more that is moved
+pub one_moved : (bounds : List ℕ) (line : ℕ) (rest : List Worst) (operand : Operand) (target : Rattle.wc_model.specs.declared.place.Place.Place) (count : ℕ) (way : Worst) → from_line rest 0 ≡ some_more count way → line_worst bounds line rest (argument_line operand target) ≡ some_more (1 + count) way
+one_moved bounds line rest operand target count way e = argument_measured bounds line rest operand target ∙ (ap (some_more 1) e ∙ some_twice 1 count way)
+
+-- the inputs of a call, and its outputs
 pub arguments_measured : (bounds : List ℕ) (scope : Scope) (instance : Name) (line : ℕ) (arguments : List Assignment) (lines : List Code) → AreArguments scope instance arguments lines → (others : List Code) (sources : List ℕ) → from_line (worst_from bounds (lines ++ others) (map (λ argument. line) arguments ++ sources)) 0 ≡ some_more (length arguments) (from_line (worst_from bounds others sources) 0)
 arguments_measured bounds scope instance line [] [] are others sources = sym (some_none (from_line (worst_from bounds others sources) 0))
 arguments_measured bounds scope instance line [] (first ∷ lines) are others sources = absurd are
@@ -238,10 +247,18 @@ arguments_measured bounds scope instance line (argument ∷ arguments) [] are ot
 arguments_measured bounds scope instance line (argument ∷ arguments) (first ∷ lines) are others sources =
     let is = are.0 in
     ap (λ (c : Code). line_worst bounds line (worst_from bounds (lines ++ others) (map (λ a. line) arguments ++ sources)) c) is.4
-    ∙ (argument_measured bounds line (worst_from bounds (lines ++ others) (map (λ a. line) arguments ++ sources)) is.0 is.1
-    ∙ (ap (some_more 1) (arguments_measured bounds scope instance line arguments lines are.1 others sources)
-    ∙ (some_twice 1 (length arguments) (from_line (worst_from bounds others sources) 0)
-    ∙ ap (λ n. some_more n (from_line (worst_from bounds others sources) 0)) (let a : 1 + length arguments ≡ length (argument ∷ arguments) = omega arith in a))))
+    ∙ one_moved bounds line (worst_from bounds (lines ++ others) (map (λ a. line) arguments ++ sources)) is.0 is.1 (length arguments) (from_line (worst_from bounds others sources) 0) (arguments_measured bounds scope instance line arguments lines are.1 others sources)
+    ∙ ap (λ n. some_more n (from_line (worst_from bounds others sources) 0)) (let a : 1 + length arguments ≡ length (argument ∷ arguments) = omega arith in a)
+
+pub outputs_measured : (bounds : List ℕ) (scope : Scope) (instance : Name) (line : ℕ) (outputs : List Assignment) (lines : List Code) → AreOutputs scope instance outputs lines → (others : List Code) (sources : List ℕ) → from_line (worst_from bounds (lines ++ others) (map (λ output. line) outputs ++ sources)) 0 ≡ some_more (length outputs) (from_line (worst_from bounds others sources) 0)
+outputs_measured bounds scope instance line [] [] are others sources = sym (some_none (from_line (worst_from bounds others sources) 0))
+outputs_measured bounds scope instance line [] (first ∷ lines) are others sources = absurd are
+outputs_measured bounds scope instance line (output ∷ outputs) [] are others sources = absurd are
+outputs_measured bounds scope instance line (output ∷ outputs) (first ∷ lines) are others sources =
+    let is = are.0 in
+    ap (λ (c : Code). line_worst bounds line (worst_from bounds (lines ++ others) (map (λ a. line) outputs ++ sources)) c) is.4
+    ∙ one_moved bounds line (worst_from bounds (lines ++ others) (map (λ a. line) outputs ++ sources)) is.0 is.1 (length outputs) (from_line (worst_from bounds others sources) 0) (outputs_measured bounds scope instance line outputs lines are.1 others sources)
+    ∙ ap (λ n. some_more n (from_line (worst_from bounds others sources) 0)) (let a : 1 + length outputs ≡ length (output ∷ outputs) = omega arith in a)
 
 -- the bounds of blocks are the lengths of their longest paths
 abbrev pub BlocksMeasured : List ℕ → List ProgramUnit → (Name → Found) → Type 0
@@ -276,63 +293,87 @@ body_measured bounds block scope known instance (Some (Block name)) body laid = 
           way = λ source rest. ap (line_worst bounds source rest) is.2 ∙ ap (λ n. some_more n (from_line rest 0)) (k.2 ∙ sym (length-map k.0 Called));
         }
 
+-- how many sources stand behind a call's own
+pub marks_length : (line : ℕ) (arguments : List Assignment) → length (map (λ (input : Assignment). line) (inputs_of arguments) ++ line ∷ map (λ (output : Assignment). line) (outputs_of arguments)) ≡ 1 + length arguments
+marks_length line arguments =
+    let inputs : List ℕ = map (λ (input : Assignment). line) (inputs_of arguments) in
+    let outputs : List ℕ = map (λ (output : Assignment). line) (outputs_of arguments) in
+    let a = length-append inputs (line ∷ outputs) in
+    let b = length-map (inputs_of arguments) (λ (input : Assignment). line) in
+    let c = length-map (outputs_of arguments) (λ (output : Assignment). line) in
+    let d = all_parts arguments in
+    let e : length (line ∷ outputs) ≡ 1 + length outputs = omega arith in
+    omega (arith, a, b, c, d, e)
+
+-- what a call that is made executes has the call's line alone of the unit's own
+pub own_line_of_call : (line : ℕ) (arguments : List Assignment) (items : List Item) → own_lines items ≡ [] → own_lines (call_trace line arguments items) ≡ line ∷ []
+own_line_of_call line arguments items none =
+    ap (λ (ls : List ℕ). line ∷ ls)
+    (own_lines-append (map (λ (input : Assignment). Argument) (inputs_of arguments) ++ items) (map (λ (output : Assignment). GivenOut) (outputs_of arguments))
+    ∙ (ap (λ (ls : List ℕ). ls ++ own_lines (map (λ (output : Assignment). GivenOut) (outputs_of arguments))) (no_lines_of_arguments (inputs_of arguments) items ∙ none)
+    ∙ no_lines_of_outputs (outputs_of arguments)))
+
 -- a call that is made, and then the next line
-pub acting_measured : (line : ℕ) (arguments : List Assignment) (items : List Item) → own_lines items ≡ [] → (rest : Found) (way : Worst) → MeasuredAs rest way → MeasuredAs (from_items (call_items line arguments (Some items)) rest) (one_more line (some_more (length arguments) (some_more (length items) way)))
+pub acting_measured : (line : ℕ) (arguments : List Assignment) (items : List Item) → own_lines items ≡ [] → (rest : Found) (way : Worst) → MeasuredAs rest way → MeasuredAs (from_items (call_items line arguments (Some items)) rest) (one_more line (some_more (length (inputs_of arguments)) (some_more (length items) (some_more (length (outputs_of arguments)) way))))
 acting_measured line arguments items none None way m = absurd m
 acting_measured line arguments items none (Some path) way m = (
-  let marks : List Item = map (λ argument. Argument) arguments in
-      let a : length (marks ++ items) ≡ length marks + length items = length-append marks items in
-      let b : length marks ≡ length arguments = length-map arguments (λ argument. Argument) in
-      let c : length ((AtLine line ∷ marks ++ items) ++ path) ≡ length (AtLine line ∷ marks ++ items) + length path = length-append (AtLine line ∷ marks ++ items) path in
+  let a = trace_length line arguments items in
+      let c = length-append (call_trace line arguments items) path in
       let d = m.0 in
-      omega (arith, a, b, c, d),
-  ap (λ (ls : List ℕ). line ∷ ls) (m.1 ∙ sym (own_lines-append (map (λ argument. Argument) arguments ++ items) path ∙ ap (λ (ls : List ℕ). ls ++ own_lines path) (no_lines_of_arguments arguments items ∙ none))),
+      omega (arith, a, c, d),
+  ap (λ (ls : List ℕ). line ∷ ls) m.1 ∙ sym (own_lines-append (call_trace line arguments items) path ∙ ap (λ (ls : List ℕ). ls ++ own_lines path) (own_line_of_call line arguments items none)),
 )
 
 -- a call
 pub call_measured : (bounds : List ℕ) (block : Name → Found) (scope : Scope) → BlocksMeasured bounds scope.before block → (line : ℕ) (condition : Condition) (instance : Name) (arguments : List Assignment) (rest : Lines) (own others : List Code) (sources : List ℕ) → IsStepLaid scope rest (Call condition instance arguments) own → (go : Way → Found) → MeasuredAs (go Onward) (from_line (worst_from bounds others sources) 0) → MeasuredAs (best_step block scope line (Call condition instance arguments) go) (from_line (worst_from bounds (own ++ others) (step_sources line (Call condition instance arguments) ++ sources)) 0)
 call_measured bounds block scope known line condition instance arguments rest own others sources laid go m =
     subst (λ (w : Worst). MeasuredAs (best_step block scope line (Call condition instance arguments) go) w) (sym whole)
-    (measured_chosen condition line (from_items (call_items line arguments (body_items block (type_of scope instance))) (go Onward)) (prefixed (AtLine line ∷ []) (go Onward)) (some_more (length arguments) (some_more (length body.items) left)) left
-    (subst (λ (f : Found). MeasuredAs (from_items (call_items line arguments f) (go Onward)) (one_more line (some_more (length arguments) (some_more (length body.items) left)))) (sym body.is) (acting_measured line arguments body.items body.none_own (go Onward) left m))
+    (measured_chosen condition line (from_items (call_items line arguments (body_items block (type_of scope instance))) (go Onward)) (prefixed (AtLine line ∷ []) (go Onward)) inside left
+    (subst (λ (f : Found). MeasuredAs (from_items (call_items line arguments f) (go Onward)) (one_more line inside)) (sym body.is) (acting_measured line arguments body.items body.none_own (go Onward) left m))
     (measured_line line (go Onward) left m))
   where
-    lines : List Code
-    lines = laid.0
-
-    body : BodyMeasured bounds (body_items block (type_of scope instance)) laid.1
-    body = body_measured bounds block scope known instance (type_of scope instance) laid.1 laid.3
+    body : BodyMeasured bounds (body_items block (type_of scope instance)) laid.body
+    body = body_measured bounds block scope known instance (type_of scope instance) laid.body laid.called
 
     left : Worst
     left = from_line (worst_from bounds others sources) 0
 
-    marks : List ℕ
-    marks = map (λ argument. line) arguments
+    inside : Worst
+    inside = some_more (length (inputs_of arguments)) (some_more (length body.items) (some_more (length (outputs_of arguments)) left))
+
+    inputs : List ℕ
+    inputs = map (λ input. line) (inputs_of arguments)
+
+    outputs : List ℕ
+    outputs = map (λ output. line) (outputs_of arguments)
+
+    lines : List Code
+    lines = laid.assigned ++ laid.body ∷ laid.given
 
     behind : List Worst
-    behind = worst_from bounds ((lines ++ laid.1 ∷ []) ++ others) ((marks ++ line ∷ []) ++ sources)
+    behind = worst_from bounds (lines ++ others) ((inputs ++ line ∷ outputs) ++ sources)
 
-    made : from_line behind 0 ≡ some_more (length arguments) (some_more (length body.items) left)
+    made : from_line behind 0 ≡ inside
     made =
-        ap (λ (c : List Code). from_line (worst_from bounds c ((marks ++ line ∷ []) ++ sources)) 0) (append_assoc lines (laid.1 ∷ []) others)
-        ∙ (ap (λ (ns : List ℕ). from_line (worst_from bounds (lines ++ (laid.1 ∷ others)) ns) 0) (append_assoc marks (line ∷ []) sources)
-        ∙ (arguments_measured bounds scope instance line arguments lines laid.2 (laid.1 ∷ others) (line ∷ sources)
-        ∙ ap (some_more (length arguments)) (body.way line (worst_from bounds others sources))))
+        ap (λ (c : List Code). from_line (worst_from bounds c ((inputs ++ line ∷ outputs) ++ sources)) 0) (append_assoc laid.assigned (laid.body ∷ laid.given) others)
+        ∙ (ap (λ (ns : List ℕ). from_line (worst_from bounds (laid.assigned ++ (laid.body ∷ laid.given ++ others)) ns) 0) (append_assoc inputs (line ∷ outputs) sources)
+        ∙ (arguments_measured bounds scope instance line (inputs_of arguments) laid.assigned laid.inputs (laid.body ∷ laid.given ++ others) (line ∷ outputs ++ sources)
+        ∙ ap (some_more (length (inputs_of arguments)))
+        (body.way line (worst_from bounds (laid.given ++ others) (outputs ++ sources))
+        ∙ ap (some_more (length body.items)) (outputs_measured bounds scope instance line (outputs_of arguments) laid.given laid.outputs others sources))))
 
     passed : from_line behind (1 + length arguments) ≡ left
     passed =
-        let a : length (lines ++ laid.1 ∷ []) ≡ length lines + 1 = length-append lines (laid.1 ∷ []) in
-        let b = arguments_length scope instance arguments lines laid.2 in
-        let c : length (marks ++ line ∷ []) ≡ length marks + 1 = length-append marks (line ∷ []) in
-        let d : length marks ≡ length arguments = length-map arguments (λ argument. line) in
-        ap (from_line behind) (let e : 1 + length arguments ≡ length (lines ++ laid.1 ∷ []) + 0 = omega (arith, a, b) in e)
-        ∙ worst_behind bounds (lines ++ laid.1 ∷ []) others (marks ++ line ∷ []) sources 0 (omega (arith, a, b, c, d))
+        let a = laid_behind scope condition instance arguments own laid in
+        let b = marks_length line arguments in
+        ap (from_line behind) (let e : 1 + length arguments ≡ length lines + 0 = omega (arith, a) in e)
+        ∙ worst_behind bounds lines others (inputs ++ line ∷ outputs) sources 0 (omega (arith, a, b))
 
-    whole : from_line (worst_from bounds (own ++ others) (step_sources line (Call condition instance arguments) ++ sources)) 0 ≡ one_more line (turned condition (some_more (length arguments) (some_more (length body.items) left)) left)
+    whole : from_line (worst_from bounds (own ++ others) (step_sources line (Call condition instance arguments) ++ sources)) 0 ≡ one_more line (turned condition inside left)
     whole =
-        ap (λ (c : List Code). from_line (worst_from bounds (c ++ others) (line ∷ ((marks ++ line ∷ []) ++ sources))) 0) laid.4
+        ap (λ (c : List Code). from_line (worst_from bounds (c ++ others) (line ∷ ((inputs ++ line ∷ outputs) ++ sources))) 0) laid.is
         ∙ (ap (λ (w : Worst). one_more line (turned condition w (from_line behind (1 + length arguments)))) made
-        ∙ ap (λ (w : Worst). one_more line (turned condition (some_more (length arguments) (some_more (length body.items) left)) w)) passed)
+        ∙ ap (λ (w : Worst). one_more line (turned condition inside w)) passed)
 
 -- the way of a path that stands before these lines
 abbrev pub IsWayOf : Lines → Way → List Worst → Worst → Type 0
@@ -410,11 +451,7 @@ step_sources_length line (Apply operator operand) = refl
 step_sources_length line Negate = refl
 step_sources_length line (Jump condition label) = refl
 step_sources_length line (Return condition) = refl
-step_sources_length line (Call condition instance arguments) =
-    let marks : List ℕ = map (λ argument. line) arguments in
-    let a : length (marks ++ line ∷ []) ≡ length marks + 1 = length-append marks (line ∷ []) in
-    let b : length marks ≡ length arguments = length-map arguments (λ argument. line) in
-    omega (arith, a, b)
+step_sources_length line (Call condition instance arguments) = let a = marks_length line arguments in omega (arith, a)
 
 pub sources_length : (lines : Lines) → length (sources_of lines) ≡ flat_length lines
 sources_length End = refl

@@ -4,11 +4,11 @@ use Rattle.std.proofs.lemmas.List.{length-append, length-map}
 use Rattle.std.specs.Option.{option_map}
 use Rattle.std.specs.Prelude.{find, if◌then◌else◌, slice_get}
 use Rattle.wc_flat.proofs.Bodies.{laid_length}
-use Rattle.wc_flat.proofs.CallLines.{arguments_length}
+use Rattle.wc_flat.proofs.CallLines.{laid_behind}
 use Rattle.wc_flat.proofs.InstancePlaces.{all_places}
 use Rattle.wc_flat.proofs.Programs.{found_before}
 use Rattle.wc_flat.specs.Bounds.{frame_sizes, IsWithin}
-use Rattle.wc_flat.specs.Laid.{Operand, Number, At, IsPlaceOf, IsOperand, argument_line, load_line, apply_line, short_line, AreArguments, IsUnitBody, IsBodyOf, IsStepLaid, IsOpening, size_of, places_before, first_of_all, first_place, step_length, flat_length, lines_ahead, IsLaid, AreLaidBehind}
+use Rattle.wc_flat.specs.Laid.{Operand, Number, At, IsPlaceOf, IsOperand, argument_line, load_line, apply_line, short_line, AreArguments, AreOutputs, IsUnitBody, IsBodyOf, IsStepLaid, IsOpening, size_of, places_before, first_of_all, first_place, step_length, flat_length, lines_ahead, IsLaid, AreLaidBehind}
 use Rattle.wc_flat.specs.Laws.{LaidCodeKeepsWithin}
 use Rattle.wc_model.specs.Language.Checks.{spots_behind}
 use Rattle.wc_model.specs.Language.Declarations.{Variable, VariableType, Elementary, Standard, Block, same_name, variables_of, variable_named, is_block, block_named}
@@ -18,7 +18,7 @@ use Rattle.wc_model.specs.Language.Meaning.{carries}
 use Rattle.wc_model.specs.Language.Names.{Name}
 use Rattle.wc_model.specs.Language.Scopes.{Scope, type_of, readable_place, writable_place}
 use Rattle.wc_model.specs.Language.Store.{Location, Direct, Path, Content, zero_of, below, variable_places, block_places, unit_places, program_frame, standard_fields}
-use Rattle.wc_model.specs.Language.Tree.{Term, Constant, Address, Variable as NameOf, Field, Assignment, Step, Load, Store as StoreStep, Apply, Negate, Jump, Call, Return, Lines, End, Alone, Plain, Nested, ProgramUnit}
+use Rattle.wc_model.specs.Language.Tree.{Term, Constant, Address, Variable as NameOf, Field, Assignment, inputs_of, outputs_of, Step, Load, Store as StoreStep, Apply, Negate, Jump, Call, Return, Lines, End, Alone, Plain, Nested, ProgramUnit}
 use Rattle.wc_model.specs.declared.code.Code.{Code}
 use Rattle.wc_model.specs.declared.code.Code.TheVariants.{Close}
 use Rattle.wc_model.specs.declared.place.Place.{Place}
@@ -77,7 +77,15 @@ arguments_within sizes unit scope instance more [] (line ∷ lines) are = absurd
 arguments_within sizes unit scope instance more (argument ∷ arguments) [] are = absurd are
 arguments_within sizes unit scope instance more (argument ∷ arguments) (line ∷ lines) are =
     let is = are.0 in
-    (subst (λ l. IsWithin sizes unit (length (frame_of scope)) (length lines + more) l) (sym is.4) (argument_within sizes unit (length lines + more) scope argument.value is.0 is.1 is.2 (place_within scope (Some (Path (instance ∷ argument.input ∷ []))) is.1 is.3)), arguments_within sizes unit scope instance more arguments lines are.1)
+    (subst (λ l. IsWithin sizes unit (length (frame_of scope)) (length lines + more) l) (sym is.4) (argument_within sizes unit (length lines + more) scope argument.actual is.0 is.1 is.2 (place_within scope (Some (Path (instance ∷ argument.formal ∷ []))) is.1 is.3)), arguments_within sizes unit scope instance more arguments lines are.1)
+
+pub outputs_within : (sizes : List ℕ) (unit : ℕ) (scope : Scope) (instance : Name) (more : ℕ) (outputs : List Assignment) (lines : List Code) → AreOutputs scope instance outputs lines → AllWithin (λ left line. IsWithin sizes unit (length (frame_of scope)) left line) more lines
+outputs_within sizes unit scope instance more [] [] are = tt
+outputs_within sizes unit scope instance more [] (line ∷ lines) are = absurd are
+outputs_within sizes unit scope instance more (output ∷ outputs) [] are = absurd are
+outputs_within sizes unit scope instance more (output ∷ outputs) (line ∷ lines) are =
+    let is = are.0 in
+    (subst (λ l. IsWithin sizes unit (length (frame_of scope)) (length lines + more) l) (sym is.4) (argument_within sizes unit (length lines + more) scope (Field instance output.formal) is.0 is.1 is.2 (place_within scope (writable_place scope output.actual) is.1 is.3)), outputs_within sizes unit scope instance more outputs lines are.1)
 
 -- behind the places before an instance there is room for its own
 pub room_for : (before : List ProgramUnit) (vs : List Variable) (name : Name) (v : Variable) (first : ℕ) → find (λ u. same_name u.name name) vs ≡ Some v → places_before before vs name ≡ Some first → first + length (places_of before v) ≤ length (all_places before vs)
@@ -218,11 +226,11 @@ step_within sizes scope are rest more l (Jump condition label) own laid =
     ((let a = ahead_within rest label laid.0 laid.1 in omega (arith, a, l)), tt)
 step_within sizes scope are rest more l (Return condition) own laid = subst (λ (c : List Code). AllWithin (λ left line. IsWithin sizes (length scope.before) (length (frame_of scope)) left line) more c) (sym laid) (tt, tt)
 step_within sizes scope are rest more l (Call condition instance arguments) own laid =
-    subst (λ (c : List Code). AllWithin (λ left line. IsWithin sizes (length scope.before) (length (frame_of scope)) left line) more c) (sym laid.4) (
-      (let a = length-append laid.0 (laid.1 ∷ []) in let b = arguments_length scope instance arguments laid.0 laid.2 in omega (arith, a, b)),
-      within_joined (λ left line. IsWithin sizes (length scope.before) (length (frame_of scope)) left line) more laid.0 (laid.1 ∷ [])
-          (arguments_within sizes (length scope.before) scope instance (length (laid.1 ∷ []) + more) arguments laid.0 laid.2)
-          (body_within sizes scope are _ instance laid.1 (type_of scope instance) refl laid.3, tt),
+    subst (λ (c : List Code). AllWithin (λ left line. IsWithin sizes (length scope.before) (length (frame_of scope)) left line) more c) (sym laid.is) (
+      (let a = laid_behind scope condition instance arguments own laid in omega (arith, a)),
+      within_joined (λ left line. IsWithin sizes (length scope.before) (length (frame_of scope)) left line) more laid.assigned (laid.body ∷ laid.given)
+          (arguments_within sizes (length scope.before) scope instance (length (laid.body ∷ laid.given) + more) (inputs_of arguments) laid.assigned laid.inputs)
+          (body_within sizes scope are _ instance laid.body (type_of scope instance) refl laid.called, outputs_within sizes (length scope.before) scope instance more (outputs_of arguments) laid.given laid.outputs),
     )
 
 -- the lines of a body

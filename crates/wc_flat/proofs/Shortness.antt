@@ -43,7 +43,7 @@ one_length P (token ∷ next ∷ more) o = absurd o
 
 -- an argument has a token
 pub argument_short : (a : Assignment) (tokens : List Mark) → argument a tokens → 1 ≤ length tokens
-argument_short a tokens s = let e = in_sequence tokens s in let f = one_length (IsNamed a.input) s.front s.begins in omega (arith, e, f)
+argument_short a tokens s = let e = in_sequence tokens s in let f = one_length (IsNamed a.formal) s.front s.begins in omega (arith, e, f)
 
 pub each_short : (arguments : List Assignment) (tokens : List Mark) → each (λ next. symbol Comma then argument next) arguments tokens → length arguments ≤ length tokens
 each_short [] tokens s = omega arith

@@ -1,20 +1,21 @@
 -- The longest path of flat code, from the last line to the first; where two ways are equally long, the way to the next line is
 -- taken. (The profile's own.)
 use Rattle.std.specs.Prelude.{ℕ, ◌+◌, nat_lt, if◌then◌else◌, List, [], ◌∷◌, ◌++◌, map, Some, None, slice_get, slice_index}
-use Rattle.wc_model.specs.Language.Tree.{Step, Load, Store as StoreStep, Apply, Negate, Jump as JumpStep, Call as CallStep, Return as ReturnStep, Lines, End, Alone, Plain, Nested}
+use Rattle.wc_model.specs.Language.Tree.{inputs_of, outputs_of, Step, Load, Store as StoreStep, Apply, Negate, Jump as JumpStep, Call as CallStep, Return as ReturnStep, Lines, End, Alone, Plain, Nested}
 use Rattle.wc_model.specs.declared.code.Code.{Code}
 use Rattle.wc_model.specs.declared.code.Code.TheVariants.{LoadNumber, LoadPlace, Store, ApplyNumber, ApplyPlace, Not, Open, OpenNumber, OpenPlace, Close, Jump, Return, Call, ArgumentNumber, ArgumentPlace, Standard, Body}
 use Rattle.wc_model.specs.declared.operator.Condition.{Condition}
 use Rattle.wc_model.specs.declared.operator.Condition.TheVariants.{Always, IfTrue, IfFalse}
 
--- the lines of the text at which the flat lines of a body stand; arguments and the block's body stand at their call's
+-- the lines of the text at which the flat lines of a body stand; inputs, the block's body and
+-- outputs stand at their call's
 abbrev pub step_sources : ℕ → Step → List ℕ
 step_sources line (Load negated operand) = line ∷ []
 step_sources line (StoreStep storing target) = line ∷ []
 step_sources line (Apply operator operand) = line ∷ []
 step_sources line Negate = line ∷ []
 step_sources line (JumpStep condition label) = line ∷ []
-step_sources line (CallStep condition instance arguments) = line ∷ map (λ argument. line) arguments ++ line ∷ []
+step_sources line (CallStep condition instance arguments) = line ∷ map (λ input. line) (inputs_of arguments) ++ line ∷ map (λ output. line) (outputs_of arguments)
 step_sources line (ReturnStep condition) = line ∷ []
 
 abbrev pub sources_of : Lines → List ℕ

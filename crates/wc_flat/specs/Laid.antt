@@ -7,9 +7,10 @@ use Rattle.wc_model.specs.Language.Meaning.{carries}
 use Rattle.wc_model.specs.Language.Names.{Name}
 use Rattle.wc_model.specs.Language.Scopes.{Scope, type_of, readable_place, writable_place}
 use Rattle.wc_model.specs.Language.Store.{Location, Path, Plain as PlainContent, block_places, variable_places}
-use Rattle.wc_model.specs.Language.Tree.{Term, Constant, Address, Variable as NameOf, Field, Assignment, Step, Load, Store as StoreStep, Apply, Negate, Jump as JumpStep, Call as CallStep, Return as ReturnStep, Lines, End, Alone, Plain, Nested, ProgramUnit, Text}
+use Rattle.wc_model.specs.Language.Tree.{Term, Constant, Address, Variable as NameOf, Field, Assignment, inputs_of, outputs_of, Step, Load, Store as StoreStep, Apply, Negate, Jump as JumpStep, Call as CallStep, Return as ReturnStep, Lines, End, Alone, Plain, Nested, ProgramUnit, Text}
 use Rattle.wc_model.specs.declared.code.Code.{Code}
 use Rattle.wc_model.specs.declared.code.Code.TheVariants.{LoadNumber, LoadPlace, Store, ApplyNumber, ApplyPlace, Not, Open, OpenNumber, OpenPlace, Close, Jump, Return, Call, ArgumentNumber, ArgumentPlace, Standard, Body}
+use Rattle.wc_model.specs.declared.operator.Condition.{Condition}
 use Rattle.wc_model.specs.declared.operator.Operator.{Operator}
 use Rattle.wc_model.specs.declared.place.Place.{Place}
 
@@ -94,14 +95,27 @@ lines_ahead (Nested word line operator operand inside close rest) label =
 -- an argument assigns a value to an input of the instance
 abbrev pub IsArgument : Scope → Name → Assignment → Code → Type 0
 IsArgument scope instance argument line =
-    (operand : Operand) × (target : Place) × IsOperand scope argument.value operand × IsPlaceOf scope (Some (Path (instance ∷ argument.input ∷ []))) target
+    (operand : Operand) × (target : Place) × IsOperand scope argument.actual operand × IsPlaceOf scope (Some (Path (instance ∷ argument.formal ∷ []))) target
     × (line ≡ argument_line operand target)
 
+-- an output of the instance is written to a target
+abbrev pub IsOutput : Scope → Name → Assignment → Code → Type 0
+IsOutput scope instance output line =
+    (operand : Operand) × (target : Place) × IsOperand scope (Field instance output.formal) operand × IsPlaceOf scope (writable_place scope output.actual) target
+    × (line ≡ argument_line operand target)
+
+-- a line for each of a list, in its order
+abbrev pub AreEach : (Assignment → Code → Type 0) → List Assignment → List Code → Type 0
+AreEach IsOne [] [] = Unit {0}
+AreEach IsOne (item ∷ items) (line ∷ lines) = IsOne item line × AreEach IsOne items lines
+AreEach IsOne [] (line ∷ lines) = ⊥
+AreEach IsOne (item ∷ items) [] = ⊥
+
 abbrev pub AreArguments : Scope → Name → List Assignment → List Code → Type 0
-AreArguments scope instance [] [] = Unit {0}
-AreArguments scope instance (argument ∷ arguments) (line ∷ lines) = IsArgument scope instance argument line × AreArguments scope instance arguments lines
-AreArguments scope instance [] (line ∷ lines) = ⊥
-AreArguments scope instance (argument ∷ arguments) [] = ⊥
+AreArguments scope instance arguments lines = AreEach (IsArgument scope instance) arguments lines
+
+abbrev pub AreOutputs : Scope → Name → List Assignment → List Code → Type 0
+AreOutputs scope instance outputs lines = AreEach (IsOutput scope instance) outputs lines
 
 -- the body of the instance that is called; a unit's number is how many stand before it
 abbrev pub IsUnitBody : Scope → Name → Option (ProgramUnit × List ProgramUnit) → Code → Type 0
@@ -114,6 +128,16 @@ IsBodyOf scope instance (Some (Elementary kind)) line = ⊥
 IsBodyOf scope instance (Some (StandardType block)) line = (at : Place) × (first_place scope instance ≡ Some at.0) × (line ≡ Standard block at)
 IsBodyOf scope instance (Some (Block name)) line = IsUnitBody scope instance (block_named scope.before name) line
 
+-- the flat lines of a call: its inputs, the body, its outputs
+pub record IsCallLaid (scope : Scope) (condition : Condition) (instance : Name) (arguments : List Assignment) (own : List Code) : Type 0 where
+  pub assigned : List Code
+  pub body : Code
+  pub given : List Code
+  pub inputs : AreArguments scope instance (inputs_of arguments) assigned
+  pub called : IsBodyOf scope instance (type_of scope instance) body
+  pub outputs : AreOutputs scope instance (outputs_of arguments) given
+  pub is : own ≡ Call condition (1 + length arguments) ∷ assigned ++ body ∷ given
+
 -- the flat lines of a step, behind which these lines stand
 abbrev pub IsStepLaid : Scope → Lines → Step → List Code → Type 0
 IsStepLaid scope rest (Load negated term) own = (operand : Operand) × IsOperand scope term operand × (own ≡ load_line negated operand ∷ [])
@@ -122,9 +146,7 @@ IsStepLaid scope rest (Apply operator term) own = (operand : Operand) × IsOpera
 IsStepLaid scope rest Negate own = own ≡ Not ∷ []
 IsStepLaid scope rest (JumpStep condition label) own = (skip : ℕ) × (lines_ahead rest label ≡ Some skip) × (own ≡ Jump condition skip ∷ [])
 IsStepLaid scope rest (ReturnStep condition) own = own ≡ Return condition ∷ []
-IsStepLaid scope rest (CallStep condition instance arguments) own =
-    (assigned : List Code) × (body : Code) × AreArguments scope instance arguments assigned × IsBodyOf scope instance (type_of scope instance) body
-    × (own ≡ Call condition (1 + length arguments) ∷ assigned ++ body ∷ [])
+IsStepLaid scope rest (CallStep condition instance arguments) own = IsCallLaid scope condition instance arguments own
 
 -- an opening line
 abbrev pub IsOpening : Scope → Option Term → Code → Type 0

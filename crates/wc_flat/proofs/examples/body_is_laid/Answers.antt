@@ -32,13 +32,15 @@ returns c = record {
           own = _;
           others = [];
           whole = refl;
-          step = (
-            ArgumentPlace (place 45) (place 46) ∷ ArgumentNumber (place 47) (pos 5) ∷ [],
-            Standard Ton (place 46),
-            ((At (place 45), place 46, refl, refl, refl), ((Number (pos 5), place 47, refl, refl, refl), tt)),
-            (place 46, refl, refl),
-            refl,
-          );
+          step = record {
+            assigned = ArgumentPlace (place 45) (place 46) ∷ ArgumentNumber (place 47) (pos 5) ∷ [];
+            body = Standard Ton (place 46);
+            given = ArgumentPlace (place 48) (place 45) ∷ [];
+            inputs = ((At (place 45), place 46, refl, refl, refl), ((Number (pos 5), place 47, refl, refl, refl), tt));
+            called = (place 46, refl, refl);
+            outputs = ((At (place 48), place 45, refl, refl, refl), tt);
+            is = refl;
+          };
           rest = refl;
         };
       };
