@@ -57,7 +57,7 @@ fn judge_arguments<'a>(in_block: bool, arguments: &[Argument<'a>]) -> Result<(),
     ensures { (unit : ProgramUnit) (rest : List Check) → in_block ≡ is_block unit
         → Judges
         (first_broken
-        (flat_map (λ a. term_checks unit a.value) (map assignment_view arguments.now) ++ rest))
+        (flat_map (λ a. term_checks unit a.actual) (map assignment_view arguments.now) ++ rest))
         (first_broken rest) result }
 {
     for argument in arguments {

@@ -13,4 +13,4 @@ mod units;
 mod word;
 
 pub use declaring::tables;
-pub use wc_names::{DeclaredType, Entity, Field, Frame, Input, Key, Located, Names, Tables};
+pub use wc_names::{DeclaredType, Entity, Field, Formal, Frame, Key, Located, Names, Tables};

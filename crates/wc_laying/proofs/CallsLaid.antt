@@ -1,25 +1,29 @@
 -- The flat lines of a call.
-use Rattle.std.proofs.Common.{◌≡◌, ℕ, ◌+◌, List, [], ◌∷◌, ◌++◌, map, length, append_assoc, sym, ap, ◌∙◌}
+use Rattle.std.proofs.Common.{◌≡◌, ℕ, ◌+◌, List, ◌∷◌, ◌++◌, map, length, append_assoc, refl, sym, ap, ◌∙◌}
 use Rattle.wc_flat.specs.FlatPaths.{step_sources}
 use Rattle.wc_flat.specs.Laid.{IsBodyOf, IsStepLaid}
 use Rattle.wc_model.specs.Language.Names.{Name}
 use Rattle.wc_model.specs.Language.Scopes.{Scope, type_of}
-use Rattle.wc_model.specs.Language.Tree.{Assignment, Call as CallStep, Lines}
+use Rattle.wc_model.specs.Language.Tree.{Assignment, inputs_of, outputs_of, Call as CallStep, Lines}
 use Rattle.wc_model.specs.declared.code.Code.{Code}
 use Rattle.wc_model.specs.declared.code.Code.TheVariants.{Call}
 use Rattle.wc_model.specs.declared.operator.Condition.{Condition}
 use Rattle.wc_laying.specs.FlatLines.{FlatLines, put_line}
-use Rattle.wc_laying.specs.Laying.{Adds, AddsArguments}
+use Rattle.wc_laying.specs.Laying.{Adds, AddsArguments, AddsOutputs}
 
--- its own line, its arguments and its body, which is put first
-pub call_added : (scope : Scope) (rest : Lines) (condition : Condition) (instance : Name) (arguments : List Assignment) (line : ℕ) (old first second new : FlatLines) (body : Code) (skip : ℕ) →
-    IsBodyOf scope instance (type_of scope instance) body → first ≡ put_line body line old → AddsArguments scope instance line arguments first second → skip ≡ 1 + length arguments → new ≡ put_line (Call condition skip) line second →
+-- its own line, its inputs, its body and its outputs, which are put first
+pub call_added : (scope : Scope) (rest : Lines) (condition : Condition) (instance : Name) (arguments : List Assignment) (line : ℕ) (old zeroth first second new : FlatLines) (body : Code) (skip : ℕ) →
+    AddsOutputs scope instance line (outputs_of arguments) old zeroth → IsBodyOf scope instance (type_of scope instance) body → first ≡ put_line body line zeroth → AddsArguments scope instance line (inputs_of arguments) first second → skip ≡ 1 + length arguments → new ≡ put_line (Call condition skip) line second →
     Adds (IsStepLaid scope rest (CallStep condition instance arguments)) (step_sources line (CallStep condition instance arguments)) old new
-call_added scope rest condition instance arguments line old first second new body skip is e h s f = record {
-  own = Call condition (1 + length arguments) ∷ h.own ++ body ∷ [];
-  laid = (h.own, body, h.laid, is, λ i. Call condition (1 + length arguments) ∷ h.own ++ body ∷ []);
-  code = ap (λ (x : FlatLines). x.code) f ∙ (λ i. Call condition (s i) ∷ h.code i) ∙ ap (λ c. Call condition (1 + length arguments) ∷ h.own ++ c) (ap (λ (x : FlatLines). x.code) e)
-      ∙ ap (λ c. Call condition (1 + length arguments) ∷ c) (sym (append_assoc h.own (body ∷ []) old.code));
-  places = ap (λ (x : FlatLines). x.sources) f ∙ ap (λ c. line ∷ c) h.places ∙ ap (λ c. line ∷ map (λ argument. line) arguments ++ c) (ap (λ (x : FlatLines). x.sources) e)
-      ∙ ap (λ c. line ∷ c) (sym (append_assoc (map (λ argument. line) arguments) (line ∷ []) old.sources));
-}
+call_added scope rest condition instance arguments line old zeroth first second new body skip o is e h s f =
+    let head = Call condition (1 + length arguments) in
+    let inputs : List ℕ = map (λ input. line) (inputs_of arguments) in
+    let outputs : List ℕ = map (λ output. line) (outputs_of arguments) in
+    record {
+      own = head ∷ h.own ++ body ∷ o.own;
+      laid = record { assigned = h.own; body = body; given = o.own; inputs = h.laid; called = is; outputs = o.laid; is = refl };
+      code = ap (λ (x : FlatLines). x.code) f ∙ (λ i. Call condition (s i) ∷ h.code i) ∙ ap (λ c. head ∷ h.own ++ c) (ap (λ (x : FlatLines). x.code) e ∙ ap (λ c. body ∷ c) o.code)
+          ∙ ap (λ c. head ∷ c) (sym (append_assoc h.own (body ∷ o.own) old.code));
+      places = ap (λ (x : FlatLines). x.sources) f ∙ ap (λ c. line ∷ c) h.places ∙ ap (λ c. line ∷ inputs ++ c) (ap (λ (x : FlatLines). x.sources) e ∙ ap (λ c. line ∷ c) o.places)
+          ∙ ap (λ c. line ∷ c) (sym (append_assoc inputs (line ∷ outputs) old.sources));
+    }

@@ -4,7 +4,7 @@ use Rattle.std.proofs.lemmas.Bool.{and_parts}
 use Rattle.std.specs.List.{flat_map, list_any}
 use Rattle.std.specs.Prelude.{if◌then◌else◌}
 use Rattle.wc_flat.specs.Laid.{flat_length, lines_ahead, step_length}
-use Rattle.wc_model.specs.Language.BodyRules.{argument_checks, call_checks, closing_checks, condition_checks, input_named, inside_rules, is_ahead, is_bit_literal, is_bool, is_instance, is_no_instance, is_of, is_readable, is_writable, label_rules, line_rules, load_checks, members_called, opening_checks, opening_operand_checks, reading_checks, result_checks, divisor_checks, spot_rules, step_rules, store_checks, suits_input, suits_result, suits_target, truth_checks, writing_checks}
+use Rattle.wc_model.specs.Language.BodyRules.{actual_checks, argument_checks, call_checks, closing_checks, condition_checks, formal_named, input_named, output_named, inside_rules, is_ahead, is_bit_literal, is_bool, is_instance, is_no_instance, is_of, is_readable, is_writable, label_rules, line_rules, load_checks, members_called, opening_checks, opening_operand_checks, reading_checks, result_checks, divisor_checks, spot_rules, step_rules, store_checks, suits_input, suits_output, suits_result, suits_target, truth_checks, writing_checks}
 use Rattle.wc_model.specs.Language.Checks.{Spot, asks, spots_behind, spots_of}
 use Rattle.wc_model.specs.Language.DeclarationRules.{body_name_checks, label_checks, operand_checks, step_checks, term_checks}
 use Rattle.wc_model.specs.Language.Declarations.{Member, VariableType, Elementary, Standard, Block, block_named, is_block, member_named, members_of, same_name}
@@ -16,18 +16,20 @@ use Rattle.wc_model.specs.Language.Scopes.{Scope, Entity, entity_of, is_input, m
 use Rattle.wc_model.specs.Language.Tree.{Term, Constant, Address, Variable as NameOf, Field, Assignment, ProgramUnit, Step, Load, Store, Apply, Negate, Jump, Call, Return, Lines, End, Alone, Plain, Nested}
 use Rattle.wc_model.specs.declared.kind.Kind.{Kind}
 use Rattle.wc_model.specs.declared.kind.Kind.TheVariants.{Bool as KindBool}
+use Rattle.wc_model.specs.declared.operator.Direction.{Direction}
+use Rattle.wc_model.specs.declared.operator.Direction.TheVariants.{Into, OutOf}
 use Rattle.wc_model.specs.declared.operator.Operator.{Operator}
 use Rattle.wc_model.specs.declared.operator.Storing.{Storing}
 use Rattle.wc_model.specs.declared.operator.Storing.TheVariants.{Result as StoreResult, Negation, Set, Reset}
 use Rattle.wc_model.specs.declared.value.Value.TheVariants.{Bool as Truth, Dint, Time}
-use Rattle.wc_soundness.proofs.CallSteps.{block_known, input_found, type_of-found}
+use Rattle.wc_soundness.proofs.CallSteps.{block_known, field_found, input_found, output_found, type_of-found}
 use Rattle.wc_soundness.proofs.Steps.{clean_first, clean_second, or-true, some_of}
 use Rattle.wc_soundness.proofs.Entities.{writable_is_stored}
 use Rattle.wc_soundness.proofs.Bodies.{nested_parts}
 use Rattle.wc_soundness.proofs.Programs.{three_parts}
 use Rattle.wc_soundness.specs.Sound.{Clean}
 use Rattle.wc_laying.proofs.PlacesThere.{HasKind, readable, writable}
-use Rattle.wc_laying.specs.Layable.{AreAssignable, IsCallable, IsInsideLayable, IsKnownBlock, IsLayable, IsLoadable, IsNear, IsOpenable, IsReadable, IsStepLayable, IsWritable, Nowhere}
+use Rattle.wc_laying.specs.Layable.{ArePassable, IsCallable, IsInsideLayable, IsKnownBlock, IsLayable, IsLoadable, IsNear, IsOpenable, IsPassable, IsReadable, IsStepLayable, IsWritable, Nowhere}
 
 -- a kind that passes a test is one
 of_some : (test : Kind → Bool) (o : Option Kind) → is_of test o ≡ true → is_some o ≡ true
@@ -118,34 +120,54 @@ input_section members name m e = by (member_named members name) e
     by None g = cc
     by (Some n) g = of_section n (is_input n.section) refl g
 
-field_found : (scope : Scope) (instance field : Name) (type : VariableType) (m : Member) → type_of scope instance ≡ Some type → member_named (members_of scope.before type) field ≡ Some m → entity_of scope (Field instance field) ≡ Some (member_entity instance m)
-field_found scope instance field type m e f =
-    ap (λ (t : Option VariableType). elim t as (λ x. Option Entity) [ Some u ↦ elim (member_named (members_of scope.before u) field) [ Some n ↦ Some (member_entity instance n) | None ↦ None ] | None ↦ None ]) e
-    ∙ ap (λ (o : Option Member). elim o as (λ x. Option Entity) [ Some n ↦ Some (member_entity instance n) | None ↦ None ]) f
-
 input_writable : (scope : Scope) (instance field : Name) (type : VariableType) (m : Member) (value : Term) → type_of scope instance ≡ Some type → input_named (members_of scope.before type) field ≡ Some m → suits_input scope (Some m) value ≡ true → IsWritable scope (Field instance field)
 input_writable scope instance field type m value e f s =
     let there = field_found scope instance field type m e (input_found (members_of scope.before type) field m f).0 in
     writable scope (Field instance field) refl tt (ap is_writable there ∙ input_section (members_of scope.before type) field m f)
     (ap (λ (o : Option Entity). is_some (elim o as (λ x. Option Kind) [ Some x ↦ elementary_kind x.type | None ↦ None ])) there ∙ member_kind scope m value s)
 
-assignable : (scope : Scope) (line : ℕ) (instance : Name) (type : VariableType) → type_of scope instance ≡ Some type → (before arguments : List Assignment) → Clean (flat_map (λ (a : Assignment). term_checks scope.unit a.value) arguments) → Clean (flat_map (argument_checks scope line (members_of scope.before type)) (spots_behind before arguments)) →
-    AreAssignable scope instance arguments
-assignable scope line instance type e before [] named c = tt
-assignable scope line instance type e before (argument ∷ arguments) named c =
+-- an output, and its target
+output_kinds : (scope : Scope) (m : Member) (target : Term) → suits_output scope (Some m) target ≡ true → is_some (elementary_kind m.type) ≡ true × (is_some (term_kind scope target) ≡ true)
+output_kinds scope m target h = by (elementary_kind m.type) h
+  where
+    by : (k : Option Kind) → (elim k as (λ x. Bool) [ Some kind ↦ is_of (is_kind kind) (term_kind scope target) | None ↦ false ]) ≡ true → (is_some k ≡ true) × (is_some (term_kind scope target) ≡ true)
+    by None g = cc
+    by (Some kind) g = (refl, of_some (is_kind kind) (term_kind scope target) g)
+
+output_readable : (scope : Scope) (instance field : Name) (type : VariableType) (m : Member) → type_of scope instance ≡ Some type → output_named (members_of scope.before type) field ≡ Some m → is_some (elementary_kind m.type) ≡ true → IsReadable scope (Field instance field)
+output_readable scope instance field type m e f k =
+    let both = output_found (members_of scope.before type) field m f in
+    let there = field_found scope instance field type m e both.0 in
+    readable scope (Field instance field) tt (ap is_readable there ∙ both.1)
+    (inl (ap (λ (o : Option Entity). is_some (elim o as (λ x. Option Kind) [ Some x ↦ elementary_kind x.type | None ↦ None ])) there ∙ k))
+
+passable : (scope : Scope) (line : ℕ) (instance : Name) (type : VariableType) → type_of scope instance ≡ Some type → (before arguments : List Assignment) → Clean (flat_map (λ (a : Assignment). term_checks scope.unit a.actual) arguments) → Clean (flat_map (argument_checks scope line (members_of scope.before type)) (spots_behind before arguments)) →
+    ArePassable scope instance arguments
+passable scope line instance type e before [] named c = tt
+passable scope line instance type e before (argument ∷ arguments) named c =
     let members = members_of scope.before type in
     let spot : Spot Assignment = record { before = before; item = argument; behind = arguments } in
     let rest = flat_map (argument_checks scope line members) (spots_behind (argument ∷ before) arguments) in
     let own = clean_first (argument_checks scope line members spot) rest c in
-    let m = some_of (input_named members argument.input) own.0 in
-    let suits = own.1.1.1.1.0 in
-    let others = flat_map (λ (a : Assignment). term_checks scope.unit a.value) arguments in (
-      (
-        readable scope argument.value (clean_first (term_checks scope.unit argument.value) others named) own.1.1.1.0 (input_kinds scope (input_named members argument.input) argument.value suits),
-        input_writable scope instance argument.input type m.0 argument.value e m.1 (subst (λ (o : Option Member). suits_input scope o argument.value ≡ true) m.1 suits),
-      ),
-      assignable scope line instance type e (argument ∷ before) arguments (clean_second (term_checks scope.unit argument.value) others named) (clean_second (argument_checks scope line members spot) rest c),
+    let others = flat_map (λ (a : Assignment). term_checks scope.unit a.actual) arguments in (
+      by argument.direction own.0 own.1.1 (clean_first (term_checks scope.unit argument.actual) others named),
+      passable scope line instance type e (argument ∷ before) arguments (clean_second (term_checks scope.unit argument.actual) others named) (clean_second (argument_checks scope line members spot) rest c),
     )
+  where
+    by : (d : Direction) → is_some (formal_named d (members_of scope.before type) argument.formal) ≡ true → Clean (actual_checks scope line d (formal_named d (members_of scope.before type) argument.formal) argument.actual) → Clean (term_checks scope.unit argument.actual) →
+        IsPassable scope instance d argument.formal argument.actual
+    by Into found own named =
+        let m = some_of (input_named (members_of scope.before type) argument.formal) found in
+        let suits = own.1.1.0 in (
+          readable scope argument.actual named own.1.0 (input_kinds scope (input_named (members_of scope.before type) argument.formal) argument.actual suits),
+          input_writable scope instance argument.formal type m.0 argument.actual e m.1 (subst (λ (o : Option Member). suits_input scope o argument.actual ≡ true) m.1 suits),
+        )
+    by OutOf found own named =
+        let m = some_of (output_named (members_of scope.before type) argument.formal) found in
+        let kinds = output_kinds scope m.0 argument.actual (subst (λ (o : Option Member). suits_output scope o argument.actual ≡ true) m.1 own.1.1.0) in (
+          output_readable scope instance argument.formal type m.0 e m.1 kinds.0,
+          writable scope argument.actual (writable_is_stored scope argument.actual own.0 own.1.0) named own.1.0 kinds.1,
+        )
 
 -- a block that is found stands before
 block_shorter : (before : List ProgramUnit) (name : Name) (found : ProgramUnit × List ProgramUnit) → block_named before name ≡ Some found → length found.1 < length before
@@ -170,14 +192,14 @@ callable scope instance (Block name) e few h =
     subst IsKnownBlock (sym known.1) (omega (arith, l, few))
 
 -- a call
-call_layable : (scope : Scope) (line : ℕ) (condition : Rattle.wc_model.specs.declared.operator.Condition.Condition) (instance : Name) (arguments : List Assignment) (kind : Option Kind) → length scope.before < 65536 → Clean (flat_map (λ (a : Assignment). term_checks scope.unit a.value) arguments) → Clean (call_checks scope line condition instance arguments kind) →
-    IsCallable scope (type_of scope instance) × AreAssignable scope instance arguments
+call_layable : (scope : Scope) (line : ℕ) (condition : Rattle.wc_model.specs.declared.operator.Condition.Condition) (instance : Name) (arguments : List Assignment) (kind : Option Kind) → length scope.before < 65536 → Clean (flat_map (λ (a : Assignment). term_checks scope.unit a.actual) arguments) → Clean (call_checks scope line condition instance arguments kind) →
+    IsCallable scope (type_of scope instance) × ArePassable scope instance arguments
 call_layable scope line condition instance arguments kind few named c =
     let type = some_of (type_of scope instance) c.0 in
     let behind = flat_map (argument_checks scope line (members_called scope (type_of scope instance))) (spots_of arguments) in
     let checked = clean_second (condition_checks condition line kind) behind c.1.1 in (
       subst (IsCallable scope) (sym type.1) (callable scope instance type.0 type.1 few (subst (λ t. is_instance t ≡ true) type.1 c.1.0)),
-      assignable scope line instance type.0 type.1 [] arguments named (subst (λ t. Clean (flat_map (argument_checks scope line (members_called scope t)) (spots_of arguments))) type.1 checked),
+      passable scope line instance type.0 type.1 [] arguments named (subst (λ t. Clean (flat_map (argument_checks scope line (members_called scope t)) (spots_of arguments))) type.1 checked),
     )
 
 -- a step

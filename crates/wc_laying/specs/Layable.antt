@@ -8,6 +8,8 @@ use Rattle.wc_model.specs.Language.Names.{Name}
 use Rattle.wc_model.specs.Language.Scopes.{Scope, readable_place, type_of, writable_place}
 use Rattle.wc_model.specs.Language.Store.{Location, Plain as PlainContent}
 use Rattle.wc_model.specs.Language.Tree.{Term, Constant, Address, Variable, Field, Assignment, ProgramUnit, Step, Load, Store, Apply, Negate, Jump, Call, Return, Lines, End, Alone, Plain, Nested}
+use Rattle.wc_model.specs.declared.operator.Direction.{Direction}
+use Rattle.wc_model.specs.declared.operator.Direction.TheVariants.{Into, OutOf}
 
 -- a place that the unit's frame has
 abbrev pub HasPlace : Scope → Option Location → Type 0
@@ -40,11 +42,15 @@ IsLoadable negated (Address word) = Unit {0}
 IsLoadable negated (Variable name) = Unit {0}
 IsLoadable negated (Field instance field) = Unit {0}
 
--- each argument assigns what may be read to what may be written
-abbrev pub AreAssignable : Scope → Name → List Assignment → Type 0
-AreAssignable scope instance [] = Unit {0}
-AreAssignable scope instance (argument ∷ arguments) =
-    (IsReadable scope argument.value × IsWritable scope (Field instance argument.input)) × AreAssignable scope instance arguments
+-- an input takes what may be read, and an output goes where may be written
+abbrev pub IsPassable : Scope → Name → Direction → Name → Term → Type 0
+IsPassable scope instance Into formal actual = IsReadable scope actual × IsWritable scope (Field instance formal)
+IsPassable scope instance OutOf formal actual = IsReadable scope (Field instance formal) × IsWritable scope actual
+
+abbrev pub ArePassable : Scope → Name → List Assignment → Type 0
+ArePassable scope instance [] = Unit {0}
+ArePassable scope instance (argument ∷ arguments) =
+    IsPassable scope instance argument.direction argument.formal argument.actual × ArePassable scope instance arguments
 
 -- an instance of a block, whose unit has a number of 16 bits
 abbrev pub IsKnownBlock : Option (ProgramUnit × List ProgramUnit) → Type 0
@@ -65,7 +71,7 @@ IsStepLayable scope reached (Apply operator term) = IsReadable scope term
 IsStepLayable scope reached Negate = Unit {0}
 IsStepLayable scope reached (Jump condition label) = reached label
 IsStepLayable scope reached (Call condition instance arguments) =
-    IsCallable scope (type_of scope instance) × AreAssignable scope instance arguments × (length arguments < 65536)
+    IsCallable scope (type_of scope instance) × ArePassable scope instance arguments × (length arguments < 65536)
 IsStepLayable scope reached (Return condition) = Unit {0}
 
 -- an opening line

@@ -1,7 +1,7 @@
 -- What is laid flat so far, from the last line to the first. (No rule of the language.)
 use Rattle.std.specs.Prelude.{◌≡◌, ℕ, ◌+◌, List, [], ◌∷◌, ◌++◌, length, map, Option, Some, None, if◌then◌else◌}
 use Rattle.wc_flat.specs.FlatPaths.{sources_of, step_sources}
-use Rattle.wc_flat.specs.Laid.{AreArguments, IsLaid, IsOpening, IsStepLaid, lines_ahead}
+use Rattle.wc_flat.specs.Laid.{AreArguments, AreOutputs, IsLaid, IsOpening, IsStepLaid, lines_ahead}
 use Rattle.wc_model.specs.Language.Declarations.{named_in, same_name}
 use Rattle.wc_model.specs.Language.Kinds.{BodyLine, AloneLine, PlainLine, NestedLine}
 use Rattle.wc_model.specs.Language.Names.{Name}
@@ -46,10 +46,14 @@ AddsLine scope rest line old new = Adds (IsLineLaid scope rest line) (line_sourc
 abbrev pub AddsLines : Scope → Lines → FlatLines → FlatLines → Type 0
 AddsLines scope lines old new = Adds (IsLaid scope lines) (sources_of lines) old new
 
--- the arguments of a call at a line
+-- the inputs of a call's list at a line, and its outputs
 abbrev pub AddsArguments : Scope → Name → ℕ → List Assignment → FlatLines → FlatLines → Type 0
-AddsArguments scope instance line arguments old new =
-    Adds (AreArguments scope instance arguments) (map (λ argument. line) arguments) old new
+AddsArguments scope instance line inputs old new =
+    Adds (AreArguments scope instance inputs) (map (λ input. line) inputs) old new
+
+abbrev pub AddsOutputs : Scope → Name → ℕ → List Assignment → FlatLines → FlatLines → Type 0
+AddsOutputs scope instance line outputs old new =
+    Adds (AreOutputs scope instance outputs) (map (λ output. line) outputs) old new
 
 -- the flat lines of these lines, and of nothing else
 abbrev pub IsFlat : Scope → Lines → FlatLines → Type 0

@@ -7,11 +7,11 @@ ghost use Rattle.wc_model.specs.Language.Names.{Name, name_of};
 ghost use Rattle.wc_model.specs.Language.Scopes.{Scope, type_of};
 ghost use Rattle.wc_model.specs.Language.Tree.{Call, Lines};
 ghost use Rattle.wc_model.specs.Language.Views.{assignment_view};
-ghost use Rattle.wc_laying.specs.Layable.{AreAssignable, IsCallable};
+ghost use Rattle.wc_laying.specs.Layable.{ArePassable, IsCallable};
 ghost use Rattle.wc_laying.specs.Laying.{Adds};
 ghost use Rattle.wc_verify.specs.Seeing.{IsScope};
 
-use crate::arguments::put_arguments;
+use crate::arguments::{put_inputs, put_outputs};
 use crate::flat::Flat;
 use wc_model::{Argument, Code, Condition, Fault, Place};
 use wc_names::{DeclaredType, Tables};
@@ -26,7 +26,7 @@ fn unit_number(number: usize) -> u16
     }
 }
 
-/// How many flat lines stand behind a call's own, for its arguments and its body.
+/// How many flat lines stand behind a call's own, for its inputs, its body and its outputs.
 fn call_length(arguments: usize) -> u32
     ensures { arguments < 65536 → result ≡ 1 + arguments }
 {
@@ -78,7 +78,7 @@ pub(crate) fn put_call<'a>(
     ensures put { OnOk result
         ((scope : Scope) (rest : Lines) → IsScope tables.now unit scope
         → IsCallable scope (type_of scope (name_of instance.now))
-        → AreAssignable scope (name_of instance.now) (map assignment_view arguments.now)
+        → ArePassable scope (name_of instance.now) (map assignment_view arguments.now)
         → length (map assignment_view arguments.now) < 65536
         → Adds
         (IsStepLaid scope rest
@@ -88,10 +88,13 @@ pub(crate) fn put_call<'a>(
         flat.old flat.new) }
     ensures memory { IsOkUnless result Fault.Memory }
 {
+    if let Err(fault) = put_outputs(tables, unit, instance, arguments, line, flat) {
+        return Err(fault);
+    }
     if let Err(fault) = flat.put(body_line(tables, unit, instance), line) {
         return Err(fault);
     }
-    if let Err(fault) = put_arguments(tables, unit, instance, arguments, line, flat) {
+    if let Err(fault) = put_inputs(tables, unit, instance, arguments, line, flat) {
         return Err(fault);
     }
     let skip = call_length(arguments.len());

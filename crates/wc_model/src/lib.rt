@@ -35,7 +35,7 @@ pub use fuse_out::FuseOut;
 pub use image::{Image, Outputs, Steps};
 pub use kind::{Kind, SlotKind};
 pub use operand::{Operand, Word};
-pub use operator::{Condition, Operator, Storing};
+pub use operator::{Condition, Direction, Operator, Storing};
 pub use place::{Path, Place};
 pub use source::{Decl, Initial, Section, Source, Unit, UnitKind};
 pub use tree::{Argument, Instr, Line};

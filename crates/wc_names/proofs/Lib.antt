@@ -12,5 +12,5 @@ pub mod FirstSlots
 pub mod OwnNumbers
 pub mod MemberTables
 pub mod Entities
-pub mod Inputs
+pub mod Formals
 pub mod PlainVariables

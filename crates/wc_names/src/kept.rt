@@ -1,5 +1,5 @@
 ghost use Rattle.std.specs.Prelude.{◌≡◌, ◌≤◌, ℕ, None, Some, IfOk, IfSome, IsOkUnless, is_some, length, map, option_and_then, option_map, slice_get};
-ghost use Rattle.wc_model.specs.Language.BodyRules.{input_named};
+ghost use Rattle.wc_model.specs.Language.BodyRules.{formal_named};
 ghost use Rattle.wc_model.specs.Language.Declarations.{VariableType, members_of};
 ghost use Rattle.wc_model.specs.Language.Frames.{first_numbers, frame_of, location_of, number_of_path, place_number, plain_variables, slot_kinds};
 ghost use Rattle.wc_model.specs.Language.Names.{name_of};
@@ -11,20 +11,20 @@ ghost use Rattle.wc_soundness.specs.FirstNumbers.{AreFirst};
 ghost use Rattle.wc_names.specs.StandsFor.{AreTables, first_number};
 ghost use Rattle.wc_model.specs.declared.source.Source.{Source};
 ghost use Rattle.wc_names.specs.Spelled.{AreSpelledAs, spelled, spelled_of_unit};
-ghost use Rattle.wc_names.specs.Numbered.{IsNoUnit, IsUnit, StandsFrom, numbered_entity, numbered_input, numbered_type, plain_of_field};
+ghost use Rattle.wc_names.specs.Numbered.{IsNoUnit, IsUnit, StandsFrom, numbered_entity, numbered_formal, numbered_type, plain_of_field};
 
 use crate::declared_type::DeclaredType;
 use crate::entity::Entity;
 use crate::field::Field;
 use crate::finished::slots;
 use crate::frame::Frame;
-use crate::input::{Input, input_of};
+use crate::formal::{Formal, formal_of};
 use crate::located::Located;
 use crate::lookup::{address, number, row};
 use crate::naming::{entity, place_at};
 use crate::unit_table::UnitTable;
 use std::alloc::Global;
-use wc_model::{Fault, Operand, Path, Place};
+use wc_model::{Direction, Fault, Operand, Path, Place};
 
 /// The names of a text with what they stand for. They borrow the text, not its tree.
 #[derive(Drop)]
@@ -93,23 +93,28 @@ impl<'a> Tables<'a> {
         }
     }
 
-    /// The input of that name of what has this type, with its kind and its place, counted from the first
-    /// place of an instance. It is `None` for other names: outputs and the block's own variables are none.
-    pub fn input(&self, declared: DeclaredType, name: &[u8]) -> Option<Input>
+    /// The input or output of that name of what has this type, with its kind and its place, counted from
+    /// the first place of an instance. It is `None` for other names: a block's own variables are neither.
+    pub fn formal(
+        &self,
+        declared: DeclaredType,
+        direction: Direction,
+        name: &[u8],
+    ) -> Option<Formal>
         ensures found { (text : Text) (unit : ℕ) (scope : Scope) (type : VariableType)
             → AreTables self.now text
             → IsUnit text unit scope
             → numbered_type scope.before type ≡ Some declared
-            → result ≡ option_and_then (numbered_input scope.before type)
-            (input_named (members_of scope.before type) (name_of name.now)) }
+            → result ≡ option_and_then (numbered_formal scope.before type)
+            (formal_named direction (members_of scope.before type) (name_of name.now)) }
         ensures known { (text : Text) (unit : ℕ) (scope : Scope) (type : VariableType)
             → AreTables self.now text
             → IsUnit text unit scope
             → numbered_type scope.before type ≡ Some declared
             → is_some result
-            ≡ is_some (input_named (members_of scope.before type) (name_of name.now)) }
+            ≡ is_some (formal_named direction (members_of scope.before type) (name_of name.now)) }
     {
-        input_of(&self.units, declared, name)
+        formal_of(&self.units, declared, direction, name)
     }
 
     /// The plain variables of a unit, in the order of declaration; `None` where there is no such unit.

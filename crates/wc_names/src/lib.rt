@@ -7,8 +7,9 @@ mod declared_type;
 mod entity;
 mod field;
 mod finished;
+mod formal;
 mod frame;
-mod input;
+
 mod kept;
 mod key;
 mod located;
@@ -23,8 +24,9 @@ pub use address::variable_at;
 pub use declared_type::DeclaredType;
 pub use entity::Entity;
 pub use field::Field;
+pub use formal::Formal;
 pub use frame::Frame;
-pub use input::Input;
+
 pub use kept::Tables;
 pub use key::Key;
 pub use located::Located;

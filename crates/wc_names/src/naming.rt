@@ -84,7 +84,7 @@ pub(crate) fn is_input(section: Section) -> bool
 }
 
 /// Whether variables of a section are outputs.
-fn is_result(section: Section) -> bool
+pub(crate) fn is_result(section: Section) -> bool
     ensures { result ≡ is_result section }
 {
     match section {

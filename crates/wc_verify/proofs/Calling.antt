@@ -3,7 +3,7 @@ use Rattle.std.proofs.Common.{◌≡◌, ℕ, Bool, true, false, not, List, [], 
 use Rattle.std.proofs.lemmas.List.Folds.{list_any-append}
 use Rattle.std.specs.List.{flat_map, list_any}
 use Rattle.std.specs.Prelude.{◌||◌, option_and_then, option_map, is_some, OnOk}
-use Rattle.wc_model.specs.Language.BodyRules.{argument_checks, condition_checks, input_named, is_instance, members_called, reading_checks, suits_input}
+use Rattle.wc_model.specs.Language.BodyRules.{actual_checks, argument_checks, condition_checks, formal_named, is_instance, members_called}
 use Rattle.wc_model.specs.Language.Checks.{Check, Spot, asks, first_broken, spots_behind, spots_of}
 use Rattle.wc_model.specs.Language.DeclarationRules.{is_among}
 use Rattle.wc_model.specs.Language.Declarations.{Member, VariableType, Elementary, Standard, Block, block_named, members_of, same_name}
@@ -13,46 +13,44 @@ use Rattle.wc_model.specs.Language.Scopes.{Scope}
 use Rattle.wc_model.specs.Language.Tree.{Assignment, ProgramUnit}
 use Rattle.wc_model.specs.declared.kind.Kind.{Kind}
 use Rattle.wc_model.specs.declared.operator.Condition.{Condition}
-use Rattle.wc_names.specs.Numbered.{number_within, numbered_input, numbered_type}
+use Rattle.wc_names.specs.Numbered.{number_within, numbered_formal, numbered_type}
 use Rattle.wc_names.specs.declared.declared_type.DeclaredType.{DeclaredType}
 use Rattle.wc_names.specs.declared.declared_type.DeclaredType.TheVariants as numbered
-use Rattle.wc_names.specs.declared.input.Input.{Input}
+use Rattle.wc_names.specs.declared.formal.Formal.{Formal}
 use Rattle.wc_names.specs.declared.kept.Tables.{Tables}
 use Rattle.wc_verify.specs.Calls.{HoldsNames, is_numbered_instance}
 use Rattle.wc_names.specs.Keys.{same_name_laws}
 use Rattle.wc_verify.specs.Seeing.{IsScope}
-use Rattle.wc_verify.proofs.Found.{Asked, Both, Finds, asked_as, joined}
+use Rattle.wc_verify.proofs.Found.{Finds}
 
--- an input that is found is a member of its kind
-pub record IsInput (o : Option Member) (kind : Kind) : Type 0 where
+-- an input or output that is found is a member of its kind
+pub record IsFormal (o : Option Member) (kind : Kind) : Type 0 where
   pub member : Member
   pub is : o ≡ Some member
   pub kind_is : elementary_kind member.type ≡ Some kind
 
-kind_parts : (k : Option Kind) (w : Option ℕ) (input : Input) → Some input ≡ option_and_then (λ kind. option_map (λ n. record { kind = kind; place = n }) w) k → k ≡ Some input.kind
-kind_parts None w input h = cc
-kind_parts (Some kind) None input h = cc
-kind_parts (Some kind) (Some n) input h = ap (λ o. option_map (λ (i : Input). i.kind) o) (sym h)
+kind_parts : (k : Option Kind) (w : Option ℕ) (formal : Formal) → Some formal ≡ option_and_then (λ kind. option_map (λ n. record { kind = kind; place = n }) w) k → k ≡ Some formal.kind
+kind_parts None w formal h = cc
+kind_parts (Some kind) None formal h = cc
+kind_parts (Some kind) (Some n) formal h = ap (λ o. option_map (λ (i : Formal). i.kind) o) (sym h)
 
-pub input_parts : (scope : Scope) (type : VariableType) (o : Option Member) (input : Input) → Some input ≡ option_and_then (numbered_input scope.before type) o → IsInput o input.kind
-input_parts scope type None input h = absurd (cc)
-input_parts scope type (Some m) input h = record { member = m; is = refl; kind_is = kind_parts (elementary_kind m.type) (number_within scope.before type (m.name ∷ [])) input h }
+pub formal_parts : (scope : Scope) (type : VariableType) (o : Option Member) (formal : Formal) → Some formal ≡ option_and_then (numbered_formal scope.before type) o → IsFormal o formal.kind
+formal_parts scope type None formal h = absurd (cc)
+formal_parts scope type (Some m) formal h = record { member = m; is = refl; kind_is = kind_parts (elementary_kind m.type) (number_within scope.before type (m.name ∷ [])) formal h }
 
--- the rules of an argument whose input there is, and which is not assigned before
-pub argument_found : (scope : Scope) (members : List Member) (spot : Spot Assignment) (kind : Kind) (p q r : Option ℕ) (suits : Bool) → IsInput (input_named members spot.item.input) kind →
-    list_any (λ a. same_name a.input spot.item.input) spot.before ≡ false → Finds (λ line. reading_checks scope line spot.item.value) p → Asked 402 suits q → Both p q r →
-    ((m : Member) → elementary_kind m.type ≡ Some kind → suits_input scope (Some m) spot.item.value ≡ suits) → Finds (λ line. argument_checks scope line members spot) r
-argument_found scope members spot kind p q r suits input new reads asked both suiting line rest =
-    let value = spot.item.value in
-    (λ i. first_broken (asks 409 line (is_some (input.is i)) ∷ asks 410 line (not (new i)) ∷ reading_checks scope line value ++ asks 402 line (suits_input scope (input.is i) value) ∷ [] ++ rest))
-    ∙ joined (λ line. reading_checks scope line value) (λ line. asks 402 line (suits_input scope (Some input.member) value) ∷ []) p q r reads (asked_as 402 suits (suits_input scope (Some input.member) value) q asked (suiting input.member input.kind_is)) both line rest
+-- the rules of one of a call's list whose input or output there is, and which is not named before
+pub argument_found : (scope : Scope) (members : List Member) (spot : Spot Assignment) (kind : Kind) (r : Option ℕ) → IsFormal (formal_named spot.item.direction members spot.item.formal) kind →
+    list_any (λ a. same_name a.formal spot.item.formal) spot.before ≡ false →
+    ((m : Member) → elementary_kind m.type ≡ Some kind → Finds (λ line. actual_checks scope line spot.item.direction (Some m) spot.item.actual) r) → Finds (λ line. argument_checks scope line members spot) r
+argument_found scope members spot kind r formal new found line rest =
+    (λ i. first_broken (asks 409 line (is_some (formal.is i)) ∷ asks 410 line (not (new i)) ∷ actual_checks scope line spot.item.direction (formal.is i) spot.item.actual ++ rest))
+    ∙ found formal.member formal.kind_is line rest
 
--- one that is assigned before
-pub assigned_found : (scope : Scope) (members : List Member) (spot : Spot Assignment) (kind : Kind) (line : ℕ) (rest : List Check) → IsInput (input_named members spot.item.input) kind →
-    list_any (λ a. same_name a.input spot.item.input) spot.before ≡ true → first_broken (argument_checks scope line members spot ++ rest) ≡ Some (record { number = 410; line = line })
-assigned_found scope members spot kind line rest input old =
-    let value = spot.item.value in
-    (λ i. first_broken (asks 409 line (is_some (input.is i)) ∷ asks 410 line (not (old i)) ∷ reading_checks scope line value ++ asks 402 line (suits_input scope (input.is i) value) ∷ [] ++ rest))
+-- one that is named before
+pub assigned_found : (scope : Scope) (members : List Member) (spot : Spot Assignment) (kind : Kind) (line : ℕ) (rest : List Check) → IsFormal (formal_named spot.item.direction members spot.item.formal) kind →
+    list_any (λ a. same_name a.formal spot.item.formal) spot.before ≡ true → first_broken (argument_checks scope line members spot ++ rest) ≡ Some (record { number = 410; line = line })
+assigned_found scope members spot kind line rest formal old =
+    (λ i. first_broken (asks 409 line (is_some (formal.is i)) ∷ asks 410 line (not (old i)) ∷ actual_checks scope line spot.item.direction (formal.is i) spot.item.actual ++ rest))
 
 or_last : (a b : Bool) → (a || (b || false)) ≡ (b || a)
 or_last true true = refl
@@ -61,9 +59,9 @@ or_last false true = refl
 or_last false false = refl
 
 -- one more name
-pub one_more : (names : List Name) (before : List Assignment) (a : Assignment) → HoldsNames names before → HoldsNames (names ++ a.input ∷ []) (a ∷ before)
+pub one_more : (names : List Name) (before : List Assignment) (a : Assignment) → HoldsNames names before → HoldsNames (names ++ a.formal ∷ []) (a ∷ before)
 one_more names before a held = λ name.
-    list_any-append (same_name name) names (a.input ∷ []) ∙ or_last (is_among names name) (same_name name a.input) ∙ (λ i. same_name_laws.symm name a.input i || held name i)
+    list_any-append (same_name name) names (a.formal ∷ []) ∙ or_last (is_among names name) (same_name name a.formal) ∙ (λ i. same_name_laws.symm name a.formal i || held name i)
 
 -- what stands behind the arguments so far, newest first
 pub record ArgumentsBehind (tables : Tables) (unit : ℕ) (declared : DeclaredType) (line : ℕ) (names : List Name) (all left : List Assignment) : Type 0 where
@@ -100,7 +98,7 @@ not_new true new e t = cc
 not_new false new e t = refl
 
 -- a name that is new among those kept is assigned by none before
-pub is_new : (names : List Name) (before : List Assignment) (name : Name) → HoldsNames names before → (new : Bool) → new ≡ not (is_among names name) → new ≡ true → list_any (λ a. same_name a.input name) before ≡ false
+pub is_new : (names : List Name) (before : List Assignment) (name : Name) → HoldsNames names before → (new : Bool) → new ≡ not (is_among names name) → new ≡ true → list_any (λ a. same_name a.formal name) before ≡ false
 is_new names before name held new e t = sym (held name) ∙ not_new (is_among names name) new e t
 
 -- the type of an instance, or of another variable, from its number

@@ -8,9 +8,9 @@ use Rattle.wc_model.specs.Language.Tree.{Assignment}
 use Rattle.wc_names.specs.declared.declared_type.DeclaredType.{DeclaredType}
 use Rattle.wc_names.specs.declared.declared_type.DeclaredType.TheVariants.{Elementary, Standard, Block}
 
--- the names are those of the inputs that are assigned
+-- the names are those of the inputs and outputs that are named so far
 abbrev pub HoldsNames : List Name → List Assignment → Type 0
-HoldsNames names before = (name : Name) → is_among names name ≡ list_any (λ a. same_name a.input name) before
+HoldsNames names before = (name : Name) → is_among names name ≡ list_any (λ a. same_name a.formal name) before
 
 -- the type of an instance
 abbrev pub is_numbered_instance : DeclaredType → Bool

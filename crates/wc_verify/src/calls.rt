@@ -1,25 +1,26 @@
 ghost use Rattle.std.specs.Prelude.{◌≡◌, ℕ, ◌∷◌, ◌++◌, List, Option, Some, OnOk, map, option_and_then, is_some};
 ghost use Rattle.std.specs.List.{flat_map};
-ghost use Rattle.wc_model.specs.Language.BodyRules.{argument_checks, call_checks, suits_input};
+ghost use Rattle.wc_model.specs.Language.BodyRules.{actual_checks, argument_checks, call_checks, suits_input, suits_output};
 ghost use Rattle.wc_model.specs.Language.Checks.{Check, first_broken, spots_of};
 ghost use Rattle.wc_model.specs.Language.Declarations.{Member, VariableType, members_of};
 ghost use Rattle.wc_model.specs.Language.Kinds.{elementary_kind};
 ghost use Rattle.wc_model.specs.Language.Names.{name_of};
 ghost use Rattle.wc_model.specs.Language.Scopes.{Scope, type_of};
-ghost use Rattle.wc_model.specs.Language.Tree.{Assignment};
+ghost use Rattle.wc_model.specs.Language.Tree.{Assignment, Term};
 ghost use Rattle.wc_model.specs.Language.Views.{assignment_view, term_view};
 ghost use Rattle.wc_model.specs.Language.Judging.{Judges};
 ghost use Rattle.wc_names.specs.Numbered.{numbered_type};
+ghost use Rattle.wc_verify.specs.Found.{first_at};
 ghost use Rattle.wc_verify.specs.Calls.{HoldsNames, is_numbered_instance};
 ghost use Rattle.wc_verify.specs.Seeing.{IsScope, IsSeen};
 
 use crate::first::{first_of, refuse, refused, unless};
 use crate::kinds::is_kind;
 use crate::operands::is_bit_literal;
-use crate::refusals::{is_of_kind, judge_condition, judge_reading};
+use crate::refusals::{is_of_kind, judge_condition, judge_reading, judge_writing};
 use crate::seen::{Seen, see};
 use std::alloc::Global;
-use wc_model::{Argument, Condition, Fault, Kind, Operand};
+use wc_model::{Argument, Condition, Direction, Fault, Kind, Operand};
 use wc_names::{DeclaredType, Names, Tables};
 
 /// Whether an input of a kind takes what is assigned.
@@ -31,7 +32,57 @@ fn suits_input(kind: Kind, operand: &Operand<'_>, seen: Seen) -> bool
     is_of_kind(kind, seen.kind) || is_kind(Kind::Bool, kind) && is_bit_literal(operand)
 }
 
-/// Judges an argument behind others of its call, and keeps its name: 409, 410, 401, 405, 402.
+/// Whether a target of a kind takes what an output gives out.
+fn suits_output(kind: Kind, seen: Seen) -> bool
+    ensures { (scope : Scope) (m : Member) (target : Term) → IsSeen scope target seen
+        → elementary_kind m.type ≡ Some kind
+        → suits_output scope (Some m) target ≡ result }
+{
+    is_of_kind(kind, seen.kind)
+}
+
+/// What goes into an input of a kind: 401, 405, 402.
+fn judge_assigned(kind: Kind, operand: &Operand<'_>, seen: Seen) -> Option<u16>
+    ensures { (scope : Scope) (m : Member) (line : ℕ) (rest : List Check)
+        → IsSeen scope (term_view operand.now) seen → elementary_kind m.type ≡ Some kind
+        → first_broken
+        (actual_checks scope line Direction.Into (Some m) (term_view operand.now) ++ rest)
+        ≡ first_at result line (first_broken rest) }
+{
+    let suits = suits_input(kind, operand, seen);
+    first_of(judge_reading(seen), unless(suits, 402))
+}
+
+/// Where an output of a kind goes: 401, 404, 402.
+fn judge_given(kind: Kind, seen: Seen) -> Option<u16>
+    ensures { (scope : Scope) (m : Member) (target : Term) (line : ℕ) (rest : List Check)
+        → IsSeen scope target seen → elementary_kind m.type ≡ Some kind
+        → first_broken (actual_checks scope line Direction.OutOf (Some m) target ++ rest)
+        ≡ first_at result line (first_broken rest) }
+{
+    let suits = suits_output(kind, seen);
+    first_of(judge_writing(seen), unless(suits, 402))
+}
+
+/// What is passed to an input or from an output of a kind.
+fn judge_actual(
+    direction: Direction,
+    kind: Kind,
+    operand: &Operand<'_>,
+    seen: Seen,
+) -> Option<u16>
+    ensures { (scope : Scope) (m : Member) (line : ℕ) (rest : List Check)
+        → IsSeen scope (term_view operand.now) seen → elementary_kind m.type ≡ Some kind
+        → first_broken (actual_checks scope line direction (Some m) (term_view operand.now) ++ rest)
+        ≡ first_at result line (first_broken rest) }
+{
+    match direction {
+        Direction::Into => judge_assigned(kind, operand, seen),
+        Direction::OutOf => judge_given(kind, seen),
+    }
+}
+
+/// Judges one of a call's list behind others, and keeps its name: 409, 410, and what is passed.
 fn judge_argument<'a>(
     tables: &Tables<'a>,
     unit: usize,
@@ -52,7 +103,7 @@ fn judge_argument<'a>(
         ((before : List Assignment) → HoldsNames names.old before
         → HoldsNames names.new (assignment_view argument.now ∷ before)) }
 {
-    let Some(input) = tables.input(declared, argument.name) else {
+    let Some(formal) = tables.formal(declared, argument.direction, argument.name) else {
         return Err(refused(409, line));
     };
     let new = match names.add(argument.name) {
@@ -63,8 +114,8 @@ fn judge_argument<'a>(
         return Err(refused(410, line));
     }
     let seen = see(tables, unit, &argument.value);
-    let suits = suits_input(input.kind, &argument.value, seen);
-    refuse(first_of(judge_reading(seen), unless(suits, 402)), line)
+    let found = judge_actual(argument.direction, formal.kind, &argument.value, seen);
+    refuse(found, line)
 }
 
 /// Judges the arguments of a call in written order.

@@ -20,6 +20,7 @@ use Rattle.wc_model.specs.declared.operator.Operator.{Operator}
 use Rattle.wc_model.specs.declared.operator.Operator.TheVariants.{And, Andn, Or, Orn, Xor, Xorn, Add, Sub, Mul, Div, Mod, Gt, Ge, Eq, Ne, Le, Lt}
 use Rattle.wc_model.specs.declared.operator.Storing.{Storing}
 use Rattle.wc_model.specs.declared.operator.Storing.TheVariants.{Result as StoreResult, Negation, Set, Reset}
+use Rattle.wc_model.specs.declared.source.Section.{Section}
 use Rattle.wc_model.specs.declared.value.Value.TheVariants.{Dint}
 
 -- 401: there is such a thing; 405 and 404: it may be read or written from here
@@ -130,15 +131,18 @@ store_checks scope line Set target kind = writing_checks scope line target ++ tr
 store_checks scope line Reset target kind = writing_checks scope line target ++ truth_checks line kind ++ asks 402 line (suits_target scope target kind) ∷ []
 
 -- what a call's list may name: an input that is assigned, an output that is given out
-abbrev pub input_named : List Member → Name → Option Member
-input_named members name = elim (member_named members name) [ Some m ↦ (if is_input m.section then Some m else None) | None ↦ None ]
-
-abbrev pub output_named : List Member → Name → Option Member
-output_named members name = elim (member_named members name) [ Some m ↦ (if is_result m.section then Some m else None) | None ↦ None ]
+abbrev pub passes : Direction → Section → Bool
+passes Into section = is_input section
+passes OutOf section = is_result section
 
 abbrev pub formal_named : Direction → List Member → Name → Option Member
-formal_named Into members name = input_named members name
-formal_named OutOf members name = output_named members name
+formal_named direction members name = elim (member_named members name) [ Some m ↦ (if passes direction m.section then Some m else None) | None ↦ None ]
+
+abbrev pub input_named : List Member → Name → Option Member
+input_named members name = formal_named Into members name
+
+abbrev pub output_named : List Member → Name → Option Member
+output_named members name = formal_named OutOf members name
 
 -- 402: the value is of the input's kind, or a literal 0 or 1 for a BOOL
 abbrev pub suits_input : Scope → Option Member → Term → Bool

@@ -45,11 +45,11 @@ returns-in-Apply t c = λ unit others rest block.
 pub returns-in-Call : goal.returns-in-Call
 returns-in-Call t c = λ unit others rest block.
     let behind = body_name_checks unit others ++ rest in
-    let own = flat_map (λ a. term_checks unit a.value) (map assignment_view c.in-Call.arguments.items) ++ behind in
-    judges_same (first_broken (body_name_checks unit (line_view c.args.line.now others) ++ rest)) (first_broken (flat_map (λ a. term_checks unit a.value) (map assignment_view c.deref.result.now) ++ behind)) (first_broken behind) c.judge_arguments.result
+    let own = flat_map (λ a. term_checks unit a.actual) (map assignment_view c.in-Call.arguments.items) ++ behind in
+    judges_same (first_broken (body_name_checks unit (line_view c.args.line.now others) ++ rest)) (first_broken (flat_map (λ a. term_checks unit a.actual) (map assignment_view c.deref.result.now) ++ behind)) (first_broken behind) c.judge_arguments.result
     (call_at unit c.args.line.now c.in-Call.condition c.in-Call.instance c.in-Call.arguments c.in-Call.line others rest (c.in-Some.is ∙ ap Some c.in-Call.is)
     ∙ judges_ok (first_broken (label_checks (option_map word_view c.args.line.now.label) ++ own)) (first_broken own) c.judge_label.result c.in_default.field-0 c.in_default.is (c.judge_label.ensures.judged own)
-    ∙ ap (λ xs. first_broken (flat_map (λ a. term_checks unit a.value) (map assignment_view xs) ++ behind)) (sym c.deref.ensures.value))
+    ∙ ap (λ xs. first_broken (flat_map (λ a. term_checks unit a.actual) (map assignment_view xs) ++ behind)) (sym c.deref.ensures.value))
     (c.judge_arguments.ensures unit behind block)
 
 pub returns-in-Err-judge_first : goal.returns-in-Err-judge_first

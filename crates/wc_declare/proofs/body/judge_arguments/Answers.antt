@@ -6,6 +6,7 @@ use Rattle.wc_model.specs.Language.DeclarationRules.{term_checks}
 use Rattle.wc_model.specs.Language.Tree.{Assignment, ProgramUnit}
 use Rattle.wc_model.specs.Language.Views.{assignment_view, term_view}
 use Rattle.wc_model.specs.declared.operand.Operand.TheVariants.{Literal}
+use Rattle.wc_model.specs.declared.operator.Direction.TheVariants.{Into}
 use Rattle.wc_model.specs.declared.tree.Argument.{Argument}
 use Rattle.wc_model.specs.declared.value.Value.TheVariants.{Bool as Truth}
 use Rattle.wc_declare.proofs.Judging.{judges_err, judges_ok}
@@ -14,10 +15,10 @@ use Rattle.wc_declare.proofs.body.judge_arguments.Goals as goal
 
 -- the rules of arguments
 abbrev asked : ProgramUnit → List Assignment → List Check
-asked unit args = flat_map (λ a. term_checks unit a.value) args
+asked unit args = flat_map (λ a. term_checks unit a.actual) args
 
 abbrev no_argument : Argument
-no_argument = record { name = record { ref_ptr = (0, 0); now = [] }; value = Literal (Truth false) }
+no_argument = record { direction = Into; name = record { ref_ptr = (0, 0); now = [] }; value = Literal (Truth false) }
 
 pub returns-in-Err : goal.returns-in-Err
 returns-in-Err c = λ unit rest block.

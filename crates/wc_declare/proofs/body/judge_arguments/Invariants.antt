@@ -11,4 +11,4 @@ use Rattle.wc_declare.proofs.body.judge_arguments.Given as goal
 abbrev pub invariant-loop-argument : goal.invariant-loop-argument
 invariant-loop-argument l =
     (unit : ProgramUnit) (rest : List Check) → l.in_block ≡ is_block unit →
-    first_broken (flat_map (λ a. term_checks unit a.value) (map assignment_view l.arguments) ++ rest) ≡ first_broken (flat_map (λ a. term_checks unit a.value) (map assignment_view (drop l.argument-index l.arguments)) ++ rest)
+    first_broken (flat_map (λ a. term_checks unit a.actual) (map assignment_view l.arguments) ++ rest) ≡ first_broken (flat_map (λ a. term_checks unit a.actual) (map assignment_view (drop l.argument-index l.arguments)) ++ rest)

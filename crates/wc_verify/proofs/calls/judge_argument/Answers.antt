@@ -1,13 +1,13 @@
 use Rattle.std.proofs.Common.{◌≡◌, List, sym, ap, subst, ◌∙◌, ◌∷◌, [], ◌++◌}
 use Rattle.std.specs.Prelude.{if◌then◌else◌}
-use Rattle.wc_model.specs.Language.BodyRules.{input_named}
+use Rattle.wc_model.specs.Language.BodyRules.{formal_named}
 use Rattle.wc_model.specs.Language.Checks.{Spot, first_broken}
 use Rattle.wc_model.specs.Language.Tree.{Assignment}
 use Rattle.wc_model.specs.Language.Declarations.{members_of}
 use Rattle.wc_model.specs.Language.Names.{name_of}
-use Rattle.wc_model.specs.Language.Views.{assignment_view, term_view}
+use Rattle.wc_model.specs.Language.Views.{assignment_view}
 use Rattle.wc_verify.specs.Calls.{HoldsNames}
-use Rattle.wc_verify.proofs.Calling.{argument_found, input_parts, on_ok, one_more, is_new}
+use Rattle.wc_verify.proofs.Calling.{argument_found, formal_parts, on_ok, one_more, is_new}
 use Rattle.wc_verify.proofs.calls.judge_argument.Goals as goal
 
 pub returns-clause-judged : goal.returns-clause-judged
@@ -15,11 +15,10 @@ returns-clause-judged c = λ scope type before behind rest is num held.
     let spot : Spot Assignment = record { before = before; item = assignment_view c.args.argument.now; behind = behind } in
     let seen = c.see-seen.ensures scope is in
     c.refuse.ensures.judges _ (first_broken rest)
-    (argument_found scope (members_of scope.before type) spot c.in-Some.input.kind c.judge_reading.result c.unless.result c.first_of.result c.suits_input-suits.result
-    (input_parts scope type (input_named (members_of scope.before type) (name_of c.args.argument.now.name.now)) c.in-Some.input (c.in-Some.ensures.found is.text c.args.unit scope type is.tables_are is.unit_is num))
+    (argument_found scope (members_of scope.before type) spot c.in-Some.formal.kind c.judge_actual-found.result
+    (formal_parts scope type (formal_named c.args.argument.now.direction (members_of scope.before type) (name_of c.args.argument.now.name.now)) c.in-Some.formal (c.in-Some.ensures.found is.text c.args.unit scope type is.tables_are is.unit_is num))
     (is_new c.args.names.now before (name_of c.args.argument.now.name.now) held c.in-Ok.new c.in-Ok.ensures.new c.if-not-new.false)
-    (λ line rest. c.judge_reading.ensures scope (term_view c.args.argument.now.value) line rest seen) c.unless.ensures c.first_of.ensures
-    (λ m kind. c.suits_input-suits.ensures scope m seen kind) c.args.line rest)
+    (λ m kind line rest. c.judge_actual-found.ensures scope m line rest seen kind) c.args.line rest)
 
 pub returns-clause-held : goal.returns-clause-held
 returns-clause-held c = on_ok c.refuse.result ((before : List Assignment) → HoldsNames c.args.names.now before → HoldsNames c.add.new.self (assignment_view c.args.argument.now ∷ before))

@@ -7,6 +7,7 @@ use Rattle.wc_model.specs.Language.Names.{Name}
 use Rattle.wc_model.specs.Language.Tree.{Assignment}
 use Rattle.wc_model.specs.Language.Views.{assignment_view}
 use Rattle.wc_model.specs.declared.operand.Operand.TheVariants.{Literal}
+use Rattle.wc_model.specs.declared.operator.Direction.TheVariants.{Into}
 use Rattle.wc_model.specs.declared.tree.Argument.{Argument}
 use Rattle.wc_model.specs.declared.value.Value.TheVariants.{Bool as Truth}
 use Rattle.wc_names.specs.declared.declared_type.DeclaredType.{DeclaredType}
@@ -18,7 +19,7 @@ use Rattle.wc_verify.proofs.calls.judge_arguments.Goals as goal
 
 -- the arguments that are left begin with this one
 abbrev one : Argument
-one = record { name = record { ref_ptr = (0, 0); now = [] }; value = Literal (Truth false) }
+one = record { direction = Into; name = record { ref_ptr = (0, 0); now = [] }; value = Literal (Truth false) }
 
 begin : (tables : Tables) (unit : ℕ) (declared : DeclaredType) (line : ℕ) (names : List Name) (all : List Assignment) (items : List Argument) (i : ℕ) → i < length items →
     ArgumentsBehind tables unit declared line names all (map assignment_view (drop i items)) → ArgumentsBehind tables unit declared line names all (assignment_view (get_or items i one) ∷ map assignment_view (drop (i + 1) items))

@@ -1,8 +1,8 @@
 use Rattle.std.proofs.Common.{◌∷◌, [], Some, ap, ◌∙◌}
 use Rattle.wc_model.specs.Language.Names.{name_of}
-use Rattle.wc_names.proofs.Inputs.{within_fields, within_plain}
+use Rattle.wc_names.proofs.Formals.{within_fields, within_plain}
 use Rattle.wc_names.proofs.MemberTables.{members_by}
-use Rattle.wc_names.proofs.input.number_within.Goals as goal
+use Rattle.wc_names.proofs.formal.number_within.Goals as goal
 
 pub returns-in-Elementary : goal.returns-in-Elementary
 returns-in-Elementary c = λ before u type h e.

@@ -1,7 +1,7 @@
 use Rattle.wc_model.specs.Language.Names.{name_of}
 use Rattle.wc_laying.specs.Operands.{operand_view}
 use Rattle.wc_laying.proofs.Placed.{field_place}
-use Rattle.wc_laying.proofs.arguments.argument.Goals as goal
+use Rattle.wc_laying.proofs.arguments.input_line.Goals as goal
 
 pub returns : goal.returns
 returns c = λ scope is read written. (

@@ -1,21 +1,21 @@
 ghost use Rattle.std.specs.Prelude.{◌≡◌, List, [], ◌∷◌, Some, option_and_then};
-ghost use Rattle.wc_model.specs.Language.BodyRules.{input_named};
+ghost use Rattle.wc_model.specs.Language.BodyRules.{formal_named, passes};
 ghost use Rattle.wc_model.specs.Language.Declarations.{VariableType, members_of};
 ghost use Rattle.wc_model.specs.Language.Names.{name_of};
 ghost use Rattle.wc_model.specs.Language.Tree.{ProgramUnit};
-ghost use Rattle.wc_names.specs.Numbered.{number_within, numbered_input, numbered_type};
+ghost use Rattle.wc_names.specs.Numbered.{number_within, numbered_formal, numbered_type};
 ghost use Rattle.wc_names.specs.StandsFor.{Stands};
 
 use crate::declared_type::DeclaredType;
 use crate::lookup::{field_named, number};
 use crate::member::member_of;
-use crate::naming::is_input;
+use crate::naming::{is_input, is_result};
 use crate::unit_table::UnitTable;
-use wc_model::Kind;
+use wc_model::{Direction, Kind, Section};
 
-/// An input of an instance.
+/// An input or an output of an instance.
 #[derive(Clone, Copy, PartialEq, Eq)]
-pub struct Input {
+pub struct Formal {
     /// Its kind.
     pub kind: Kind,
     /// Its place, counted from the first place of the instance.
@@ -36,29 +36,40 @@ fn number_within<'a>(units: &[UnitTable<'a>], declared: DeclaredType, name: &[u8
     }
 }
 
-/// The input of that name of what has this type.
-pub(crate) fn input_of<'a>(
+/// Whether a call's list may name a variable of a section: as an input or as an output.
+fn passes(direction: Direction, section: Section) -> bool
+    ensures { result ≡ passes direction section }
+{
+    match direction {
+        Direction::Into => is_input(section),
+        Direction::OutOf => is_result(section),
+    }
+}
+
+/// The input or output of that name of what has this type.
+pub(crate) fn formal_of<'a>(
     units: &[UnitTable<'a>],
     declared: DeclaredType,
+    direction: Direction,
     name: &[u8],
-) -> Option<Input>
+) -> Option<Formal>
     ensures { (before : List ProgramUnit) (u : ProgramUnit) (type : VariableType)
         → Stands units.now before u
         → numbered_type before type ≡ Some declared
-        → result ≡ option_and_then (numbered_input before type)
-        (input_named (members_of before type) (name_of name.now)) }
+        → result ≡ option_and_then (numbered_formal before type)
+        (formal_named direction (members_of before type) (name_of name.now)) }
 {
     let Some(member) = member_of(units, declared, name) else {
         return None;
     };
-    if !is_input(member.section) {
+    if !passes(direction, member.section) {
         return None;
     }
     let Some(kind) = member.kind else {
         return None;
     };
     match number_within(units, declared, name) {
-        Some(place) => Some(Input { kind, place }),
+        Some(place) => Some(Formal { kind, place }),
         None => None,
     }
 }
