@@ -10,7 +10,7 @@ use Rattle.wc_grammar_laws.proofs.Languages.{joined}
 use Rattle.wc_model.specs.Text.Grammar as grammar
 use Rattle.wc_model.specs.Text.Grammar.{IsOn, IsOperator, Setting, InBody, InParentheses, label_in, operand}
 use Rattle.wc_model.specs.Text.Languages.{◌then◌, one, optional}
-use Rattle.wc_model.specs.Text.Marks.{Symbol, Identifier, Whole, Duration, Truth, Direct, OpeningBracket, ClosingBracket, Comma, Colon, Point, Assign, LineEnd, Mark}
+use Rattle.wc_model.specs.Text.Marks.{Symbol, Identifier, Whole, Duration, Truth, Direct, OpeningBracket, ClosingBracket, Comma, Colon, Point, Assign, Arrow, LineEnd, Mark}
 use Rattle.wc_model.specs.Language.Names.{Name, name_of}
 use Rattle.wc_model.specs.Language.Tree.{Word, Term}
 use Rattle.wc_model.specs.declared.operator.Operator.{Operator}
@@ -178,6 +178,7 @@ exact_list setting begun call AtFirst (Identifier bytes) line tokens = tt
 exact_list setting begun call AtFirst ClosingBracket line tokens = tt
 exact_list setting begun call AtNext (Identifier bytes) line tokens = tt
 exact_list setting begun call (AtAssign input) Assign line tokens = tt
+exact_list setting begun call (AtAssign input) Arrow line tokens = tt
 exact_list setting begun call (AtValue input) symbol line tokens = exact_at_operand setting begun (OfArgument call input) symbol line tokens tt
 exact_list setting begun call AtEnd Comma line tokens = tt
 exact_list setting begun call AtEnd ClosingBracket line tokens = tt

@@ -2,7 +2,7 @@
 use Rattle.std.proofs.Common.{◌≡◌, ◌≢◌, ℕ, Bool, true, false, List, [], ◌∷◌, ◌++◌, Option, Some, None, refl, ap, subst, if◌then◌else◌, ◌∙◌, inl, inr}
 use Rattle.std.specs.List.{AllByRecursion}
 use Rattle.std.specs.Prelude.{◌⊎◌}
-use Rattle.wc_grammar_laws.specs.LineMoves.{LineForm, LabelAlone, Instructs, Opens, Begun, Listed, OfStep, OfOpening, OfArgument, InList, AtFirst, AtNext, AtAssign, AtValue, AtEnd, LineState, Start, Worded, Labelled, Operated, Jumped, Called, Instanced, Listing, Bracketed, Named, Pointed, Stepped, BracketedWith, Ended}
+use Rattle.wc_grammar_laws.specs.LineMoves.{with_actual, LineForm, LabelAlone, Instructs, Opens, Begun, Listed, OfStep, OfOpening, OfArgument, InList, AtFirst, AtNext, AtAssign, AtValue, AtEnd, LineState, Start, Worded, Labelled, Operated, Jumped, Called, Instanced, Listing, Bracketed, Named, Pointed, Stepped, BracketedWith, Ended}
 use Rattle.wc_grammar_laws.proofs.LineRests.{rest_of}
 use Rattle.wc_grammar_laws.proofs.LineSound.{mark_on}
 use Rattle.wc_grammar_laws.specs.Moves.{InDeclaration, Undeclared, BehindNames, BehindComma, BehindColon, BehindType, BehindAssign, BehindValue, State, Outside, Unnamed, Declaring, AtLine, OnLine, Closed, behind_closing, behind_line, behind_unit, body_start, colon_next, is_colon, has_content, lines_and, move, named_unit, start_move, on_line, open_in, open_on, unit_with, walk, section_or_line, section_begun, with_declaration}
@@ -16,6 +16,7 @@ use Rattle.wc_model.specs.Text.Marks.{Symbol, Identifier, Truth, Colon, Semicolo
 use Rattle.wc_model.specs.Language.Names.{name_of}
 use Rattle.wc_model.specs.Text.Positions.{Opening, Position}
 use Rattle.wc_model.specs.Language.Tree.{Word, Term, Constant, Variable, Field, Assignment, Step, Negate, Jump, Call, Lines, End, Alone, Plain, Nested, ProgramUnit}
+use Rattle.wc_model.specs.declared.operator.Direction.TheVariants.{Into}
 use Rattle.wc_model.specs.declared.source.Section.{Section}
 use Rattle.wc_model.specs.declared.source.UnitKind.{UnitKind}
 use Rattle.wc_model.specs.declared.source.UnitKind.TheVariants.{FunctionBlock, Program}
@@ -53,7 +54,7 @@ pub record Completed (state : LineState) : Type 0 where
 list_completed : (begun : Begun) (call : Listed) (item : InList) → Completed (Listing begun call item)
 list_completed begun call AtFirst = record { sort = inr (tt, λ p. refl); form = Instructs begun.label begun.line (Call call.condition call.instance (call.arguments ++ [])); more = sign ClosingBracket ∷ sign LineEnd ∷ []; rest = ([], refl, record { front = []; rest = sign ClosingBracket ∷ sign LineEnd ∷ []; whole = refl; begins = refl; goes_on = next refl refl }) }
 list_completed begun call AtNext =
-    let a : Assignment = record { input = 97 ∷ []; value = truth } in
+    let a : Assignment = record { direction = Into; formal = 97 ∷ []; actual = truth } in
     record {
       sort = inr (tt, λ p. refl);
       form = Instructs begun.label begun.line (Call call.condition call.instance (call.arguments ++ a ∷ []));
@@ -71,7 +72,7 @@ list_completed begun call AtNext =
       );
     }
 list_completed begun call (AtAssign input) =
-    let a : Assignment = record { input = input; value = truth } in
+    let a : Assignment = record { direction = Into; formal = input; actual = truth } in
     record {
       sort = inr (tt, λ p. refl);
       form = Instructs begun.label begun.line (Call call.condition call.instance (call.arguments ++ a ∷ []));
@@ -79,7 +80,7 @@ list_completed begun call (AtAssign input) =
       rest = (a ∷ [], refl, record { front = sign Assign ∷ sign (Truth true) ∷ []; rest = sign ClosingBracket ∷ sign LineEnd ∷ []; whole = refl; begins = (refl, next refl (next (inl refl) refl)); goes_on = next refl refl });
     }
 list_completed begun call (AtValue input) =
-    let a : Assignment = record { input = input; value = truth } in
+    let a : Assignment = with_actual input truth in
     record {
       sort = inr (tt, λ p. refl);
       form = Instructs begun.label begun.line (Call call.condition call.instance (call.arguments ++ a ∷ []));
@@ -104,7 +105,7 @@ completed (Named begun (OfStep operating) name) n m = record { sort = inr (tt, �
 completed (Named begun (OfOpening operator) name) n m = record { sort = inl tt; form = Opens begun.label begun.line operator (Some (Variable name)); more = sign LineEnd ∷ []; rest = (Variable name, refl, pass (refl, refl) refl) }
 completed (Named begun (OfArgument call input) name) n m = record {
   sort = inr (tt, λ p. refl);
-  form = Instructs begun.label begun.line (Call call.condition call.instance (call.arguments ++ record { input = input; value = Variable name } ∷ []));
+  form = Instructs begun.label begun.line (Call call.condition call.instance (call.arguments ++ with_actual input (Variable name) ∷ []));
   more = sign ClosingBracket ∷ sign LineEnd ∷ [];
   rest = (Variable name, [], refl, record { front = []; rest = sign ClosingBracket ∷ sign LineEnd ∷ []; whole = refl; begins = pass (refl, refl) refl; goes_on = next refl refl });
 }
@@ -112,7 +113,7 @@ completed (Pointed begun (OfStep operating) name) n m = record { sort = inr (tt,
 completed (Pointed begun (OfOpening operator) name) n m = record { sort = inl tt; form = Opens begun.label begun.line operator (Some (Field name (97 ∷ []))); more = sign (Identifier (97 ∷ [])) ∷ sign LineEnd ∷ []; rest = (Field name (97 ∷ []), refl, record { front = sign (Identifier (97 ∷ [])) ∷ []; rest = sign LineEnd ∷ []; whole = refl; begins = (refl, refl); goes_on = refl }) }
 completed (Pointed begun (OfArgument call input) name) n m = record {
   sort = inr (tt, λ p. refl);
-  form = Instructs begun.label begun.line (Call call.condition call.instance (call.arguments ++ record { input = input; value = Field name (97 ∷ []) } ∷ []));
+  form = Instructs begun.label begun.line (Call call.condition call.instance (call.arguments ++ with_actual input (Field name (97 ∷ [])) ∷ []));
   more = sign (Identifier (97 ∷ [])) ∷ sign ClosingBracket ∷ sign LineEnd ∷ [];
   rest = (Field name (97 ∷ []), [], refl, record { front = sign (Identifier (97 ∷ [])) ∷ []; rest = sign ClosingBracket ∷ sign LineEnd ∷ []; whole = refl; begins = record { front = sign (Identifier (97 ∷ [])) ∷ []; rest = []; whole = refl; begins = (refl, refl); goes_on = refl }; goes_on = next refl refl });
 }

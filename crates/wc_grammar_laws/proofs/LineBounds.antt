@@ -6,7 +6,7 @@ use Rattle.wc_grammar_laws.specs.LineMoves.{Begun, Listed, InList, AtFirst, AtNe
 use Rattle.wc_grammar_laws.specs.Moves.{State, begun_line}
 use Rattle.wc_grammar_laws.specs.Words.{Operating, Loads, Stores, Applies, Operation, Operates, Negates, Jumps, Calls, Returns, found, is_transfer, operation_of, operations, truths}
 use Rattle.wc_model.specs.Text.Grammar.{Setting}
-use Rattle.wc_model.specs.Text.Marks.{Symbol, Identifier, Whole, Duration, Truth, Direct, OpeningBracket, ClosingBracket, Comma, Colon, Point, Assign, LineEnd}
+use Rattle.wc_model.specs.Text.Marks.{Symbol, Identifier, Whole, Duration, Truth, Direct, OpeningBracket, ClosingBracket, Comma, Colon, Point, Assign, Arrow, LineEnd}
 use Rattle.wc_model.specs.Language.Names.{Name, name_of}
 use Rattle.wc_model.specs.Text.Positions.{Position}
 use Rattle.wc_model.specs.Language.Tree.{Term, Word}
@@ -50,6 +50,7 @@ count_list begun call AtFirst (Identifier bytes) line = (refl, refl)
 count_list begun call AtFirst ClosingBracket line = (refl, refl)
 count_list begun call AtNext (Identifier bytes) line = (refl, refl)
 count_list begun call (AtAssign input) Assign line = (refl, refl)
+count_list begun call (AtAssign input) Arrow line = (refl, refl)
 count_list begun call (AtValue input) symbol line = count_at_operand begun (OfArgument call input) symbol line
 count_list begun call AtEnd Comma line = (refl, refl)
 count_list begun call AtEnd ClosingBracket line = (refl, refl)

@@ -1,7 +1,7 @@
 -- What completes a line is taken by the walk, token by token.
 use Rattle.std.proofs.Common.{◌≡◌, ◌≢◌, ℕ, Bool, false, List, [], ◌∷◌, Option, Some, None, refl, ap, subst, if◌then◌else◌, append-nil, ◌∙◌, sym, inl, inr}
 use Rattle.std.specs.Prelude.{◌⊎◌, not, filter}
-use Rattle.wc_grammar_laws.specs.LineMoves.{LineForm, LabelAlone, Instructs, Opens, Begun, Listed, OperandOf, OfStep, OfOpening, OfArgument, InList, AtFirst, AtNext, AtAssign, AtValue, AtEnd, LineState, Start, Worded, Labelled, Operated, Jumped, Called, Instanced, Listing, Bracketed, Named, Pointed, Stepped, BracketedWith, Ended, behind_operand, name_or_literal, at_operand, behind_operator, at_operator, at_labelled, at_operated, at_list, at_bracketed, at_field, line_move}
+use Rattle.wc_grammar_laws.specs.LineMoves.{Formal, formal_of, with_actual, LineForm, LabelAlone, Instructs, Opens, Begun, Listed, OperandOf, OfStep, OfOpening, OfArgument, InList, AtFirst, AtNext, AtAssign, AtValue, AtEnd, LineState, Start, Worded, Labelled, Operated, Jumped, Called, Instanced, Listing, Bracketed, Named, Pointed, Stepped, BracketedWith, Ended, behind_operand, name_or_literal, at_operand, behind_operator, at_operator, at_labelled, at_operated, at_list, at_bracketed, at_field, line_move}
 use Rattle.wc_grammar_laws.proofs.LineRests.{behind_its_name, behind_its_point, more_arguments, list_rest, list_end, call_form, operand_rest, labelled_rest, rest_of}
 use Rattle.wc_grammar_laws.proofs.LineSound.{mark_on, one_argument}
 use Rattle.wc_grammar_laws.proofs.Skipping.{behind, skip_next_is, skip_over_is}
@@ -9,13 +9,15 @@ use Rattle.wc_grammar_laws.proofs.WordLaws.{step_begins, operator_is, operation_
 use Rattle.wc_grammar_laws.specs.Words.{Operating, Loads, Stores, Applies, Operation, Operates, found, operation_of, step_of, truths}
 use Rattle.wc_grammar_laws.proofs.Languages.{next_is, passed, both_empty, given_are, given_first, ungroup, pass}
 use Rattle.wc_model.specs.Text.Grammar as grammar
-use Rattle.wc_model.specs.Text.Grammar.{operand, argument, call_list, bracketed, instruction, opening, operands_of, IsLiteral, IsOn, IsOperatorOf, Setting, InBody, InParentheses, MayStand, label_in}
+use Rattle.wc_model.specs.Text.Grammar.{sign_of, operand, argument, call_list, bracketed, instruction, opening, operands_of, IsLiteral, IsOn, IsOperatorOf, Setting, InBody, InParentheses, MayStand, label_in}
 use Rattle.wc_model.specs.Text.Keywords.{truth_word}
 use Rattle.wc_model.specs.Text.Languages.{◌then◌, empty, optional, separated, skipping}
-use Rattle.wc_model.specs.Text.Marks.{Symbol, Identifier, Direct, OpeningBracket, ClosingBracket, Comma, Colon, Point, Assign, LineEnd, Mark, is_line_end, is_line_end_symbol, name_in, address_in}
+use Rattle.wc_model.specs.Text.Marks.{Symbol, Identifier, Direct, OpeningBracket, ClosingBracket, Comma, Colon, Point, Assign, Arrow, LineEnd, Mark, is_line_end, is_line_end_symbol, name_in, address_in}
 use Rattle.wc_model.specs.Language.Names.{Name, name_of}
 use Rattle.wc_model.specs.Language.Tree.{Word, Term, Constant, Address, Variable, Field, Assignment, Step, Load, Store, Apply, Negate, Jump, Call, Return}
 use Rattle.wc_model.specs.declared.operator.Condition.{Condition}
+use Rattle.wc_model.specs.declared.operator.Direction.{Direction}
+use Rattle.wc_model.specs.declared.operator.Direction.TheVariants.{Into, OutOf}
 use Rattle.wc_model.specs.declared.operator.Operator.{Operator}
 use Rattle.wc_model.specs.declared.value.Value.{Value}
 use Rattle.wc_model.specs.declared.value.Value.TheVariants.{Bool as BoolValue, Dint, Time}
@@ -108,24 +110,24 @@ some_operand (Field instance field) h = (both_empty h).0.1
 no_end : (symbol : Symbol) (line : ℕ) (tokens : List Mark) → symbol ≢ ClosingBracket → ¬ (list_end (mark_on symbol line ∷ tokens))
 no_end symbol line tokens n h = n (next_is h).0
 
-argument_is : (input : Name) (first : Assignment) → input ≡ first.input → first ≡ record { input = input; value = first.value }
-argument_is input first e = λ i. record { input = sym e i; value = first.value }
+argument_is : (input : Formal) (first : Assignment) → input ≡ formal_of first → first ≡ with_actual input first.actual
+argument_is input first e = λ i. with_actual (sym e i) first.actual
 
 -- an argument's value, whose kept tokens these are
-kept_value_led : (begun : Begun) (call : Listed) (input : Name) (first : Assignment) (others : List Assignment) (form : LineForm) (symbol : Symbol) (line : ℕ) (tokens : List Mark)
-    → form ≡ call_form begun call (first ∷ others) → input ≡ first.input
-    → (skipping is_line_end (behind (mark_on symbol line) (operand first.value then more_arguments others)) then list_end) tokens
+kept_value_led : (begun : Begun) (call : Listed) (input : Formal) (first : Assignment) (others : List Assignment) (form : LineForm) (symbol : Symbol) (line : ℕ) (tokens : List Mark)
+    → form ≡ call_form begun call (first ∷ others) → input ≡ formal_of first
+    → (skipping is_line_end (behind (mark_on symbol line) (operand first.actual then more_arguments others)) then list_end) tokens
     → Leads (at_operand begun (OfArgument call input) symbol line) form tokens
 kept_value_led begun call input first others form symbol line tokens e same k =
-    operand_led begun (OfArgument call input) first.value form symbol line (more_arguments others) _ tokens
-    (λ left. (others, is ∙ sym (one_argument begun call input first.value others), record { front = k.front; rest = k.rest; whole = k.whole; begins = left; goes_on = k.goes_on }))
-    (λ name left. (first.value, others, is, record { front = k.front; rest = k.rest; whole = k.whole; begins = left; goes_on = k.goes_on }))
-    (operand_first first.value symbol line (more_arguments others) _ k.begins)
+    operand_led begun (OfArgument call input) first.actual form symbol line (more_arguments others) _ tokens
+    (λ left. (others, is ∙ sym (one_argument begun call input first.actual others), record { front = k.front; rest = k.rest; whole = k.whole; begins = left; goes_on = k.goes_on }))
+    (λ name left. (first.actual, others, is, record { front = k.front; rest = k.rest; whole = k.whole; begins = left; goes_on = k.goes_on }))
+    (operand_first first.actual symbol line (more_arguments others) _ k.begins)
   where
-    is : form ≡ call_form begun call (record { input = input; value = first.value } ∷ others)
+    is : form ≡ call_form begun call (with_actual input first.actual ∷ others)
     is = e ∙ ap (λ a. call_form begun call (a ∷ others)) (argument_is input first same)
 
-value_led : (begun : Begun) (call : Listed) (input : Name) (form : LineForm) (symbol : Symbol) (line : ℕ) (tokens : List Mark) → is_line_end_symbol symbol ≡ false
+value_led : (begun : Begun) (call : Listed) (input : Formal) (form : LineForm) (symbol : Symbol) (line : ℕ) (tokens : List Mark) → is_line_end_symbol symbol ≡ false
     → rest_of (Listing begun call (AtValue input)) form (mark_on symbol line ∷ tokens) → Leads (at_operand begun (OfArgument call input) symbol line) form tokens
 value_led begun call input form symbol line tokens no_line_end r = by_arguments r.0 r.1 (skip_next_is is_line_end (list_rest (AtValue input) r.0) no_line_end r.2)
   where
@@ -134,7 +136,7 @@ value_led begun call input form symbol line tokens no_line_end r = by_arguments 
         → Leads (at_operand begun (OfArgument call input) symbol line) form tokens
     by_arguments [] e (inl k) = absurd k.0
     by_arguments [] e (inr k) = absurd k.begins
-    by_arguments (first ∷ others) e (inl k) = absurd (some_operand first.value (both_empty k.0.1).0)
+    by_arguments (first ∷ others) e (inl k) = absurd (some_operand first.actual (both_empty k.0.1).0)
     by_arguments (first ∷ others) e (inr k) =
         kept_value_led begun call input first others form symbol line tokens e k.begins.0 (record { front = k.front; rest = k.rest; whole = k.whole; begins = k.begins.1; goes_on = k.goes_on })
 
@@ -170,7 +172,7 @@ argument_led : (begun : Begun) (call : Listed) (item : InList) (first : Assignme
     → (skipping is_line_end (behind (mark_on symbol line) (separated (grammar.symbol Comma) argument (first ∷ others))) then list_end) tokens
     → Leads (at_list begun call item symbol line) form tokens
 argument_led begun call item first others form symbol line tokens here e k =
-    named symbol first.input (next_is (ungroup k.begins)).0 (λ bytes s n.
+    named symbol first.formal (next_is (ungroup k.begins)).0 (λ bytes s n.
     by_symbol (λ s. at_list begun call item s line) symbol (Identifier bytes) form tokens s
     (subst (λ o. Leads o form tokens) (sym (here bytes)) (
       first ∷ others,
@@ -206,10 +208,14 @@ assign_led : (begun : Begun) (call : Listed) (input : Name) (form : LineForm) (s
 assign_led begun call input form symbol line tokens [] e (inl k) = absurd k.0
 assign_led begun call input form symbol line tokens [] e (inr k) = absurd k.begins
 assign_led begun call input form symbol line tokens (first ∷ others) e (inl k) = absurd ((both_empty k.0.1).0)
-assign_led begun call input form symbol line tokens (first ∷ others) e (inr k) =
-    let n = next_is k.begins.1 in
-    by_symbol (λ s. at_list begun call (AtAssign input) s line) symbol Assign form tokens n.0
-    (first ∷ others, e, record { front = k.front; rest = k.rest; whole = k.whole; begins = (k.begins.0, n.1); goes_on = k.goes_on })
+assign_led begun call input form symbol line tokens (first ∷ others) e (inr k) = by_sign first.direction refl (next_is k.begins.1).0
+  where
+    led : (direction : Direction) → first.direction ≡ direction → rest_of (Listing begun call (AtValue (record { direction = direction; name = input }))) form tokens
+    led direction d = (first ∷ others, e, record { front = k.front; rest = k.rest; whole = k.whole; begins = (λ i. record { direction = sym d i; name = k.begins.0 i }, (next_is k.begins.1).1); goes_on = k.goes_on })
+
+    by_sign : (direction : Direction) → first.direction ≡ direction → symbol ≡ sign_of direction → Leads (at_list begun call (AtAssign input) symbol line) form tokens
+    by_sign Into d s = by_symbol (λ s. at_list begun call (AtAssign input) s line) symbol Assign form tokens s (led Into d)
+    by_sign OutOf d s = by_symbol (λ s. at_list begun call (AtAssign input) s line) symbol Arrow form tokens s (led OutOf d)
 
 end_led : (begun : Begun) (call : Listed) (form : LineForm) (symbol : Symbol) (line : ℕ) (tokens : List Mark) (more : List Assignment) → form ≡ call_form begun call more
     → (list_rest AtEnd more [] × list_end (mark_on symbol line ∷ tokens)) ⊎ (skipping is_line_end (behind (mark_on symbol line) (list_rest AtEnd more)) then list_end) tokens
@@ -257,8 +263,8 @@ name_led begun place make name (Field instance field) form symbol line tokens se
     by_symbol (λ s. line_move setting (Named begun place name) s line colon) symbol Point form tokens k.0 (there (Field instance field) e (given_first g.0 k.1))
 
 -- behind a name in a call's list, at a token that is no line end
-name_argument_led : (begun : Begun) (call : Listed) (input name : Name) (x : Term) (more : List Assignment) (form : LineForm) (symbol : Symbol) (line : ℕ) (tokens : List Mark) (setting : Setting) (colon : Bool)
-    → form ≡ call_form begun call (record { input = input; value = x } ∷ more)
+name_argument_led : (begun : Begun) (call : Listed) (input : Formal) (name : Name) (x : Term) (more : List Assignment) (form : LineForm) (symbol : Symbol) (line : ℕ) (tokens : List Mark) (setting : Setting) (colon : Bool)
+    → form ≡ call_form begun call (with_actual input x ∷ more)
     → ((behind_its_name name x then more_arguments more) [] × list_end (mark_on symbol line ∷ tokens))
     ⊎ (skipping is_line_end (behind (mark_on symbol line) (behind_its_name name x then more_arguments more)) then list_end) tokens
     → Leads (line_move setting (Named begun (OfArgument call input) name) symbol line colon) form tokens
@@ -270,7 +276,7 @@ name_argument_led begun call input name (Variable other) [] form symbol line tok
     let n = next_is k.1 in
     let same = (both_empty k.0).0.0 in
     by_symbol (λ s. line_move setting (Named begun (OfArgument call input) name) s line colon) symbol ClosingBracket form tokens n.0
-    (e ∙ ap (λ n. call_form begun call (record { input = input; value = Variable n } ∷ [])) (sym same), n.1)
+    (e ∙ ap (λ n. call_form begun call (with_actual input (Variable n) ∷ [])) (sym same), n.1)
 name_argument_led begun call input name (Constant value) more form symbol line tokens setting colon e (inr k) = absurd (k.begins.begins)
 name_argument_led begun call input name (Address word) more form symbol line tokens setting colon e (inr k) = absurd (k.begins.begins)
 name_argument_led begun call input name (Variable other) [] form symbol line tokens setting colon e (inr k) = let f = passed (given_are k.begins).1 in absurd (cc)
@@ -279,7 +285,7 @@ name_argument_led begun call input name (Variable other) (first ∷ others) form
     let n = next_is (ungroup (passed g.1)) in
     by_symbol (λ s. line_move setting (Named begun (OfArgument call input) name) s line colon) symbol Comma form tokens n.0 (
       first ∷ others,
-      e ∙ ap (λ n. call_form begun call (record { input = input; value = Variable n } ∷ first ∷ others)) (sym g.0) ∙ sym (one_argument begun call input (Variable name) (first ∷ others)),
+      e ∙ ap (λ n. call_form begun call (with_actual input (Variable n) ∷ first ∷ others)) (sym g.0) ∙ sym (one_argument begun call input (Variable name) (first ∷ others)),
       record { front = k.front; rest = k.rest; whole = k.whole; begins = n.1; goes_on = k.goes_on },
     )
 name_argument_led begun call input name (Field instance field) more form symbol line tokens setting colon e (inr k) =

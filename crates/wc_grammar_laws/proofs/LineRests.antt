@@ -1,8 +1,8 @@
 -- What tokens complete a line that has begun: for each state of the walk on a line, the token lists that go on from there to a form.
 use Rattle.std.specs.Prelude.{◌≡◌, List, [], ◌∷◌, ◌++◌, Option, Some, ◌⊎◌}
-use Rattle.wc_grammar_laws.specs.LineMoves.{LineForm, LabelAlone, Instructs, Opens, Begun, Listed, OperandOf, OfStep, OfOpening, OfArgument, InList, AtFirst, AtNext, AtAssign, AtValue, AtEnd, LineState, Start, Worded, Labelled, Operated, Jumped, Called, Instanced, Listing, Bracketed, Named, Pointed, Stepped, BracketedWith, Ended}
+use Rattle.wc_grammar_laws.specs.LineMoves.{formal_of, with_actual, LineForm, LabelAlone, Instructs, Opens, Begun, Listed, OperandOf, OfStep, OfOpening, OfArgument, InList, AtFirst, AtNext, AtAssign, AtValue, AtEnd, LineState, Start, Worded, Labelled, Operated, Jumped, Called, Instanced, Listing, Bracketed, Named, Pointed, Stepped, BracketedWith, Ended}
 use Rattle.wc_grammar_laws.specs.Words.{Applies, step_of}
-use Rattle.wc_model.specs.Text.Grammar.{symbol, identifier, operand, argument, call_list, instruction, opening, Setting, MayStand, label_in}
+use Rattle.wc_model.specs.Text.Grammar.{sign_of, symbol, identifier, operand, argument, call_list, instruction, opening, Setting, MayStand, label_in}
 use Rattle.wc_model.specs.Text.Languages.{Language, nothing, empty, ◌then◌, ◌given◌, optional, each, separated, skipping}
 use Rattle.wc_model.specs.Text.Marks.{Mark, OpeningBracket, ClosingBracket, Comma, Colon, Point, Assign, LineEnd, is_line_end}
 use Rattle.wc_model.specs.Language.Names.{Name}
@@ -36,10 +36,10 @@ abbrev pub list_rest : InList → List Assignment → Language Mark
 list_rest AtFirst arguments = separated (symbol Comma) argument arguments
 list_rest AtNext [] = nothing
 list_rest AtNext (first ∷ others) = separated (symbol Comma) argument (first ∷ others)
-list_rest (AtAssign input) [] = nothing
-list_rest (AtAssign input) (first ∷ others) = symbol Assign then operand first.value then more_arguments others given (input ≡ first.input)
-list_rest (AtValue input) [] = nothing
-list_rest (AtValue input) (first ∷ others) = operand first.value then more_arguments others given (input ≡ first.input)
+list_rest (AtAssign name) [] = nothing
+list_rest (AtAssign name) (first ∷ others) = symbol (sign_of first.direction) then operand first.actual then more_arguments others given (name ≡ first.formal)
+list_rest (AtValue formal) [] = nothing
+list_rest (AtValue formal) (first ∷ others) = operand first.actual then more_arguments others given (formal ≡ formal_of first)
 list_rest AtEnd arguments = more_arguments arguments
 
 -- the end of a call's list and of its line
@@ -57,7 +57,7 @@ operand_rest begun (OfStep operating) left form tokens =
 operand_rest begun (OfOpening operator) left form tokens =
     (x : Term) × (form ≡ Opens begun.label begun.line operator (Some x)) × (left x then symbol LineEnd) tokens
 operand_rest begun (OfArgument call input) left form tokens =
-    (x : Term) × (more : List Assignment) × (form ≡ call_form begun call (record { input = input; value = x } ∷ more))
+    (x : Term) × (more : List Assignment) × (form ≡ call_form begun call (with_actual input x ∷ more))
     × (skipping is_line_end (left x then more_arguments more) then list_end) tokens
 
 -- what completes a line behind its label's colon

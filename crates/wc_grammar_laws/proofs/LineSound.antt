@@ -1,18 +1,20 @@
 -- Behind each token that the walk takes on a line, what completes the line from there completes it from before the token too.
 use Rattle.std.proofs.Common.{◌≡◌, ◌≢◌, ℕ, Bool, true, false, List, [], ◌∷◌, Option, Some, None, refl, ap, subst, if◌then◌else◌, append_assoc, append-nil, ◌∙◌, sym, inl, inr}
-use Rattle.wc_grammar_laws.specs.LineMoves.{LineForm, LabelAlone, Instructs, Opens, Begun, Listed, OperandOf, OfStep, OfOpening, OfArgument, InList, AtFirst, AtNext, AtAssign, AtValue, AtEnd, LineState, Start, Worded, Labelled, Operated, Jumped, Called, Instanced, Listing, Bracketed, Named, Pointed, Stepped, BracketedWith, with_argument, behind_operand, name_or_literal, at_operand, behind_operator, at_operator, operator_or_label, at_start, simple_operator, at_start_in, at_labelled, at_operated, at_list, at_bracketed, behind_name, at_field, line_move}
+use Rattle.wc_grammar_laws.specs.LineMoves.{Formal, formal_of, with_actual, LineForm, LabelAlone, Instructs, Opens, Begun, Listed, OperandOf, OfStep, OfOpening, OfArgument, InList, AtFirst, AtNext, AtAssign, AtValue, AtEnd, LineState, Start, Worded, Labelled, Operated, Jumped, Called, Instanced, Listing, Bracketed, Named, Pointed, Stepped, BracketedWith, with_argument, behind_operand, name_or_literal, at_operand, behind_operator, at_operator, operator_or_label, at_start, simple_operator, at_start_in, at_labelled, at_operated, at_list, at_bracketed, behind_name, at_field, line_move}
 use Rattle.wc_grammar_laws.proofs.LineRests.{line_of, behind_its_name, behind_its_point, more_arguments, list_rest, call_form, operand_rest, labelled_rest, rest_of}
 use Rattle.wc_grammar_laws.proofs.Skipping.{skip_next, skip_over, skip_none}
 use Rattle.wc_grammar_laws.specs.Words.{Operating, Loads, Stores, Applies, Operation, Operates, Negates, Jumps, Calls, Returns, found, is_transfer, operation_of, operations, step_of, truths}
 use Rattle.wc_grammar_laws.proofs.WordLaws.{truth_found, not_truth, is_operator, is_operator_of, operation_in, operation_in_step}
 use Rattle.wc_grammar_laws.proofs.Languages.{joined, next, pass, regroup, before, after}
 use Rattle.wc_model.specs.Text.Grammar as grammar
-use Rattle.wc_model.specs.Text.Grammar.{operand, argument, call_list, bracketed, instruction, opening, operands_of, IsLiteral, IsOn, IsOperatorOf, Setting, InBody, InParentheses, MayStand, label_in}
+use Rattle.wc_model.specs.Text.Grammar.{sign_of, operand, argument, call_list, bracketed, instruction, opening, operands_of, IsLiteral, IsOn, IsOperatorOf, Setting, InBody, InParentheses, MayStand, label_in}
 use Rattle.wc_model.specs.Text.Languages.{Language, ◌then◌, optional, separated}
-use Rattle.wc_model.specs.Text.Marks.{Symbol, Identifier, Whole, Duration, Truth, Direct, Ampersand, AmpersandN, OpeningBracket, ClosingBracket, Comma, Colon, Point, Assign, LineEnd, Mark, is_line_end}
+use Rattle.wc_model.specs.Text.Marks.{Symbol, Identifier, Whole, Duration, Truth, Direct, Ampersand, AmpersandN, OpeningBracket, ClosingBracket, Comma, Colon, Point, Assign, Arrow, LineEnd, Mark, is_line_end}
 use Rattle.wc_model.specs.Language.Names.{Name, name_of}
 use Rattle.wc_model.specs.Language.Tree.{Word, Term, Constant, Address, Variable, Field, Assignment, Step, Negate, Jump, Call, Return}
 use Rattle.wc_model.specs.declared.operator.Condition.{Condition}
+use Rattle.wc_model.specs.declared.operator.Direction.{Direction}
+use Rattle.wc_model.specs.declared.operator.Direction.TheVariants.{Into, OutOf}
 use Rattle.wc_model.specs.declared.operator.Operator.{Operator}
 use Rattle.wc_model.specs.declared.value.Value.TheVariants.{Bool as BoolValue, Dint, Time}
 
@@ -26,10 +28,10 @@ abbrev pub AllowsFrom : LineState → Mark → Option LineState → Type 0
 AllowsFrom state mark next = Allows (λ m form tokens. rest_of state form (m ∷ tokens)) mark next
 
 -- one argument more, and the others
-pub one_argument : (begun : Begun) (call : Listed) (input : Name) (x : Term) (more : List Assignment)
-    → call_form begun (with_argument call input x) more ≡ call_form begun call (record { input = input; value = x } ∷ more)
+pub one_argument : (begun : Begun) (call : Listed) (input : Formal) (x : Term) (more : List Assignment)
+    → call_form begun (with_argument call input x) more ≡ call_form begun call (with_actual input x ∷ more)
 one_argument begun call input x more =
-    ap (λ arguments. Instructs begun.label begun.line (Call call.condition call.instance arguments)) (append_assoc call.arguments (record { input = input; value = x } ∷ []) more)
+    ap (λ arguments. Instructs begun.label begun.line (Call call.condition call.instance arguments)) (append_assoc call.arguments (with_actual input x ∷ []) more)
 
 -- an operand whose last token this is
 pub whole_operand : (begun : Begun) (place : OperandOf) (left : Term → List Mark → Type 0) (x : Term) (mark : Mark) → is_line_end mark ≡ false → left x (mark ∷ [])
@@ -249,13 +251,19 @@ closing_allowed begun call item line none form tokens r = (
   skip_none is_line_end (list_rest item []) none (next refl r.1),
 )
 
-assign_allowed : (begun : Begun) (call : Listed) (input : Name) (line : ℕ)
-    → AllowsFrom (Listing begun call (AtAssign input)) (mark_on Assign line) (Some (Listing begun call (AtValue input)))
-assign_allowed begun call input line form tokens r = (r.0, r.1, skip_next is_line_end (list_rest (AtAssign input) r.0) refl (before (λ ts k. begins_with r.0 _ k) r.2))
+-- a sign ends no line
+sign_no_line_end : (direction : Direction) (line : ℕ) → is_line_end (mark_on (sign_of direction) line) ≡ false
+sign_no_line_end Into line = refl
+sign_no_line_end OutOf line = refl
+
+sign_allowed : (begun : Begun) (call : Listed) (formal : Formal) (line : ℕ)
+    → AllowsFrom (Listing begun call (AtAssign formal.name)) (mark_on (sign_of formal.direction) line) (Some (Listing begun call (AtValue formal)))
+sign_allowed begun call formal line form tokens r =
+    (r.0, r.1, skip_next is_line_end (list_rest (AtAssign formal.name) r.0) (sign_no_line_end formal.direction line) (before (λ ts k. begins_with r.0 _ k) r.2))
   where
-    begins_with : (more : List Assignment) (ts : List Mark) → list_rest (AtValue input) more ts → list_rest (AtAssign input) more (mark_on Assign line ∷ ts)
+    begins_with : (more : List Assignment) (ts : List Mark) → list_rest (AtValue formal) more ts → list_rest (AtAssign formal.name) more (mark_on (sign_of formal.direction) line ∷ ts)
     begins_with [] ts k = absurd k
-    begins_with (first ∷ others) ts k = (k.0, next refl k.1)
+    begins_with (first ∷ others) ts k = (ap (λ (f : Formal). f.name) k.0, next (ap (λ (f : Formal). sign_of f.direction) k.0) k.1)
 
 comma_allowed : (begun : Begun) (call : Listed) (line : ℕ) → AllowsFrom (Listing begun call AtEnd) (mark_on Comma line) (Some (Listing begun call AtNext))
 comma_allowed begun call line form tokens r = (r.0, r.1, skip_next is_line_end (more_arguments r.0) refl (before (λ ts k. begins_with r.0 _ k) r.2))
@@ -264,11 +272,11 @@ comma_allowed begun call line form tokens r = (r.0, r.1, skip_next is_line_end (
     begins_with [] ts k = absurd k
     begins_with (first ∷ others) ts k = regroup (next refl k)
 
-value_allowed : (begun : Begun) (call : Listed) (input : Name) (symbol : Symbol) (line : ℕ)
+value_allowed : (begun : Begun) (call : Listed) (input : Formal) (symbol : Symbol) (line : ℕ)
     → AllowsFrom (Listing begun call (AtValue input)) (mark_on symbol line) (at_operand begun (OfArgument call input) symbol line)
 value_allowed begun call input symbol line =
     allows_more (λ m form tokens. operand_rest begun (OfArgument call input) operand form (m ∷ tokens)) (λ m form tokens. rest_of (Listing begun call (AtValue input)) form (m ∷ tokens)) (mark_on symbol line) _
-    (λ form tokens r. (record { input = input; value = r.0 } ∷ r.1, r.2, before (λ ts k. (refl, k)) r.3))
+    (λ form tokens r. (with_actual input r.0 ∷ r.1, r.2, before (λ ts k. (refl, k)) r.3))
     (operand_allowed begun (OfArgument call input) symbol line)
 
 list_allowed : (begun : Begun) (call : Listed) (item : InList) (symbol : Symbol) (line : ℕ) → AllowsFrom (Listing begun call item) (mark_on symbol line) (at_list begun call item symbol line)
@@ -276,7 +284,8 @@ list_allowed begun call item LineEnd line = λ form tokens r. (r.0, r.1, skip_ov
 list_allowed begun call AtFirst (Identifier bytes) line = argument_allowed begun call AtFirst bytes line (λ first others tokens k. k)
 list_allowed begun call AtFirst ClosingBracket line = closing_allowed begun call AtFirst line refl
 list_allowed begun call AtNext (Identifier bytes) line = argument_allowed begun call AtNext bytes line (λ first others tokens k. k)
-list_allowed begun call (AtAssign input) Assign line = assign_allowed begun call input line
+list_allowed begun call (AtAssign name) Assign line = sign_allowed begun call (record { direction = Into; name = name }) line
+list_allowed begun call (AtAssign name) Arrow line = sign_allowed begun call (record { direction = OutOf; name = name }) line
 list_allowed begun call (AtValue input) symbol line = value_allowed begun call input symbol line
 list_allowed begun call AtEnd Comma line = comma_allowed begun call line
 list_allowed begun call AtEnd ClosingBracket line = closing_allowed begun call AtEnd line refl

@@ -2,10 +2,12 @@
 use Rattle.std.specs.Prelude.{ℕ, Bool, true, false, List, [], ◌∷◌, ◌++◌, Option, Some, None, if◌then◌else◌}
 use Rattle.wc_grammar_laws.specs.Words.{Operating, Applies, Operation, Operates, Negates, Jumps, Calls, Returns, found, is_transfer, operation_of, operations, step_of, truths}
 use Rattle.wc_model.specs.Text.Grammar.{Setting, InBody, InParentheses}
-use Rattle.wc_model.specs.Text.Marks.{Symbol, Identifier, Whole, Duration, Truth, Direct, OpeningBracket, ClosingBracket, Comma, Colon, Point, Assign, LineEnd}
+use Rattle.wc_model.specs.Text.Marks.{Symbol, Identifier, Whole, Duration, Truth, Direct, OpeningBracket, ClosingBracket, Comma, Colon, Point, Assign, Arrow, LineEnd}
 use Rattle.wc_model.specs.Language.Names.{Name, name_of}
 use Rattle.wc_model.specs.Language.Tree.{Word, Term, Constant, Address, Variable, Field, Assignment, Step, Negate, Jump, Call, Return}
 use Rattle.wc_model.specs.declared.operator.Condition.{Condition}
+use Rattle.wc_model.specs.declared.operator.Direction.{Direction}
+use Rattle.wc_model.specs.declared.operator.Direction.TheVariants.{Into, OutOf}
 use Rattle.wc_model.specs.declared.operator.Operator.{Operator}
 use Rattle.wc_model.specs.declared.value.Value.TheVariants.{Bool as BoolValue, Dint, Time}
 
@@ -26,18 +28,30 @@ pub record Listed : Type 0 where
   pub instance : Name
   pub arguments : List Assignment
 
--- whose operand stands here: an instruction's, an opening line's, or an argument's
+-- a formal parameter of a call, and which way a value goes
+pub record Formal : Type 0 where
+  pub direction : Direction
+  pub name : Name
+
+-- it with its actual parameter, and that of one of a call's list
+abbrev pub with_actual : Formal → Term → Assignment
+with_actual formal actual = record { direction = formal.direction; formal = formal.name; actual = actual }
+
+abbrev pub formal_of : Assignment → Formal
+formal_of a = record { direction = a.direction; name = a.formal }
+
+-- whose operand stands here: an instruction's, an opening line's, or that of one of a call's list
 pub data OperandOf : Type 0 where
   OfStep : (operating : Operating) → OperandOf
   OfOpening : (operator : Operator) → OperandOf
-  OfArgument : (call : Listed) (input : Name) → OperandOf
+  OfArgument : (call : Listed) (formal : Formal) → OperandOf
 
--- where a call's list stands: behind its bracket, a comma, an input, its `:=`, or a whole argument
+-- where a call's list stands: behind its bracket, a comma, an input or output, its `:=` or `=>`, or a whole argument
 pub data InList : Type 0 where
   AtFirst : InList
   AtNext : InList
-  AtAssign : (input : Name) → InList
-  AtValue : (input : Name) → InList
+  AtAssign : (name : Name) → InList
+  AtValue : (formal : Formal) → InList
   AtEnd : InList
 
 -- how far the walk has come on a line
@@ -68,14 +82,14 @@ pub data LineState : Type 0 where
   Ended : (form : LineForm) → LineState
 
 -- the argument behind others
-abbrev pub with_argument : Listed → Name → Term → Listed
-with_argument call input value = record call { arguments = call.arguments ++ record { input = input; value = value } ∷ [] }
+abbrev pub with_argument : Listed → Formal → Term → Listed
+with_argument call formal actual = record call { arguments = call.arguments ++ with_actual formal actual ∷ [] }
 
 -- behind a whole operand
 abbrev pub behind_operand : Begun → OperandOf → Term → LineState
 behind_operand begun (OfStep operating) term = Stepped begun (step_of operating term)
 behind_operand begun (OfOpening operator) term = BracketedWith begun operator term
-behind_operand begun (OfArgument call input) term = Listing begun (with_argument call input term) AtEnd
+behind_operand begun (OfArgument call formal) term = Listing begun (with_argument call formal term) AtEnd
 
 -- behind an identifier where an operand stands
 abbrev pub name_or_literal : Begun → OperandOf → Name → Option Bool → LineState
@@ -141,8 +155,9 @@ at_list begun call item LineEnd line = Some (Listing begun call item)
 at_list begun call AtFirst (Identifier bytes) line = Some (Listing begun call (AtAssign (name_of bytes)))
 at_list begun call AtFirst ClosingBracket line = Some (Stepped begun (Call call.condition call.instance call.arguments))
 at_list begun call AtNext (Identifier bytes) line = Some (Listing begun call (AtAssign (name_of bytes)))
-at_list begun call (AtAssign input) Assign line = Some (Listing begun call (AtValue input))
-at_list begun call (AtValue input) symbol line = at_operand begun (OfArgument call input) symbol line
+at_list begun call (AtAssign name) Assign line = Some (Listing begun call (AtValue (record { direction = Into; name = name })))
+at_list begun call (AtAssign name) Arrow line = Some (Listing begun call (AtValue (record { direction = OutOf; name = name })))
+at_list begun call (AtValue formal) symbol line = at_operand begun (OfArgument call formal) symbol line
 at_list begun call AtEnd Comma line = Some (Listing begun call AtNext)
 at_list begun call AtEnd ClosingBracket line = Some (Stepped begun (Call call.condition call.instance call.arguments))
 at_list begun call item _ line = None
@@ -156,16 +171,16 @@ at_bracketed begun operator symbol line = at_operand begun (OfOpening operator) 
 abbrev pub behind_name : Begun → OperandOf → Name → Symbol → Option LineState
 behind_name begun (OfStep operating) name LineEnd = Some (Ended (Instructs begun.label begun.line (step_of operating (Variable name))))
 behind_name begun (OfOpening operator) name LineEnd = Some (Ended (Opens begun.label begun.line operator (Some (Variable name))))
-behind_name begun (OfArgument call input) name LineEnd = Some (Named begun (OfArgument call input) name)
-behind_name begun (OfArgument call input) name Comma = Some (Listing begun (with_argument call input (Variable name)) AtNext)
-behind_name begun (OfArgument call input) name ClosingBracket =
-    Some (Stepped begun (Call call.condition call.instance (with_argument call input (Variable name)).arguments))
+behind_name begun (OfArgument call formal) name LineEnd = Some (Named begun (OfArgument call formal) name)
+behind_name begun (OfArgument call formal) name Comma = Some (Listing begun (with_argument call formal (Variable name)) AtNext)
+behind_name begun (OfArgument call formal) name ClosingBracket =
+    Some (Stepped begun (Call call.condition call.instance (with_argument call formal (Variable name)).arguments))
 behind_name begun place name _ = None
 
 -- behind the point of a field
 abbrev pub at_field : Begun → OperandOf → Name → Symbol → Option LineState
 at_field begun place name (Identifier bytes) = Some (behind_operand begun place (Field name (name_of bytes)))
-at_field begun (OfArgument call input) name LineEnd = Some (Pointed begun (OfArgument call input) name)
+at_field begun (OfArgument call formal) name LineEnd = Some (Pointed begun (OfArgument call formal) name)
 at_field begun place name _ = None
 
 -- behind one more token of a line; none where no line goes on so

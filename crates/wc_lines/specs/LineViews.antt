@@ -6,6 +6,7 @@ use Rattle.wc_model.specs.Language.Tree as tree
 use Rattle.wc_model.specs.Language.Views.{assignment_view, name_view, term_view, word_view}
 use Rattle.wc_lines.specs.Words.{operating_view}
 use Rattle.wc_lines.specs.declared.line_state.Begun.{Begun}
+use Rattle.wc_lines.specs.declared.line_state.Formal.{Formal}
 use Rattle.wc_lines.specs.declared.line_state.InList.{InList}
 use Rattle.wc_lines.specs.declared.line_state.InList.TheVariants.{AtFirst, AtNext, AtAssign, AtValue, AtEnd}
 use Rattle.wc_lines.specs.declared.line_state.InLine.{InLine}
@@ -36,18 +37,22 @@ step_view (Jump condition label) = tree.Jump condition (name_view label)
 step_view (Call call) = tree.Call call.condition (name_view call.instance) (map assignment_view call.arguments.items)
 step_view (Return condition) = tree.Return condition
 
+-- the input or output that one of a call's list names
+abbrev pub formal_view : Formal → lines.Formal
+formal_view formal = record { direction = formal.direction; name = name_view formal.word }
+
 -- whose operand stands here
 abbrev pub owner_view : OperandOf → lines.OperandOf
 owner_view (OfStep operating) = lines.OfStep (operating_view operating)
 owner_view (OfOpening operator) = lines.OfOpening operator
-owner_view (OfArgument call input) = lines.OfArgument (listed_view call) (name_view input)
+owner_view (OfArgument call formal) = lines.OfArgument (listed_view call) (formal_view formal)
 
 -- where a call's list stands
 abbrev pub item_view : InList → lines.InList
 item_view AtFirst = lines.AtFirst
 item_view AtNext = lines.AtNext
-item_view (AtAssign input) = lines.AtAssign (name_view input)
-item_view (AtValue input) = lines.AtValue (name_view input)
+item_view (AtAssign name) = lines.AtAssign (name_view name)
+item_view (AtValue formal) = lines.AtValue (formal_view formal)
 item_view AtEnd = lines.AtEnd
 
 -- what a whole line with an instruction is

@@ -2,15 +2,15 @@ ghost use Rattle.std.specs.Prelude.{◌≡◌, ℕ, Bool, IfOk, option_map};
 ghost use Rattle.wc_grammar_laws.specs.LineMoves as lines;
 ghost use Rattle.wc_model.specs.Text.Grammar.{Setting};
 ghost use Rattle.wc_model.specs.Language.Views.{name_view};
-ghost use Rattle.wc_lines.specs.LineViews.{in_line_view, item_view, listed_view};
+ghost use Rattle.wc_lines.specs.LineViews.{formal_view, in_line_view, item_view, listed_view};
 ghost use Rattle.wc_lines.specs.Words.{symbol_view};
 
-use crate::line_state::{InLine, InList, LineForm, Listed, OperandOf, Step};
+use crate::line_state::{Formal, InLine, InList, LineForm, Listed, OperandOf, Step};
 use crate::operands::at_operand;
 use crate::words::word;
 use std::alloc::{AllocError, Global};
 use wc_lexer::{Shape, Token};
-use wc_model::{Condition, Word};
+use wc_model::{Condition, Direction, Word};
 
 /// Behind the token after a call's instance.
 pub(crate) fn at_instance<'a>(
@@ -37,7 +37,7 @@ pub(crate) fn at_instance<'a>(
     }
 }
 
-/// Behind the token after the list's bracket: an input, or the list's end.
+/// Behind the token after the list's bracket: an input or output, or the list's end.
 fn at_first<'a>(call: Listed<'a>, token: Token<'a>) -> Option<InLine<'a>>
     ensures { (begun : lines.Begun) (line : ℕ)
         → option_map (in_line_view begun) result
@@ -52,7 +52,7 @@ fn at_first<'a>(call: Listed<'a>, token: Token<'a>) -> Option<InLine<'a>>
     }
 }
 
-/// Behind the token after a comma: an input.
+/// Behind the token after a comma: an input or output.
 fn at_next<'a>(call: Listed<'a>, token: Token<'a>) -> Option<InLine<'a>>
     ensures { (begun : lines.Begun) (line : ℕ)
         → option_map (in_line_view begun) result
@@ -66,35 +66,48 @@ fn at_next<'a>(call: Listed<'a>, token: Token<'a>) -> Option<InLine<'a>>
     }
 }
 
-/// Behind the token after an input: its `:=`.
-fn at_assign<'a>(call: Listed<'a>, input: Word<'a>, token: Token<'a>) -> Option<InLine<'a>>
+/// Behind the token after the name of an input or output: its `:=` or `=>`.
+fn at_assign<'a>(call: Listed<'a>, word: Word<'a>, token: Token<'a>) -> Option<InLine<'a>>
     ensures { (begun : lines.Begun) (line : ℕ)
         → option_map (in_line_view begun) result
         ≡ lines.at_list begun (listed_view call.entry)
-        (lines.AtAssign (name_view input.entry)) (symbol_view token.entry) line }
+        (lines.AtAssign (name_view word.entry)) (symbol_view token.entry) line }
 {
     match token.shape {
-        Shape::LineEnd => Some(InLine::Listing(call, InList::AtAssign(input))),
-        Shape::Assign => Some(InLine::Listing(call, InList::AtValue(input))),
+        Shape::LineEnd => Some(InLine::Listing(call, InList::AtAssign(word))),
+        Shape::Assign => Some(InLine::Listing(
+            call,
+            InList::AtValue(Formal {
+                direction: Direction::Into,
+                word,
+            }),
+        )),
+        Shape::Arrow => Some(InLine::Listing(
+            call,
+            InList::AtValue(Formal {
+                direction: Direction::OutOf,
+                word,
+            }),
+        )),
         _ => None,
     }
 }
 
-/// Behind the token after `:=`: a value.
+/// Behind the token after `:=` or `=>`: a value, or a target.
 fn at_value<'a>(
     call: Listed<'a>,
-    input: Word<'a>,
+    formal: Formal<'a>,
     token: Token<'a>,
 ) -> Result<Option<InLine<'a>>, AllocError>
     ensures { IfOk result
         (λ next. (begun : lines.Begun)
         → option_map (in_line_view begun) next
         ≡ lines.at_list begun (listed_view call.entry)
-        (lines.AtValue (name_view input.entry)) (symbol_view token.entry) token.entry.line) }
+        (lines.AtValue (formal_view formal.entry)) (symbol_view token.entry) token.entry.line) }
 {
     match token.shape {
-        Shape::LineEnd => Ok(Some(InLine::Listing(call, InList::AtValue(input)))),
-        _ => at_operand(OperandOf::OfArgument(call, input), token),
+        Shape::LineEnd => Ok(Some(InLine::Listing(call, InList::AtValue(formal)))),
+        _ => at_operand(OperandOf::OfArgument(call, formal), token),
     }
 }
 
@@ -128,8 +141,8 @@ pub(crate) fn at_list<'a>(
     match item {
         InList::AtFirst => Ok(at_first(call, token)),
         InList::AtNext => Ok(at_next(call, token)),
-        InList::AtAssign(input) => Ok(at_assign(call, input, token)),
-        InList::AtValue(input) => at_value(call, input, token),
+        InList::AtAssign(name) => Ok(at_assign(call, name, token)),
+        InList::AtValue(formal) => at_value(call, formal, token),
         InList::AtEnd => Ok(at_end(call, token)),
     }
 }

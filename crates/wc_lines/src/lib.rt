@@ -9,7 +9,7 @@ mod operands;
 mod operators;
 mod words;
 
-pub use line_state::{Begun, InLine, InList, LineForm, LineState, Listed, OperandOf, Step};
+pub use line_state::{Begun, Formal, InLine, InList, LineForm, LineState, Listed, OperandOf, Step};
 pub use lines::{at_start, at_start_inside, line_move};
 pub use operators::{Operating, Operation, is_transfer, operation_named, operation_of};
 pub use words::{ends_unit, truth, word};

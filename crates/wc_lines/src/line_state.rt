@@ -1,6 +1,6 @@
 use crate::operators::Operating;
 use std::alloc::Global;
-use wc_model::{Argument, Condition, Operand, Operator, Word};
+use wc_model::{Argument, Condition, Direction, Operand, Operator, Word};
 
 /// An instruction that has begun: its label, and the line of its first token.
 #[derive(Clone, Copy)]
@@ -28,6 +28,13 @@ pub enum Step<'a> {
     Return(Condition),
 }
 
+/// The input or output that one of a call's list names.
+#[derive(Clone, Copy)]
+pub struct Formal<'a> {
+    pub direction: Direction,
+    pub word: Word<'a>,
+}
+
 /// Whose operand stands here.
 #[derive(Drop)]
 pub enum OperandOf<'a> {
@@ -35,8 +42,8 @@ pub enum OperandOf<'a> {
     OfStep(Operating),
     /// An opening line's.
     OfOpening(Operator),
-    /// That of an argument of a call, with its input.
-    OfArgument(Listed<'a>, Word<'a>),
+    /// That of one of a call's list, with its input or output.
+    OfArgument(Listed<'a>, Formal<'a>),
 }
 
 /// Where a call's list stands.
@@ -46,10 +53,10 @@ pub enum InList<'a> {
     AtFirst,
     /// Behind a comma.
     AtNext,
-    /// Behind an input.
+    /// Behind the name of an input or output.
     AtAssign(Word<'a>),
-    /// Behind its `:=`.
-    AtValue(Word<'a>),
+    /// Behind its `:=` or `=>`.
+    AtValue(Formal<'a>),
     /// Behind a whole argument.
     AtEnd,
 }

@@ -4,10 +4,10 @@ ghost use Rattle.wc_model.specs.Text.Grammar.{Setting};
 ghost use Rattle.wc_model.specs.Text.Marks as marks;
 ghost use Rattle.wc_model.specs.Language.Tree as tree;
 ghost use Rattle.wc_model.specs.Language.Views.{name_view, term_view};
-ghost use Rattle.wc_lines.specs.LineViews.{in_line_view, listed_view, owner_view};
+ghost use Rattle.wc_lines.specs.LineViews.{formal_view, in_line_view, listed_view, owner_view};
 ghost use Rattle.wc_lines.specs.Words.{operating_view, symbol_view};
 
-use crate::line_state::{InLine, InList, LineForm, Listed, OperandOf, Step};
+use crate::line_state::{Formal, InLine, InList, LineForm, Listed, OperandOf, Step};
 use crate::operators::Operating;
 use crate::words::{truth, word};
 use std::alloc::AllocError;
@@ -17,18 +17,19 @@ use wc_model::{Argument, Operand, Operator, Value, Word};
 /// The call with one more argument.
 fn with_argument<'a>(
     call: Listed<'a>,
-    input: Word<'a>,
+    formal: Formal<'a>,
     value: Operand<'a>,
 ) -> Result<Listed<'a>, AllocError>
     ensures { IfOk result
         (λ more.
         listed_view more
-        ≡ lines.with_argument (listed_view call.entry) (name_view input.entry)
+        ≡ lines.with_argument (listed_view call.entry) (formal_view formal.entry)
         (term_view value.entry)) }
 {
     let mut call = call;
     call.arguments.push(Argument {
-        name: input.text,
+        direction: formal.direction,
+        name: formal.word.text,
         value,
     })?;
     Ok(call)
@@ -53,8 +54,8 @@ fn behind_operand<'a>(
             let form = LineForm::Opens(operator, Some(operand));
             Ok(Some(InLine::Formed(form, false)))
         }
-        OperandOf::OfArgument(call, input) => {
-            let call = with_argument(call, input, operand)?;
+        OperandOf::OfArgument(call, formal) => {
+            let call = with_argument(call, formal, operand)?;
             Ok(Some(InLine::Listing(call, InList::AtEnd)))
         }
     }
@@ -97,7 +98,7 @@ pub(crate) fn at_operand<'a>(
 /// Behind the token after an argument's name that is the whole operand.
 fn behind_value<'a>(
     call: Listed<'a>,
-    input: Word<'a>,
+    formal: Formal<'a>,
     name: Word<'a>,
     token: Token<'a>,
 ) -> Result<Option<InLine<'a>>, AllocError>
@@ -105,17 +106,17 @@ fn behind_value<'a>(
         (λ next. (begun : lines.Begun)
         → option_map (in_line_view begun) next
         ≡ lines.behind_name begun
-        (lines.OfArgument (listed_view call.entry) (name_view input.entry)) (name_view name.entry)
+        (lines.OfArgument (listed_view call.entry) (formal_view formal.entry)) (name_view name.entry)
         (symbol_view token.entry)) }
 {
     match token.shape {
-        Shape::LineEnd => Ok(Some(InLine::Named(OperandOf::OfArgument(call, input), name, false))),
+        Shape::LineEnd => Ok(Some(InLine::Named(OperandOf::OfArgument(call, formal), name, false))),
         Shape::Comma => {
-            let call = with_argument(call, input, Operand::Name(name.text))?;
+            let call = with_argument(call, formal, Operand::Name(name.text))?;
             Ok(Some(InLine::Listing(call, InList::AtNext)))
         }
         Shape::Closing => {
-            let call = with_argument(call, input, Operand::Name(name.text))?;
+            let call = with_argument(call, formal, Operand::Name(name.text))?;
             Ok(Some(InLine::Formed(LineForm::Instructs(Step::Call(call)), false)))
         }
         _ => Ok(None),
@@ -177,7 +178,7 @@ fn behind_whole_name<'a>(
     match owner {
         OperandOf::OfStep(operating) => Ok(behind_step_name(operating, name, token)),
         OperandOf::OfOpening(operator) => Ok(behind_opening_name(operator, name, token)),
-        OperandOf::OfArgument(call, input) => behind_value(call, input, name, token),
+        OperandOf::OfArgument(call, formal) => behind_value(call, formal, name, token),
     }
 }
 
@@ -208,8 +209,8 @@ fn behind_point<'a>(owner: OperandOf<'a>, instance: Word<'a>) -> Option<InLine<'
         (name_view instance.entry) marks.LineEnd }
 {
     match owner {
-        OperandOf::OfArgument(call, input) => Some(InLine::Named(
-            OperandOf::OfArgument(call, input),
+        OperandOf::OfArgument(call, formal) => Some(InLine::Named(
+            OperandOf::OfArgument(call, formal),
             instance,
             true,
         )),

@@ -2,7 +2,7 @@
 use Rattle.std.proofs.Common.{◌≡◌, ◌≤◌, ℕ, Bool, false, List, [], ◌∷◌, Option, Some, None, refl, sym, subst, ◌∙◌, drop, length, get_or, arith}
 use Rattle.std.proofs.lemmas.List.{drop-drop}
 use Rattle.std.specs.Prelude.{◌+◌}
-use Rattle.wc_grammar_laws.specs.LineMoves.{behind_operator, Begun, Listed, OfArgument, AtNext, Listing, Instructs, name_or_literal, with_argument}
+use Rattle.wc_grammar_laws.specs.LineMoves.{Formal, formal_of, behind_operator, Begun, Listed, OfArgument, AtNext, Listing, Instructs, name_or_literal, with_argument}
 use Rattle.wc_grammar_laws.specs.Moves.{AtLine, OnLine, behind_line, on_line, reading}
 use Rattle.wc_grammar_laws.specs.Words as words
 use Rattle.wc_grammar_laws.specs.Words.{found, truths}
@@ -11,17 +11,24 @@ use Rattle.wc_lexer.specs.declared.shape.Shape.TheVariants as Shape
 use Rattle.wc_lexer.specs.declared.shape.Token.{Token}
 use Rattle.wc_model.specs.Language.Names.{Name, name_of}
 use Rattle.wc_model.specs.Language.Tree.{Assignment, Call, Term}
+use Rattle.wc_model.specs.Text.Grammar.{sign_of}
 use Rattle.wc_model.specs.Text.Marks.{Mark, Symbol, Identifier, Whole, Duration, Truth, Direct, OpeningBracket, ClosingBracket, Comma, Assign, LineEnd}
 use Rattle.wc_model.specs.Text.Positions.{Position}
 use Rattle.wc_model.specs.Text.Reading.{mark_of_token, symbol_of}
 use Rattle.wc_model.specs.declared.operator.Condition.{Condition}
+use Rattle.wc_model.specs.declared.operator.Direction.{Direction}
+use Rattle.wc_model.specs.declared.operator.Direction.TheVariants.{Into, OutOf}
 use Rattle.wc_short_lines.proofs.ShortLines.{one_on}
 use Rattle.wc_short_lines.specs.Several.{Begins, BeginsCall, GoesOn, IsArgument, ListEnds, ListsOn, name_or_truth, operand_of}
 use Rattle.wc_lines.specs.Words.{marks_of}
 
--- an input and its `:=`, an operand, and what stands behind it
-abbrev argument_marks : List ℕ → (line assign : ℕ) → Mark → List Mark → List Mark
-argument_marks bytes line assign operand rest = record { symbol = Identifier bytes; line = line } ∷ record { symbol = Assign; line = assign } ∷ operand ∷ rest
+-- an input or output and its sign, an operand, and what stands behind it
+abbrev argument_marks : Direction → List ℕ → (line sign : ℕ) → Mark → List Mark → List Mark
+argument_marks way bytes line sign operand rest = record { symbol = Identifier bytes; line = line } ∷ record { symbol = sign_of way; line = sign } ∷ operand ∷ rest
+
+-- the formal parameter of this name
+abbrev named_formal : Direction → List ℕ → Formal
+named_formal way bytes = record { direction = way; name = name_of bytes }
 
 -- a comma, and what stands behind it
 abbrev and_comma : ℕ → List Mark → List Mark
@@ -32,98 +39,108 @@ abbrev and_ends : (close end : ℕ) → List Mark → List Mark
 and_ends close end behind = record { symbol = ClosingBracket; line = close } ∷ record { symbol = LineEnd; line = end } ∷ behind
 
 -- where an identifier leads that is an argument's value
-named : (p : Position) (begun : Begun) (call : Listed) (bytes value : List ℕ) (line assign at last : ℕ) (next : Mark) (behind : List Mark)
-    → reading (OnLine p (Listing begun call AtNext)) (argument_marks bytes line assign (record { symbol = Identifier value; line = at }) (next ∷ behind)) last
-    ≡ reading (on_line p (name_or_literal begun (OfArgument call (name_of bytes)) (name_of value) (found truths (name_of value)))) (next ∷ behind) last
-named p begun call bytes value line assign at last next behind = refl
+named : (way : Direction) (p : Position) (begun : Begun) (call : Listed) (bytes value : List ℕ) (line assign at last : ℕ) (next : Mark) (behind : List Mark)
+    → reading (OnLine p (Listing begun call AtNext)) (argument_marks way bytes line assign (record { symbol = Identifier value; line = at }) (next ∷ behind)) last
+    ≡ reading (on_line p (name_or_literal begun (OfArgument call (named_formal way bytes)) (name_of value) (found truths (name_of value)))) (next ∷ behind) last
+named Into p begun call bytes value line assign at last next behind = refl
+named OutOf p begun call bytes value line assign at last next behind = refl
 
 -- a comma behind a name, or behind TRUE or FALSE
-name_goes_on : (p : Position) (begun : Begun) (call : Listed) (input name : Name) (truth : Option Bool) (comma last : ℕ) (behind : List Mark)
+name_goes_on : (p : Position) (begun : Begun) (call : Listed) (input : Formal) (name : Name) (truth : Option Bool) (comma last : ℕ) (behind : List Mark)
     → reading (on_line p (name_or_literal begun (OfArgument call input) name truth)) (and_comma comma behind) last
     ≡ reading (OnLine p (Listing begun (with_argument call input (name_or_truth name truth)) AtNext)) behind last
 name_goes_on p begun call input name None comma last behind = refl
 name_goes_on p begun call input name (Some value) comma last behind = refl
 
 -- the list's end behind a name, or behind TRUE or FALSE
-name_ends : (p : Position) (begun : Begun) (call : Listed) (input name : Name) (truth : Option Bool) (close end last : ℕ) (behind : List Mark)
+name_ends : (p : Position) (begun : Begun) (call : Listed) (input : Formal) (name : Name) (truth : Option Bool) (close end last : ℕ) (behind : List Mark)
     → reading (on_line p (name_or_literal begun (OfArgument call input) name truth)) (and_ends close end behind) last
     ≡ reading (AtLine (behind_line p (Instructs begun.label begun.line (Call call.condition call.instance (with_argument call input (name_or_truth name truth)).arguments)))) behind last
 name_ends p begun call input name None close end last behind = refl
 name_ends p begun call input name (Some value) close end last behind = refl
 
 -- where an argument and a comma lead
-abbrev GoesOnAs : Listed → List ℕ → (line assign : ℕ) → Mark → ℕ → List Mark → Option Term → Type 0
-GoesOnAs call bytes line assign operand comma behind None = Unit {0}
-GoesOnAs call bytes line assign operand comma behind (Some term) =
-    ListsOn call (argument_marks bytes line assign operand (and_comma comma behind)) (with_argument call (name_of bytes) term) behind
+abbrev GoesOnAs : Direction → Listed → List ℕ → (line assign : ℕ) → Mark → ℕ → List Mark → Option Term → Type 0
+GoesOnAs way call bytes line assign operand comma behind None = Unit {0}
+GoesOnAs way call bytes line assign operand comma behind (Some term) =
+    ListsOn call (argument_marks way bytes line assign operand (and_comma comma behind)) (with_argument call (named_formal way bytes) term) behind
 
-any_goes_on : (call : Listed) (bytes : List ℕ) (line assign : ℕ) (symbol : Symbol) (at comma : ℕ) (behind : List Mark)
-    → GoesOnAs call bytes line assign (record { symbol = symbol; line = at }) comma behind (operand_of symbol at)
-any_goes_on call bytes line assign (Identifier value) at comma behind = record {
+any_goes_on : (way : Direction) (call : Listed) (bytes : List ℕ) (line assign : ℕ) (symbol : Symbol) (at comma : ℕ) (behind : List Mark)
+    → GoesOnAs way call bytes line assign (record { symbol = symbol; line = at }) comma behind (operand_of symbol at)
+any_goes_on way call bytes line assign (Identifier value) at comma behind = record {
   same = λ p begun. record {
-    same = λ last. named p begun call bytes value line assign at last (record { symbol = Comma; line = comma }) behind ∙ name_goes_on p begun call (name_of bytes) (name_of value) (found truths (name_of value)) comma last behind;
+    same = λ last. named way p begun call bytes value line assign at last (record { symbol = Comma; line = comma }) behind
+        ∙ name_goes_on p begun call (named_formal way bytes) (name_of value) (found truths (name_of value)) comma last behind;
   };
 }
-any_goes_on call bytes line assign (Direct value) at comma behind = record { same = λ p begun. record { same = λ last. refl } }
-any_goes_on call bytes line assign (Whole value) at comma behind = record { same = λ p begun. record { same = λ last. refl } }
-any_goes_on call bytes line assign (Duration value) at comma behind = record { same = λ p begun. record { same = λ last. refl } }
-any_goes_on call bytes line assign (Truth value) at comma behind = record { same = λ p begun. record { same = λ last. refl } }
-any_goes_on call bytes line assign symbol at comma behind = tt
+any_goes_on Into call bytes line assign (Direct value) at comma behind = record { same = λ p begun. record { same = λ last. refl } }
+any_goes_on OutOf call bytes line assign (Direct value) at comma behind = record { same = λ p begun. record { same = λ last. refl } }
+any_goes_on Into call bytes line assign (Whole value) at comma behind = record { same = λ p begun. record { same = λ last. refl } }
+any_goes_on OutOf call bytes line assign (Whole value) at comma behind = record { same = λ p begun. record { same = λ last. refl } }
+any_goes_on Into call bytes line assign (Duration value) at comma behind = record { same = λ p begun. record { same = λ last. refl } }
+any_goes_on OutOf call bytes line assign (Duration value) at comma behind = record { same = λ p begun. record { same = λ last. refl } }
+any_goes_on Into call bytes line assign (Truth value) at comma behind = record { same = λ p begun. record { same = λ last. refl } }
+any_goes_on OutOf call bytes line assign (Truth value) at comma behind = record { same = λ p begun. record { same = λ last. refl } }
+any_goes_on way call bytes line assign symbol at comma behind = tt
 
 -- where an argument, the list's end and the line's lead
-abbrev EndsAs : Listed → List ℕ → (line assign : ℕ) → Mark → (close end : ℕ) → List Mark → Option Term → Type 0
-EndsAs call bytes line assign operand close end behind None = Unit {0}
-EndsAs call bytes line assign operand close end behind (Some term) =
-    ListEnds call (argument_marks bytes line assign operand (and_ends close end behind)) (with_argument call (name_of bytes) term) behind
+abbrev EndsAs : Direction → Listed → List ℕ → (line assign : ℕ) → Mark → (close end : ℕ) → List Mark → Option Term → Type 0
+EndsAs way call bytes line assign operand close end behind None = Unit {0}
+EndsAs way call bytes line assign operand close end behind (Some term) =
+    ListEnds call (argument_marks way bytes line assign operand (and_ends close end behind)) (with_argument call (named_formal way bytes) term) behind
 
-any_ends : (call : Listed) (bytes : List ℕ) (line assign : ℕ) (symbol : Symbol) (at close end : ℕ) (behind : List Mark)
-    → EndsAs call bytes line assign (record { symbol = symbol; line = at }) close end behind (operand_of symbol at)
-any_ends call bytes line assign (Identifier value) at close end behind = record {
+any_ends : (way : Direction) (call : Listed) (bytes : List ℕ) (line assign : ℕ) (symbol : Symbol) (at close end : ℕ) (behind : List Mark)
+    → EndsAs way call bytes line assign (record { symbol = symbol; line = at }) close end behind (operand_of symbol at)
+any_ends way call bytes line assign (Identifier value) at close end behind = record {
   same = λ p begun. record {
-    same = λ last. named p begun call bytes value line assign at last (record { symbol = ClosingBracket; line = close }) (record { symbol = LineEnd; line = end } ∷ behind)
-        ∙ name_ends p begun call (name_of bytes) (name_of value) (found truths (name_of value)) close end last behind;
+    same = λ last. named way p begun call bytes value line assign at last (record { symbol = ClosingBracket; line = close }) (record { symbol = LineEnd; line = end } ∷ behind)
+        ∙ name_ends p begun call (named_formal way bytes) (name_of value) (found truths (name_of value)) close end last behind;
   };
 }
-any_ends call bytes line assign (Direct value) at close end behind = record { same = λ p begun. record { same = λ last. refl } }
-any_ends call bytes line assign (Whole value) at close end behind = record { same = λ p begun. record { same = λ last. refl } }
-any_ends call bytes line assign (Duration value) at close end behind = record { same = λ p begun. record { same = λ last. refl } }
-any_ends call bytes line assign (Truth value) at close end behind = record { same = λ p begun. record { same = λ last. refl } }
-any_ends call bytes line assign symbol at close end behind = tt
+any_ends Into call bytes line assign (Direct value) at close end behind = record { same = λ p begun. record { same = λ last. refl } }
+any_ends OutOf call bytes line assign (Direct value) at close end behind = record { same = λ p begun. record { same = λ last. refl } }
+any_ends Into call bytes line assign (Whole value) at close end behind = record { same = λ p begun. record { same = λ last. refl } }
+any_ends OutOf call bytes line assign (Whole value) at close end behind = record { same = λ p begun. record { same = λ last. refl } }
+any_ends Into call bytes line assign (Duration value) at close end behind = record { same = λ p begun. record { same = λ last. refl } }
+any_ends OutOf call bytes line assign (Duration value) at close end behind = record { same = λ p begun. record { same = λ last. refl } }
+any_ends Into call bytes line assign (Truth value) at close end behind = record { same = λ p begun. record { same = λ last. refl } }
+any_ends OutOf call bytes line assign (Truth value) at close end behind = record { same = λ p begun. record { same = λ last. refl } }
+any_ends way call bytes line assign symbol at close end behind = tt
 
--- an input, its `:=` and an operand
-is_argument : (bytes : List ℕ) (line assign : ℕ) (operand : Mark) (term : Term) → operand_of operand.symbol operand.line ≡ Some term
-    → IsArgument (record { symbol = Identifier bytes; line = line }) (record { symbol = Assign; line = assign }) operand (record { input = name_of bytes; value = term })
-is_argument bytes line assign operand term e = record {
-  goes_on = λ call comma behind. subst (GoesOnAs call bytes line assign operand comma behind) e (any_goes_on call bytes line assign operand.symbol operand.line comma behind);
-  ends = λ call close end behind. subst (EndsAs call bytes line assign operand close end behind) e (any_ends call bytes line assign operand.symbol operand.line close end behind);
+-- an input or output, its sign and an operand
+is_argument : (way : Direction) (bytes : List ℕ) (line assign : ℕ) (operand : Mark) (term : Term) → operand_of operand.symbol operand.line ≡ Some term
+    → IsArgument (record { symbol = Identifier bytes; line = line }) (record { symbol = sign_of way; line = assign }) operand (record { direction = way; formal = name_of bytes; actual = term })
+is_argument way bytes line assign operand term e = record {
+  goes_on = λ call comma behind. subst (GoesOnAs way call bytes line assign operand comma behind) e (any_goes_on way call bytes line assign operand.symbol operand.line comma behind);
+  ends = λ call close end behind. subst (EndsAs way call bytes line assign operand close end behind) e (any_ends way call bytes line assign operand.symbol operand.line close end behind);
 }
 
 -- three tokens that are an argument
-pub is_argument_of : (input assign : Token) (operand : Mark) (term : Term) → input.shape ≡ Shape.Identifier → assign.shape ≡ Shape.Assign → operand_of operand.symbol operand.line ≡ Some term
-    → IsArgument (mark_of_token (token_view input)) (mark_of_token (token_view assign)) operand (record { input = name_of input.text.now; value = term })
-is_argument_of input assign operand term a b e =
-    subst (λ s. IsArgument (record { symbol = symbol_of (shape_view s) input.text.now; line = input.line }) (mark_of_token (token_view assign)) operand (record { input = name_of input.text.now; value = term })) (sym a)
-    (subst (λ s. IsArgument (record { symbol = Identifier input.text.now; line = input.line }) (record { symbol = symbol_of (shape_view s) assign.text.now; line = assign.line }) operand (record { input = name_of input.text.now; value = term })) (sym b)
-    (is_argument input.text.now input.line assign.line operand term e))
+pub is_argument_of : (input assign : Token) (way : Direction) (operand : Mark) (term : Term) → input.shape ≡ Shape.Identifier → (mark_of_token (token_view assign)).symbol ≡ sign_of way → operand_of operand.symbol operand.line ≡ Some term
+    → IsArgument (mark_of_token (token_view input)) (mark_of_token (token_view assign)) operand (record { direction = way; formal = name_of input.text.now; actual = term })
+is_argument_of input assign way operand term a b e =
+    subst (λ s. IsArgument (record { symbol = symbol_of (shape_view s) input.text.now; line = input.line }) (mark_of_token (token_view assign)) operand (record { direction = way; formal = name_of input.text.now; actual = term })) (sym a)
+    (subst (λ s. IsArgument (record { symbol = Identifier input.text.now; line = input.line }) (record { symbol = s; line = assign.line }) operand (record { direction = way; formal = name_of input.text.now; actual = term })) (sym b)
+    (is_argument way input.text.now input.line assign.line operand term e))
 
 -- an argument and a comma at the front of the tokens that are left
 pub takes_argument : (call more : Listed) (tokens : List Token) (other : Token) (argument : Assignment) → 4 ≤ length tokens → (get_or tokens 3 other).shape ≡ Shape.Comma
     → IsArgument (mark_of_token (token_view (get_or tokens 0 other))) (mark_of_token (token_view (get_or tokens 1 other))) (mark_of_token (token_view (get_or tokens 2 other))) argument
-    → more ≡ with_argument call argument.input argument.value → ListsOn call (marks_of tokens) more (marks_of (drop 4 tokens))
+    → more ≡ with_argument call (formal_of argument) argument.actual → ListsOn call (marks_of tokens) more (marks_of (drop 4 tokens))
 takes_argument call more [] other argument le comma is m = absurd (omega (arith, le))
 takes_argument call more (input ∷ []) other argument le comma is m = absurd (omega (arith, le))
 takes_argument call more (input ∷ assign ∷ []) other argument le comma is m = absurd (omega (arith, le))
 takes_argument call more (input ∷ assign ∷ operand ∷ []) other argument le comma is m = absurd (omega (arith, le))
 takes_argument call more (input ∷ assign ∷ operand ∷ next ∷ behind) other argument le comma is m =
     rw m (subst (λ s. ListsOn call (mark_of_token (token_view input) ∷ mark_of_token (token_view assign) ∷ mark_of_token (token_view operand)
-    ∷ record { symbol = symbol_of (shape_view s) next.text.now; line = next.line } ∷ marks_of behind) (with_argument call argument.input argument.value) (marks_of behind))
+    ∷ record { symbol = symbol_of (shape_view s) next.text.now; line = next.line } ∷ marks_of behind) (with_argument call (formal_of argument) argument.actual) (marks_of behind))
     (sym comma) (is.goes_on call next.line (marks_of behind)))
 
 -- the last argument at the front of the tokens that are left
 pub takes_last : (call all : Listed) (tokens : List Token) (other : Token) (argument : Assignment) → 5 ≤ length tokens → (get_or tokens 3 other).shape ≡ Shape.Closing
     → (get_or tokens 4 other).shape ≡ Shape.LineEnd
     → IsArgument (mark_of_token (token_view (get_or tokens 0 other))) (mark_of_token (token_view (get_or tokens 1 other))) (mark_of_token (token_view (get_or tokens 2 other))) argument
-    → all ≡ with_argument call argument.input argument.value → ListEnds call (marks_of tokens) all (marks_of (drop 5 tokens))
+    → all ≡ with_argument call (formal_of argument) argument.actual → ListEnds call (marks_of tokens) all (marks_of (drop 5 tokens))
 takes_last call all [] other argument le close ended is m = absurd (omega (arith, le))
 takes_last call all (input ∷ []) other argument le close ended is m = absurd (omega (arith, le))
 takes_last call all (input ∷ assign ∷ []) other argument le close ended is m = absurd (omega (arith, le))
@@ -132,9 +149,9 @@ takes_last call all (input ∷ assign ∷ operand ∷ closing ∷ []) other argu
 takes_last call all (input ∷ assign ∷ operand ∷ closing ∷ end ∷ behind) other argument le close ended is m =
     let front : List Mark → List Mark = λ rest. mark_of_token (token_view input) ∷ mark_of_token (token_view assign) ∷ mark_of_token (token_view operand) ∷ rest in
     rw m (subst (λ s. ListEnds call (front (record { symbol = symbol_of (shape_view s) closing.text.now; line = closing.line } ∷ mark_of_token (token_view end) ∷ marks_of behind))
-    (with_argument call argument.input argument.value) (marks_of behind)) (sym close)
+    (with_argument call (formal_of argument) argument.actual) (marks_of behind)) (sym close)
     (subst (λ s. ListEnds call (front (record { symbol = ClosingBracket; line = closing.line } ∷ record { symbol = symbol_of (shape_view s) end.text.now; line = end.line } ∷ marks_of behind))
-    (with_argument call argument.input argument.value) (marks_of behind)) (sym ended)
+    (with_argument call (formal_of argument) argument.actual) (marks_of behind)) (sym ended)
     (is.ends call closing.line end.line (marks_of behind))))
 
 -- some arguments, and then others

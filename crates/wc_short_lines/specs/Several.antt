@@ -1,6 +1,6 @@
 -- Tokens that are taken several at a time. (No rule of the language.)
 use Rattle.std.specs.Prelude.{◌≡◌, ℕ, Bool, false, List, ◌∷◌, Option, Some, None}
-use Rattle.wc_grammar_laws.specs.LineMoves.{AtNext, Begun, Instructs, Listed, Listing, behind_operator, with_argument}
+use Rattle.wc_grammar_laws.specs.LineMoves.{AtNext, formal_of, Begun, Instructs, Listed, Listing, behind_operator, with_argument}
 use Rattle.wc_grammar_laws.specs.Moves.{State, AtLine, OnLine, behind_line, is_colon, judge, move, on_line, reading}
 use Rattle.wc_grammar_laws.specs.Words.{Operation, found, truths}
 use Rattle.wc_model.specs.Language.Names.{Name, name_of}
@@ -45,10 +45,10 @@ pub record ListEnds (call : Listed) (marks : List Mark) (all : Listed) (behind :
 -- The three are an argument, which a comma or the list's end may follow.
 pub record IsArgument (input assign operand : Mark) (argument : Assignment) : Type 0 where
   pub goes_on : (call : Listed) (comma : ℕ) (behind : List Mark)
-      → ListsOn call (input ∷ assign ∷ operand ∷ record { symbol = Comma; line = comma } ∷ behind) (with_argument call argument.input argument.value) behind
+      → ListsOn call (input ∷ assign ∷ operand ∷ record { symbol = Comma; line = comma } ∷ behind) (with_argument call (formal_of argument) argument.actual) behind
   pub ends : (call : Listed) (close end : ℕ) (behind : List Mark)
       → ListEnds call (input ∷ assign ∷ operand ∷ record { symbol = ClosingBracket; line = close } ∷ record { symbol = LineEnd; line = end } ∷ behind)
-      (with_argument call argument.input argument.value) behind
+      (with_argument call (formal_of argument) argument.actual) behind
 
 -- At the start of a line the four begin this call's list, whose first input is read as one behind a
 -- comma is.

@@ -4,6 +4,7 @@ ghost use Rattle.wc_grammar_laws.specs.Moves as moves;
 ghost use Rattle.wc_lexer.specs.Views.{token_view};
 ghost use Rattle.wc_model.specs.Language.Tree.{ProgramUnit};
 ghost use Rattle.wc_model.specs.Language.Views.{assignment_view};
+ghost use Rattle.wc_model.specs.Text.Grammar.{sign_of};
 ghost use Rattle.wc_model.specs.Text.Reading.{mark_of_token};
 ghost use Rattle.wc_lines.specs.LineViews.{listed_view};
 ghost use Rattle.wc_short_lines.specs.Several.{BeginsCall, GoesOn, IsArgument, ListEnds, ListsOn};
@@ -15,19 +16,32 @@ use std::alloc::{AllocError, Global};
 use wc_bodies::{Body, add_step};
 use wc_lexer::{Shape, Token};
 use wc_lines::{Begun, Listed, Operation, Step, word};
-use wc_model::Argument;
+use wc_model::{Argument, Direction};
 
-/// The argument that the tokens are: an input, its `:=` and an operand of one token.
-fn argument_of<'a>(input: Token<'a>, assign: Token<'a>, operand: Token<'a>) -> Option<Argument<'a>>
+/// Which way a value goes by the sign between a formal and an actual parameter.
+fn direction_of(sign: Token<'_>) -> Option<Direction>
+    ensures { IfSome result
+        (λ direction. (mark_of_token (token_view sign.entry)).symbol ≡ sign_of direction) }
+{
+    match sign.shape {
+        Shape::Assign => Some(Direction::Into),
+        Shape::Arrow => Some(Direction::OutOf),
+        _ => None,
+    }
+}
+
+/// The argument that the tokens are: an input or output, its `:=` or `=>` and an operand of one token.
+fn argument_of<'a>(name: Token<'a>, sign: Token<'a>, operand: Token<'a>) -> Option<Argument<'a>>
     ensures { IfSome result
         (λ argument.
-        IsArgument (mark_of_token (token_view input.entry)) (mark_of_token (token_view assign.entry))
+        IsArgument (mark_of_token (token_view name.entry)) (mark_of_token (token_view sign.entry))
         (mark_of_token (token_view operand.entry)) (assignment_view argument)) }
 {
-    match (input.shape, assign.shape) {
-        (Shape::Identifier, Shape::Assign) => match operand_of(operand) {
+    match (name.shape, direction_of(sign)) {
+        (Shape::Identifier, Some(direction)) => match operand_of(operand) {
             Some(value) => Some(Argument {
-                name: input.text,
+                direction,
+                name: name.text,
                 value,
             }),
             None => None,
@@ -40,8 +54,8 @@ fn argument_of<'a>(input: Token<'a>, assign: Token<'a>, operand: Token<'a>) -> O
 fn add_argument<'a>(call: &mut Listed<'a>, argument: Argument<'a>) -> Result<(), AllocError>
     ensures { OnOk result
         (listed_view call.new
-        ≡ lines.with_argument (listed_view call.old) (assignment_view argument.entry).input
-        (assignment_view argument.entry).value) }
+        ≡ lines.with_argument (listed_view call.old) (lines.formal_of (assignment_view argument.entry))
+        (assignment_view argument.entry).actual) }
 {
     call.arguments.push(argument)?;
     Ok(())
