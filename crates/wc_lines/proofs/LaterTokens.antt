@@ -1,6 +1,6 @@
 -- A later token of a line, where it is none of those that a case apart is for.
 use Rattle.std.proofs.Common.{◌≡◌, ℕ, Bool, List, refl}
-use Rattle.wc_grammar_laws.specs.LineMoves.{AtValue, Begun, Listed, Named, OfArgument, OfOpening, OfStep, OperandOf, at_bracketed, at_list, at_operand, at_operated, behind_name, line_move}
+use Rattle.wc_grammar_laws.specs.LineMoves.{AtValue, Begun, Formal, Listed, Named, OfArgument, OfOpening, OfStep, OperandOf, at_bracketed, at_list, at_operand, at_operated, behind_name, line_move}
 use Rattle.wc_grammar_laws.specs.Words.{Applies}
 use Rattle.wc_lexer.specs.Views.{shape_view}
 use Rattle.wc_lexer.specs.declared.shape.Shape.{Shape}
@@ -21,7 +21,7 @@ bracketed-other begun operator line LineEnd bytes h = absurd (h refl)
 bracketed-other begun operator line _ bytes h = refl
 
 -- behind an input's `:=`, other than a line end
-pub value-other : (begun : Begun) (call : Listed) (input : Name) (line : ℕ) (shape : Shape) (bytes : List ℕ) → (shape ≡ LineEnd → ⊥) → at_list begun call (AtValue input) (symbol_of (shape_view shape) bytes) line ≡ at_operand begun (OfArgument call input) (symbol_of (shape_view shape) bytes) line
+pub value-other : (begun : Begun) (call : Listed) (input : Formal) (line : ℕ) (shape : Shape) (bytes : List ℕ) → (shape ≡ LineEnd → ⊥) → at_list begun call (AtValue input) (symbol_of (shape_view shape) bytes) line ≡ at_operand begun (OfArgument call input) (symbol_of (shape_view shape) bytes) line
 value-other begun call input line LineEnd bytes h = absurd (h refl)
 value-other begun call input line _ bytes h = refl
 
