@@ -7,7 +7,7 @@ use crate::lines::{behind, column_at, front};
 use crate::pieces::tell_piece;
 use std::alloc::{AllocError, Global};
 use wc_model::Fault;
-use wc_reader::{Awaits, Stop, stop_of};
+use wc_stops::{Awaits, Stop, stop_of};
 
 /// What could stand where a token is unexpected; nothing where it is said otherwise.
 fn words_of(awaits: Awaits) -> &'static str {
