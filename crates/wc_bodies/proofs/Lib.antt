@@ -2,4 +2,3 @@ mod Counting
 pub mod LineLists
 mod MetIf
 pub mod Openings
-pub mod WalkSteps

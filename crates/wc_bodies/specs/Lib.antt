@@ -1,1 +1,2 @@
 pub mod BodyViews
+pub mod SectionViews

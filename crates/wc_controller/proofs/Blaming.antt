@@ -3,7 +3,7 @@ use Rattle.std.proofs.Common.{◌≡◌, ℕ, ◌≤◌, List, length, Result, O
 use Rattle.std.specs.Prelude.{Option, Some, None, IfErr, IfSome, IsSome}
 use Rattle.wc_controller.proofs.Allowing.{on_known}
 use Rattle.wc_controller.specs.Blames.{Blames, RefusesLog, RefusesProgram, RefusesText, StopsFor}
-use Rattle.wc_controller.specs.Endings.{EndsBehind, EndsBehindFault, EndsRefused, StopsAt, TellsMemory, met, of_refused_log, of_unread_log}
+use Rattle.wc_controller.specs.Endings.{EndsBehind, EndsBehindFault, EndsRefused, HasNotFailedAt, StopsAt, TellsMemory, met, of_refused_log, of_unread_log}
 use Rattle.wc_controller.specs.declared.ending.Ending.{Ending}
 use Rattle.wc_controller.specs.declared.ending.Ending.TheVariants as ended
 use Rattle.wc_controller.specs.declared.input.Input.{Input}
@@ -14,7 +14,7 @@ use Rattle.wc_model.specs.Run.JobSections.{longest_job}
 use Rattle.wc_model.specs.Run.Log.{log_of}
 use Rattle.wc_model.specs.Run.Rows.{LogRow}
 use Rattle.wc_record.specs.Reading.{records_of}
-use Rattle.wc_run.specs.Runs.{ReportsBy}
+use Rattle.wc_run.specs.Runs.{HasNotFailed, ReportsBy}
 use Rattle.wc_run.specs.declared.fault.RunFault.{RunFault}
 use Rattle.wc_run.specs.declared.fault.RunFault.TheVariants.{Refused, Read, Write, Memory}
 
@@ -72,26 +72,28 @@ log_has_refusal bytes number place e = subst (λ refusal. IsSome refusal) (sym e
 module _ (known : Option (List ℕ)) (before failures start spent : ℕ) where
   -- memory was wanted for the line of a refusal
   behind_refusal : (at : Input) (number place : ℕ) → (at ≡ input.Plate → spent ≡ start) → (at ≡ input.Program → spent ≡ start)
-      → (at ≡ input.Job → ⊥) → (at ≡ input.Log → IfSome known (λ bytes. RefusesLog bytes (Refused number place))) → TellsMemory known before failures start spent
-  behind_refusal input.Job number place plate program job log = absurd (job refl)
-  behind_refusal input.Plate number place plate program job log = of_unread_log (plate refl)
-  behind_refusal input.Program number place plate program job log = of_unread_log (program refl)
-  behind_refusal input.Log number place plate program job log =
+      → (at ≡ input.Job → ⊥) → (at ≡ input.Log → IfSome known (λ bytes. RefusesLog bytes (Refused number place)))
+      → (at ≡ input.Log → failures ≤ before) → TellsMemory known before failures start spent
+  behind_refusal input.Job number place plate program job log well = absurd (job refl)
+  behind_refusal input.Plate number place plate program job log well = of_unread_log (plate refl)
+  behind_refusal input.Program number place plate program job log well = of_unread_log (program refl)
+  behind_refusal input.Log number place plate program job log well =
       of_refused_log (on_known known (λ bytes. RefusesLog bytes (Refused number place)) (λ bytes. IsSome (log_of (records_of bytes)).refusal)
-      (λ bytes e. log_has_refusal bytes number place e) (log refl))
+      (λ bytes e. log_has_refusal bytes number place e) (log refl)) (well refl)
 
   -- an ending that tells want of memory comes of it, or of a refusal
   pub memory_told : {X : Type 0} (answer : Result X Stopped) (ending : Ending) (old new : Option (List ℕ)) → EndsBehind answer ending old new
       → (met answer ≡ Some Memory → TellsMemory known before failures start spent) → (StopsAt input.Plate answer → spent ≡ start)
       → (StopsAt input.Program answer → spent ≡ start) → (StopsAt input.Job answer → ⊥) → StopsFor input.Log RefusesLog known answer
-      → ending ≡ ended.NoMemory → TellsMemory known before failures start spent
-  memory_told (Ok done) ending old new k memory plate program job log e = absurd (cc (sym k.0 ∙ e))
-  memory_told (Err stopped) ending old new k memory plate program job log e = by_fault stopped.fault refl k where
+      → HasNotFailedAt input.Log answer before failures → ending ≡ ended.NoMemory → TellsMemory known before failures start spent
+  memory_told (Ok done) ending old new k memory plate program job log well e = absurd (cc (sym k.0 ∙ e))
+  memory_told (Err stopped) ending old new k memory plate program job log well e = by_fault stopped.fault refl k where
     by_fault : (why : RunFault) → stopped.fault ≡ why → EndsBehindFault stopped.input why ending old new → TellsMemory known before failures start spent
     by_fault (Refused number place) same h =
         behind_refusal stopped.input number place plate program job
         (λ at. on_known known (λ bytes. RefusesLog bytes stopped.fault) (λ bytes. RefusesLog bytes (Refused number place))
         (λ bytes r. subst (λ one. RefusesLog bytes one) same r) (log at))
+        (λ at. subst (λ one. HasNotFailed (Err one) before failures) same (well at))
     by_fault Read same h = absurd (cc (sym h.0 ∙ e))
     by_fault Write same h = absurd (cc (sym h.0 ∙ e))
     by_fault Memory same h = memory (ap Some same)

@@ -18,7 +18,7 @@ use Rattle.wc_model.specs.Say.Job.{JobAnswer, refused_text}
 use Rattle.wc_plate.specs.TomlTable.{table_read}
 use Rattle.wc_record.specs.Left.{HasCause}
 use Rattle.wc_record.specs.Reading.{records_of}
-use Rattle.wc_run.specs.Runs.{AppendsFront}
+use Rattle.wc_run.specs.Runs.{AppendsFront, HasNotFailed}
 use Rattle.wc_run.specs.declared.fault.RunFault.{RunFault}
 use Rattle.wc_run.specs.declared.fault.RunFault.TheVariants.{Refused, Read, Write, Memory}
 
@@ -184,10 +184,16 @@ IsAt input (ended.ReadFault at) = at ≡ input
 IsAt input ended.WriteFault = ⊥
 IsAt input ended.NoMemory = ⊥
 
+-- behind a refusal of this input, its reader has not failed
+abbrev pub HasNotFailedAt : {X : Type 0} → Input → Result X Stopped → ℕ → ℕ → Type 0
+HasNotFailedAt input (Ok done) old new = ⊤
+HasNotFailedAt input (Err stopped) old new = stopped.input ≡ input → HasNotFailed (Err stopped.fault) old new
+
 -- Why want of memory may be told of a command that has a log: nothing of the log was read; or its
--- reader has no cause to be told as a fault; or the log is refused, and the line that says so was
--- not made.
+-- reader has no cause to be told as a fault; or the log is refused, its reader has not failed, and
+-- the line that says so was not made.
 pub data TellsMemory (known : Option (List ℕ)) (failures_before failures start spent : ℕ) : Type 0 where
   of_unread_log : spent ≡ start → TellsMemory known failures_before failures start spent
   of_no_cause : (HasCause failures_before failures start spent → ⊥) → TellsMemory known failures_before failures start spent
-  of_refused_log : IfSome known (λ bytes. IsSome (log_of (records_of bytes)).refusal) → TellsMemory known failures_before failures start spent
+  of_refused_log : IfSome known (λ bytes. IsSome (log_of (records_of bytes)).refusal) → failures ≤ failures_before
+      → TellsMemory known failures_before failures start spent

@@ -1,6 +1,6 @@
 ghost use Rattle.std.specs.Prelude.{◌≡◌, ◌+◌, IfErr, IfSome, Some, None};
 ghost use Rattle.wc_controller.specs.Blames.{Blames, RefusesLog, StopsFor};
-ghost use Rattle.wc_controller.specs.Endings.{EndsAs, IsAt, IsReadFaultAt, RefusesPlate, StopsAt, TellsFailures, TellsMemory, TellsReadEndings, TellsReadFaults, TellsWriteFaults, WritesUpTo, met};
+ghost use Rattle.wc_controller.specs.Endings.{EndsAs, HasNotFailedAt, IsAt, IsReadFaultAt, RefusesPlate, StopsAt, TellsFailures, TellsMemory, TellsReadEndings, TellsReadFaults, TellsWriteFaults, WritesUpTo, met};
 ghost use Rattle.wc_controller.specs.Files.{AnswersLine, line_answer};
 ghost use Rattle.wc_job.specs.Reads.{TakesAtMost};
 ghost use Rattle.wc_model.specs.Run.JobSections.{longest_job};
@@ -35,6 +35,8 @@ fn line_plate<L: ByteIn, W: ByteOut>(
     ensures memory { met result ≡ Some RunFault.Memory
         → ¬ HasCause (L.failure_count log.old) (L.failure_count log.new)
         (L.spent_count log.old) (L.spent_count log.new) }
+    ensures reader { HasNotFailedAt Input.Log result (L.failure_count log.old)
+        (L.failure_count log.new) }
     ensures failures { TellsWriteFaults (met result) (W.failure_count writer.old)
         (W.failure_count writer.new) }
 {
@@ -71,6 +73,8 @@ fn line_inputs<P: ByteIn, L: ByteIn, W: ByteOut>(
     ensures memory { met result ≡ Some RunFault.Memory
         → TellsMemory (L.bytes_left log.old) (L.failure_count log.old) (L.failure_count log.new)
         (L.spent_count log.old) (L.spent_count log.new) }
+    ensures reader { HasNotFailedAt Input.Log result (L.failure_count log.old)
+        (L.failure_count log.new) }
     ensures failures { TellsWriteFaults (met result) (W.failure_count writer.old)
         (W.failure_count writer.new) }
     ensures taken { TakesAtMost (longest_job + 1) (P.bytes_left plate.old)

@@ -1,6 +1,6 @@
 ghost use Rattle.std.specs.Prelude.{◌≡◌, ◌≤◌, ◌+◌, Some, None, IfErr, IfSome};
 ghost use Rattle.wc_controller.specs.Blames.{Blames, RefusesLog, RefusesProgram, RefusesText, StopsFor};
-ghost use Rattle.wc_controller.specs.Endings.{EndsAs, IsAt, IsReadFaultAt, RefusesPlate, StopsAt, TellsFailures, TellsMemory, TellsReadEndings, TellsReadFaults, TellsWriteFaults, WritesUpTo, met};
+ghost use Rattle.wc_controller.specs.Endings.{EndsAs, HasNotFailedAt, IsAt, IsReadFaultAt, RefusesPlate, StopsAt, TellsFailures, TellsMemory, TellsReadEndings, TellsReadFaults, TellsWriteFaults, WritesUpTo, met};
 ghost use Rattle.wc_controller.specs.Files.{AnswersFile, AnswersRun, AnswersText, answer_printing};
 ghost use Rattle.wc_job.specs.Reads.{TakesAtMost};
 ghost use Rattle.wc_machine.specs.Machines.{StandsFor};
@@ -49,6 +49,8 @@ fn run_every<L: ByteIn, W: ByteOut>(
     ensures memory { met result ≡ Some RunFault.Memory
         → ¬ HasCause (L.failure_count log.old) (L.failure_count log.new)
         (L.spent_count log.old) (L.spent_count log.new) }
+    ensures reader { HasNotFailedAt Input.Log result (L.failure_count log.old)
+        (L.failure_count log.new) }
     ensures failures { TellsWriteFaults (met result) (W.failure_count writer.old)
         (W.failure_count writer.new) }
 {
@@ -88,6 +90,8 @@ fn run_latest<L: ByteIn, W: ByteOut>(
     ensures memory { met result ≡ Some RunFault.Memory
         → ¬ HasCause (L.failure_count log.old) (L.failure_count log.new)
         (L.spent_count log.old) (L.spent_count log.new) }
+    ensures reader { HasNotFailedAt Input.Log result (L.failure_count log.old)
+        (L.failure_count log.new) }
     ensures failures { TellsWriteFaults (met result) (W.failure_count writer.old)
         (W.failure_count writer.new) }
 {
@@ -126,6 +130,8 @@ fn run_machine<L: ByteIn, W: ByteOut>(
     ensures memory { met result ≡ Some RunFault.Memory
         → ¬ HasCause (L.failure_count log.old) (L.failure_count log.new)
         (L.spent_count log.old) (L.spent_count log.new) }
+    ensures reader { HasNotFailedAt Input.Log result (L.failure_count log.old)
+        (L.failure_count log.new) }
     ensures failures { TellsWriteFaults (met result) (W.failure_count writer.old)
         (W.failure_count writer.new) }
 {
@@ -160,6 +166,8 @@ fn run_loaded<L: ByteIn, W: ByteOut>(
     ensures memory { met result ≡ Some RunFault.Memory
         → TellsMemory (L.bytes_left log.old) (L.failure_count log.old) (L.failure_count log.new)
         (L.spent_count log.old) (L.spent_count log.new) }
+    ensures reader { HasNotFailedAt Input.Log result (L.failure_count log.old)
+        (L.failure_count log.new) }
     ensures failures { TellsWriteFaults (met result) (W.failure_count writer.old)
         (W.failure_count writer.new) }
 {
@@ -200,6 +208,8 @@ pub(crate) fn run_text<L: ByteIn, W: ByteOut>(
     ensures memory { met result ≡ Some RunFault.Memory
         → TellsMemory (L.bytes_left log.old) (L.failure_count log.old) (L.failure_count log.new)
         (L.spent_count log.old) (L.spent_count log.new) }
+    ensures reader { HasNotFailedAt Input.Log result (L.failure_count log.old)
+        (L.failure_count log.new) }
     ensures failures { TellsWriteFaults (met result) (W.failure_count writer.old)
         (W.failure_count writer.new) }
 {
@@ -241,6 +251,8 @@ fn run_program<T: ByteIn, L: ByteIn, W: ByteOut>(
     ensures memory { met result ≡ Some RunFault.Memory
         → TellsMemory (L.bytes_left log.old) (L.failure_count log.old) (L.failure_count log.new)
         (L.spent_count log.old) (L.spent_count log.new) }
+    ensures reader { HasNotFailedAt Input.Log result (L.failure_count log.old)
+        (L.failure_count log.new) }
     ensures failures { TellsWriteFaults (met result) (W.failure_count writer.old)
         (W.failure_count writer.new) }
     ensures taken_program { TakesAtMost (longest_job + 1) (T.bytes_left program.old)
@@ -286,6 +298,8 @@ fn run_inputs<P: ByteIn, T: ByteIn, L: ByteIn, W: ByteOut>(
     ensures memory { met result ≡ Some RunFault.Memory
         → TellsMemory (L.bytes_left log.old) (L.failure_count log.old) (L.failure_count log.new)
         (L.spent_count log.old) (L.spent_count log.new) }
+    ensures reader { HasNotFailedAt Input.Log result (L.failure_count log.old)
+        (L.failure_count log.new) }
     ensures failures { TellsWriteFaults (met result) (W.failure_count writer.old)
         (W.failure_count writer.new) }
     ensures taken_plate { TakesAtMost (longest_job + 1) (P.bytes_left plate.old)

@@ -8,8 +8,8 @@ use Rattle.wc_findings.specs.declared.refusal.Part.TheVariants.{Job, Plate, Prog
 use Rattle.wc_lexer.specs.declared.shape.Token as lexer
 use Rattle.wc_model.specs.Text.Tokens.{IsCut, Token}
 use Rattle.wc_model.specs.declared.fault.Fault.TheVariants.{Refused}
-use Rattle.wc_reader.specs.ReadingSpots.{StopsReading}
-use Rattle.wc_reader.specs.declared.awaits.Awaits.{Awaits}
+use Rattle.wc_stops.specs.ReadingSpots.{StopsReading}
+use Rattle.wc_stops.specs.declared.awaits.Awaits.{Awaits}
 
 -- this piece stands in the text, from that place on
 abbrev pub StandsAt : List ℕ → ℕ → List ℕ → Type 0

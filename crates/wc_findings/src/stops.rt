@@ -7,7 +7,7 @@ use crate::lines::{behind, column_at, front};
 use crate::pieces::tell_piece;
 use std::alloc::{AllocError, Global};
 use wc_model::Fault;
-use wc_reader::{Awaits, Stop, stop_of};
+use wc_stops::{Awaits, Stop, stop_of};
 
 /// What could stand where a token is unexpected; nothing where it is said otherwise.
 fn words_of(awaits: Awaits) -> &'static str {
@@ -34,9 +34,9 @@ fn words_of(awaits: Awaits) -> &'static str {
         Awaits::OpeningOrLineEnd => "`(` or the end of the line",
         Awaits::PointOrLineEnd => "`.` or the end of the line",
         Awaits::Field => "the name of a field",
-        Awaits::InputOrClosing => "an input or `)`",
-        Awaits::Input => "an input",
-        Awaits::Assign => "`:=`",
+        Awaits::FormalOrClosing => "an input, an output or `)`",
+        Awaits::Formal => "an input or an output",
+        Awaits::AssignOrArrow => "`:=` or `=>`",
         Awaits::CommaOrClosing => "`,` or `)`",
         Awaits::CommaPointOrClosing => "`,`, `.` or `)`",
     }

@@ -2,5 +2,3 @@ mod AnyProgram
 mod FirstTokens
 mod ReadingSteps
 pub mod ReadTexts
-pub mod StopSteps
-pub mod Stopped

@@ -16,6 +16,8 @@ use Rattle.wc_reader.specs.ReadTexts.{IsRefusedAs, IsUnread}
 use Rattle.wc_model.specs.Language.Views.{text_view}
 use Rattle.wc_model.specs.declared.source.Source.{Source}
 use Rattle.wc_reader.specs.Told.{IsMetAs, TellsReading, TellsFault}
+use Rattle.wc_short_lines.proofs.WalkSteps.{walk_tells}
+use Rattle.wc_short_lines.specs.Walks.{walk}
 
 -- what the walk reads is what the bytes are read as
 pub read_as : (bytes : List ℕ) (tokens : List Token) (text : Text) → length bytes ≤ most_bytes → IsCut bytes tokens → reading at_first (map mark_of_token tokens) (last_line bytes) ≡ Ok text → IsRead bytes text
@@ -65,13 +67,24 @@ pub token_fault : (bytes : List ℕ) (fault : Fault) → Names bytes fault → I
 token_fault bytes Memory n = n
 token_fault bytes (Refused number place) n = not_cut bytes number place n
 
--- what a result of the walk says of the text it read, or refused
-pub result_read : (bytes : List ℕ) (tokens : List Token) (marks : List Mark) (last : ℕ) (result : Result Source Fault) → length bytes ≤ most_bytes → IsCut bytes tokens → marks ≡ map mark_of_token tokens → last ≡ last_line bytes → TellsReading (reading at_first marks last) result
+-- what a result of the walk says of the text that it read
+read_then : (bytes : List ℕ) (tokens : List Token) (marks : List Mark) (last : ℕ) (result : Result Source Fault) → length bytes ≤ most_bytes → IsCut bytes tokens → marks ≡ map mark_of_token tokens → last ≡ last_line bytes → TellsReading (reading at_first marks last) result
     → IfOk result (λ source. IsRead bytes (text_view source))
-result_read bytes tokens marks last (Ok source) short cut m l t = read_as bytes tokens (text_view source) short cut (subst (λ n. reading at_first (map mark_of_token tokens) n ≡ Ok (text_view source)) l (subst (λ ms. reading at_first ms last ≡ Ok (text_view source)) m t))
-result_read bytes tokens marks last (Err fault) short cut m l t = tt
+read_then bytes tokens marks last (Ok source) short cut m l t = read_as bytes tokens (text_view source) short cut (subst (λ n. reading at_first (map mark_of_token tokens) n ≡ Ok (text_view source)) l (subst (λ ms. reading at_first ms last ≡ Ok (text_view source)) m t))
+read_then bytes tokens marks last (Err fault) short cut m l t = tt
 
-pub result_refused : (bytes : List ℕ) (tokens : List Token) (marks : List Mark) (last : ℕ) (result : Result Source Fault) → length bytes ≤ most_bytes → IsCut bytes tokens → marks ≡ map mark_of_token tokens → last ≡ last_line bytes → TellsReading (reading at_first marks last) result
+pub result_read : (bytes : List ℕ) (tokens : List Token) (marks : List Mark) (last : ℕ) (result : Result Source Fault) → length bytes ≤ most_bytes → IsCut bytes tokens → marks ≡ map mark_of_token tokens → last ≡ last_line bytes → TellsReading (walk at_first marks last).told result
+    → IfOk result (λ source. IsRead bytes (text_view source))
+result_read bytes tokens marks last result short cut m l t =
+    read_then bytes tokens marks last result short cut m l (subst (λ outcome. TellsReading outcome result) (walk_tells at_first marks last) t)
+
+-- and of one that it refused
+refused_then : (bytes : List ℕ) (tokens : List Token) (marks : List Mark) (last : ℕ) (result : Result Source Fault) → length bytes ≤ most_bytes → IsCut bytes tokens → marks ≡ map mark_of_token tokens → last ≡ last_line bytes → TellsReading (reading at_first marks last) result
     → IfErr result (λ fault. fault ≡ Memory → 0 < length tokens) → IfErr result (λ fault. IsRefusedAs bytes fault)
-result_refused bytes tokens marks last (Ok source) short cut m l t some = tt
-result_refused bytes tokens marks last (Err fault) short cut m l t some = refused_as bytes tokens fault short cut (subst (λ n. TellsFault (reading at_first (map mark_of_token tokens) n) fault) l (subst (λ ms. TellsFault (reading at_first ms last) fault) m t)) some
+refused_then bytes tokens marks last (Ok source) short cut m l t some = tt
+refused_then bytes tokens marks last (Err fault) short cut m l t some = refused_as bytes tokens fault short cut (subst (λ n. TellsFault (reading at_first (map mark_of_token tokens) n) fault) l (subst (λ ms. TellsFault (reading at_first ms last) fault) m t)) some
+
+pub result_refused : (bytes : List ℕ) (tokens : List Token) (marks : List Mark) (last : ℕ) (result : Result Source Fault) → length bytes ≤ most_bytes → IsCut bytes tokens → marks ≡ map mark_of_token tokens → last ≡ last_line bytes → TellsReading (walk at_first marks last).told result
+    → IfErr result (λ fault. fault ≡ Memory → 0 < length tokens) → IfErr result (λ fault. IsRefusedAs bytes fault)
+result_refused bytes tokens marks last result short cut m l t some =
+    refused_then bytes tokens marks last result short cut m l (subst (λ outcome. TellsReading outcome result) (walk_tells at_first marks last) t) some

@@ -2,5 +2,3 @@ pub mod TextViews
 pub mod Told
 pub mod Programs
 pub mod ReadTexts
-pub mod Awaited
-pub mod ReadingSpots

@@ -1,38 +1,20 @@
 -- What the reader's states in a text stand for.
-use Rattle.std.specs.Prelude.{◌≡◌, List, map, Some, None}
+use Rattle.std.specs.Prelude.{◌≡◌, List, map}
 use Rattle.wc_grammar_laws.specs.Moves as moves
 use Rattle.wc_grammar_laws.specs.Moves.{State}
 use Rattle.wc_model.specs.Language.Tree.{ProgramUnit}
 use Rattle.wc_model.specs.Text.Positions.{Position}
-use Rattle.wc_model.specs.Language.Views.{unit_view, word_view}
+use Rattle.wc_model.specs.Language.Views.{unit_view}
 use Rattle.wc_model.specs.declared.source.Section.{Section}
 use Rattle.wc_bodies.specs.BodyViews.{IsCounted, position_view}
+use Rattle.wc_bodies.specs.SectionViews.{declaring_view}
+use Rattle.wc_bodies.specs.declared.declarations.DeclarationState.TheVariants.{Undeclared}
 use Rattle.wc_lines.specs.LineViews.{line_state_view}
-use Rattle.wc_reader.specs.declared.declarations.DeclarationState.{DeclarationState}
-use Rattle.wc_reader.specs.declared.declarations.DeclarationState.TheVariants.{Undeclared, BehindNames, BehindComma, BehindColon, BehindType, BehindAssign, BehindValue}
-use Rattle.wc_reader.specs.declared.declarations.Declaring.{Declaring as SectionRead}
 use Rattle.wc_reader.specs.declared.text_state.TextState.{TextState}
 use Rattle.wc_reader.specs.declared.text_state.TextState.TheVariants.{Outside, Unnamed, Declaring, AtLine, OnLine, Closed}
 use Rattle.wc_reader.specs.declared.text_state.BodyPlace.{BodyPlace}
 use Rattle.wc_reader.specs.declared.text_state.BodyPlace.TheVariants.{LineStart, AlongLine, BehindClosing, InSection, BehindUnit}
 use Rattle.wc_reader.specs.declared.text_state.Reading.{Reading}
-
--- how far a declaration has been read
-abbrev pub declaring_view : DeclarationState → moves.InDeclaration
-declaring_view Undeclared = moves.Undeclared
-declaring_view (BehindNames names) = moves.BehindNames (map word_view names.items)
-declaring_view (BehindComma names) = moves.BehindComma (map word_view names.items)
-declaring_view (BehindColon names) = moves.BehindColon (map word_view names.items)
-declaring_view (BehindType names type_name) = moves.BehindType (map word_view names.items) (word_view type_name)
-declaring_view (BehindAssign names type_name) = moves.BehindAssign (map word_view names.items) (word_view type_name)
-declaring_view (BehindValue names type_name initial) = moves.BehindValue (map word_view names.items) (word_view type_name) initial
-
--- how far a section has been read, or where the body starts behind it
-abbrev pub section_view : List ProgramUnit → SectionRead → State
-section_view units read = elim read.state [
-  | Some state ↦ moves.Declaring units (unit_view read.unit) read.section (declaring_view state)
-  | None ↦ moves.AtLine (moves.body_start units (unit_view read.unit))
-]
 
 -- where a token of a body leads, with the body behind it
 abbrev pub place_view : Position → BodyPlace → State

@@ -1,5 +1,5 @@
 -- What a result of the reader says.
-use Rattle.std.specs.Prelude.{◌≡◌, ℕ, Option, None, Result, Ok, Err}
+use Rattle.std.specs.Prelude.{◌≡◌, ℕ, List, Option, None, Result, Ok, Err}
 use Rattle.wc_grammar_laws.specs.Moves.{Met, State}
 use Rattle.wc_model.specs.Text.ReadingFaults.{number_of}
 use Rattle.wc_model.specs.Language.Tree.{Text}
@@ -7,6 +7,8 @@ use Rattle.wc_model.specs.Language.Views.{text_view}
 use Rattle.wc_model.specs.declared.fault.Fault.{Fault}
 use Rattle.wc_model.specs.declared.fault.Fault.TheVariants.{Memory, Refused}
 use Rattle.wc_model.specs.declared.source.Source.{Source}
+use Rattle.wc_model.specs.Text.Marks.{Mark}
+use Rattle.wc_short_lines.specs.Walks.{walk}
 
 -- what was met, by its number and its line
 pub record IsMetAs (outcome : Result Text Met) (number place : ℕ) : Type 0 where
@@ -33,3 +35,15 @@ IsUnexpected next line (Refused number place) = (next ≡ None) × (number ≡ 2
 -- the fault says that a token of that line is unexpected
 abbrev pub IsUnexpectedAt : (line : ℕ) → Fault → Type 0
 IsUnexpectedAt line fault = fault ≡ Refused 201 line
+
+-- A walk that stands at that state stops there at the next token: what it meets has this number and line.
+pub record IsStoppedAt (state : State) (marks : List Mark) (number place : ℕ) : Type 0 where
+  pub met : Met
+  pub stops : (last : ℕ) → walk state marks last ≡ record { state = state; told = Err met }
+  pub number_is : number ≡ number_of met.fault
+  pub place_is : place ≡ met.line
+
+-- the fault is what stops the walk at the next token; want of memory says nothing
+abbrev pub StopsWith : State → List Mark → Fault → Type 0
+StopsWith state marks Memory = Unit {0}
+StopsWith state marks (Refused number place) = IsStoppedAt state marks number place

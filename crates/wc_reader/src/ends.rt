@@ -58,7 +58,7 @@ fn open_at_end<'a>(state: &TextState<'a>) -> Option<Fault>
 }
 
 /// The text whose tokens have all been read, or what is wrong at its end.
-pub(crate) fn at_text_end<'a>(
+pub fn at_text_end<'a>(
     alloc: Global,
     reading: &mut Reading<'a>,
     last_line: u32,

@@ -35,7 +35,7 @@ fn any_program(units: &[Unit]) -> bool
 }
 
 /// Whether there is a program among the units.
-pub(crate) fn has_program(units: &[Unit]) -> bool
+pub fn has_program(units: &[Unit]) -> bool
     ensures { result ≡ moves.has_program (map unit_view units.now) }
 {
     any_program(units)

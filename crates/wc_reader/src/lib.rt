@@ -2,17 +2,15 @@
 //! that no text makes the reader recurse.
 #![tactic(auto)]
 
-mod awaits;
 mod body_moves;
-mod declarations;
 mod ends;
 mod faults;
 mod moves;
-mod stops;
 mod text;
 mod text_state;
 mod words;
 
-pub use awaits::Awaits;
-pub use stops::{Stop, stop_of};
-pub use text::read;
+pub use ends::at_text_end;
+pub use faults::has_program;
+pub use text::{last_line, read, read_at, reading_start, take_lines};
+pub use text_state::{Reading, TextState};

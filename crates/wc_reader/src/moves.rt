@@ -6,15 +6,15 @@ ghost use Rattle.wc_model.specs.Language.Tree.{ProgramUnit};
 ghost use Rattle.wc_model.specs.Language.Views.{unit_view};
 ghost use Rattle.wc_lines.specs.LineViews.{line_state_view};
 ghost use Rattle.wc_bodies.specs.BodyViews.{IsCounted, position_view};
-ghost use Rattle.wc_reader.specs.TextViews.{IsStateCounted, declaring_view, place_view, state_view, section_view};
+ghost use Rattle.wc_bodies.specs.SectionViews.{declaring_view, section_view};
+ghost use Rattle.wc_reader.specs.TextViews.{IsStateCounted, place_view, state_view};
 ghost use Rattle.wc_lines.specs.Words.{symbol_view};
 
 use crate::body_moves::{along_line, at_line};
-use crate::declarations::{DeclarationState, Declaring, declaration_move};
 use crate::text_state::{BodyPlace, TextState};
 use crate::words::unit_kind;
 use std::alloc::{AllocError, Global};
-use wc_bodies::{Body, body_start};
+use wc_bodies::{Body, DeclarationState, SectionPlace, body_start, declaration_move};
 use wc_lexer::{Shape, Token};
 use wc_lines::{LineState, word};
 use wc_model::{Section, Unit, UnitKind};
@@ -73,19 +73,20 @@ fn at_name<'a>(alloc: Global, kind: UnitKind, line: u32, token: Token<'a>) -> Op
 
 /// In a section, or at the start of the body behind it.
 #[inline(always)]
-fn section_state<'a>(alloc: Global, declaring: Declaring<'a>) -> TextState<'a>
+fn section_state<'a>(
+    alloc: Global,
+    unit: Unit<'a>,
+    section: Section,
+    place: SectionPlace<'a>,
+) -> TextState<'a>
     ensures behind { (units : List ProgramUnit)
-        → state_view units result ≡ section_view units declaring.entry }
+        → state_view units result
+        ≡ section_view units (unit_view unit.entry) section place.entry }
     ensures counted { IsStateCounted result }
 {
-    let Declaring {
-        unit,
-        section,
-        state,
-    } = declaring;
-    match state {
-        Some(state) => TextState::Declaring(unit, section, state),
-        None => TextState::AtLine(body_start(alloc, unit)),
+    match place {
+        SectionPlace::WithinSection(state) => TextState::Declaring(unit, section, state),
+        SectionPlace::BehindSection => TextState::AtLine(body_start(alloc, unit)),
     }
 }
 
@@ -105,8 +106,9 @@ fn in_section<'a>(
         (symbol_view token.entry) token.entry.line) }
     ensures counted { IfOk result (λ next. IfSome next (λ it. IsStateCounted it)) }
 {
-    match declaration_move(alloc, unit, section, state, token)? {
-        Some(declaring) => Ok(Some(section_state(alloc, declaring))),
+    let mut unit = unit;
+    match declaration_move(alloc, &mut unit, section, state, token)? {
+        Some(place) => Ok(Some(section_state(alloc, unit, section, place))),
         None => Ok(None),
     }
 }

@@ -8,19 +8,19 @@ ghost use Rattle.wc_model.specs.Language.Tree.{ProgramUnit};
 ghost use Rattle.wc_model.specs.Language.Views.{text_view};
 ghost use Rattle.wc_lexer.specs.Views.{token_view};
 ghost use Rattle.wc_reader.specs.ReadTexts.{IsRefusedAs};
-ghost use Rattle.wc_reader.specs.ReadingSpots.{StopsIn, state_at_stop};
 ghost use Rattle.wc_short_lines.specs.Several.{GoesOn};
+ghost use Rattle.wc_short_lines.specs.Walks.{walk};
 ghost use Rattle.wc_reader.specs.TextViews.{IsUndeclared, IsStateCounted, reading_view, state_view};
-ghost use Rattle.wc_reader.specs.Told.{IsUnexpected, IsUnexpectedAt, TellsReading, TellsFault};
+ghost use Rattle.wc_reader.specs.Told.{IsUnexpected, IsUnexpectedAt, StopsWith, TellsReading};
 ghost use Rattle.wc_lines.specs.Words.{marks_of, symbol_view};
 
-use crate::declarations::DeclarationState;
 use crate::ends::at_text_end;
 use crate::faults::fault_at;
 use crate::moves::text_move;
 use crate::text_state::{Reading, TextState};
 use std::alloc::{AllocError, Global};
 use std::mem;
+use wc_bodies::DeclarationState;
 use wc_lexer::{Shape, Token, tokens};
 use wc_model::{Fault, Section, Source};
 use wc_short_lines::{take_declaration, take_line_and_call};
@@ -92,25 +92,13 @@ fn read_token<'a>(
 ) -> Result<(), Fault>
     requires { IsStateCounted reading.old.state }
     ensures goes_on { OnOk result
-        ((behind : List Mark) (last : ℕ) → colon_next behind false ≡ colon
-        → moves.reading (reading_view reading.old)
-        (mark_of_token (token_view token.entry) ∷ behind) last
-        ≡ moves.reading (reading_view reading.new) behind last) }
-    ensures stops { IfErr result
-        (λ fault. (behind : List Mark) (last : ℕ) → colon_next behind false ≡ colon
-        → TellsFault
-        (moves.reading (reading_view reading.old)
-        (mark_of_token (token_view token.entry) ∷ behind) last) fault) }
-    ensures leads { OnOk result
         ((behind : List Mark) → colon_next behind false ≡ colon
-        → state_at_stop (reading_view reading.old)
-        (mark_of_token (token_view token.entry) ∷ behind)
-        ≡ state_at_stop (reading_view reading.new) behind) }
-    ensures stays { IfErr result
+        → GoesOn (reading_view reading.old) (mark_of_token (token_view token.entry) ∷ behind)
+        (reading_view reading.new) behind) }
+    ensures stops { IfErr result
         (λ fault. (behind : List Mark) → colon_next behind false ≡ colon
-        → StopsIn
-        (state_at_stop (reading_view reading.old)
-        (mark_of_token (token_view token.entry) ∷ behind)) (reading_view reading.old) fault) }
+        → StopsWith (reading_view reading.old) (mark_of_token (token_view token.entry) ∷ behind)
+        fault) }
     ensures counted { OnOk result (IsStateCounted reading.new.state) }
 {
     match fault_at(reading, token, colon) {
@@ -121,7 +109,7 @@ fn read_token<'a>(
 
 /// Goes on behind the token at that index, or says what is wrong with it.
 #[inline(always)]
-pub(crate) fn read_at<'a>(
+pub fn read_at<'a>(
     alloc: Global,
     reading: &mut Reading<'a>,
     tokens: &[Token<'a>],
@@ -130,21 +118,11 @@ pub(crate) fn read_at<'a>(
     requires counted { IsStateCounted reading.old.state }
     requires within { index < length tokens.now }
     ensures goes_on { OnOk result
-        ((last : ℕ)
-        → moves.reading (reading_view reading.old) (marks_of (drop index tokens.now)) last
-        ≡ moves.reading (reading_view reading.new) (marks_of (drop (index + 1) tokens.now)) last) }
+        (GoesOn (reading_view reading.old) (marks_of (drop index tokens.now))
+        (reading_view reading.new) (marks_of (drop (index + 1) tokens.now))) }
     ensures stops { IfErr result
-        (λ fault. (last : ℕ)
-        → TellsFault
-        (moves.reading (reading_view reading.old) (marks_of (drop index tokens.now)) last)
-        fault) }
-    ensures leads { OnOk result
-        (state_at_stop (reading_view reading.old) (marks_of (drop index tokens.now))
-        ≡ state_at_stop (reading_view reading.new) (marks_of (drop (index + 1) tokens.now))) }
-    ensures stays { IfErr result
         (λ fault.
-        StopsIn (state_at_stop (reading_view reading.old) (marks_of (drop index tokens.now)))
-        (reading_view reading.old) fault) }
+        StopsWith (reading_view reading.old) (marks_of (drop index tokens.now)) fault) }
     ensures counted { OnOk result (IsStateCounted reading.new.state) }
 {
     let (_, left) = tokens.split_at(index);
@@ -258,7 +236,7 @@ fn take_at<'a>(
 
 /// Reads short lines in place from that index on, as many as stand there, and says where the next
 /// token stands.
-fn take_lines<'a>(
+pub fn take_lines<'a>(
     alloc: Global,
     reading: &mut Reading<'a>,
     tokens: &[Token<'a>],
@@ -294,7 +272,7 @@ fn read_on<'a>(
 ) -> Result<Source<'a>, Fault>
     requires { IsStateCounted reading.old.state }
     ensures told { TellsReading
-        (moves.reading (reading_view reading.old) (marks_of tokens.now) last_line) result }
+        (walk (reading_view reading.old) (marks_of tokens.now) last_line).told result }
     // At the end no memory is taken.
     ensures room { IfErr result (λ fault. fault ≡ Fault.Memory → 0 < length tokens.now) }
 {
@@ -311,16 +289,24 @@ fn read_on<'a>(
     at_text_end(alloc, reading, last_line)
 }
 
+/// A text of which nothing has been read.
+pub fn reading_start<'a>(alloc: Global) -> Reading<'a>
+    ensures start { reading_view result ≡ at_first }
+    ensures counted { IsStateCounted result.state }
+{
+    Reading {
+        units: Vec::new(alloc),
+        state: TextState::Outside,
+    }
+}
+
 /// The text that the tokens spell, or the first fault in them.
 fn read_tokens<'a>(alloc: Global, tokens: &[Token<'a>], last_line: u32) -> Result<Source<'a>, Fault>
-    ensures told { TellsReading (moves.reading at_first (marks_of tokens.now) last_line) result }
+    ensures told { TellsReading (walk at_first (marks_of tokens.now) last_line).told result }
     // With no token no memory is taken.
     ensures room { IfErr result (λ fault. fault ≡ Fault.Memory → 0 < length tokens.now) }
 {
-    let mut reading = Reading {
-        units: Vec::new(alloc),
-        state: TextState::Outside,
-    };
+    let mut reading = reading_start(alloc);
     read_on(alloc, &mut reading, tokens, last_line)
 }
 
@@ -333,7 +319,7 @@ fn line_feeds(text: &[u8]) -> usize
 }
 
 /// The number of the text's last line.
-pub(crate) fn last_line(text: &[u8]) -> u32
+pub fn last_line(text: &[u8]) -> u32
     requires { length text.now ≤ most_bytes }
     ensures { result ≡ last_line text.now }
 {

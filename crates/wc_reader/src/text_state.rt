@@ -1,12 +1,11 @@
-use crate::declarations::DeclarationState;
 use std::alloc::Global;
-use wc_bodies::Body;
+use wc_bodies::{Body, DeclarationState};
 use wc_lines::LineState;
 use wc_model::{Section, Unit, UnitKind};
 
 /// How far a text has been read, behind its whole units.
 #[derive(Drop)]
-pub(crate) enum TextState<'a> {
+pub enum TextState<'a> {
     /// In no unit.
     Outside,
     /// Behind a unit's first word, of that line.
@@ -38,7 +37,7 @@ pub(crate) enum BodyPlace<'a> {
 
 /// The whole units, and how far the text behind them has been read.
 #[derive(Drop)]
-pub(crate) struct Reading<'a> {
+pub struct Reading<'a> {
     pub units: Vec<Unit<'a>, Global>,
     pub state: TextState<'a>,
 }

@@ -3,7 +3,7 @@ use Rattle.std.proofs.Common.{◌≡◌, ◌≤◌, ℕ, Bool, false, List, [], 
 use Rattle.std.proofs.lemmas.List.{drop-drop}
 use Rattle.std.specs.Prelude.{◌+◌}
 use Rattle.wc_grammar_laws.specs.LineMoves.{Formal, formal_of, behind_operator, Begun, Listed, OfArgument, AtNext, Listing, Instructs, name_or_literal, with_argument}
-use Rattle.wc_grammar_laws.specs.Moves.{AtLine, OnLine, behind_line, on_line, reading}
+use Rattle.wc_grammar_laws.specs.Moves.{AtLine, OnLine, behind_line, on_line}
 use Rattle.wc_grammar_laws.specs.Words as words
 use Rattle.wc_grammar_laws.specs.Words.{found, truths}
 use Rattle.wc_lexer.specs.Views.{shape_view, token_view}
@@ -19,6 +19,7 @@ use Rattle.wc_model.specs.declared.operator.Condition.{Condition}
 use Rattle.wc_model.specs.declared.operator.Direction.{Direction}
 use Rattle.wc_model.specs.declared.operator.Direction.TheVariants.{Into, OutOf}
 use Rattle.wc_short_lines.proofs.ShortLines.{one_on}
+use Rattle.wc_short_lines.specs.Walks.{walk}
 use Rattle.wc_short_lines.specs.Several.{Begins, BeginsCall, GoesOn, IsArgument, ListEnds, ListsOn, name_or_truth, operand_of}
 use Rattle.wc_lines.specs.Words.{marks_of}
 
@@ -40,22 +41,22 @@ and_ends close end behind = record { symbol = ClosingBracket; line = close } ∷
 
 -- where an identifier leads that is an argument's value
 named : (way : Direction) (p : Position) (begun : Begun) (call : Listed) (bytes value : List ℕ) (line assign at last : ℕ) (next : Mark) (behind : List Mark)
-    → reading (OnLine p (Listing begun call AtNext)) (argument_marks way bytes line assign (record { symbol = Identifier value; line = at }) (next ∷ behind)) last
-    ≡ reading (on_line p (name_or_literal begun (OfArgument call (named_formal way bytes)) (name_of value) (found truths (name_of value)))) (next ∷ behind) last
+    → walk (OnLine p (Listing begun call AtNext)) (argument_marks way bytes line assign (record { symbol = Identifier value; line = at }) (next ∷ behind)) last
+    ≡ walk (on_line p (name_or_literal begun (OfArgument call (named_formal way bytes)) (name_of value) (found truths (name_of value)))) (next ∷ behind) last
 named Into p begun call bytes value line assign at last next behind = refl
 named OutOf p begun call bytes value line assign at last next behind = refl
 
 -- a comma behind a name, or behind TRUE or FALSE
 name_goes_on : (p : Position) (begun : Begun) (call : Listed) (input : Formal) (name : Name) (truth : Option Bool) (comma last : ℕ) (behind : List Mark)
-    → reading (on_line p (name_or_literal begun (OfArgument call input) name truth)) (and_comma comma behind) last
-    ≡ reading (OnLine p (Listing begun (with_argument call input (name_or_truth name truth)) AtNext)) behind last
+    → walk (on_line p (name_or_literal begun (OfArgument call input) name truth)) (and_comma comma behind) last
+    ≡ walk (OnLine p (Listing begun (with_argument call input (name_or_truth name truth)) AtNext)) behind last
 name_goes_on p begun call input name None comma last behind = refl
 name_goes_on p begun call input name (Some value) comma last behind = refl
 
 -- the list's end behind a name, or behind TRUE or FALSE
 name_ends : (p : Position) (begun : Begun) (call : Listed) (input : Formal) (name : Name) (truth : Option Bool) (close end last : ℕ) (behind : List Mark)
-    → reading (on_line p (name_or_literal begun (OfArgument call input) name truth)) (and_ends close end behind) last
-    ≡ reading (AtLine (behind_line p (Instructs begun.label begun.line (Call call.condition call.instance (with_argument call input (name_or_truth name truth)).arguments)))) behind last
+    → walk (on_line p (name_or_literal begun (OfArgument call input) name truth)) (and_ends close end behind) last
+    ≡ walk (AtLine (behind_line p (Instructs begun.label begun.line (Call call.condition call.instance (with_argument call input (name_or_truth name truth)).arguments)))) behind last
 name_ends p begun call input name None close end last behind = refl
 name_ends p begun call input name (Some value) close end last behind = refl
 

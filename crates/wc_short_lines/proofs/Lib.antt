@@ -1,2 +1,3 @@
 mod CallLists
 mod ShortLines
+pub mod WalkSteps

@@ -19,7 +19,8 @@ use Rattle.wc_lexer.specs.Views.{shape_view, token_view}
 use Rattle.wc_lexer.specs.declared.shape.Shape.TheVariants as Shape
 use Rattle.wc_lexer.specs.declared.shape.Token.{Token}
 use Rattle.wc_model.specs.Text.Reading.{mark_of_token, symbol_of}
-use Rattle.wc_bodies.proofs.WalkSteps.{at_move}
+use Rattle.wc_short_lines.proofs.WalkSteps.{at_move}
+use Rattle.wc_short_lines.specs.Walks.{walk}
 use Rattle.wc_model.specs.declared.operator.Condition.{Condition}
 use Rattle.wc_model.specs.declared.source.Section.{Section}
 use Rattle.wc_short_lines.specs.Several.{Begins, GoesOn, IsLine, Makes, name_or_truth, operand_of}
@@ -41,16 +42,16 @@ EndsAs p begun operating symbol line end behind (Some term) =
 
 -- where an identifier leads that is an operand
 named : (p : Position) (begun : lines.Begun) (operating : Operating) (bytes : List ℕ) (line end last : ℕ) (behind : List Mark)
-    → moves.reading (moves.OnLine p (lines.Operated begun operating)) (record { symbol = Identifier bytes; line = line } ∷ record { symbol = LineEnd; line = end } ∷ behind) last
-    ≡ moves.reading (on_line p (lines.name_or_literal begun (lines.OfStep operating) (name_of bytes) (found truths (name_of bytes)))) (record { symbol = LineEnd; line = end } ∷ behind) last
+    → walk (moves.OnLine p (lines.Operated begun operating)) (record { symbol = Identifier bytes; line = line } ∷ record { symbol = LineEnd; line = end } ∷ behind) last
+    ≡ walk (on_line p (lines.name_or_literal begun (lines.OfStep operating) (name_of bytes) (found truths (name_of bytes)))) (record { symbol = LineEnd; line = end } ∷ behind) last
 named p begun (Loads negated) bytes line end last behind = refl
 named p begun (Stores storing) bytes line end last behind = refl
 named p begun (Applies operator) bytes line end last behind = refl
 
 -- the line's end behind a name, or behind TRUE or FALSE
 name_ends : (p : Position) (begun : lines.Begun) (operating : Operating) (name : Name) (truth : Option Bool) (end last : ℕ) (behind : List Mark)
-    → moves.reading (on_line p (lines.name_or_literal begun (lines.OfStep operating) name truth)) (record { symbol = LineEnd; line = end } ∷ behind) last
-    ≡ moves.reading (moves.AtLine (behind_line p (lines.Instructs begun.label begun.line (step_of operating (name_or_truth name truth))))) behind last
+    → walk (on_line p (lines.name_or_literal begun (lines.OfStep operating) name truth)) (record { symbol = LineEnd; line = end } ∷ behind) last
+    ≡ walk (moves.AtLine (behind_line p (lines.Instructs begun.label begun.line (step_of operating (name_or_truth name truth))))) behind last
 name_ends p begun operating name None end last behind = refl
 name_ends p begun operating name (Some value) end last behind = refl
 

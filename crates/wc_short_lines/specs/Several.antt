@@ -1,18 +1,19 @@
 -- Tokens that are taken several at a time. (No rule of the language.)
 use Rattle.std.specs.Prelude.{◌≡◌, ℕ, Bool, false, List, ◌∷◌, Option, Some, None}
 use Rattle.wc_grammar_laws.specs.LineMoves.{AtNext, formal_of, Begun, Instructs, Listed, Listing, behind_operator, with_argument}
-use Rattle.wc_grammar_laws.specs.Moves.{State, AtLine, OnLine, behind_line, is_colon, judge, move, on_line, reading}
+use Rattle.wc_grammar_laws.specs.Moves.{State, AtLine, OnLine, behind_line, is_colon, judge, move, on_line}
 use Rattle.wc_grammar_laws.specs.Words.{Operation, found, truths}
 use Rattle.wc_model.specs.Language.Names.{Name, name_of}
 use Rattle.wc_model.specs.Language.Tree.{Assignment, Call, Step, Term, Constant, Address, Variable}
 use Rattle.wc_model.specs.Text.Marks.{Mark, Symbol, Identifier, Whole, Duration, Truth, Direct, ClosingBracket, Comma, LineEnd}
 use Rattle.wc_model.specs.Text.Positions.{Position}
 use Rattle.wc_model.specs.declared.value.Value.TheVariants.{Bool as BoolValue, Dint, Time}
+use Rattle.wc_short_lines.specs.Walks.{walk}
 
 -- A text whose walk stands at one state with these tokens to come is read as if it stood at the
--- other with those.
+-- other with those: the walk tells the same, and stops at the same state.
 pub record GoesOn (state : State) (marks : List Mark) (next : State) (behind : List Mark) : Type 0 where
-  pub same : (last : ℕ) → reading state marks last ≡ reading next behind last
+  pub same : (last : ℕ) → walk state marks last ≡ walk next behind last
 
 -- At the start of a line, where these bytes are an operator and nothing is wrong with them.
 pub record Begins (p : Position) (bytes : List ℕ) (operation : Operation) : Type 0 where

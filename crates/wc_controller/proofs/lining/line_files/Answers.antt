@@ -19,4 +19,4 @@ returns-clause-memory g c =
     let spent = g.L.ByteIn.spent_count in
     memory_told (g.L.ByteIn.bytes_left c.args.log.now) (failures c.args.log.now) (failures c.line_inputs-answer.new.log) (spent c.args.log.now) (spent c.line_inputs-answer.new.log)
     c.line_inputs-answer.result c.end.result (g.W.ByteOut.bytes_taken c.line_inputs-answer.new.writer) (g.W.ByteOut.bytes_taken c.end.new.writer) c.end.ensures.ends
-    said.memory said.unread (λ at. absurd (said.no_program at)) said.own said.blames_log
+    said.memory said.unread (λ at. absurd (said.no_program at)) said.own said.blames_log said.reader

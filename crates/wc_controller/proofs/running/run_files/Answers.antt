@@ -27,4 +27,4 @@ returns-clause-memory g c =
     let spent = g.L.ByteIn.spent_count in
     memory_told (g.L.ByteIn.bytes_left c.args.log.now) (failures c.args.log.now) (failures c.run_inputs-answer.new.log) (spent c.args.log.now) (spent c.run_inputs-answer.new.log)
     c.run_inputs-answer.result c.end.result (g.W.ByteOut.bytes_taken c.run_inputs-answer.new.writer) (g.W.ByteOut.bytes_taken c.end.new.writer) c.end.ensures.ends
-    said.memory (λ at. (said.unread_behind_plate at).1) said.unread said.own said.blames_log
+    said.memory (λ at. (said.unread_behind_plate at).1) said.unread said.own said.blames_log said.reader

@@ -2,5 +2,5 @@ use Rattle.std.proofs.Common.{ap}
 use Rattle.wc_grammar_laws.specs.Moves as moves
 use Rattle.wc_reader.proofs.moves.section_state.Goals as goal
 
-pub returns-in-None-clause-behind : goal.returns-in-None-clause-behind
-returns-in-None-clause-behind c = λ units. rw c.in-None.is (ap moves.AtLine (c.body_start.ensures.start units))
+pub returns-in-BehindSection-clause-behind : goal.returns-in-BehindSection-clause-behind
+returns-in-BehindSection-clause-behind c = λ units. rw c.in-BehindSection.is (ap moves.AtLine (c.body_start.ensures.start units))

@@ -9,16 +9,9 @@ returns-in-Some-clause-goes_on c =
     let whole : drop c.args.index c.args.tokens.now ≡ c.in-Some.token.now ∷ c.in-Some.behind.now = sym c.split_at.ensures.back ∙ c.in-Some.ensures.cases.0 in
     let more = drop_more c.args.tokens.now c.args.index c.in-Some.token.now c.requires.within in
     let rest : drop (c.args.index + 1) c.args.tokens.now ≡ c.in-Some.behind.now = cc in
-    on_ok-map c.read_token.result (λ h last. rw (whole, rest) (h (marks_of c.in-Some.behind.now) last (sym c.is_colon_next.ensures))) c.read_token.ensures.goes_on
+    on_ok-map c.read_token.result (λ h. rw (whole, rest) (h (marks_of c.in-Some.behind.now) (sym c.is_colon_next.ensures))) c.read_token.ensures.goes_on
 
-pub returns-in-Some-clause-leads : goal.returns-in-Some-clause-leads
-returns-in-Some-clause-leads c =
+pub returns-in-Some-clause-stops : goal.returns-in-Some-clause-stops
+returns-in-Some-clause-stops c =
     let whole : drop c.args.index c.args.tokens.now ≡ c.in-Some.token.now ∷ c.in-Some.behind.now = sym c.split_at.ensures.back ∙ c.in-Some.ensures.cases.0 in
-    let more = drop_more c.args.tokens.now c.args.index c.in-Some.token.now c.requires.within in
-    let rest : drop (c.args.index + 1) c.args.tokens.now ≡ c.in-Some.behind.now = cc in
-    on_ok-map c.read_token.result (λ h. rw (whole, rest) (h (marks_of c.in-Some.behind.now) (sym c.is_colon_next.ensures))) c.read_token.ensures.leads
-
-pub returns-in-Some-clause-stays : goal.returns-in-Some-clause-stays
-returns-in-Some-clause-stays c =
-    let whole : drop c.args.index c.args.tokens.now ≡ c.in-Some.token.now ∷ c.in-Some.behind.now = sym c.split_at.ensures.back ∙ c.in-Some.ensures.cases.0 in
-    err-map c.read_token.result (λ fault h. rw (whole) (h (marks_of c.in-Some.behind.now) (sym c.is_colon_next.ensures))) c.read_token.ensures.stays
+    err-map c.read_token.result (λ fault h. rw (whole) (h (marks_of c.in-Some.behind.now) (sym c.is_colon_next.ensures))) c.read_token.ensures.stops

@@ -1,4 +1,9 @@
+use Rattle.wc_reader.proofs.ReadingSteps.{stopped_as}
+use Rattle.wc_reader.specs.TextViews.{reading_view}
+use Rattle.wc_lines.specs.Words.{marks_of}
+use Rattle.std.proofs.Common.{drop}
 use Rattle.wc_reader.proofs.text.read_on.Goals as goal
 
 pub returns-in-Err-clause-told : goal.returns-in-Err-clause-told
-returns-in-Err-clause-told c = rw c.loop-place.invariant.goes_on (c.in-Err.ensures.stops c.args.last_line)
+returns-in-Err-clause-told c =
+    rw c.loop-place.invariant.goes_on (stopped_as (reading_view c.loop-place.reading) (marks_of (drop c.loop-place.place c.args.tokens.now)) c.args.last_line c.in-Err.fault c.in-Err.ensures.stops)

@@ -1,12 +1,12 @@
 use Rattle.std.proofs.Common.{◌≡◌, ◌≤◌, ◌-◌, drop, length}
-use Rattle.wc_grammar_laws.specs.Moves.{reading}
 use Rattle.wc_reader.specs.TextViews.{IsStateCounted, reading_view}
 use Rattle.wc_lines.specs.Words.{marks_of}
+use Rattle.wc_short_lines.specs.Walks.{walk}
 use Rattle.wc_reader.proofs.text.read_on.Given as goal
 
 abbrev pub invariant-loop-place : goal.invariant-loop-place
 invariant-loop-place l = record {
-  goes_on : reading (reading_view l.fn.reading) (marks_of l.tokens) l.last_line ≡ reading (reading_view l.reading) (marks_of (drop l.place l.tokens)) l.last_line;
+  goes_on : walk (reading_view l.fn.reading) (marks_of l.tokens) l.last_line ≡ walk (reading_view l.reading) (marks_of (drop l.place l.tokens)) l.last_line;
   counted : IsStateCounted l.reading.state;
   within : l.place ≤ length l.tokens;
 }

@@ -1,0 +1,5 @@
+use Rattle.wc_lines.proofs.Outcomes.{ok-map}
+use Rattle.wc_bodies.proofs.declarations.behind_type.Goals as goal
+
+pub returns-in-Semicolon : goal.returns-in-Semicolon
+returns-in-Semicolon c = rw c.in-Semicolon.is (ok-map c.declared.result (λ next h units line. h units) c.declared.ensures)

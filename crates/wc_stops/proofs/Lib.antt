@@ -1,0 +1,3 @@
+mod Exchanges
+pub mod StopSteps
+pub mod Stopped
