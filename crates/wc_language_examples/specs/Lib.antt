@@ -11,3 +11,4 @@ pub mod Counters
 pub mod CountingBlock
 pub mod Refused
 pub mod PathScopes
+pub mod CallOutputs

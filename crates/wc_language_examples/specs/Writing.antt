@@ -4,6 +4,7 @@ use Prim.Native.String.{String}
 use Rattle.wc_model.specs.Language.Tree.{Word, Term, Constant, Address, Variable, Field, Assignment, Step, Load, Store, Apply, Jump, Call, Lines, Plain, Declaration, ProgramUnit}
 use Rattle.wc_model.specs.declared.operator.Condition.{Condition}
 use Rattle.wc_model.specs.declared.operator.Condition.TheVariants.{Always}
+use Rattle.wc_model.specs.declared.operator.Direction.TheVariants.{Into, OutOf}
 use Rattle.wc_model.specs.declared.operator.Operator.{Operator}
 use Rattle.wc_model.specs.declared.operator.Storing.TheVariants.{Result, Negation}
 use Rattle.wc_model.specs.declared.source.Section.{Section}
@@ -55,8 +56,12 @@ jump line condition label rest = Plain None line (Jump condition (codes label)) 
 abbrev pub call : ℕ → String → List Assignment → Lines → Lines
 call line instance arguments rest = Plain None line (Call Always (codes instance) arguments) rest
 
+-- `input := value` and `output => target` in a call's list
 abbrev pub arg : String → Term → Assignment
-arg input value = record { input = codes input; value = value }
+arg input value = record { direction = Into; formal = codes input; actual = value }
+
+abbrev pub out : String → Term → Assignment
+out output target = record { direction = OutOf; formal = codes output; actual = target }
 
 -- a line of the label and a step
 abbrev pub labelled : ℕ → String → Step → Lines → Lines

@@ -2,7 +2,7 @@ ghost use Rattle.std.specs.Prelude.{◌≡◌, [], ◌∷◌, None, Some, pos, n
 ghost use Rattle.wc_language_examples.specs.CountingBlock.{two_counters};
 ghost use Rattle.wc_language_examples.specs.Refused.{refused, doing, with_timer, with_number, with_counter, two_kinds_at_a_label};
 ghost use Rattle.wc_language_examples.specs.Timers.{on_delay};
-ghost use Rattle.wc_language_examples.specs.Writing.{at, var, dot, num, yes', ld, st, op, jump, call, arg, labelled};
+ghost use Rattle.wc_language_examples.specs.Writing.{at, var, dot, num, yes', ld, st, op, jump, call, arg, out, labelled};
 ghost use Rattle.wc_model.specs.Language.Faults.{body_fault};
 ghost use Rattle.wc_model.specs.Language.Tree.{End, Load, Nested, Store as StoreStep};
 ghost use Rattle.wc_model.specs.declared.operator.Condition.TheVariants.{Always, IfTrue};
@@ -82,6 +82,35 @@ pub fn arguments_are_guarded()
         (with_timer (call 3 "t" (arg "in" yes' ∷ arg "in" yes' ∷ []) End))
         ≡ refused 410 3 }
     ensures no_instance { body_fault (with_number (call 3 "d" [] End)) ≡ refused 402 3 }
+{}
+
+/// Outputs of a call: an output of the block, each once, written where may be written, of its kind;
+/// the items of the list are judged in their written order.
+pub fn outputs_are_guarded()
+    ensures no_output { body_fault (with_timer (call 3 "t" (out "in" (at 3 "%qx0.0") ∷ []) End))
+        ≡ refused 409 3 }
+    ensures twice { body_fault
+        (with_timer
+        (call 3 "t" (out "q" (at 3 "%qx0.0") ∷ out "q" (at 3 "%qx0.1") ∷ []) End))
+        ≡ refused 410 3 }
+    ensures unknown { body_fault (with_timer (call 3 "t" (out "q" (var "x") ∷ []) End))
+        ≡ refused 401 3 }
+    ensures literal { body_fault (with_timer (call 3 "t" (out "q" yes' ∷ []) End))
+        ≡ refused 404 3 }
+    ensures input_bit { body_fault (with_timer (call 3 "t" (out "q" (at 3 "%ix0.0") ∷ []) End))
+        ≡ refused 404 3 }
+    ensures other_kind { body_fault (with_timer (call 3 "t" (out "et" (at 3 "%qx0.0") ∷ []) End))
+        ≡ refused 402 3 }
+    ensures whole_instance { body_fault (with_timer (call 3 "t" (out "q" (var "t") ∷ []) End))
+        ≡ refused 402 3 }
+    ensures first_is_told { body_fault
+        (with_timer (call 3 "t" (out "et" (at 3 "%qx0.0") ∷ arg "q" yes' ∷ []) End))
+        ≡ refused 402 3 }
+    ensures then_the_next { body_fault
+        (with_timer (call 3 "t" (arg "q" yes' ∷ out "et" (at 3 "%qx0.0") ∷ []) End))
+        ≡ refused 409 3 }
+    ensures own_input { body_fault (with_timer (call 3 "t" (out "q" (dot "t" "in") ∷ []) End))
+        ≡ None }
 {}
 
 /// The inner result at a `)` is of the outer kind: 1 is a DINT there.

@@ -4,6 +4,7 @@
 
 mod bistables;
 mod body_faults;
+mod call_outputs;
 mod declaration_faults;
 mod meaning;
 mod numbers;

@@ -1,8 +1,8 @@
 //! Declarations of texts: names, types, frames and places.
 use crate::texts::tabled;
 use std::alloc::Global;
-use wc_declare::{DeclaredType, Entity, Input, Located, Tables};
-use wc_model::{Fault, Kind, Operand, Path, Place, SlotKind, StandardBlock, Word};
+use wc_declare::{DeclaredType, Entity, Formal, Located, Tables};
+use wc_model::{Direction, Fault, Kind, Operand, Path, Place, SlotKind, StandardBlock, Word};
 
 /// A block of ten places, and a program with a timer, two instances of the block and plain variables.
 const PLANT: &[u8] =
@@ -55,20 +55,25 @@ fn have_sizes(tables: &Tables<'_>) -> bool {
     block && program && fields(tables, 2) == None
 }
 
-/// The inputs of a timer and of the block have their kinds and places, and their outputs are none.
-fn have_inputs(tables: &Tables<'_>) -> bool {
+/// The inputs and outputs of a timer and of the block have their kinds and places, and neither is the other.
+fn have_formals(tables: &Tables<'_>) -> bool {
     let timer = DeclaredType::Standard(StandardBlock::Ton);
-    let pt = Input {
+    let pt = Formal {
         kind: Kind::Time,
         place: 1,
     };
-    let y = Input {
+    let y = Formal {
         kind: Kind::Dint,
         place: 1,
     };
-    let timers = tables.input(timer, b"pt") == Some(pt) && tables.input(timer, b"Q") == None;
+    let (into, out_of) = (Direction::Into, Direction::OutOf);
+    let timers = tables.formal(timer, into, b"pt") == Some(pt)
+        && tables.formal(timer, into, b"Q") == None
+        && tables.formal(timer, out_of, b"pt") == None;
     let block = DeclaredType::Block(0);
-    timers && tables.input(block, b"Y") == Some(y) && tables.input(block, b"z") == None
+    timers
+        && tables.formal(block, into, b"Y") == Some(y)
+        && tables.formal(block, into, b"z") == None
 }
 
 /// Variables of the program have their type, and their places begin there.
@@ -162,7 +167,7 @@ fn are_right(alloc: Global) -> bool {
     match tabled(alloc, PLANT) {
         Ok(tables) => {
             let places = are_at_places(&tables) && are_addresses_at_places(&tables);
-            let inside = have_sizes(&tables) && have_inputs(&tables) && begin_somewhere(&tables);
+            let inside = have_sizes(&tables) && have_formals(&tables) && begin_somewhere(&tables);
             let names = are_named(&tables) && are_guarded(&tables);
             places && inside && names && have_slots(alloc, &tables)
         }

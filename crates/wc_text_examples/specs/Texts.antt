@@ -1,11 +1,12 @@
 -- Token lists of short texts, and the trees that they spell.
 use Rattle.std.specs.Prelude.{ℕ, true, false, List, [], ◌∷◌, ◌++◌, codes, Some, None, pos}
 use Rattle.wc_model.specs.Language.Tree.{Word, Constant, Address, Variable, Field, Assignment, Load, Store, Apply, Jump, Call, Lines, End, Alone, Plain, Nested, ProgramUnit}
-use Rattle.wc_model.specs.Text.Marks.{Mark, Symbol, Identifier, Whole, Duration, Direct, Ampersand, AmpersandN, OpeningBracket, ClosingBracket, Comma, Colon, Semicolon, Point, Assign, LineEnd}
+use Rattle.wc_model.specs.Text.Marks.{Mark, Symbol, Identifier, Whole, Duration, Direct, Ampersand, AmpersandN, OpeningBracket, ClosingBracket, Comma, Colon, Semicolon, Point, Assign, Arrow, LineEnd}
 use Rattle.wc_model.specs.Text.Languages.{Language, ◌then◌, empty}
 use Rattle.wc_model.specs.Text.Keywords.{end_word}
 use Rattle.wc_model.specs.Text.Grammar.{Group, InBody, lines, identifier, line_ends}
 use Rattle.wc_model.specs.declared.operator.Condition.TheVariants.{Always, IfTrue}
+use Rattle.wc_model.specs.declared.operator.Direction.TheVariants.{Into, OutOf}
 use Rattle.wc_model.specs.declared.operator.Operator.TheVariants.{And, Andn, Or}
 use Rattle.wc_model.specs.declared.operator.Storing.TheVariants.{Result}
 use Rattle.wc_model.specs.declared.source.Section.TheVariants.{Own}
@@ -113,18 +114,20 @@ declared_group = record {
 abbrev pub declaring_program : ProgramUnit
 declaring_program = record (program_of End) { declarations = declared_group.declarations }
 
--- `CAL t(IN := t.Q, / PT := T#1s)`
+-- `CAL t(IN := t.Q, / Q => %QX0.0, PT := T#1s)`
 abbrev pub call_tokens : List Mark
 call_tokens =
     ident (codes "CAL") 2 ∷ ident (codes "t") 2 ∷ mark OpeningBracket 2
     ∷ ident (codes "IN") 2 ∷ mark Assign 2 ∷ ident (codes "t") 2 ∷ mark Point 2 ∷ ident (codes "Q") 2 ∷ mark Comma 2 ∷ end_of 2
+    ∷ ident (codes "Q") 3 ∷ mark Arrow 3 ∷ mark (Direct (codes "%QX0.0")) 3 ∷ mark Comma 3
     ∷ ident (codes "PT") 3 ∷ mark Assign 3 ∷ mark (Duration (pos 1000)) 3 ∷ mark ClosingBracket 3 ∷ end_of 3 ∷ []
 
 -- its arguments
 abbrev pub call_arguments : List Assignment
 call_arguments =
-    record { input = codes "in"; value = Field (codes "t") (codes "q") }
-    ∷ record { input = codes "pt"; value = Constant (Time (pos 1000)) } ∷ []
+    record { direction = Into; formal = codes "in"; actual = Field (codes "t") (codes "q") }
+    ∷ record { direction = OutOf; formal = codes "q"; actual = Address (record { line = 3; name = codes "%qx0.0" }) }
+    ∷ record { direction = Into; formal = codes "pt"; actual = Constant (Time (pos 1000)) } ∷ []
 
 -- its lines
 abbrev pub call_lines : Lines

@@ -25,7 +25,8 @@ pub fn a_declaration_of_two_names()
     ensures { Spells (program_text declaration_tokens 4) (declaring_program ∷ []) }
 {}
 
-/// `CAL t(IN := t.Q, / PT := T#1s)`: a call's list may stand on several lines.
+/// `CAL t(IN := t.Q, / Q => %QX0.0, PT := T#1s)`: a call's list may stand on several lines, inputs and outputs
+/// in any order.
 pub fn a_call_on_two_lines()
     ensures { Spells (program_text call_tokens 4) (program_of call_lines ∷ []) }
 {}

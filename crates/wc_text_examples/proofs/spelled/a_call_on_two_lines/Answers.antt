@@ -13,7 +13,7 @@ use Rattle.wc_text_examples.proofs.spelled.a_call_on_two_lines.Goals as goal
 
 -- the list, in which line ends are skipped, and what follows
 list : (skipping is_line_end (separated (symbol Comma) argument call_arguments) then symbol ClosingBracket then (symbol LineEnd then lines InBody End) then identifier (end_word Program) then empty then line_ends) (drop 6 (program_text call_tokens 4))
-list = cut_at 10 (search spelling depth 60 fits 20000) (search spelling depth 60 fits 20000)
+list = cut_at 14 (search spelling depth 60 fits 20000) (search spelling depth 60 fits 20000)
 
 pub returns : goal.returns
 returns c = record {
