@@ -11,16 +11,22 @@ use Rattle.wc_bodies.specs.SectionViews.{declaring_view}
 use Rattle.wc_bodies.specs.declared.declarations.DeclarationState.TheVariants.{Undeclared}
 use Rattle.wc_lines.specs.LineViews.{line_state_view}
 use Rattle.wc_reader.specs.declared.text_state.TextState.{TextState}
-use Rattle.wc_reader.specs.declared.text_state.TextState.TheVariants.{Outside, Unnamed, Declaring, AtLine, OnLine, Closed}
+use Rattle.wc_reader.specs.declared.text_state.TextState.TheVariants.{Outside, Unnamed, Declaring, InBody}
 use Rattle.wc_reader.specs.declared.text_state.BodyPlace.{BodyPlace}
-use Rattle.wc_reader.specs.declared.text_state.BodyPlace.TheVariants.{LineStart, AlongLine, BehindClosing, InSection, BehindUnit}
+use Rattle.wc_reader.specs.declared.text_state.BodyPlace.TheVariants.{Within, InSection, BehindUnit}
+use Rattle.wc_reader.specs.declared.text_state.LinePlace.{LinePlace}
+use Rattle.wc_reader.specs.declared.text_state.LinePlace.TheVariants.{AtLine, OnLine, Closed}
 use Rattle.wc_reader.specs.declared.text_state.Reading.{Reading}
+
+-- how far a line of a body has been read
+abbrev pub line_place_view : Position → LinePlace → State
+line_place_view p AtLine = moves.AtLine p
+line_place_view p (OnLine line) = moves.OnLine p (line_state_view line)
+line_place_view p Closed = moves.Closed p
 
 -- where a token of a body leads, with the body behind it
 abbrev pub place_view : Position → BodyPlace → State
-place_view p LineStart = moves.AtLine p
-place_view p (AlongLine line) = moves.OnLine p (line_state_view line)
-place_view p BehindClosing = moves.Closed p
+place_view p (Within place) = line_place_view p place
 place_view p (InSection section) = moves.Declaring p.before p.unit section moves.Undeclared
 place_view p BehindUnit = moves.behind_unit p
 
@@ -29,9 +35,7 @@ abbrev pub state_view : List ProgramUnit → TextState → State
 state_view units Outside = moves.Outside units
 state_view units (Unnamed kind line) = moves.Unnamed units kind line
 state_view units (Declaring unit section state) = moves.Declaring units (unit_view unit) section (declaring_view state)
-state_view units (AtLine body) = moves.AtLine (position_view units body)
-state_view units (OnLine body line) = moves.OnLine (position_view units body) (line_state_view line)
-state_view units (Closed body) = moves.Closed (position_view units body)
+state_view units (InBody body place) = line_place_view (position_view units body) place
 
 -- how far a text has been read
 abbrev pub reading_view : Reading → State
@@ -39,9 +43,7 @@ reading_view reading = state_view (map unit_view reading.units.items) reading.st
 
 -- the lines of the body that is read are counted
 abbrev pub IsStateCounted : TextState → Type 0
-IsStateCounted (AtLine body) = IsCounted body
-IsStateCounted (OnLine body line) = IsCounted body
-IsStateCounted (Closed body) = IsCounted body
+IsStateCounted (InBody body place) = IsCounted body
 IsStateCounted _ = Unit {0}
 
 -- the state stands in that section, before a declaration

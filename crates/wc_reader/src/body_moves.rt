@@ -7,42 +7,14 @@ ghost use Rattle.wc_model.specs.Language.Tree.{ProgramUnit};
 ghost use Rattle.wc_model.specs.Language.Views.{lines_view};
 ghost use Rattle.wc_lines.specs.LineViews.{begun_view, in_line_view, line_state_view};
 ghost use Rattle.wc_bodies.specs.BodyViews.{IsCounted, position_view};
-ghost use Rattle.wc_reader.specs.TextViews.{place_view};
+ghost use Rattle.wc_reader.specs.TextViews.{line_place_view, place_view};
 ghost use Rattle.wc_lines.specs.Words.{symbol_view};
 
-use crate::text_state::BodyPlace;
+use crate::text_state::{BodyPlace, LinePlace};
 use std::alloc::{AllocError, Global};
 use wc_bodies::{Body, add_form, add_label, close, section_begun};
 use wc_lexer::{Shape, Token};
-use wc_lines::{
-    Begun, InLine, LineForm, LineState, at_start, at_start_inside, ends_unit, line_move,
-};
-
-/// On a line that an instruction may be the whole of, or behind its end.
-#[inline(always)]
-fn form_place<'a>(
-    alloc: Global,
-    body: &mut Body<'a>,
-    begun: Begun<'a>,
-    form: LineForm<'a>,
-    ended: bool,
-) -> Result<BodyPlace<'a>, AllocError>
-    requires { IsCounted body.old }
-    ensures behind { IfOk result
-        (λ place. (units : List ProgramUnit)
-        → place_view (position_view units body.new) place
-        ≡ moves.on_line (position_view units body.old)
-        (in_line_view (begun_view begun.entry) (InLine.Formed form.entry ended))) }
-    ensures counted { OnOk result (IsCounted body.new) }
-{
-    if ended {
-        add_form(alloc, body, begun, form)?;
-        Ok(BodyPlace::LineStart)
-    } else {
-        let state = InLine::Formed(form, false);
-        Ok(BodyPlace::AlongLine(LineState::Instructing(begun, state)))
-    }
-}
+use wc_lines::{Begun, InLine, LineState, at_start, at_start_inside, ends_unit, line_move};
 
 /// On the line of an instruction, or behind its end.
 #[inline(always)]
@@ -51,18 +23,21 @@ fn in_line_place<'a>(
     body: &mut Body<'a>,
     begun: Begun<'a>,
     state: InLine<'a>,
-) -> Result<BodyPlace<'a>, AllocError>
+) -> Result<LinePlace<'a>, AllocError>
     requires { IsCounted body.old }
     ensures behind { IfOk result
         (λ place. (units : List ProgramUnit)
-        → place_view (position_view units body.new) place
+        → line_place_view (position_view units body.new) place
         ≡ moves.on_line (position_view units body.old)
         (in_line_view (begun_view begun.entry) state.entry)) }
     ensures counted { OnOk result (IsCounted body.new) }
 {
     match state {
-        InLine::Formed(form, ended) => form_place(alloc, body, begun, form, ended),
-        state => Ok(BodyPlace::AlongLine(LineState::Instructing(begun, state))),
+        InLine::Formed(form, true) => {
+            add_form(alloc, body, begun, form)?;
+            Ok(LinePlace::AtLine)
+        }
+        state => Ok(LinePlace::OnLine(LineState::Instructing(begun, state))),
     }
 }
 
@@ -72,21 +47,21 @@ fn line_place<'a>(
     alloc: Global,
     body: &mut Body<'a>,
     line: LineState<'a>,
-) -> Result<BodyPlace<'a>, AllocError>
+) -> Result<LinePlace<'a>, AllocError>
     requires { IsCounted body.old }
     ensures behind { IfOk result
         (λ place. (units : List ProgramUnit)
-        → place_view (position_view units body.new) place
+        → line_place_view (position_view units body.new) place
         ≡ moves.on_line (position_view units body.old) (line_state_view line.entry)) }
     ensures counted { OnOk result (IsCounted body.new) }
 {
     match line {
         LineState::LabelAlone(label) => {
             add_label(body, label)?;
-            Ok(BodyPlace::LineStart)
+            Ok(LinePlace::AtLine)
         }
         LineState::Instructing(begun, state) => in_line_place(alloc, body, begun, state),
-        line => Ok(BodyPlace::AlongLine(line)),
+        line => Ok(LinePlace::OnLine(line)),
     }
 }
 
@@ -107,7 +82,7 @@ fn on_line<'a>(
 {
     match line {
         Some(line) => match line_place(alloc, body, line) {
-            Ok(place) => Ok(Some(place)),
+            Ok(place) => Ok(Some(BodyPlace::Within(place))),
             Err(error) => Err(error),
         },
         None => Ok(None),
@@ -221,7 +196,7 @@ fn at_closing<'a>(body: &mut Body<'a>, line: u32) -> Result<Option<BodyPlace<'a>
     ensures counted { IfOk result (λ next. IfSome next (λ place. IsCounted body.new)) }
 {
     if close(body, line)? {
-        Ok(Some(BodyPlace::BehindClosing))
+        Ok(Some(BodyPlace::Within(LinePlace::Closed)))
     } else {
         Ok(None)
     }
@@ -275,7 +250,7 @@ fn at_line_start<'a>(
 
 /// Behind one more token at the start of a line.
 #[inline(always)]
-pub(crate) fn at_line<'a>(
+fn at_line<'a>(
     alloc: Global,
     body: &mut Body<'a>,
     token: Token<'a>,
@@ -290,14 +265,14 @@ pub(crate) fn at_line<'a>(
     ensures counted { IfOk result (λ next. IfSome next (λ place. IsCounted body.new)) }
 {
     match token.shape {
-        Shape::LineEnd => Ok(Some(BodyPlace::LineStart)),
+        Shape::LineEnd => Ok(Some(BodyPlace::Within(LinePlace::AtLine))),
         _ => at_line_start(alloc, body, token, colon),
     }
 }
 
 /// Behind one more token of a line that has begun.
 #[inline(always)]
-pub(crate) fn along_line<'a>(
+fn along_line<'a>(
     alloc: Global,
     body: &mut Body<'a>,
     line: LineState<'a>,
@@ -314,5 +289,42 @@ pub(crate) fn along_line<'a>(
     match line_move(alloc, line, token) {
         Ok(line) => on_line(alloc, body, line),
         Err(error) => Err(error),
+    }
+}
+
+/// Behind the token after a `)`: the line's end.
+fn behind_closing<'a>(token: Token<'a>) -> Option<BodyPlace<'a>>
+    ensures { (p : positions.Position) (line : ℕ) (colon : Bool)
+        → option_map (place_view p) result
+        ≡ moves.move (moves.Closed p) (symbol_view token.entry) line colon }
+{
+    match token.shape {
+        Shape::LineEnd => Some(BodyPlace::Within(LinePlace::AtLine)),
+        _ => None,
+    }
+}
+
+/// Behind one more token of a body; none where no body goes on so. `colon` says whether a colon
+/// follows it.
+#[inline(always)]
+pub(crate) fn place_move<'a>(
+    alloc: Global,
+    body: &mut Body<'a>,
+    place: LinePlace<'a>,
+    token: Token<'a>,
+    colon: bool,
+) -> Result<Option<BodyPlace<'a>>, AllocError>
+    requires { IsCounted body.old }
+    ensures behind { IfOk result
+        (λ next. (units : List ProgramUnit)
+        → option_map (place_view (position_view units body.new)) next
+        ≡ moves.move (line_place_view (position_view units body.old) place.entry)
+        (symbol_view token.entry) token.entry.line colon) }
+    ensures counted { IfOk result (λ next. IfSome next (λ place. IsCounted body.new)) }
+{
+    match place {
+        LinePlace::AtLine => at_line(alloc, body, token, colon),
+        LinePlace::OnLine(line) => along_line(alloc, body, line, token),
+        LinePlace::Closed => Ok(behind_closing(token)),
     }
 }

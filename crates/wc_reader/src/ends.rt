@@ -2,14 +2,15 @@ ghost use Rattle.std.specs.Prelude.{◌≡◌, ℕ, IfErr, IfSome, List, MatchOp
 ghost use Rattle.wc_grammar_laws.specs.Moves as moves;
 ghost use Rattle.wc_model.specs.Language.Tree.{ProgramUnit};
 ghost use Rattle.wc_model.specs.Language.Views.{unit_view};
-ghost use Rattle.wc_reader.specs.TextViews.{reading_view, state_view};
+ghost use Rattle.wc_bodies.specs.BodyViews.{position_view};
+ghost use Rattle.wc_reader.specs.TextViews.{line_place_view, reading_view, state_view};
 ghost use Rattle.wc_reader.specs.Told.{TellsFault, TellsReading};
 
 use crate::faults::has_program;
-use crate::text_state::{Reading, TextState};
+use crate::text_state::{LinePlace, Reading, TextState};
 use std::alloc::Global;
 use std::mem;
-use wc_bodies::{open_in, open_on};
+use wc_bodies::{Body, open_in, open_on};
 use wc_model::{Fault, Source, Unit};
 
 /// Whole units at the text's end: one is a program, or none.
@@ -39,6 +40,20 @@ fn unit_open(line: u32) -> Option<Fault>
     })
 }
 
+/// What is open in a body at the text's end.
+fn open_in_body<'a>(body: &Body<'a>, place: &LinePlace<'a>) -> Fault
+    ensures told { (units : List ProgramUnit) (last : ℕ)
+        → TellsFault (moves.at_end (line_place_view (position_view units body.now) place.now) last)
+        result }
+    // It takes no memory, so a refusal is not told as want of it.
+    ensures refuses { result ≡ Fault.Memory → ⊥ }
+{
+    match place {
+        LinePlace::AtLine | LinePlace::Closed => open_in(body),
+        LinePlace::OnLine(line) => open_on(body, line),
+    }
+}
+
 /// What is open at the text's end.
 fn open_at_end<'a>(state: &TextState<'a>) -> Option<Fault>
     ensures told { (units : List ProgramUnit) (last : ℕ)
@@ -52,8 +67,7 @@ fn open_at_end<'a>(state: &TextState<'a>) -> Option<Fault>
         TextState::Outside => None,
         TextState::Unnamed(_, line) => unit_open(*line),
         TextState::Declaring(unit, ..) => unit_open(unit.line),
-        TextState::AtLine(body) | TextState::Closed(body) => Some(open_in(body)),
-        TextState::OnLine(body, line) => Some(open_on(body, line)),
+        TextState::InBody(body, place) => Some(open_in_body(body, place)),
     }
 }
 

@@ -1,19 +1,20 @@
-ghost use Rattle.std.specs.Prelude.{◌≡◌, Bool, Option, Some, None, length, map, nat_le, option_map};
+ghost use Rattle.std.specs.Prelude.{◌≡◌, Bool, List, Option, Some, None, length, map, nat_le, option_map};
 ghost use Rattle.std.specs.List.{list_any};
 ghost use Rattle.wc_grammar_laws.specs.Moves as moves;
 ghost use Rattle.wc_grammar_laws.specs.Words as words;
 ghost use Rattle.wc_model.specs.Text.Limits.{most_units};
 ghost use Rattle.wc_model.specs.Language.Names.{name_of};
 ghost use Rattle.wc_model.specs.Text.ReadingFaults as faults;
+ghost use Rattle.wc_model.specs.Language.Tree.{ProgramUnit};
 ghost use Rattle.wc_model.specs.Language.Views.{unit_view};
 ghost use Rattle.wc_reader.specs.Programs.{is_program};
-ghost use Rattle.wc_bodies.specs.BodyViews.{fault_of};
-ghost use Rattle.wc_reader.specs.TextViews.{IsStateCounted, reading_view};
+ghost use Rattle.wc_bodies.specs.BodyViews.{IsCounted, fault_of, position_view};
+ghost use Rattle.wc_reader.specs.TextViews.{IsStateCounted, line_place_view, reading_view};
 ghost use Rattle.wc_lines.specs.Words.{symbol_view};
 
-use crate::text_state::{Reading, TextState};
+use crate::text_state::{LinePlace, Reading, TextState};
 use crate::words::unit_kind;
-use wc_bodies::{start_fault, state_fault};
+use wc_bodies::{Body, start_fault, state_fault};
 use wc_lexer::{Shape, Token};
 use wc_model::{Fault, Unit, UnitKind};
 
@@ -105,6 +106,27 @@ fn outside_fault(units: &[Unit], token: Token) -> Option<Fault>
     }
 }
 
+/// What is wrong with a token of a body.
+fn body_fault<'a>(
+    body: &Body<'a>,
+    place: &LinePlace<'a>,
+    token: Token<'a>,
+    colon: bool,
+) -> Option<Fault>
+    requires { IsCounted body.now }
+    ensures { (units : List ProgramUnit)
+        → result
+        ≡ option_map fault_of
+        (moves.judge (line_place_view (position_view units body.now) place.now)
+        (symbol_view token.entry) token.entry.line colon) }
+{
+    match place {
+        LinePlace::AtLine => start_fault(body, token, colon),
+        LinePlace::OnLine(line) => state_fault(body, line, token),
+        LinePlace::Closed => None,
+    }
+}
+
 /// What is wrong with a token, other than that it is unexpected. `colon` says whether a colon
 /// follows it.
 pub(crate) fn fault_at<'a>(reading: &Reading<'a>, token: Token<'a>, colon: bool) -> Option<Fault>
@@ -115,8 +137,7 @@ pub(crate) fn fault_at<'a>(reading: &Reading<'a>, token: Token<'a>, colon: bool)
 {
     match &reading.state {
         TextState::Outside => outside_fault(&reading.units, token),
-        TextState::AtLine(body) => start_fault(body, token, colon),
-        TextState::OnLine(body, line) => state_fault(body, line, token),
+        TextState::InBody(body, place) => body_fault(body, place, token, colon),
         _ => None,
     }
 }

@@ -13,4 +13,4 @@ mod words;
 pub use ends::at_text_end;
 pub use faults::has_program;
 pub use text::{last_line, read, read_at, reading_start, take_lines};
-pub use text_state::{Reading, TextState};
+pub use text_state::{LinePlace, Reading, TextState};

@@ -4,19 +4,18 @@ ghost use Rattle.wc_grammar_laws.specs.Words.{found, unit_kinds};
 ghost use Rattle.wc_model.specs.Language.Names.{name_of};
 ghost use Rattle.wc_model.specs.Language.Tree.{ProgramUnit};
 ghost use Rattle.wc_model.specs.Language.Views.{unit_view};
-ghost use Rattle.wc_lines.specs.LineViews.{line_state_view};
 ghost use Rattle.wc_bodies.specs.BodyViews.{IsCounted, position_view};
 ghost use Rattle.wc_bodies.specs.SectionViews.{declaring_view, section_view};
-ghost use Rattle.wc_reader.specs.TextViews.{IsStateCounted, place_view, state_view};
+ghost use Rattle.wc_reader.specs.TextViews.{IsStateCounted, line_place_view, place_view, state_view};
 ghost use Rattle.wc_lines.specs.Words.{symbol_view};
 
-use crate::body_moves::{along_line, at_line};
-use crate::text_state::{BodyPlace, TextState};
+use crate::body_moves::place_move;
+use crate::text_state::{BodyPlace, LinePlace, TextState};
 use crate::words::unit_kind;
 use std::alloc::{AllocError, Global};
 use wc_bodies::{Body, DeclarationState, SectionPlace, body_start, declaration_move};
 use wc_lexer::{Shape, Token};
-use wc_lines::{LineState, word};
+use wc_lines::word;
 use wc_model::{Section, Unit, UnitKind};
 
 /// Behind a unit's first word, where the token is one.
@@ -65,7 +64,7 @@ fn at_name<'a>(alloc: Global, kind: UnitKind, line: u32, token: Token<'a>) -> Op
                 declarations: Vec::new(alloc),
                 body: Vec::new(alloc),
             };
-            Some(TextState::AtLine(body_start(alloc, unit)))
+            Some(TextState::InBody(body_start(alloc, unit), LinePlace::AtLine))
         }
         _ => None,
     }
@@ -86,7 +85,9 @@ fn section_state<'a>(
 {
     match place {
         SectionPlace::WithinSection(state) => TextState::Declaring(unit, section, state),
-        SectionPlace::BehindSection => TextState::AtLine(body_start(alloc, unit)),
+        SectionPlace::BehindSection => {
+            TextState::InBody(body_start(alloc, unit), LinePlace::AtLine)
+        }
     }
 }
 
@@ -153,9 +154,7 @@ fn body_state<'a>(
     ensures counted { IfOk result (λ state. IsStateCounted state) }
 {
     match place {
-        BodyPlace::LineStart => Ok(TextState::AtLine(body)),
-        BodyPlace::AlongLine(line) => Ok(TextState::OnLine(body, line)),
-        BodyPlace::BehindClosing => Ok(TextState::Closed(body)),
+        BodyPlace::Within(place) => Ok(TextState::InBody(body, place)),
         BodyPlace::InSection(section) => Ok(TextState::Declaring(
             body.unit,
             section,
@@ -168,12 +167,13 @@ fn body_state<'a>(
     }
 }
 
-/// Behind one more token at the start of a line.
+/// Behind one more token of a body.
 #[inline(always)]
-fn from_line<'a>(
+fn in_body<'a>(
     alloc: Global,
     units: &mut Vec<Unit<'a>, Global>,
     body: Body<'a>,
+    place: LinePlace<'a>,
     token: Token<'a>,
     colon: bool,
 ) -> Result<Option<TextState<'a>>, AllocError>
@@ -181,61 +181,18 @@ fn from_line<'a>(
     ensures behind { IfOk result
         (λ next.
         option_map (state_view (map unit_view units.new.items)) next
-        ≡ moves.move (moves.AtLine (position_view (map unit_view units.old.items) body.entry))
+        ≡ moves.move
+        (line_place_view (position_view (map unit_view units.old.items) body.entry) place.entry)
         (symbol_view token.entry) token.entry.line colon) }
     ensures counted { IfOk result (λ next. IfSome next (λ it. IsStateCounted it)) }
 {
     let mut body = body;
-    match at_line(alloc, &mut body, token, colon)? {
+    match place_move(alloc, &mut body, place, token, colon)? {
         Some(place) => {
             let state = body_state(units, body, place)?;
             Ok(Some(state))
         }
         None => Ok(None),
-    }
-}
-
-/// Behind one more token of a line that has begun.
-#[inline(always)]
-fn from_within<'a>(
-    alloc: Global,
-    units: &mut Vec<Unit<'a>, Global>,
-    body: Body<'a>,
-    line: LineState<'a>,
-    token: Token<'a>,
-) -> Result<Option<TextState<'a>>, AllocError>
-    requires { IsCounted body }
-    ensures behind { IfOk result
-        (λ next. (colon : Bool)
-        → option_map (state_view (map unit_view units.new.items)) next
-        ≡ moves.move
-        (moves.OnLine (position_view (map unit_view units.old.items) body.entry)
-        (line_state_view line.entry)) (symbol_view token.entry) token.entry.line colon) }
-    ensures counted { IfOk result (λ next. IfSome next (λ it. IsStateCounted it)) }
-{
-    let mut body = body;
-    match along_line(alloc, &mut body, line, token)? {
-        Some(place) => {
-            let state = body_state(units, body, place)?;
-            Ok(Some(state))
-        }
-        None => Ok(None),
-    }
-}
-
-/// Behind the token after a `)`: the line's end.
-#[inline(always)]
-fn from_closed<'a>(body: Body<'a>, token: Token<'a>) -> Option<TextState<'a>>
-    requires { IsCounted body }
-    ensures behind { (units : List ProgramUnit) (line : ℕ) (colon : Bool)
-        → option_map (state_view units) result
-        ≡ moves.move (moves.Closed (position_view units body.entry))
-        (symbol_view token.entry) line colon }
-    ensures counted { IfSome result (λ it. IsStateCounted it) }
-{
-    match token.shape {
-        Shape::LineEnd => Some(TextState::AtLine(body)),
-        _ => None,
     }
 }
 
@@ -263,8 +220,6 @@ pub(crate) fn text_move<'a>(
         TextState::Declaring(unit, section, state) => in_section(
             alloc, unit, section, state, token,
         ),
-        TextState::AtLine(body) => from_line(alloc, units, body, token, colon),
-        TextState::OnLine(body, line) => from_within(alloc, units, body, line, token),
-        TextState::Closed(body) => Ok(from_closed(body, token)),
+        TextState::InBody(body, place) => in_body(alloc, units, body, place, token, colon),
     }
 }

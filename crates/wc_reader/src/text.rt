@@ -17,7 +17,7 @@ ghost use Rattle.wc_lines.specs.Words.{marks_of, symbol_view};
 use crate::ends::at_text_end;
 use crate::faults::fault_at;
 use crate::moves::text_move;
-use crate::text_state::{Reading, TextState};
+use crate::text_state::{LinePlace, Reading, TextState};
 use std::alloc::{AllocError, Global};
 use std::mem;
 use wc_bodies::DeclarationState;
@@ -183,7 +183,7 @@ fn take_in_body<'a>(
     ensures within { IfOk result (λ taken. taken ≤ length tokens.now) }
 {
     match state {
-        TextState::AtLine(body) => take_line_and_call(alloc, body, tokens),
+        TextState::InBody(body, LinePlace::AtLine) => take_line_and_call(alloc, body, tokens),
         _ => Ok(0),
     }
 }

@@ -3,6 +3,17 @@ use wc_bodies::{Body, DeclarationState};
 use wc_lines::LineState;
 use wc_model::{Section, Unit, UnitKind};
 
+/// How far a body's line has been read.
+#[derive(Drop)]
+pub enum LinePlace<'a> {
+    /// At its start.
+    AtLine,
+    /// On it, where it has begun.
+    OnLine(LineState<'a>),
+    /// Behind a `)`, which the body counts as done.
+    Closed,
+}
+
 /// How far a text has been read, behind its whole units.
 #[derive(Drop)]
 pub enum TextState<'a> {
@@ -12,23 +23,15 @@ pub enum TextState<'a> {
     Unnamed(UnitKind, u32),
     /// In a section of declarations.
     Declaring(Unit<'a>, Section, DeclarationState<'a>),
-    /// At the start of a line of a body.
-    AtLine(Body<'a>),
-    /// On a line that has begun.
-    OnLine(Body<'a>, LineState<'a>),
-    /// Behind a `)`, which the body counts as done.
-    Closed(Body<'a>),
+    /// In a body.
+    InBody(Body<'a>, LinePlace<'a>),
 }
 
 /// Where a token of a body leads, beside the body itself.
 #[derive(Drop)]
 pub(crate) enum BodyPlace<'a> {
-    /// To the start of a line.
-    LineStart,
-    /// On along a line that has begun.
-    AlongLine(LineState<'a>),
-    /// Behind a `)`, which the body counts as done.
-    BehindClosing,
+    /// On in the body.
+    Within(LinePlace<'a>),
     /// Into a section, where no line of the body has come.
     InSection(Section),
     /// Behind the unit.

@@ -1,5 +1,5 @@
 -- Where the walk over some tokens stops, step by step.
-use Rattle.std.proofs.Common.{◌≡◌, ℕ, false, List, [], ◌∷◌, Option, Some, None, Err, refl, subst, sym, ap, ◌∙◌}
+use Rattle.std.proofs.Common.{◌≡◌, ℕ, false, List, [], ◌∷◌, Option, Some, None, refl}
 use Rattle.wc_grammar_laws.specs.Moves.{Met, State, at_end, colon_next, judge, move}
 use Rattle.wc_model.specs.Text.Marks.{Mark}
 use Rattle.wc_model.specs.declared.fault.Fault.{Fault}

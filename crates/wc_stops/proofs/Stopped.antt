@@ -1,12 +1,12 @@
 -- Where the reading of a text stops.
-use Rattle.std.proofs.Common.{◌≡◌, ℕ, ◌≤◌, ◌<◌, List, length, map, refl, ap, subst, sym, ◌∙◌, arith, inr, Ok}
+use Rattle.std.proofs.Common.{◌≡◌, ◌==◌, ℕ, ◌≤◌, ◌<◌, true, false, List, length, map, refl, ap, subst, sym, ◌∙◌, arith, inr, Ok}
 use Rattle.std.proofs.lemmas.List.{length-map}
+use Rattle.std.specs.Prelude.{if◌then◌else◌}
 use Rattle.wc_grammar_laws.proofs.Readings.{read_is_spelled, refused_is_first}
 use Rattle.wc_grammar_laws.specs.Moves.{at_first, reading}
 use Rattle.wc_lexer.specs.Views.{token_view}
 use Rattle.wc_lexer.specs.declared.shape.Token.{Token}
 use Rattle.wc_lines.specs.Words.{marks_of}
-use Rattle.wc_model.specs.Text.Marks.{Mark}
 use Rattle.wc_model.specs.Text.Reading.{mark_of_token}
 use Rattle.wc_model.specs.Text.ReadingFaults.{IsFirstReadingFault}
 use Rattle.wc_model.specs.Text.Tokens.{IsCut, most_bytes}
@@ -17,9 +17,10 @@ use Rattle.wc_short_lines.proofs.WalkSteps.{walk_tells}
 use Rattle.wc_short_lines.specs.Walks.{walk}
 use Rattle.wc_stops.proofs.StopSteps.{walk_stops}
 use Rattle.wc_stops.specs.Awaited.{awaited, awaited_with}
-use Rattle.wc_stops.specs.ReadingSpots.{IsReadByPlaces, IsReadingSpot, StopsReading, place_mark, place_marks}
-use Rattle.wc_stops.specs.Stopping.{IsMetWith, IsPieceAt, IsStopAt, ReadsText, TellsMet}
+use Rattle.wc_stops.specs.ReadingSpots.{IsReadByPlaces, StopsReading, place_mark, place_marks}
+use Rattle.wc_stops.specs.Stopping.{IsAwaitedAs, IsMetWith, IsPieceAt, IsStopAt, ReadsText, TellsMet}
 use Rattle.wc_stops.specs.declared.awaits.Awaits.{Awaits}
+use Rattle.wc_stops.specs.declared.awaits.Awaits.TheVariants.{Nothing as nothing}
 use Rattle.wc_stops.specs.declared.stops.Stop.{Stop}
 
 -- some tokens are as many with their places for their lines
@@ -54,7 +55,7 @@ met_by_places : (bytes : List ℕ) (tokens : List Token) (fault : Fault) (there 
     → StopsReading bytes stop.fault stop.start stop.length stop.awaits
 met_by_places bytes tokens Memory there stop short cut m some is =
     let room = wants_room bytes (map token_view tokens) short cut (omega (arith, length-map tokens token_view, some refl)) in
-    subst (λ fault. StopsReading bytes fault stop.start stop.length stop.awaits) (sym is) room
+    subst (λ fault. StopsReading bytes fault stop.start stop.length stop.awaits) (sym is.0) room
 met_by_places bytes tokens (Refused number place) there stop short cut m some is = spot bytes tokens number place there stop short cut m is
 
 -- what is met in tokens with their places for their lines, told of the tokens
@@ -72,3 +73,18 @@ read_by_places bytes tokens placed short cut m r =
     let e : reading at_first (marks_of placed) (length bytes) ≡ Ok r.text = sym (walk_tells at_first (marks_of placed) (length bytes)) ∙ r.told_is in
     let k = read_is_spelled (place_marks tokens) (length bytes) r.text (subst (λ marks. reading at_first marks (length bytes) ≡ Ok r.text) m e) in
     record { short = short; tokens = tokens; cut = cut; text = r.text; spelled = k.0; within_limits = k.1 }
+
+-- what is told with a number is told with it again
+told_again : (number : ℕ) (there : Awaits) → awaited_with number there ≡ awaited_with number (awaited_with number there)
+told_again number there = elim (number == 201) as (λ is. (if is then there else nothing) ≡ (if is then (if is then there else nothing) else nothing)) [ true ↦ refl | false ↦ refl ]
+
+-- nothing is told as nothing
+pub nothing_told : (fault : Fault) (awaits : Awaits) → awaits ≡ nothing → IsAwaitedAs fault awaits
+nothing_told Memory awaits e = e
+nothing_told (Refused number place) awaits e = rw e (elim (number == 201) as (λ is. nothing ≡ (if is then nothing else nothing)) [ true ↦ refl | false ↦ refl ])
+
+-- what is told at a stop
+pub stop_awaits : (bytes : List ℕ) (tokens : List Token) (fault : Fault) (there : Awaits) (stop : Stop) → IsStopAt bytes tokens fault there stop → IsAwaitedAs stop.fault stop.awaits
+stop_awaits bytes tokens Memory there stop is = nothing_told stop.fault stop.awaits is.1
+stop_awaits bytes tokens (Refused number place) there stop is =
+    subst (λ fault. IsAwaitedAs fault stop.awaits) (sym is.fault_is) (rw is.awaits_is (told_again number there))

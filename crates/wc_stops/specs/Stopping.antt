@@ -11,6 +11,7 @@ use Rattle.wc_short_lines.specs.Walks.{Stopping}
 use Rattle.wc_stops.specs.Awaited.{awaited, awaited_with}
 use Rattle.wc_stops.specs.ReadingSpots.{length_of, line_of, meant_at, start_of, token_at}
 use Rattle.wc_stops.specs.declared.awaits.Awaits.{Awaits}
+use Rattle.wc_stops.specs.declared.awaits.Awaits.TheVariants.{Nothing as nothing}
 use Rattle.wc_stops.specs.declared.stops.Stop.{Stop}
 
 -- a token with its place for its line, and its line for its place
@@ -44,5 +45,10 @@ pub record IsPieceAt (bytes : List ℕ) (tokens : List Token) (number place : �
 
 -- what is met in tokens, with its line and its piece
 abbrev pub IsStopAt : List ℕ → List Token → Fault → Awaits → Stop → Type 0
-IsStopAt bytes tokens Memory there stop = stop.fault ≡ Memory
+IsStopAt bytes tokens Memory there stop = (stop.fault ≡ Memory) × (stop.awaits ≡ nothing)
 IsStopAt bytes tokens (Refused number place) there stop = IsPieceAt bytes tokens number place there stop
+
+-- what could stand there is told with an unexpected token alone
+abbrev pub IsAwaitedAs : Fault → Awaits → Type 0
+IsAwaitedAs Memory awaits = awaits ≡ nothing
+IsAwaitedAs (Refused number place) awaits = awaits ≡ awaited_with number awaits

@@ -6,11 +6,11 @@ ghost use Rattle.wc_lines.specs.Words.{operating_view};
 ghost use Rattle.wc_model.specs.Language.Tree.{ProgramUnit};
 ghost use Rattle.wc_stops.specs.Awaited.{awaited, awaited_at_line, awaited_behind_name, awaited_behind_operator, awaited_in_declaration, awaited_in_list, awaited_on_line};
 ghost use Rattle.wc_bodies.specs.SectionViews.{declaring_view};
-ghost use Rattle.wc_reader.specs.TextViews.{reading_view};
+ghost use Rattle.wc_reader.specs.TextViews.{line_place_view, reading_view};
 
 use wc_bodies::{Body, DeclarationState};
 use wc_lines::{InLine, InList, LineForm, LineState, OperandOf, Operating};
-use wc_reader::{Reading, TextState, has_program};
+use wc_reader::{LinePlace, Reading, TextState, has_program};
 
 /// What could stand where a token is refused.
 #[derive(Clone, Copy, Debug, PartialEq, Eq)]
@@ -172,6 +172,18 @@ fn at_line(body: &Body) -> Awaits
     }
 }
 
+/// In a body.
+fn in_body(body: &Body, place: &LinePlace) -> Awaits
+    ensures { (units : List ProgramUnit)
+        → result ≡ awaited (line_place_view (position_view units body.now) place.now) }
+{
+    match place {
+        LinePlace::AtLine => at_line(body),
+        LinePlace::OnLine(line) => on_line(line),
+        LinePlace::Closed => Awaits::LineEnd,
+    }
+}
+
 /// What could stand next in a text that has been read so far.
 pub(crate) fn awaits_at(reading: &Reading) -> Awaits
     ensures { result ≡ awaited (reading_view reading.now) }
@@ -181,8 +193,6 @@ pub(crate) fn awaits_at(reading: &Reading) -> Awaits
         TextState::Outside => Awaits::UnitWord,
         TextState::Unnamed(..) => Awaits::UnitName,
         TextState::Declaring(_, _, state) => in_declaration(state),
-        TextState::AtLine(body) => at_line(body),
-        TextState::OnLine(_, line) => on_line(line),
-        TextState::Closed(_) => Awaits::LineEnd,
+        TextState::InBody(body, place) => in_body(body, place),
     }
 }

@@ -10,7 +10,7 @@ ghost use Rattle.wc_reader.specs.TextViews.{IsStateCounted, reading_view};
 ghost use Rattle.wc_short_lines.specs.Walks.{walk};
 ghost use Rattle.wc_stops.specs.Awaited.{awaited_with};
 ghost use Rattle.wc_stops.specs.ReadingSpots.{IsReadByPlaces, StopsReading, length_of, line_of, meant_at, start_of, token_at, token_before, word_or_token};
-ghost use Rattle.wc_stops.specs.Stopping.{IsPieceAt, IsStopAt, ReadsText, TellsMet};
+ghost use Rattle.wc_stops.specs.Stopping.{IsAwaitedAs, IsPieceAt, IsStopAt, ReadsText, TellsMet};
 
 use crate::awaits::{Awaits, awaits_at};
 use crate::places::exchange;
@@ -117,7 +117,12 @@ fn token_at<'a, 't>(tokens: &'t [Token<'a>], start: u32) -> Option<&'t Token<'a>
 
 /// Want of memory, which no piece is the cause of.
 fn stop_for_memory() -> Stop
-    ensures { result.fault ≡ Fault.Memory }
+    ensures { result ≡ record {
+      fault = Fault.Memory;
+      start = 0;
+      length = 0;
+      awaits = Awaits.Nothing;
+    } }
 {
     Stop {
         fault: Fault::Memory,
@@ -235,6 +240,7 @@ fn stop_in(alloc: Global, text: &[u8], tokens: &mut [Token<'_>]) -> Option<Stop>
     requires cut { IsCut text.now (map token_view tokens.old) }
     ensures stopped { IfSome result
         (λ stop. StopsReading text.now stop.fault stop.start stop.length stop.awaits) }
+    ensures awaited { IfSome result (λ stop. IsAwaitedAs stop.fault stop.awaits) }
     ensures read { IfNone result (IsReadByPlaces text.now) }
 {
     exchange(tokens);
@@ -251,6 +257,7 @@ fn stop_in(alloc: Global, text: &[u8], tokens: &mut [Token<'_>]) -> Option<Stop>
 pub fn stop_of(alloc: Global, text: &[u8]) -> Option<Stop>
     ensures stopped { IfSome result
         (λ stop. StopsReading text.now stop.fault stop.start stop.length stop.awaits) }
+    ensures awaited { IfSome result (λ stop. IsAwaitedAs stop.fault stop.awaits) }
     ensures read { IfNone result (IsReadByPlaces text.now) }
 {
     match tokens_or_stop(alloc, text) {

@@ -1,25 +1,4 @@
-use Rattle.std.proofs.Common.{◌≡◌, ◌∙◌, [], refl, subst, sym}
-use Rattle.wc_grammar_laws.specs.Moves.{Met, open_on}
-use Rattle.wc_model.specs.declared.fault.Fault.{Fault}
-use Rattle.wc_model.specs.declared.fault.Fault.TheVariants.{Memory, Refused}
-use Rattle.wc_lines.specs.LineViews.{line_state_view}
-use Rattle.wc_bodies.specs.BodyViews.{fault_of, position_view}
 use Rattle.wc_reader.proofs.ends.open_at_end.Goals as goal
 
-pub returns-in-OnLine-clause-told : goal.returns-in-OnLine-clause-told
-returns-in-OnLine-clause-told c = λ units last.
-    rw (c.in-OnLine.is, c.open_on.ensures units)
-    (record { met = open_on (position_view units c.in-OnLine.body) (line_state_view c.in-OnLine.line); outcome_is = refl; number_is = refl; place_is = refl })
-
--- the fault is a refusal
-abbrev IsRefusal : Fault → Type 0
-IsRefusal Memory = ⊥
-IsRefusal (Refused number place) = Unit {0}
-
--- what is met is told as a refusal
-met_refuses : (met : Met) → fault_of met ≡ Memory → ⊥
-met_refuses met e = subst IsRefusal e tt
-
-pub returns-in-OnLine-clause-refuses : goal.returns-in-OnLine-clause-refuses
-returns-in-OnLine-clause-refuses c = λ memory.
-    met_refuses (open_on (position_view [] c.in-OnLine.body) (line_state_view c.in-OnLine.line)) (sym (c.open_on.ensures []) ∙ memory)
+pub returns-in-InBody-clause-told : goal.returns-in-InBody-clause-told
+returns-in-InBody-clause-told c = λ units last. rw c.in-InBody.is (c.open_in_body.ensures.told units last)

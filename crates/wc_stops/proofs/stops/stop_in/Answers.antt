@@ -1,8 +1,7 @@
-use Rattle.std.proofs.Common.{◌≡◌, ◌∙◌, ap, map, sym}
+use Rattle.std.proofs.Common.{◌∙◌, ap, map}
 use Rattle.wc_lines.specs.Words.{marks_of}
 use Rattle.wc_stops.proofs.Exchanges.{exchanged_marks, exchanged_twice}
-use Rattle.wc_stops.proofs.Stopped.{read_by_places, stops_met}
-use Rattle.wc_stops.specs.ReadingSpots.{place_marks}
+use Rattle.wc_stops.proofs.Stopped.{read_by_places, stop_awaits, stops_met}
 use Rattle.wc_stops.specs.Stopping.{exchanged}
 use Rattle.wc_stops.proofs.stops.stop_in.Goals as goal
 
@@ -16,3 +15,6 @@ returns-in-Some-clause-stopped c =
 pub returns-in-None-clause-read : goal.returns-in-None-clause-read
 returns-in-None-clause-read c =
     read_by_places c.args.text.now c.args.tokens.now c.exchange.new.tokens c.requires.short c.requires.cut (ap marks_of c.exchange.ensures ∙ exchanged_marks c.args.tokens.now) c.in-None.ensures.read
+
+pub returns-in-Some-clause-awaited : goal.returns-in-Some-clause-awaited
+returns-in-Some-clause-awaited c = stop_awaits c.args.text.now c.exchange-2.new.tokens c.in-Some.met.fault c.in-Some.met.awaits c.stop_met.result c.stop_met.ensures
