@@ -140,7 +140,8 @@ impl<'a> Names<'a> {
 
     /// Takes a word inside an instruction.
     fn use_name(&mut self, token: &Token<'a>, index: usize, next: Option<Shape>) {
-        if token.line != self.line || self.jumps || next == Some(Shape::Assign) {
+        let signed = next == Some(Shape::Assign) || next == Some(Shape::Arrow);
+        if token.line != self.line || self.jumps || signed {
             return;
         }
         if self.previous == Some(Shape::Point) {
