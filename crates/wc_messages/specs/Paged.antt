@@ -1,5 +1,5 @@
--- The page of a refusal: its lines, its number, and the answer with that number, are pinned; the
--- words on the lines are not (the profile's own).
+-- The page of a refusal: its lines, its number, and the answer with that number, are pinned; of the
+-- words that they are those of one entry of the catalogue, each in its line (the profile's own).
 use Rattle.std.specs.Prelude.{◌≡◌, ℕ, List, [], ◌∷◌, ◌++◌, codes, if◌then◌else◌}
 use Rattle.wc_messages.specs.Locations.{number_text}
 use Rattle.wc_messages.specs.Plain.{shown_text}
@@ -40,13 +40,12 @@ met_lines met =
     page_line (codes "met at") met.pass ++ page_line (codes "place") met.place
     ++ page_line (codes "a smallest input, in which ` / ` ends a line") met.input
 
--- the page of that refusal
+-- the page of that refusal: each line has its words of one entry, which has that number
 pub record TellsPage (number : ℕ) (bytes : List ℕ) : Type 0 where
-  pub told : List ℕ
-  pub met : MetAt
+  pub entry : Entry
+  pub is : entry.number ≡ number
   pub plate : List ℕ
-  pub place : ℕ
-  pub advice : List ℕ
   pub all :
-      bytes ≡ number_line number told ++ met_lines met ++ plate_line number plate
-      ++ answer_line number place ++ page_line (codes "help") advice
+      bytes ≡ number_line entry.number entry.sentence.now ++ met_lines (met_at entry)
+      ++ plate_line entry.number plate ++ answer_line entry.number entry.answer
+      ++ page_line (codes "help") entry.hint.now
