@@ -3,7 +3,7 @@ use crate::words::ProgramFiles;
 use std::io;
 use std::io::Write;
 use wc_controller::{Ending, Input};
-use wc_messages::{Part, Refusal, RowSeeker, explained, section_of, shown};
+use wc_messages::{Form, Part, Refusal, RowSeeker, explained, section_of, shown};
 
 /// How a command ended, and what the system said of a read and of a write that failed.
 #[derive(Clone, Copy)]
@@ -74,8 +74,8 @@ fn part_of(input: Input) -> Part {
 
 /// Explains a refusal on standard error.
 fn explain(rt: &HostRuntime, refusal: &Refusal<'_>) -> io::Result<()> {
-    let message = explained(rt.alloc(), refusal)?;
-    rt.stderr().write_all(message.as_bytes())
+    let message = explained(rt.alloc(), Form::Long, refusal)?;
+    rt.stderr().write_all(&message)
 }
 
 /// Explains a refusal with its text, above which so many lines stand.

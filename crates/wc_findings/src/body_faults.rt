@@ -79,23 +79,21 @@ fn only_meant(tokens: &[Token<'_>], line: u32, number: u16) -> Option<usize> {
     found
 }
 
-/// What is said of a token that a refusal of that number means.
-fn says_of(number: u16) -> &'static str {
+/// What is said of the token that a refusal of that number means; nothing of a number that is not here.
+fn says_of(number: u16) -> Option<&'static str> {
     match number {
-        301 => "is declared twice",
-        302 => "is no type that may stand here",
-        303 => "is no initial value of this type",
-        304 => "is no address of this machine",
-        305 => "may not stand in a function block",
-        306 => "is one variable more than the 256 that a unit may have",
-        307 => "is a reserved word",
-        308 => "is a function block that is not closed above",
-        401 => "is not declared in this unit",
-        404 => "may not be written",
-        405 => "may not be read",
-        406 => "is the label of no line below",
-        407 => "labels two lines of this body",
-        _ => "is no divisor",
+        302 => Some("is no type that may stand here"),
+        303 => Some("is no initial value of this type"),
+        304 => Some("is no address of this machine"),
+        305 => Some("may not stand in a function block"),
+        307 => Some("is a reserved word"),
+        308 => Some("is a function block that is not closed above"),
+        404 => Some("may not be written"),
+        405 => Some("may not be read"),
+        406 => Some("is the label of no line below"),
+        407 => Some("labels two lines of this body"),
+        408 => Some("is no divisor"),
+        _ => None,
     }
 }
 
@@ -161,7 +159,8 @@ fn tell_operand(
     let index = operator_at(tokens, first_on(tokens, finding.line)).saturating_add(1);
     let length = operand_length(tokens, index);
     let last = tokens.get(index.saturating_add(length).saturating_sub(1));
-    let (Some(first), Some(last)) = (token_at(tokens, index), last) else {
+    let (Some(first), Some(last), Some(says)) = (token_at(tokens, index), last, says_of(number))
+    else {
         return Ok(());
     };
     if length == 0 || first.line != finding.line || last.line != finding.line {
@@ -171,7 +170,7 @@ fn tell_operand(
     let end = (last.start as usize).saturating_add(last.text.len());
     let operand = piece(text, start, end.saturating_sub(start));
     finding.point(column_at(text, start), operand.len());
-    finding.tell(operand, says_of(number))
+    finding.tell(operand, says)
 }
 
 /// Says which name is not declared, or which field is not there.
@@ -186,7 +185,13 @@ fn tell_unknown(
     ensures line { finding.new.line ≡ finding.old.line }
 {
     match (names.unknown, names.only_field()) {
-        (Some(index), _) => tell_token(finding, text, tokens, index, says_of(401)),
+        (Some(index), _) => tell_token(
+            finding,
+            text,
+            tokens,
+            index,
+            "is not declared in this unit",
+        ),
         (None, Some(index)) => {
             finding.help = Some(
                 "behind the point stands an input or an output of an instance, as t.Q",
@@ -216,8 +221,14 @@ fn tell_declared(
     ensures line { finding.new.line ≡ finding.old.line }
 {
     match (number, names.twice, names.beyond) {
-        (301, Some(index), _) => tell_token(finding, text, tokens, index, says_of(301)),
-        (306, _, Some(index)) => tell_token(finding, text, tokens, index, says_of(306)),
+        (301, Some(index), _) => tell_token(finding, text, tokens, index, "is declared twice"),
+        (306, _, Some(index)) => tell_token(
+            finding,
+            text,
+            tokens,
+            index,
+            "is one variable more than the 256 that a unit may have",
+        ),
         (306, _, None) => {
             finding.says = Some("the frame of the unit has more than 4096 places");
             Ok(())
@@ -248,9 +259,9 @@ pub(crate) fn find_body_fault(
             tell_unknown(finding, text, tokens, &names)
         }
         404 | 405 | 408 => tell_operand(finding, text, tokens, number),
-        _ => match only_meant(tokens, finding.line, number) {
-            Some(index) => tell_token(finding, text, tokens, index, says_of(number)),
-            None => Ok(()),
+        _ => match (only_meant(tokens, finding.line, number), says_of(number)) {
+            (Some(index), Some(says)) => tell_token(finding, text, tokens, index, says),
+            _ => Ok(()),
         },
     }
 }

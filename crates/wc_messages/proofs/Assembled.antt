@@ -14,6 +14,25 @@ four_behind (Ok x) old a b c d first second third all e f g h =
 four_behind (Err x) old a b c d first second third all e f g h = tt
 
 -- five pieces in an empty message
-pub five_pieces : (a b c d e start first second third fourth all : List ℕ) → start ≡ [] → first ≡ start ++ a → second ≡ first ++ b → third ≡ second ++ c → fourth ≡ third ++ d → all ≡ fourth ++ e
+pub five_pieces : {X : Type 0} (a b c d e start first second third fourth all : List X) → start ≡ [] → first ≡ start ++ a → second ≡ first ++ b → third ≡ second ++ c → fourth ≡ third ++ d → all ≡ fourth ++ e
     → all ≡ a ++ b ++ c ++ d ++ e
 five_pieces a b c d e start first second third fourth all none f g h i j = rw (j, i, h, g, f, none) refl
+
+-- three pieces and four behind what stood there
+pub three_behind : {X : Type 0} (old a b c first second all : List X) → first ≡ old ++ a → second ≡ first ++ b → all ≡ second ++ c → all ≡ old ++ (a ++ b ++ c)
+three_behind old a b c first second all e f g = rw (g, f, e, append_assoc old a b, append_assoc old (a ++ b) c) refl
+
+pub fourth_behind : {X : Type 0} (old a b c d first second third all : List X) → first ≡ old ++ a → second ≡ first ++ b → third ≡ second ++ c → all ≡ third ++ d → all ≡ old ++ (a ++ b ++ c ++ d)
+fourth_behind old a b c d first second third all e f g h =
+    rw (h, g, f, e, append_assoc old a b, append_assoc old (a ++ b) c, append_assoc old (a ++ b ++ c) d) refl
+
+-- what stands in the pieces of a long message may be written otherwise
+pub same_pieces : (f : List ℕ → List ℕ → List ℕ) (head help margin margin' beside beside' excerpt excerpt' all : List ℕ) → margin ≡ margin' → beside ≡ beside' → excerpt ≡ excerpt'
+    → all ≡ head ++ f margin beside ++ excerpt ++ help → all ≡ head ++ f margin' beside' ++ excerpt' ++ help
+same_pieces f head help margin margin' beside beside' excerpt excerpt' all d e g h = cc
+
+-- seven pieces in an empty message
+pub seven_pieces : (a b c d e f g start first second third fourth fifth sixth all : List ℕ) → start ≡ [] → first ≡ start ++ a → second ≡ first ++ b → third ≡ second ++ c → fourth ≡ third ++ d
+    → fifth ≡ fourth ++ e → sixth ≡ fifth ++ f → all ≡ sixth ++ g
+    → all ≡ a ++ b ++ c ++ d ++ e ++ f ++ g
+seven_pieces a b c d e f g start first second third fourth fifth sixth all none h i j k l m n = rw (n, m, l, k, j, i, h, none) refl

@@ -5,3 +5,5 @@ pub mod SeekerStates
 pub mod LinesAbove
 pub mod Assembled
 pub mod OnLines
+pub mod OneLine
+pub mod OneObject

@@ -45,21 +45,12 @@ quoted_text (byte ∷ rest) =
     shown_text (codes "`") ++ shown_text (take 120 (byte ∷ rest)) ++ shown_text (codes "`")
     ++ shown_text (codes " ") ++ left_out_text (length (byte ∷ rest))
 
--- what was found of a refusal in the text at hand, as a message shows it: what is quoted, and
--- where it stands; what is said of it, and what could stand there, are words
-pub record ShowsPlace
-    (refusal : Refusal) (line : ℕ) (told margin beside excerpt : List ℕ)
-    : Type 0 where
-  pub finding : Finding
+-- what was found of a refusal in the text at hand, and what is said of it: what is quoted is pinned,
+-- the rest is words
+pub record Knows (refusal : Refusal) (finding : Finding) (told : List ℕ) : Type 0 where
   pub found : Finds refusal finding
   pub said : List ℕ
-  pub words : List ℕ
-  pub words_are : IsShown words
-  pub line_is : line ≡ named_line refusal finding.line
   pub told_is : told ≡ quoted_text finding.subject.items ++ shown_text said
-  pub margin_is : margin ≡ margin_text line
-  pub beside_is : beside ≡ beside_text refusal finding.spot
-  pub excerpt_is : excerpt ≡ excerpt_text line finding.shown.items finding.spot words
 
 -- the first line: the number, and what is wrong
 abbrev pub headline : ℕ → List ℕ → List ℕ
@@ -88,13 +79,15 @@ help_line number advice = shown_text (codes "help: ") ++ shown_text advice ++ pa
 
 -- a message about a refusal
 pub record Explains (refusal : Refusal) (bytes : List ℕ) : Type 0 where
-  pub line : ℕ
+  pub finding : Finding
   pub told : List ℕ
-  pub margin : List ℕ
-  pub beside : List ℕ
-  pub excerpt : List ℕ
-  pub shows : ShowsPlace refusal line told margin beside excerpt
+  pub knows : Knows refusal finding told
+  pub words : List ℕ
+  pub words_are : IsShown words
+  pub line : ℕ
+  pub line_is : line ≡ named_line refusal finding.line
   pub advice : List ℕ
   pub all :
-      bytes ≡ headline refusal.number told ++ place_line margin refusal.name.now line beside
-      ++ excerpt ++ help_line refusal.number advice
+      bytes ≡ headline refusal.number told
+      ++ place_line (margin_text line) refusal.name.now line (beside_text refusal finding.spot)
+      ++ excerpt_text line finding.shown.items finding.spot words ++ help_line refusal.number advice

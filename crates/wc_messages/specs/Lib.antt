@@ -1,4 +1,3 @@
-pub mod Numbers
 pub mod Parts
 pub mod Plain
 pub mod Locations
@@ -7,4 +6,6 @@ pub mod Rows
 pub mod Seekers
 pub mod Above
 pub mod Explanations
+pub mod Known
+pub mod Forms
 pub mod Paged

@@ -1,10 +1,10 @@
--- The page of a refusal: its lines, its number, and the answer with that number, are pinned; the
--- words on the lines are not (the profile's own).
+-- The page of a refusal: its lines, its number, and the answer with that number, are pinned; of the
+-- words that they are those of one entry of the catalogue, each in its line (the profile's own).
 use Rattle.std.specs.Prelude.{◌≡◌, ℕ, List, [], ◌∷◌, ◌++◌, codes, if◌then◌else◌}
 use Rattle.wc_messages.specs.Locations.{number_text}
-use Rattle.wc_messages.specs.Numbers.{is_from}
 use Rattle.wc_messages.specs.Plain.{shown_text}
-use Rattle.wc_messages.specs.declared.pages.Page.{Page}
+use Rattle.wc_refusals.specs.Numbers.{is_from}
+use Rattle.wc_refusals.specs.declared.catalogue.Entry.{Entry}
 
 -- a line: what it tells, and its words
 abbrev pub page_line : List ℕ → List ℕ → List ℕ
@@ -19,10 +19,10 @@ abbrev pub plate_line : ℕ → List ℕ → List ℕ
 plate_line number plate = if is_from 503 508 number then page_line (codes "plate A") plate else []
 
 -- the line that says how the smallest input is answered
-abbrev pub answer_line : ℕ → List ℕ → List ℕ
+abbrev pub answer_line : ℕ → ℕ → List ℕ
 answer_line number place =
     shown_text (codes "the answer to it: refused ") ++ number_text number
-    ++ shown_text (codes " ") ++ shown_text place ++ (10 ∷ [])
+    ++ shown_text (codes " ") ++ number_text place ++ (10 ∷ [])
 
 -- where it is met, its place, and a smallest input
 pub record MetAt : Type 0 where
@@ -30,9 +30,9 @@ pub record MetAt : Type 0 where
   pub place : List ℕ
   pub input : List ℕ
 
--- what a page has of these
-abbrev pub met_at : Page → MetAt
-met_at page = record { pass = page.pass.now; place = page.place.now; input = page.input.now }
+-- what an entry has of these
+abbrev pub met_at : Entry → MetAt
+met_at entry = record { pass = entry.pass.now; place = entry.place.now; input = entry.input.now }
 
 -- the lines of these
 abbrev pub met_lines : MetAt → List ℕ
@@ -40,13 +40,12 @@ met_lines met =
     page_line (codes "met at") met.pass ++ page_line (codes "place") met.place
     ++ page_line (codes "a smallest input, in which ` / ` ends a line") met.input
 
--- the page of that refusal
+-- the page of that refusal: each line has its words of one entry, which has that number
 pub record TellsPage (number : ℕ) (bytes : List ℕ) : Type 0 where
-  pub told : List ℕ
-  pub met : MetAt
+  pub entry : Entry
+  pub is : entry.number ≡ number
   pub plate : List ℕ
-  pub place : List ℕ
-  pub advice : List ℕ
   pub all :
-      bytes ≡ number_line number told ++ met_lines met ++ plate_line number plate
-      ++ answer_line number place ++ page_line (codes "help") advice
+      bytes ≡ number_line entry.number entry.sentence.now ++ met_lines (met_at entry)
+      ++ plate_line entry.number plate ++ answer_line entry.number entry.answer
+      ++ page_line (codes "help") entry.hint.now

@@ -1,22 +1,24 @@
-//! What is said of a refusal for people: what is wrong, where, the line with what is meant in it, and what to write instead; and
-//! a page for each number. A message has printable ASCII and line feeds alone. The fixed lines, on which machines rely, are
-//! not made here.
+//! What is said of a refusal, for people, for editors and for programs: what is wrong, where, the line with what is meant in it,
+//! and what to write instead; and a page for each number. A message for people or editors has printable ASCII and line feeds
+//! alone. The fixed lines, on which machines rely, are not made here.
 #![tactic(auto)]
 
 mod excerpts;
 mod explaining;
-mod hints;
+mod form;
 mod jobs;
+mod long;
 mod message;
+mod object;
 mod page;
-mod pages;
 mod parts;
 mod placing;
 mod seeker;
 mod seeking;
-mod sentences;
+mod short;
 
 pub use explaining::explained;
+pub use form::Form;
 pub use jobs::{Section, section_of};
 pub use message::{Message, shown};
 pub use page::page as page_of;

@@ -45,6 +45,22 @@ impl Message {
         self.bytes.as_slice()
     }
 
+    /// The bytes, without the message.
+    pub(crate) fn into_bytes(self) -> Vec<u8>
+        ensures all { result.items ≡ self.bytes.items }
+        ensures plain { list_all is_plain result.items ≡ true }
+    {
+        let Message { bytes, .. } = self;
+        bytes
+    }
+
+    /// The bytes as a text.
+    pub(crate) fn as_str(&self) -> &str
+        ensures { result.now ≡ self.now.bytes.items }
+    {
+        unsafe { str::from_utf8_unchecked(self.as_bytes()) }
+    }
+
     /// Whether it has no byte.
     pub(crate) fn is_empty(&self) -> bool
         ensures { IsTrue result ↔ self.now.bytes.items ≡ [] }

@@ -1,12 +1,10 @@
 ghost use Rattle.std.specs.Prelude.{◌≡◌, ◌++◌, IfOk, IfSome, OnOk, is_some};
-ghost use Rattle.wc_messages.specs.Numbers.{is_refusal};
 ghost use Rattle.wc_messages.specs.Paged.{TellsPage, answer_line, met_at, met_lines, number_line, page_line, plate_line};
+ghost use Rattle.wc_refusals.specs.Numbers.{is_refusal};
 
-use crate::hints::hint;
 use crate::message::Message;
-use crate::pages::{Page, page_of};
-use crate::sentences::sentence;
 use std::alloc::{AllocError, Global};
+use wc_refusals::{Entry, entry_of};
 
 /// The plate of which the pages of plates speak.
 fn plate_a() -> &'static str {
@@ -34,16 +32,16 @@ fn write_number(message: &mut Message, number: u16, told: &str) -> Result<(), Al
 }
 
 /// Writes where it is met, its place, and a smallest input.
-fn write_met(message: &mut Message, page: &Page) -> Result<(), AllocError>
+fn write_met(message: &mut Message, entry: &Entry) -> Result<(), AllocError>
     ensures { OnOk result (message.new.bytes.items
-        ≡ message.old.bytes.items ++ met_lines (met_at page.now)) }
+        ≡ message.old.bytes.items ++ met_lines (met_at entry.now)) }
 {
-    write_line(message, "met at", page.pass)?;
-    write_line(message, "place", page.place)?;
+    write_line(message, "met at", entry.pass)?;
+    write_line(message, "place", entry.place)?;
     write_line(
         message,
         "a smallest input, in which ` / ` ends a line",
-        page.input,
+        entry.input,
     )
 }
 
@@ -59,30 +57,28 @@ fn write_plate(message: &mut Message, number: u16, plate: &str) -> Result<(), Al
 }
 
 /// Writes how the smallest input is answered.
-fn write_answer(message: &mut Message, number: u16, place: &str) -> Result<(), AllocError>
+fn write_answer(message: &mut Message, number: u16, place: u32) -> Result<(), AllocError>
     ensures { OnOk result (message.new.bytes.items
-        ≡ message.old.bytes.items ++ answer_line number place.now) }
+        ≡ message.old.bytes.items ++ answer_line number place) }
 {
     message.say("the answer to it: refused ")?;
     message.count(number as usize)?;
     message.say(" ")?;
-    message.say(place)?;
+    message.count(place as usize)?;
     message.end_line()
 }
 
 /// The page of a refusal, as it is printed.
-fn printed(alloc: Global, number: u16, page: &Page) -> Result<Message, AllocError>
-    ensures { IfOk result (λ message. TellsPage number message.bytes.items) }
+fn printed(alloc: Global, entry: &Entry) -> Result<Message, AllocError>
+    ensures { IfOk result (λ message. TellsPage entry.now.number message.bytes.items) }
 {
-    let told = sentence(number);
     let plate = plate_a();
-    let advice = hint(number);
     let mut message = Message::new(alloc);
-    write_number(&mut message, number, told)?;
-    write_met(&mut message, page)?;
-    write_plate(&mut message, number, plate)?;
-    write_answer(&mut message, number, page.answer)?;
-    write_line(&mut message, "help", advice)?;
+    write_number(&mut message, entry.number, entry.sentence)?;
+    write_met(&mut message, entry)?;
+    write_plate(&mut message, entry.number, plate)?;
+    write_answer(&mut message, entry.number, entry.answer)?;
+    write_line(&mut message, "help", entry.hint)?;
     Ok(message)
 }
 
@@ -93,8 +89,8 @@ pub fn page(alloc: Global, number: u16) -> Result<Option<Message>, AllocError>
     ensures told { IfOk result
         (λ page. IfSome page (λ message. TellsPage number message.bytes.items)) }
 {
-    match page_of(number) {
-        Some(page) => match printed(alloc, number, &page) {
+    match entry_of(number) {
+        Some(entry) => match printed(alloc, entry) {
             Ok(message) => Ok(Some(message)),
             Err(error) => Err(error),
         },

@@ -1,30 +1,44 @@
 ghost use Rattle.std.specs.Prelude.{◌≡◌, ◌++◌, IfOk, OnOk};
-ghost use Rattle.wc_messages.specs.Explanations.{ShowsPlace, left_out_text, quoted_text};
+ghost use Rattle.wc_messages.specs.Explanations.{left_out_text, quoted_text};
+ghost use Rattle.wc_messages.specs.Known.{IsKnown};
 ghost use Rattle.wc_messages.specs.Plain.{IsShown};
 
-use crate::excerpts::{WIDEST, excerpt, piece};
-use crate::hints::hint;
+use crate::excerpts::{WIDEST, piece};
 use crate::message::Message;
-use crate::placing::{beside, margin, named_line};
-use crate::sentences::sentence;
+use crate::placing::named_line;
 use std::alloc::{AllocError, Global};
 use wc_findings::{Finding, Refusal, find};
+use wc_refusals::entry_of;
 
-/// The parts of a message that stand between what every message says.
+/// What is said of a refusal, in whatever form.
 #[derive(Drop)]
 pub(crate) struct Parts {
+    /// What exactly is wrong.
+    pub(crate) finding: Finding,
     /// The line in what is named; 0 where it is not known.
     pub(crate) line: u32,
-    /// What is wrong.
+    /// What is wrong, in words.
     pub(crate) told: Message,
-    /// What stands before the name.
-    pub(crate) margin: Message,
-    /// What stands behind the line: the column, and the place by which the refusal is counted.
-    pub(crate) beside: Message,
-    /// The line that is meant, with a mark under what is meant in it.
-    pub(crate) excerpt: Message,
-    /// What to write instead.
+    /// What could stand there; empty where that is not known.
+    pub(crate) expected: Message,
+    /// What to write instead; empty where that is not known.
     pub(crate) advice: Message,
+}
+
+/// What a number says, in one sentence.
+fn sentence(number: u16) -> &'static str {
+    match entry_of(number) {
+        Some(entry) => entry.sentence,
+        None => "a rule is broken",
+    }
+}
+
+/// What to write in place of what is refused; nothing where that is not known.
+fn hint(number: u16) -> &'static str {
+    match entry_of(number) {
+        Some(entry) => entry.hint,
+        None => "",
+    }
 }
 
 /// Writes how many bytes of a piece so long are left out where it is quoted, if any are.
@@ -85,8 +99,8 @@ fn told(alloc: Global, finding: &Finding, said: &Message) -> Result<Message, All
     Ok(message)
 }
 
-/// What could stand at the spot; nothing where that is not known.
-fn expected(alloc: Global, words: &str) -> Result<Message, AllocError>
+/// Words on a line.
+fn words(alloc: Global, words: &str) -> Result<Message, AllocError>
     ensures { IfOk result (λ message. IsShown message.bytes.items) }
 {
     let mut message = Message::new(alloc);
@@ -102,31 +116,20 @@ fn advised<'a>(number: u16, finding: &'a Finding) -> &'a str {
     &finding.advice
 }
 
-/// What to write instead.
-fn advice(alloc: Global, number: u16, finding: &Finding) -> Result<Message, AllocError>
-    ensures { IfOk result (λ message. IsShown message.bytes.items) }
-{
-    let mut message = Message::new(alloc);
-    message.say(advised(number, finding))?;
-    Ok(message)
-}
-
-/// The parts of a message about a refusal.
+/// What is said of a refusal.
 pub(crate) fn parts_of(alloc: Global, refusal: &Refusal<'_>) -> Result<Parts, AllocError>
-    ensures place { IfOk result (λ parts. ShowsPlace refusal.now parts.line parts.told.bytes.items
-        parts.margin.bytes.items parts.beside.bytes.items parts.excerpt.bytes.items) }
-    ensures advice { IfOk result (λ parts. IsShown parts.advice.bytes.items) }
+    ensures { IfOk result (λ parts. IsKnown refusal.now parts) }
 {
     let finding = find(alloc, refusal)?;
-    let line = named_line(refusal, finding.line);
     let said = said(alloc, refusal.number, &finding)?;
-    let words = expected(alloc, finding.expected)?;
+    let told = told(alloc, &finding, &said)?;
+    let expected = words(alloc, finding.expected)?;
+    let advice = words(alloc, advised(refusal.number, &finding))?;
     Ok(Parts {
-        line,
-        told: told(alloc, &finding, &said)?,
-        margin: margin(alloc, line)?,
-        beside: beside(alloc, refusal, &finding)?,
-        excerpt: excerpt(alloc, line, &finding, &words)?,
-        advice: advice(alloc, refusal.number, &finding)?,
+        line: named_line(refusal, finding.line),
+        told,
+        expected,
+        advice,
+        finding,
     })
 }

@@ -1,5 +1,5 @@
 ghost use Rattle.std.specs.Prelude.{◌≡◌, ◌≤◌, ◌++◌, IfOk, IfSome, OnOk, length};
-ghost use Rattle.wc_messages.specs.Explanations.{is_program, line_under, named_line};
+ghost use Rattle.wc_messages.specs.Explanations.{is_program, line_text, line_under, named_line};
 ghost use Rattle.wc_messages.specs.Locations.{beside_text, column_text, counted_name, counted_text, heading, in_brackets, margin_text, place_text, row_text, section_text};
 
 use crate::message::Message;
@@ -47,8 +47,20 @@ pub(crate) fn margin(alloc: Global, line: u32) -> Result<Message, AllocError>
     Ok(message)
 }
 
+/// Writes a line behind the name of what it stands in, where it is known.
+pub(crate) fn write_line(message: &mut Message, line: u32) -> Result<(), AllocError>
+    ensures { OnOk result (message.new.bytes.items
+        ≡ message.old.bytes.items ++ line_text line) }
+{
+    if line == 0 {
+        return Ok(());
+    }
+    message.say(":")?;
+    message.count(line as usize)
+}
+
 /// Writes the column of what is meant.
-fn write_column(message: &mut Message, finding: &Finding) -> Result<(), AllocError>
+pub(crate) fn write_column(message: &mut Message, finding: &Finding) -> Result<(), AllocError>
     requires { IfSome finding.now.spot (λ spot. spot.start ≤ length finding.now.shown.items) }
     ensures { OnOk result (message.new.bytes.items
         ≡ message.old.bytes.items ++ column_text finding.now.spot) }
@@ -123,7 +135,7 @@ fn write_row(message: &mut Message, part: Part, place: u32) -> Result<(), AllocE
 }
 
 /// The place by which the refusal is counted, where it is not the line that is named.
-fn counted(alloc: Global, refusal: &Refusal<'_>) -> Result<Message, AllocError>
+pub(crate) fn counted(alloc: Global, refusal: &Refusal<'_>) -> Result<Message, AllocError>
     ensures { IfOk result (λ message. message.bytes.items
         ≡ place_text refusal.now.in_job refusal.now.part refusal.now.place) }
 {

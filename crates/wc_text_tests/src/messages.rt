@@ -1,6 +1,6 @@
 //! Messages as they are printed, and the pages.
 use std::alloc::{AllocError, Global};
-use wc_messages::{Part, Refusal, explained, page_of, section_of, shown};
+use wc_messages::{Form, Part, Refusal, explained, page_of, section_of, shown};
 
 /// A plate whose sixth line is out of range.
 const PLATE: &[u8] =
@@ -28,8 +28,8 @@ fn begins(
         text,
         above: 0,
     };
-    let message = explained(alloc, &refusal)?;
-    Ok(message.as_bytes().starts_with(wanted))
+    let message = explained(alloc, Form::Long, &refusal)?;
+    Ok(message.as_slice().starts_with(wanted))
 }
 
 #[test]
@@ -68,6 +68,52 @@ fn a_key_is_marked(rt: HostRuntime) {
     assert!(rt; begins(rt.alloc(), Part::Plate, 507, 0, Some(PLATE), wanted) == Ok(true));
 }
 
+/// A name that is not declared, in a file whose name has a quote and a letter beyond ASCII, is told so in a form.
+fn is_told_so(alloc: Global, form: Form, wanted: &[u8]) -> Result<bool, AllocError> {
+    let refusal = Refusal {
+        number: 401,
+        place: 2,
+        part: Part::Program,
+        name: b"t\xc3\xbcr\".il",
+        in_job: false,
+        text: Some(b"PROGRAM P\nLD xy\nEND_PROGRAM\n"),
+        above: 0,
+    };
+    let told = explained(alloc, form, &refusal)?;
+    Ok(told.as_slice() == wanted)
+}
+
+#[test]
+fn a_refusal_is_told_on_one_line(rt: HostRuntime) {
+    let short = b"t\\xc3\\xbcr\".il:2:4: error[401]: `xy` is not declared in this unit\n";
+    let json = b"{\"file\":\"t\xc3\xbcr\\\".il\",\"line\":2,\"column\":4,\"endColumn\":6,\"number\":401,\"sentence\":\"`xy` is not declared in this unit\",\"hint\":\"declare the name in VAR, VAR_INPUT or VAR_OUTPUT of this unit\"}\n";
+    assert!(rt; is_told_so(rt.alloc(), Form::Short, short) == Ok(true));
+    assert!(rt; is_told_so(rt.alloc(), Form::Json, json) == Ok(true));
+}
+
+/// A row of a log that is not at hand is told so in a form.
+fn is_counted_so(alloc: Global, form: Form, wanted: &[u8]) -> Result<bool, AllocError> {
+    let refusal = Refusal {
+        number: 608,
+        place: 7,
+        part: Part::Log,
+        name: b"\xff",
+        in_job: false,
+        text: None,
+        above: 0,
+    };
+    let told = explained(alloc, form, &refusal)?;
+    Ok(told.as_slice() == wanted)
+}
+
+#[test]
+fn a_row_stands_in_place_of_a_line(rt: HostRuntime) {
+    let short = b"\\xff:row 7: error[608]: a scan has no data\n";
+    let json = b"{\"file\":\"\\\\xff\",\"place\":\"row 7\",\"number\":608,\"sentence\":\"a scan has no data\",\"hint\":\"leave the third field of a scan empty, as 10,S,\"}\n";
+    assert!(rt; is_counted_so(rt.alloc(), Form::Short, short) == Ok(true));
+    assert!(rt; is_counted_so(rt.alloc(), Form::Json, json) == Ok(true));
+}
+
 /// What is said of the second line of the job's program begins so.
 fn begins_in_job(alloc: Global, wanted: &[u8]) -> Result<bool, AllocError> {
     let Some(section) = section_of(JOB, Part::Program) else {
@@ -82,8 +128,8 @@ fn begins_in_job(alloc: Global, wanted: &[u8]) -> Result<bool, AllocError> {
         text: Some(section.text),
         above: section.above,
     };
-    let message = explained(alloc, &refusal)?;
-    Ok(message.as_bytes().starts_with(wanted))
+    let message = explained(alloc, Form::Long, &refusal)?;
+    Ok(message.as_slice().starts_with(wanted))
 }
 
 #[test]

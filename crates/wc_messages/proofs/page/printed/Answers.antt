@@ -1,14 +1,12 @@
+use Rattle.std.proofs.Common.{refl}
 use Rattle.wc_messages.proofs.Assembled.{five_pieces}
 use Rattle.wc_messages.proofs.page.printed.Goals as goal
-use Rattle.wc_messages.specs.Paged.{met_at}
 
 pub returns : goal.returns
 returns c =
     record {
-      told = c.sentence-told.result.now;
-      met = met_at c.args.page.now;
+      entry = c.args.entry.now;
+      is = refl;
       plate = c.plate_a-plate.result.now;
-      place = c.args.page.now.answer.now;
-      advice = c.hint-advice.result.now;
       all = five_pieces _ _ _ _ _ _ _ _ _ _ _ c.new-message.ensures.nothing c.in_ok-write_number.ensures c.in_ok-write_met.ensures c.in_ok-write_plate.ensures c.in_ok-write_answer.ensures c.in_ok-write_line.ensures;
     }

@@ -1,6 +1,6 @@
 use Rattle.std.proofs.Common.{codes, decimal, ◌∷◌, []}
 use Rattle.wc_messages.proofs.Assembled.{four_behind}
-use Rattle.wc_messages.proofs.explaining.write_page.Goals as goal
+use Rattle.wc_messages.proofs.long.write_page.Goals as goal
 use Rattle.wc_messages.specs.Plain.{shown_text}
 
 pub returns : goal.returns
