@@ -1,4 +1,5 @@
-ghost use Rattle.std.specs.Prelude.{◌≤◌, IfSome};
+ghost use Rattle.std.specs.Prelude.{◌≡◌, ◌≤◌, IfSome};
+ghost use Rattle.wc.specs.Asked.{asked, check, job, line, run, texts_of};
 
 use crate::opening::Opening;
 use crate::output::{Emptying, Gathered, Sharing, shared_output};
@@ -54,7 +55,9 @@ fn tell_waiting(rt: &HostRuntime) {
 }
 
 /// Answers a job on standard input: the exit status.
-pub(crate) fn run_job(rt: &HostRuntime) -> u8 {
+pub(crate) fn run_job(rt: &HostRuntime, _words: &[String]) -> u8
+    requires { asked (texts_of _words.now) ≡ job }
+{
     let gathered = match shared_output(rt) {
         Ok(gathered) => gathered,
         Err(_) => return without_memory(rt),
@@ -72,7 +75,9 @@ pub(crate) fn run_job(rt: &HostRuntime) -> u8 {
 }
 
 /// Checks the program in a file: the exit status.
-pub(crate) fn check_words(rt: &HostRuntime, program: &str, paths: bool) -> u8 {
+pub(crate) fn check_words(rt: &HostRuntime, _words: &[String], program: &str, paths: bool) -> u8
+    requires { asked (texts_of _words.now) ≡ check program.now paths }
+{
     let gathered = match shared_output(rt) {
         Ok(gathered) => gathered,
         Err(_) => return without_memory(rt),
@@ -92,11 +97,14 @@ pub(crate) fn check_words(rt: &HostRuntime, program: &str, paths: bool) -> u8 {
 /// Runs the log in a file with a program, and prints every scan or the last so many: the exit status.
 pub(crate) fn run_words(
     rt: &HostRuntime,
+    _words: &[String],
     last: Option<u16>,
     plate: &str,
     files: ProgramFiles<'_>,
 ) -> u8
-    requires { IfSome last (λ n. (1 ≤ n) × (n ≤ 1000)) }
+    requires meant { asked (texts_of _words.now)
+        ≡ run plate.now files.program.now files.log.now last }
+    requires so_many { IfSome last (λ n. (1 ≤ n) × (n ≤ 1000)) }
 {
     let gathered = match shared_output(rt) {
         Ok(gathered) => gathered,
@@ -127,7 +135,9 @@ pub(crate) fn run_words(
 }
 
 /// Runs the log in a file with no program: the exit status.
-pub(crate) fn line_words(rt: &HostRuntime, plate: &str, log: &str) -> u8 {
+pub(crate) fn line_words(rt: &HostRuntime, _words: &[String], plate: &str, log: &str) -> u8
+    requires { asked (texts_of _words.now) ≡ line plate.now log.now }
+{
     let gathered = match shared_output(rt) {
         Ok(gathered) => gathered,
         Err(_) => return without_memory(rt),

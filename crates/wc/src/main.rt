@@ -2,9 +2,13 @@
 //! log with none.
 #![tactic(auto)]
 
+ghost use Rattle.std.specs.Prelude.{◌≡◌};
+ghost use Rattle.wc.specs.Asked.{asked, explain as explain_asked, texts_of, view};
+
 mod commands;
 mod excerpts;
 mod explaining;
+mod forms;
 mod opening;
 mod output;
 mod telling;
@@ -92,7 +96,9 @@ fn show(rt: &HostRuntime, error: &Error, words: &[String]) -> u8 {
 }
 
 /// Prints the page of a refusal: the exit status. A number that there is not is a wrong word.
-fn show_page(rt: &HostRuntime, number: u16) -> u8 {
+fn show_page(rt: &HostRuntime, _words: &[String], number: u16) -> u8
+    requires { asked (texts_of _words.now) ≡ explain_asked number }
+{
     match explain(rt, number) {
         Ok(true) => 0,
         Ok(false) => {
@@ -103,17 +109,19 @@ fn show_page(rt: &HostRuntime, number: u16) -> u8 {
     }
 }
 
-/// Does what is wanted: the exit status.
-fn execute(rt: &HostRuntime, wanted: Wanted<'_>) -> u8 {
+/// Does what the words mean: the exit status. The words stand here for the proof: no command is done that they do not mean.
+fn execute(rt: &HostRuntime, words: &[String], wanted: Wanted<'_>) -> u8
+    requires { asked (texts_of words.now) ≡ view wanted }
+{
     match wanted {
-        Wanted::Job => run_job(rt),
-        Wanted::Check { program, paths } => check_words(rt, program, paths),
+        Wanted::Job => run_job(rt, words),
+        Wanted::Check { program, paths } => check_words(rt, words, program, paths),
         Wanted::Run { plate, files, last } => match last {
             Some(number) if number < 1 || number > 1000 => WRONG_WORDS,
-            last => run_words(rt, last, plate, files),
+            last => run_words(rt, words, last, plate, files),
         },
-        Wanted::Explain { number } => show_page(rt, number),
-        Wanted::Line { plate, log } => line_words(rt, plate, log),
+        Wanted::Explain { number } => show_page(rt, words, number),
+        Wanted::Line { plate, log } => line_words(rt, words, plate, log),
     }
 }
 
@@ -122,7 +130,7 @@ fn execute(rt: &HostRuntime, wanted: Wanted<'_>) -> u8 {
 fn answer(rt: &HostRuntime) -> u8 {
     match words_given(rt) {
         Ok(words) => match read_words(rt.alloc(), words.as_slice()) {
-            Ok(wanted) => execute(rt, wanted),
+            Ok(wanted) => execute(rt, words.as_slice(), wanted),
             Err(error) => show(rt, &error, words.as_slice()),
         },
         Err(error) => end_without_words(rt, &error),

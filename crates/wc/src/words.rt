@@ -1,3 +1,9 @@
+ghost use Rattle.std.specs.Prelude.{◌≡◌, IfOk, false, codes};
+ghost use Rattle.clap.specs.Words.{FailsBy, fault_of, found_of, rule_of, app_of, rows_of};
+ghost use Rattle.wc.specs.Asked.{asked, asked_at, file_in, flag_in, number_in, texts_of, view};
+ghost use Rattle.wc.specs.CommandLine.{Takes, command_line, check_word, run_word, line_word};
+ghost use Rattle.wc.specs.CommandLine.{explain_word, file_option, place, flag, number_option};
+
 use clap::{Arg, ArgAction, ArgMatches, Command, Error, value_parser};
 use std::alloc::{AllocError, Global};
 
@@ -59,7 +65,10 @@ pub(crate) enum Wanted<'a> {
 }
 
 /// An option that must have a file.
-fn file_option<'a>(alloc: Global, name: &'a str, help: &'a str) -> Arg<'a> {
+fn file_option<'a>(alloc: Global, name: &'a str, help: &'a str) -> Arg<'a>
+    ensures rule { rule_of result ≡ file_option name.entry.now }
+    ensures local { result.global ≡ false }
+{
     Arg::new(alloc, name)
         .long(name)
         .value_name("FILE")
@@ -68,7 +77,10 @@ fn file_option<'a>(alloc: Global, name: &'a str, help: &'a str) -> Arg<'a> {
 }
 
 /// The plate's option.
-fn plate_option<'a>(alloc: Global) -> Arg<'a> {
+fn plate_option<'a>(alloc: Global) -> Arg<'a>
+    ensures rule { rule_of result ≡ file_option (codes "plate") }
+    ensures local { result.global ≡ false }
+{
     file_option(
         alloc,
         "plate",
@@ -77,7 +89,10 @@ fn plate_option<'a>(alloc: Global) -> Arg<'a> {
 }
 
 /// The log's option.
-fn log_option<'a>(alloc: Global) -> Arg<'a> {
+fn log_option<'a>(alloc: Global) -> Arg<'a>
+    ensures rule { rule_of result ≡ file_option (codes "log") }
+    ensures local { result.global ≡ false }
+{
     file_option(
         alloc,
         "log",
@@ -85,42 +100,69 @@ fn log_option<'a>(alloc: Global) -> Arg<'a> {
     )
 }
 
-/// The word `check`.
-fn check_command<'a>(alloc: Global) -> Result<Command<'a>, AllocError> {
-    let program = Arg::new(alloc, "program")
+/// The program's place.
+fn program_place<'a>(alloc: Global) -> Arg<'a>
+    ensures rule { rule_of result ≡ place (codes "program") }
+    ensures local { result.global ≡ false }
+{
+    Arg::new(alloc, "program")
         .value_name("PROGRAM")
         .required(true)
-        .help("The program text (Instruction List)");
-    let path = Arg::new(alloc, "path")
+        .help("The program text (Instruction List)")
+}
+
+/// The option that prints paths.
+fn path_flag<'a>(alloc: Global) -> Arg<'a>
+    ensures rule { rule_of result ≡ flag (codes "path") }
+    ensures local { result.global ≡ false }
+{
+    Arg::new(alloc, "path")
         .long("path")
         .action(ArgAction::SetTrue)
-        .help("Print the lines of a longest path behind each unit too");
+        .help("Print the lines of a longest path behind each unit too")
+}
+
+/// The word `check`.
+fn check_command<'a>(alloc: Global) -> Result<Command<'a>, AllocError>
+    ensures { IfOk result (Takes check_word) }
+{
     let command = Command::new(alloc, "check")
         .about("Load a program and print the greatest number of steps of each unit")
-        .arg(program)?
-        .arg(path)?;
+        .arg(program_place(alloc))?
+        .arg(path_flag(alloc))?;
     Ok(command)
 }
 
-/// The word `run`.
-fn run_command<'a>(alloc: Global) -> Result<Command<'a>, AllocError> {
-    let program = file_option(alloc, "program", "The program text (Instruction List)");
-    let last = Arg::new(alloc, "last")
+/// The option that prints the last scans alone.
+fn last_option<'a>(alloc: Global) -> Arg<'a>
+    ensures rule { rule_of result ≡ number_option (codes "last") 1 1000 }
+    ensures local { result.global ≡ false }
+{
+    Arg::new(alloc, "last")
         .long("last")
         .value_name("N")
         .value_parser(value_parser!(u16).range(1..=1000))
-        .help("Print the last N scans alone, 1 to 1000, behind the answers of the line");
+        .help("Print the last N scans alone, 1 to 1000, behind the answers of the line")
+}
+
+/// The word `run`.
+fn run_command<'a>(alloc: Global) -> Result<Command<'a>, AllocError>
+    ensures { IfOk result (Takes run_word) }
+{
+    let program = file_option(alloc, "program", "The program text (Instruction List)");
     let command = Command::new(alloc, "run")
         .about("Run a log with a program: print each scan, and each answer of the line")
         .arg(plate_option(alloc))?
         .arg(program)?
         .arg(log_option(alloc))?
-        .arg(last)?;
+        .arg(last_option(alloc))?;
     Ok(command)
 }
 
 /// The word `line`.
-fn line_command<'a>(alloc: Global) -> Result<Command<'a>, AllocError> {
+fn line_command<'a>(alloc: Global) -> Result<Command<'a>, AllocError>
+    ensures { IfOk result (Takes line_word) }
+{
     let command = Command::new(alloc, "line")
         .about("Run a log with no program: print each answer of the line")
         .arg(plate_option(alloc))?
@@ -129,7 +171,9 @@ fn line_command<'a>(alloc: Global) -> Result<Command<'a>, AllocError> {
 }
 
 /// The word `explain`.
-fn explain_command<'a>(alloc: Global) -> Result<Command<'a>, AllocError> {
+fn explain_command<'a>(alloc: Global) -> Result<Command<'a>, AllocError>
+    ensures { IfOk result (Takes explain_word) }
+{
     let number = Arg::new(alloc, "number")
         .value_name("NUMBER")
         .required(true)
@@ -142,7 +186,9 @@ fn explain_command<'a>(alloc: Global) -> Result<Command<'a>, AllocError> {
 }
 
 /// The whole command line.
-fn command<'a>(alloc: Global) -> Result<Command<'a>, AllocError> {
+fn command<'a>(alloc: Global) -> Result<Command<'a>, AllocError>
+    ensures { IfOk result (λ c. app_of c ≡ command_line) }
+{
     let command = Command::new(alloc, "wc")
         .version(VERSION)
         .about(ABOUT)
@@ -154,16 +200,38 @@ fn command<'a>(alloc: Global) -> Result<Command<'a>, AllocError> {
 }
 
 /// The file behind an option that must be there.
-fn file<'a>(matches: &ArgMatches<'a>, name: &str) -> &'a str {
-    matches.get_str(name).unwrap_or("")
+fn file<'a>(matches: &ArgMatches<'a>, name: &str) -> &'a str
+    ensures { result.now ≡ file_in name.now (rows_of (found_of matches.now)) }
+{
+    match matches.get_str(name) {
+        Some(path) => path,
+        None => "",
+    }
+}
+
+/// Whether a flag is given.
+fn is_given(matches: &ArgMatches<'_>, name: &str) -> bool
+    ensures { result ≡ flag_in name.now (rows_of (found_of matches.now)) }
+{
+    let given = matches.get_one::<bool>(name);
+    given.unwrap_or(false)
+}
+
+/// The number behind an option, where it is given.
+fn number(matches: &ArgMatches<'_>, name: &str) -> Option<u16>
+    ensures { result ≡ number_in name.now (rows_of (found_of matches.now)) }
+{
+    matches.get_one::<u16>(name)
 }
 
 /// What a word asks for.
-fn wanted_by<'a>(word: &str, matches: &ArgMatches<'a>) -> Wanted<'a> {
+fn wanted_by<'a>(word: &str, matches: &ArgMatches<'a>) -> Wanted<'a>
+    ensures { view result ≡ asked_at word.now (rows_of (found_of matches.now)) }
+{
     match word {
         "check" => Wanted::Check {
             program: file(matches, "program"),
-            paths: matches.get_flag("path"),
+            paths: is_given(matches, "path"),
         },
         "run" => Wanted::Run {
             plate: file(matches, "plate"),
@@ -171,21 +239,25 @@ fn wanted_by<'a>(word: &str, matches: &ArgMatches<'a>) -> Wanted<'a> {
                 program: file(matches, "program"),
                 log: file(matches, "log"),
             },
-            last: matches.get_one::<u16>("last"),
+            last: number(matches, "last"),
         },
         "explain" => Wanted::Explain {
-            number: matches.get_one::<u16>("number").unwrap_or(0),
+            number: number(matches, "number").unwrap_or(0),
         },
-        _ => Wanted::Line {
+        "line" => Wanted::Line {
             plate: file(matches, "plate"),
             log: file(matches, "log"),
         },
+        _ => Wanted::Job,
     }
 }
 
 /// What these words ask for, the first of which is the program's own name; or a fault in them, or help or the version that
 /// was asked for.
-pub(crate) fn read_words<'a>(alloc: Global, words: &'a [String]) -> Result<Wanted<'a>, Error> {
+pub(crate) fn read_words<'a>(alloc: Global, words: &'a [String]) -> Result<Wanted<'a>, Error>
+    ensures asked { IfOk result (λ wanted. view wanted ≡ asked (texts_of words.now)) }
+    ensures refused { FailsBy (fault_of command_line (texts_of words.now)) result }
+{
     let matches = command(alloc)?.try_get_matches_from(words)?;
     match matches.subcommand() {
         Some((word, inner)) => Ok(wanted_by(word, inner)),

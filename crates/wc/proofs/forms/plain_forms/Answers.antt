@@ -1,0 +1,13 @@
+use Rattle.wc.proofs.Plain.{check_form, explain_form, job_form, last_form, line_form, paths_form, plain, run_form}
+use Rattle.wc.proofs.forms.plain_forms.Goals as goal
+
+pub returns : goal.returns
+returns c = record {
+  job = job_form;
+  check = λ name p h. check_form name p (plain p h);
+  paths = λ name p h. paths_form name p (plain p h);
+  run = λ name p q l h i j. run_form name p q l (plain p h) (plain q i) (plain l j);
+  last = last_form;
+  line = λ name p l h j. line_form name p l (plain p h) (plain l j);
+  explain = explain_form;
+}

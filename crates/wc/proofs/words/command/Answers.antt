@@ -1,0 +1,22 @@
+use Rattle.std.proofs.Common.{◌∙◌, ap, true}
+use Rattle.clap.specs.Words.{App}
+use Rattle.clap.specs.Simple.{app_of_fields}
+use Rattle.clap.specs.declared.builder.command.Command.TheOpen.{Command-F}
+use Rattle.clap.specs.declared.builder.command.Command.{Command}
+use Rattle.wc.specs.CommandLine.{Takes, program_name}
+use Rattle.wc.proofs.Tables.{one_word}
+use Rattle.wc.proofs.words.command.Goals as goal
+
+abbrev has_version : App → App
+has_version a = record a { top = record a.top { has_version = true } }
+
+pub returns : goal.returns
+returns c =
+    let zero : Takes program_name c.about.result = (
+      ap app_of_fields c.about.ensures ∙ (ap app_of_fields c.version.ensures ∙ ap has_version c.new.ensures.app),
+      ap (λ (f : Command-F Command). f.has_globals) c.about.ensures ∙ (ap (λ (f : Command-F Command). f.has_globals) c.version.ensures ∙ c.new.ensures.local),
+    ) in
+    let one = one_word _ _ _ _ _ c.in_ok-subcommand.ensures c.in_ok-check_command.ensures zero in
+    let two = one_word _ _ _ _ _ c.in_ok-subcommand-2.ensures c.in_ok-run_command.ensures one in
+    let three = one_word _ _ _ _ _ c.in_ok-subcommand-3.ensures c.in_ok-line_command.ensures two in
+    (one_word _ _ _ _ _ c.in_ok-command.ensures c.in_ok-explain_command.ensures three).0

@@ -1,0 +1,80 @@
+-- Which command is meant by which words, the first of which is the program's own name.
+use Rattle.std.specs.Prelude.{◌≡◌, ◌==◌, ℕ, Bool, false, List, [], ◌∷◌, map, Option, Some, None}
+use Rattle.std.specs.Prelude.{codes, if◌then◌else◌, option_and_then, unwrap_or, String, string_bytes}
+use Rattle.std.specs.declared.alloc.Global.{Global}
+use Rattle.std.specs.Option.{option_map_or}
+use Rattle.std.specs.Str.{bytes_eq}
+use Rattle.std.specs.Str.Parse.{digits_value, without_leading_plus}
+use Rattle.clap.specs.Words.{Row, Text, fault_of, first_of, one_of, subcommand_of}
+use Rattle.clap.specs.ValueTests.{accepts}
+use Rattle.clap.specs.declared.builder.value_parser.ValueParser.TheVariants.{Unsigned}
+use Rattle.wc.specs.CommandLine.{command_line}
+use Rattle.wc.specs.declared.words.Wanted.{Wanted}
+use Rattle.wc.specs.declared.words.Wanted.TheVariants as wanted
+
+-- the words as texts
+abbrev pub texts_of : List (String Global) → List Text
+texts_of = map (λ word. string_bytes word)
+
+-- the file that is given to an option, no name where there is none
+abbrev pub file_in : Text → List Row → Text
+file_in option given = unwrap_or (first_of option given) (codes "")
+
+-- the flag is given
+abbrev pub flag_in : Text → List Row → Bool
+flag_in option given = option_map_or (λ text. bytes_eq text (codes "true")) (one_of option given) false
+
+-- the number of 16 bits that a text's digits spell
+abbrev pub number_of : Text → Option ℕ
+number_of text = if accepts false (Unsigned 0 65535) text
+    then Some (digits_value 10 (without_leading_plus text)) else None
+
+-- the number that is given to an option
+abbrev pub number_in : Text → List Row → Option ℕ
+number_in option given = option_and_then number_of (one_of option given)
+
+-- what the words ask for, with the texts of files in the order of the options
+pub data Asked : Type 0 where
+  job : Asked
+  -- a program's file, and whether paths are wanted
+  check : Text → Bool → Asked
+  -- the files of a plate, a program and a log, and how many scans are wanted
+  run : Text → Text → Text → Option ℕ → Asked
+  explain : ℕ → Asked
+  -- the files of a plate and a log
+  line : Text → Text → Asked
+
+-- what a word asks for, by what is given to its options
+abbrev pub asked_at : Text → List Row → Asked
+asked_at word given =
+    if bytes_eq word (codes "check")
+    then check (file_in (codes "program") given) (flag_in (codes "path") given)
+    else (if bytes_eq word (codes "run")
+    then run (file_in (codes "plate") given) (file_in (codes "program") given)
+    (file_in (codes "log") given) (number_in (codes "last") given)
+    else (if bytes_eq word (codes "explain")
+    then explain (unwrap_or (number_in (codes "number") given) 0)
+    else (if bytes_eq word (codes "line")
+    then line (file_in (codes "plate") given) (file_in (codes "log") given) else job)))
+
+-- what the words ask for: a job where no word was met
+abbrev pub asked : List Text → Asked
+asked words = option_map_or (λ met. asked_at met.0 met.1)
+    (subcommand_of command_line words) job
+
+-- a command of the code as what is asked for
+abbrev pub view : Wanted → Asked
+view wanted.Job = job
+view (wanted.Check program paths) = check program.now paths
+view (wanted.Run plate files last) = run plate.now files.program.now files.log.now last
+view (wanted.Explain number) = explain number
+view (wanted.Line plate log) = line plate.now log.now
+
+-- the words are not refused, and ask for this
+abbrev pub Ask : List Text → Asked → Type 0
+Ask words this = (asked words ≡ this) × (fault_of command_line words ≡ [])
+
+-- a word that does not begin with a hyphen (45), so that it is no option
+abbrev pub IsPlain : Text → Type 0
+IsPlain [] = Unit
+IsPlain (x ∷ rest) = (x == 45) ≡ false

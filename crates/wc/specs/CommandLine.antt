@@ -1,0 +1,68 @@
+-- The words that the command line takes, and the options of each.
+use Rattle.std.specs.Prelude.{◌≡◌, ℕ, Some, codes, pos, true, false}
+use Rattle.clap.specs.Words.{App, Rule, Text, app_of, new_app, new_rule, with_rule}
+use Rattle.clap.specs.Words.{with_subcommand}
+use Rattle.clap.specs.declared.builder.command.Command.{Command}
+use Rattle.clap.specs.declared.builder.command.Command.TheViews.{out-Command}
+use Rattle.clap.specs.declared.builder.action.ArgAction.TheVariants.{SetTrue}
+use Rattle.clap.specs.declared.builder.value_parser.ValueParser.TheVariants.{Signed}
+
+-- a value that must be given, and is known by its place
+abbrev pub place : Text → Rule
+place name = record (new_rule name) { value_names = 1; required = true }
+
+-- `--NAME FILE`, which must be given
+abbrev pub file_option : Text → Rule
+file_option name = record (place name) { long = Some name }
+
+-- `--NAME`, which takes no value
+abbrev pub flag : Text → Rule
+flag name = record (new_rule name) { long = Some name; action = Some SetTrue }
+
+-- a number that must be given, from 0 to 65535
+abbrev pub number_place : Text → Rule
+number_place name = record (place name) { parser = Some (Signed (pos 0) (pos 65535)) }
+
+-- `--NAME N`, where N lies in a range
+abbrev pub number_option : Text → ℕ → ℕ → Rule
+number_option name least most = record (new_rule name) {
+  long = Some name;
+  value_names = 1;
+  parser = Some (Signed (pos least) (pos most));
+}
+
+-- `check PROGRAM [--path]`
+abbrev pub check_word : App
+check_word =
+    with_rule (with_rule (new_app (codes "check")) (place (codes "program"))) (flag (codes "path"))
+
+-- `run --plate FILE --program FILE --log FILE [--last N]`, N from 1 to 1000
+abbrev pub run_word : App
+run_word =
+    with_rule (with_rule (with_rule (with_rule (new_app (codes "run"))
+    (file_option (codes "plate"))) (file_option (codes "program"))) (file_option (codes "log")))
+    (number_option (codes "last") 1 1000)
+
+-- `line --plate FILE --log FILE`
+abbrev pub line_word : App
+line_word =
+    with_rule (with_rule (new_app (codes "line")) (file_option (codes "plate")))
+    (file_option (codes "log"))
+
+-- `explain NUMBER`
+abbrev pub explain_word : App
+explain_word = with_rule (new_app (codes "explain")) (number_place (codes "number"))
+
+-- `wc`, which has a version
+abbrev pub program_name : App
+program_name =
+    record (new_app (codes "wc")) { top = record (new_app (codes "wc")).top { has_version = true } }
+
+-- `wc` alone, or with one of the words behind it
+abbrev pub command_line : App
+command_line = with_subcommand (with_subcommand (with_subcommand (with_subcommand program_name
+    check_word.top) run_word.top) line_word.top) explain_word.top
+
+-- the command takes what the table says
+abbrev pub Takes : App → Command → Type 0
+Takes word command = (app_of command ≡ word) × ((out-Command command).has_globals ≡ false)
