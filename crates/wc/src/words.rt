@@ -11,7 +11,7 @@ use std::alloc::{AllocError, Global};
 /// tools/legal_digest computes. Whether a build was proved is not known to the program.
 const VERSION: &str = "0.1.0 (Narbeddo)
 toolchain rattle-kit-13f logic dac8208d650f15bf
-legal part sha256 0ccb477b01753e0d9eaf50bbfb118f3d6b8572c65376126a6556a5cb04aefcc5";
+legal part sha256 bd3e9493be08d8d4571f9d640865a089b19ef7a0b875307f14b24b9735f8ced4";
 
 /// What the program does, with an example of each word.
 const ABOUT: &str =

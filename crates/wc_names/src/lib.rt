@@ -9,7 +9,6 @@ mod field;
 mod finished;
 mod formal;
 mod frame;
-
 mod kept;
 mod key;
 mod located;
@@ -26,7 +25,6 @@ pub use entity::Entity;
 pub use field::Field;
 pub use formal::Formal;
 pub use frame::Frame;
-
 pub use kept::Tables;
 pub use key::Key;
 pub use located::Located;

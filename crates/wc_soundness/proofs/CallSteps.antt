@@ -234,7 +234,7 @@ call_goes here store fits calls line condition instance arguments behind kind re
         let is = type_of-found here.scope instance type e in
         let w = inputs_assigned here instance type is line [] arguments store fits r in
         let outputs : (new : Store) → SameSlots w.0 new → Writes new (given_out here instance (outputs_of arguments) new)
-            = λ new same. outputs_given here instance type e line [] arguments new (FitsScope-same store new here.instance here.scope (SameSlots-trans store w.0 new w.2 same) fits) r in
+        = λ new same. outputs_given here instance type e line [] arguments new (FitsScope-same store new here.instance here.scope (SameSlots-trans store w.0 new w.2 same) fits) r in
         store_goes (LeadsTo here.scope (Call condition instance arguments) behind kind) store (assigned here (members_of here.scope.before type) instance (inputs_of arguments) store) (λ new. made here instance (body_outcome here type instance new) line arguments result) w.0 w.1
         (made_goes here instance (LeadsTo here.scope (Call condition instance arguments) behind kind) store w.0 w.2 (body_outcome here type instance w.0) (body_ends here w.0 (FitsScope-same store w.0 here.instance here.scope w.2 fits) calls type instance i is) line arguments result (a, refl) outputs)
 

@@ -86,7 +86,8 @@ fn is_told_so(alloc: Global, form: Form, wanted: &[u8]) -> Result<bool, AllocErr
 #[test]
 fn a_refusal_is_told_on_one_line(rt: HostRuntime) {
     let short = b"t\\xc3\\xbcr\".il:2:4: error[401]: `xy` is not declared in this unit\n";
-    let json = b"{\"file\":\"t\xc3\xbcr\\\".il\",\"line\":2,\"column\":4,\"endColumn\":6,\"number\":401,\"sentence\":\"`xy` is not declared in this unit\",\"hint\":\"declare the name in VAR, VAR_INPUT or VAR_OUTPUT of this unit\"}\n";
+    let json =
+        b"{\"file\":\"t\xc3\xbcr\\\".il\",\"line\":2,\"column\":4,\"endColumn\":6,\"number\":401,\"sentence\":\"`xy` is not declared in this unit\",\"hint\":\"declare the name in VAR, VAR_INPUT or VAR_OUTPUT of this unit\"}\n";
     assert!(rt; is_told_so(rt.alloc(), Form::Short, short) == Ok(true));
     assert!(rt; is_told_so(rt.alloc(), Form::Json, json) == Ok(true));
 }
@@ -109,7 +110,8 @@ fn is_counted_so(alloc: Global, form: Form, wanted: &[u8]) -> Result<bool, Alloc
 #[test]
 fn a_row_stands_in_place_of_a_line(rt: HostRuntime) {
     let short = b"\\xff:row 7: error[608]: a scan has no data\n";
-    let json = b"{\"file\":\"\\\\xff\",\"place\":\"row 7\",\"number\":608,\"sentence\":\"a scan has no data\",\"hint\":\"leave the third field of a scan empty, as 10,S,\"}\n";
+    let json =
+        b"{\"file\":\"\\\\xff\",\"place\":\"row 7\",\"number\":608,\"sentence\":\"a scan has no data\",\"hint\":\"leave the third field of a scan empty, as 10,S,\"}\n";
     assert!(rt; is_counted_so(rt.alloc(), Form::Short, short) == Ok(true));
     assert!(rt; is_counted_so(rt.alloc(), Form::Json, json) == Ok(true));
 }

@@ -65,12 +65,7 @@ fn judge_given(kind: Kind, seen: Seen) -> Option<u16>
 }
 
 /// What is passed to an input or from an output of a kind.
-fn judge_actual(
-    direction: Direction,
-    kind: Kind,
-    operand: &Operand<'_>,
-    seen: Seen,
-) -> Option<u16>
+fn judge_actual(direction: Direction, kind: Kind, operand: &Operand<'_>, seen: Seen) -> Option<u16>
     ensures { (scope : Scope) (m : Member) (line : ℕ) (rest : List Check)
         → IsSeen scope (term_view operand.now) seen → elementary_kind m.type ≡ Some kind
         → first_broken (actual_checks scope line direction (Some m) (term_view operand.now) ++ rest)
