@@ -4,6 +4,7 @@ use Rattle.clap.specs.Words.{Text}
 use Rattle.clap.specs.Lexer.{long_of, short_of}
 use Rattle.std.specs.Str.{bytes_eq}
 use Rattle.clap.proofs.OnLiterals.{clap_on_literals}
+use Rattle.wc_messages.specs.declared.form.Form.TheVariants.{Long}
 use Rattle.wc.specs.Asked.{Ask, IsPlain, asked, check, explain, job, line, run}
 
 -- the word is no option, no bundle of flags and not `--`
@@ -14,32 +15,32 @@ pub plain : (word : Text) → IsPlain word → IsValue word
 plain [] h = (refl, refl, refl)
 plain (x ∷ xs) h = (rw h refl, rw h refl, rw h refl)
 
-pub job_form : (name : Text) → Ask (name ∷ []) job
+pub job_form : (name : Text) → Ask (name ∷ []) job Long
 unfolding clap_on_literals
-job_form name = (refl, refl)
+job_form name = (refl, refl, refl)
 
-pub check_form : (name p : Text) → IsValue p → Ask (name ∷ codes "check" ∷ p ∷ []) (check p false)
+pub check_form : (name p : Text) → IsValue p → Ask (name ∷ codes "check" ∷ p ∷ []) (check p false) Long
 unfolding clap_on_literals
-check_form name p v = (rw (v.0, v.1, v.2) refl, rw (v.0, v.1, v.2) refl)
+check_form name p v = (rw (v.0, v.1, v.2) refl, rw (v.0, v.1, v.2) refl, rw (v.0, v.1, v.2) refl)
 
-pub paths_form : (name p : Text) → IsValue p → Ask (name ∷ codes "check" ∷ codes "--path" ∷ p ∷ []) (check p true)
+pub paths_form : (name p : Text) → IsValue p → Ask (name ∷ codes "check" ∷ codes "--path" ∷ p ∷ []) (check p true) Long
 unfolding clap_on_literals
-paths_form name p v = (rw (v.0, v.1, v.2) refl, rw (v.0, v.1, v.2) refl)
+paths_form name p v = (rw (v.0, v.1, v.2) refl, rw (v.0, v.1, v.2) refl, rw (v.0, v.1, v.2) refl)
 
 pub run_form : (name p q l : Text) → IsValue p → IsValue q → IsValue l
     → asked (name ∷ codes "run" ∷ codes "--plate" ∷ p ∷ codes "--program" ∷ q ∷ codes "--log" ∷ l ∷ []) ≡ run p q l None
 unfolding clap_on_literals
 run_form name p q l u v w = rw (u.0, u.1, u.2) (rw (v.0, v.1, v.2) (rw (w.0, w.1, w.2) refl))
 
-pub line_form : (name p l : Text) → IsValue p → IsValue l → Ask (name ∷ codes "line" ∷ codes "--plate" ∷ p ∷ codes "--log" ∷ l ∷ []) (line p l)
+pub line_form : (name p l : Text) → IsValue p → IsValue l → Ask (name ∷ codes "line" ∷ codes "--plate" ∷ p ∷ codes "--log" ∷ l ∷ []) (line p l) Long
 unfolding clap_on_literals
-line_form name p l u w = (rw (u.0, u.1, u.2, w.0, w.1, w.2) refl, rw (u.0, u.1, u.2, w.0, w.1, w.2) refl)
+line_form name p l u w = (rw (u.0, u.1, u.2, w.0, w.1, w.2) refl, rw (u.0, u.1, u.2, w.0, w.1, w.2) refl, rw (u.0, u.1, u.2, w.0, w.1, w.2) refl)
 
-pub explain_form : (name : Text) → Ask (name ∷ codes "explain" ∷ codes "403" ∷ []) (explain 403)
+pub explain_form : (name : Text) → Ask (name ∷ codes "explain" ∷ codes "403" ∷ []) (explain 403) Long
 unfolding clap_on_literals
-explain_form name = (refl, refl)
+explain_form name = (refl, refl, refl)
 
 pub last_form : (name : Text) → Ask (name ∷ codes "run" ∷ codes "--last" ∷ codes "10" ∷ codes "--log" ∷ codes "a" ∷ codes "--program" ∷ codes "b" ∷ codes "--plate=c" ∷ [])
-    (run (codes "c") (codes "b") (codes "a") (Some 10))
+    (run (codes "c") (codes "b") (codes "a") (Some 10)) Long
 unfolding clap_on_literals
-last_form name = (refl, refl)
+last_form name = (refl, refl, refl)

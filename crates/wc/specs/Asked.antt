@@ -1,11 +1,17 @@
 -- Which command is meant by which words, the first of which is the program's own name.
 use Rattle.std.specs.Prelude.{◌≡◌, ◌==◌, ℕ, Bool, false, List, [], ◌∷◌, map, Option, Some, None}
-use Rattle.std.specs.Prelude.{codes, if◌then◌else◌, option_and_then, unwrap_or, String, string_bytes}
+use Rattle.std.specs.Prelude.{codes, if◌then◌else◌, is_some, option_and_then, unwrap_or, String}
+use Rattle.std.specs.Prelude.{string_bytes}
 use Rattle.std.specs.declared.alloc.Global.{Global}
-use Rattle.std.specs.Option.{option_map_or}
+use Rattle.std.specs.Option.{option_map_or, option_or}
 use Rattle.std.specs.Str.{bytes_eq}
 use Rattle.std.specs.Str.Parse.{digits_value, without_leading_plus}
-use Rattle.clap.specs.Words.{Row, Text, fault_of, first_of, one_of, subcommand_of}
+use Rattle.clap.specs.Words.{Kinds, Row, Text, fault_of, first_of, matches_of, one_of}
+use Rattle.clap.specs.Words.{subcommand_of}
+use Rattle.clap.specs.Kinds.{or_else}
+use Rattle.clap.specs.declared.error.kind.ErrorKind.TheVariants as kind
+use Rattle.wc_messages.specs.declared.form.Form.{Form}
+use Rattle.wc_messages.specs.declared.form.Form.TheVariants.{Long, Short, Json}
 use Rattle.clap.specs.ValueTests.{accepts}
 use Rattle.clap.specs.declared.builder.value_parser.ValueParser.TheVariants.{Unsigned}
 use Rattle.wc.specs.CommandLine.{command_line}
@@ -22,7 +28,8 @@ file_in option given = unwrap_or (first_of option given) (codes "")
 
 -- the flag is given
 abbrev pub flag_in : Text → List Row → Bool
-flag_in option given = option_map_or (λ text. bytes_eq text (codes "true")) (one_of option given) false
+flag_in option given =
+    option_map_or (λ text. bytes_eq text (codes "true")) (one_of option given) false
 
 -- the number of 16 bits that a text's digits spell
 abbrev pub number_of : Text → Option ℕ
@@ -57,10 +64,13 @@ asked_at word given =
     else (if bytes_eq word (codes "line")
     then line (file_in (codes "plate") given) (file_in (codes "log") given) else job)))
 
--- what the words ask for: a job where no word was met
+-- what is asked for by the word that was met: a job where none was
+abbrev pub asked_by : Option (Text × List Row) → Asked
+asked_by met = option_map_or (λ at. asked_at at.0 at.1) met job
+
+-- what the words ask for
 abbrev pub asked : List Text → Asked
-asked words = option_map_or (λ met. asked_at met.0 met.1)
-    (subcommand_of command_line words) job
+asked words = asked_by (subcommand_of command_line words)
 
 -- a command of the code as what is asked for
 abbrev pub view : Wanted → Asked
@@ -70,9 +80,32 @@ view (wanted.Run plate files last) = run plate.now files.program.now files.log.n
 view (wanted.Explain number) = explain number
 view (wanted.Line plate log) = line plate.now log.now
 
--- the words are not refused, and ask for this
-abbrev pub Ask : List Text → Asked → Type 0
-Ask words this = (asked words ≡ this) × (fault_of command_line words ≡ [])
+-- the text of a form that is given behind the word that was met, or else before it
+abbrev pub form_in : Option (Text × List Row) → List Row → Option Text
+form_in met before = option_or (option_and_then (λ at. first_of (codes "message") at.1) met)
+    (first_of (codes "message") before)
+
+-- the form of that name
+abbrev pub form_named : Text → Option Form
+form_named text = if bytes_eq text (codes "long") then Some Long
+    else (if bytes_eq text (codes "short") then Some Short
+    else (if bytes_eq text (codes "json") then Some Json else None))
+
+-- the form in which a refusal is to be told, the long one where none is given; none where it is no
+-- form
+abbrev pub form_asked : List Text → Option Form
+form_asked words = option_map_or form_named
+    (form_in (subcommand_of command_line words) (matches_of command_line words)) (Some Long)
+
+-- the kinds of fault by which the words are refused, those of the first step that fails
+abbrev pub fault_in : List Text → Kinds
+fault_in words = or_else (fault_of command_line words)
+    (if is_some (form_asked words) then [] else kind.InvalidValue ∷ [])
+
+-- the words are not refused, and ask for this, and for refusals in this form
+abbrev pub Ask : List Text → Asked → Form → Type 0
+Ask words this form =
+    (asked words ≡ this) × (form_asked words ≡ Some form) × (fault_of command_line words ≡ [])
 
 -- a word that does not begin with a hyphen (45), so that it is no option
 abbrev pub IsPlain : Text → Type 0

@@ -31,23 +31,26 @@ number_option name least most = record (new_rule name) {
   parser = Some (Signed (pos least) (pos most));
 }
 
--- `check PROGRAM [--path]`
+-- `--message FORM`
+abbrev pub message_option : Rule
+message_option =
+    record (new_rule (codes "message")) { long = Some (codes "message"); value_names = 1 }
+
+-- `check PROGRAM [--path] [--message FORM]`
 abbrev pub check_word : App
-check_word =
-    with_rule (with_rule (new_app (codes "check")) (place (codes "program"))) (flag (codes "path"))
+check_word = with_rule (with_rule (with_rule (new_app (codes "check")) (place (codes "program")))
+    (flag (codes "path"))) message_option
 
--- `run --plate FILE --program FILE --log FILE [--last N]`, N from 1 to 1000
+-- `run --plate FILE --program FILE --log FILE [--last N] [--message FORM]`, N from 1 to 1000
 abbrev pub run_word : App
-run_word =
-    with_rule (with_rule (with_rule (with_rule (new_app (codes "run"))
+run_word = with_rule (with_rule (with_rule (with_rule (with_rule (new_app (codes "run"))
     (file_option (codes "plate"))) (file_option (codes "program"))) (file_option (codes "log")))
-    (number_option (codes "last") 1 1000)
+    (number_option (codes "last") 1 1000)) message_option
 
--- `line --plate FILE --log FILE`
+-- `line --plate FILE --log FILE [--message FORM]`
 abbrev pub line_word : App
-line_word =
-    with_rule (with_rule (new_app (codes "line")) (file_option (codes "plate")))
-    (file_option (codes "log"))
+line_word = with_rule (with_rule (with_rule (new_app (codes "line")) (file_option (codes "plate")))
+    (file_option (codes "log"))) message_option
 
 -- `explain NUMBER`
 abbrev pub explain_word : App
@@ -58,10 +61,11 @@ abbrev pub program_name : App
 program_name =
     record (new_app (codes "wc")) { top = record (new_app (codes "wc")).top { has_version = true } }
 
--- `wc` alone, or with one of the words behind it
+-- `wc [--message FORM]` alone, or with one of the words behind it
 abbrev pub command_line : App
-command_line = with_subcommand (with_subcommand (with_subcommand (with_subcommand program_name
-    check_word.top) run_word.top) line_word.top) explain_word.top
+command_line = with_subcommand (with_subcommand (with_subcommand (with_subcommand
+    (with_rule program_name message_option) check_word.top) run_word.top) line_word.top)
+    explain_word.top
 
 -- the command takes what the table says
 abbrev pub Takes : App → Command → Type 0

@@ -1,5 +1,5 @@
-ghost use Rattle.std.specs.Prelude.{◌≡◌, ◌≤◌, IfSome};
-ghost use Rattle.wc.specs.Asked.{asked, check, job, line, run, texts_of};
+ghost use Rattle.std.specs.Prelude.{◌≡◌, ◌≤◌, IfSome, Some};
+ghost use Rattle.wc.specs.Asked.{asked, check, form_asked, job, line, run, texts_of};
 
 use crate::opening::Opening;
 use crate::output::{Emptying, Gathered, Sharing, shared_output};
@@ -10,6 +10,7 @@ use std::io;
 use std::io::{IsTerminal, Stdin};
 use wc_controller::{Ending, answer_job, check_file, line_files, run_files};
 use wc_devices::{Keeping, Noting};
+use wc_messages::Form;
 use wc_model::Device;
 
 /// A file that is read, and before each read the output is emptied.
@@ -28,6 +29,7 @@ fn cause(source: &Source<'_>) -> Option<io::Error> {
 /// Writes what is still gathered, and tells how the command ended: the exit status.
 fn finish(
     rt: &HostRuntime,
+    form: Form,
     ending: Ending,
     reading: Option<io::Error>,
     gathered: &RefCell<Gathered>,
@@ -42,7 +44,7 @@ fn finish(
         reading,
         writing,
     };
-    end(rt, &met, sources)
+    end(rt, form, &met, sources)
 }
 
 /// Says that a job is awaited, where somebody types it.
@@ -55,8 +57,9 @@ fn tell_waiting(rt: &HostRuntime) {
 }
 
 /// Answers a job on standard input: the exit status.
-pub(crate) fn run_job(rt: &HostRuntime, _words: &[String]) -> u8
-    requires { asked (texts_of _words.now) ≡ job }
+pub(crate) fn run_job(rt: &HostRuntime, _words: &[String], form: Form) -> u8
+    requires asked { asked (texts_of _words.now) ≡ job }
+    requires form { form_asked (texts_of _words.now) ≡ Some form }
 {
     let gathered = match shared_output(rt) {
         Ok(gathered) => gathered,
@@ -71,12 +74,26 @@ pub(crate) fn run_job(rt: &HostRuntime, _words: &[String]) -> u8
     let keeping = reader.get_ref().get_ref();
     let reading = keeping.get_ref().cause();
     let bytes = keeping.bytes_read();
-    finish(rt, ending, reading, &gathered, &Sources::Job { bytes })
+    finish(
+        rt,
+        form,
+        ending,
+        reading,
+        &gathered,
+        &Sources::Job { bytes },
+    )
 }
 
 /// Checks the program in a file: the exit status.
-pub(crate) fn check_words(rt: &HostRuntime, _words: &[String], program: &str, paths: bool) -> u8
-    requires { asked (texts_of _words.now) ≡ check program.now paths }
+pub(crate) fn check_words(
+    rt: &HostRuntime,
+    _words: &[String],
+    form: Form,
+    program: &str,
+    paths: bool,
+) -> u8
+    requires asked { asked (texts_of _words.now) ≡ check program.now paths }
+    requires form { form_asked (texts_of _words.now) ≡ Some form }
 {
     let gathered = match shared_output(rt) {
         Ok(gathered) => gathered,
@@ -87,6 +104,7 @@ pub(crate) fn check_words(rt: &HostRuntime, _words: &[String], program: &str, pa
     let ending = check_file(rt.alloc(), paths, &mut reader, &mut writer);
     finish(
         rt,
+        form,
         ending,
         cause(&reader),
         &gathered,
@@ -98,12 +116,14 @@ pub(crate) fn check_words(rt: &HostRuntime, _words: &[String], program: &str, pa
 pub(crate) fn run_words(
     rt: &HostRuntime,
     _words: &[String],
+    form: Form,
     last: Option<u16>,
     plate: &str,
     files: ProgramFiles<'_>,
 ) -> u8
-    requires meant { asked (texts_of _words.now)
+    requires asked { asked (texts_of _words.now)
         ≡ run plate.now files.program.now files.log.now last }
+    requires form { form_asked (texts_of _words.now) ≡ Some form }
     requires so_many { IfSome last (λ n. (1 ≤ n) × (n ≤ 1000)) }
 {
     let gathered = match shared_output(rt) {
@@ -127,6 +147,7 @@ pub(crate) fn run_words(
         .or(cause(&log_reader));
     finish(
         rt,
+        form,
         ending,
         reading,
         &gathered,
@@ -135,8 +156,15 @@ pub(crate) fn run_words(
 }
 
 /// Runs the log in a file with no program: the exit status.
-pub(crate) fn line_words(rt: &HostRuntime, _words: &[String], plate: &str, log: &str) -> u8
-    requires { asked (texts_of _words.now) ≡ line plate.now log.now }
+pub(crate) fn line_words(
+    rt: &HostRuntime,
+    _words: &[String],
+    form: Form,
+    plate: &str,
+    log: &str,
+) -> u8
+    requires asked { asked (texts_of _words.now) ≡ line plate.now log.now }
+    requires form { form_asked (texts_of _words.now) ≡ Some form }
 {
     let gathered = match shared_output(rt) {
         Ok(gathered) => gathered,
@@ -149,6 +177,7 @@ pub(crate) fn line_words(rt: &HostRuntime, _words: &[String], plate: &str, log: 
     let reading = cause(&plate_reader).or(cause(&log_reader));
     finish(
         rt,
+        form,
         ending,
         reading,
         &gathered,

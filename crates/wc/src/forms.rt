@@ -1,22 +1,24 @@
 ghost use Rattle.std.specs.Prelude.{◌≡◌, List, [], ◌∷◌, Some, None, true, false, codes};
 ghost use Rattle.clap.specs.Words.{Text};
+ghost use Rattle.wc_messages.specs.declared.form.Form.TheVariants.{Long};
 ghost use Rattle.wc.specs.Asked.{Ask, IsPlain, check, explain, job, line, asked, run};
 
 /// What the plain forms of the words ask for, where each file is a word that does not begin with a hyphen.
 pub(crate) fn plain_forms()
-    ensures job { (name : Text) → Ask (name ∷ []) job }
+    ensures job { (name : Text) → Ask (name ∷ []) job Long }
     ensures check { (name program : Text) → IsPlain program
-        → Ask (name ∷ codes "check" ∷ program ∷ []) (check program false) }
+        → Ask (name ∷ codes "check" ∷ program ∷ []) (check program false) Long }
     ensures paths { (name program : Text) → IsPlain program
-        → Ask (name ∷ codes "check" ∷ codes "--path" ∷ program ∷ []) (check program true) }
+        → Ask (name ∷ codes "check" ∷ codes "--path" ∷ program ∷ []) (check program true) Long }
     ensures run { (name plate program log : Text) → IsPlain plate → IsPlain program → IsPlain log
         → asked (name ∷ codes "run" ∷ codes "--plate" ∷ plate ∷ codes "--program" ∷ program
         ∷ codes "--log" ∷ log ∷ []) ≡ run plate program log None }
     ensures last { (name : Text) → Ask (name ∷ codes "run" ∷ codes "--last" ∷ codes "10"
         ∷ codes "--log" ∷ codes "a" ∷ codes "--program" ∷ codes "b" ∷ codes "--plate=c" ∷ [])
-        (run (codes "c") (codes "b") (codes "a") (Some 10)) }
+        (run (codes "c") (codes "b") (codes "a") (Some 10)) Long }
     ensures line { (name plate log : Text) → IsPlain plate → IsPlain log
         → Ask (name ∷ codes "line" ∷ codes "--plate" ∷ plate ∷ codes "--log" ∷ log ∷ [])
-        (line plate log) }
-    ensures explain { (name : Text) → Ask (name ∷ codes "explain" ∷ codes "403" ∷ []) (explain 403) }
+        (line plate log) Long }
+    ensures explain { (name : Text)
+        → Ask (name ∷ codes "explain" ∷ codes "403" ∷ []) (explain 403) Long }
 {}

@@ -2,8 +2,8 @@
 //! log with none.
 #![tactic(auto)]
 
-ghost use Rattle.std.specs.Prelude.{◌≡◌};
-ghost use Rattle.wc.specs.Asked.{asked, explain as explain_asked, texts_of, view};
+ghost use Rattle.std.specs.Prelude.{◌≡◌, Some};
+ghost use Rattle.wc.specs.Asked.{asked, explain as explain_asked, form_asked, texts_of, view};
 
 mod commands;
 mod excerpts;
@@ -24,7 +24,7 @@ use std::process::ExitCode;
 use std::{env, io};
 use telling::{tell_write_fault, without_memory};
 use wc_messages::shown;
-use words::{Wanted, read_words};
+use words::{Request, Wanted, read_words};
 
 /// The exit status where the words are wrong.
 const WRONG_WORDS: u8 = 2;
@@ -109,19 +109,21 @@ fn show_page(rt: &HostRuntime, _words: &[String], number: u16) -> u8
     }
 }
 
-/// Does what the words mean: the exit status. The words stand here for the proof: no command is done that they do not mean.
-fn execute(rt: &HostRuntime, words: &[String], wanted: Wanted<'_>) -> u8
-    requires { asked (texts_of words.now) ≡ view wanted }
+/// Does what the words ask for: the exit status. The words stand here for the proof: nothing is done that they do not ask for.
+fn execute(rt: &HostRuntime, words: &[String], request: Request<'_>) -> u8
+    requires asked { asked (texts_of words.now) ≡ view request.wanted }
+    requires form { form_asked (texts_of words.now) ≡ Some request.form }
 {
-    match wanted {
-        Wanted::Job => run_job(rt, words),
-        Wanted::Check { program, paths } => check_words(rt, words, program, paths),
+    let form = request.form;
+    match request.wanted {
+        Wanted::Job => run_job(rt, words, form),
+        Wanted::Check { program, paths } => check_words(rt, words, form, program, paths),
         Wanted::Run { plate, files, last } => match last {
             Some(number) if number < 1 || number > 1000 => WRONG_WORDS,
-            last => run_words(rt, words, last, plate, files),
+            last => run_words(rt, words, form, last, plate, files),
         },
         Wanted::Explain { number } => show_page(rt, words, number),
-        Wanted::Line { plate, log } => line_words(rt, words, plate, log),
+        Wanted::Line { plate, log } => line_words(rt, words, form, plate, log),
     }
 }
 
@@ -130,7 +132,7 @@ fn execute(rt: &HostRuntime, words: &[String], wanted: Wanted<'_>) -> u8
 fn answer(rt: &HostRuntime) -> u8 {
     match words_given(rt) {
         Ok(words) => match read_words(rt.alloc(), words.as_slice()) {
-            Ok(wanted) => execute(rt, words.as_slice(), wanted),
+            Ok(request) => execute(rt, words.as_slice(), request),
             Err(error) => show(rt, &error, words.as_slice()),
         },
         Err(error) => end_without_words(rt, &error),

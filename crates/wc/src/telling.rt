@@ -72,15 +72,22 @@ fn part_of(input: Input) -> Part {
     }
 }
 
+/// Where a refusal is told, and in which form.
+#[derive(Clone, Copy)]
+struct Teller<'a> {
+    rt: &'a HostRuntime,
+    form: Form,
+}
+
 /// Explains a refusal on standard error.
-fn explain(rt: &HostRuntime, refusal: &Refusal<'_>) -> io::Result<()> {
-    let message = explained(rt.alloc(), Form::Long, refusal)?;
-    rt.stderr().write_all(&message)
+fn explain(teller: Teller<'_>, refusal: &Refusal<'_>) -> io::Result<()> {
+    let message = explained(teller.rt.alloc(), teller.form, refusal)?;
+    teller.rt.stderr().write_all(&message)
 }
 
 /// Explains a refusal with its text, above which so many lines stand.
 fn explain_text(
-    rt: &HostRuntime,
+    teller: Teller<'_>,
     refusal: &Refusal<'_>,
     text: &[u8],
     above: u32,
@@ -95,12 +102,12 @@ fn explain_text(
         text: Some(text),
         above,
     };
-    explain(rt, &with_text)
+    explain(teller, &with_text)
 }
 
 /// Explains a refusal of a log whose row was sought, and above which so many lines stand.
 fn explain_row(
-    rt: &HostRuntime,
+    teller: Teller<'_>,
     refusal: &Refusal<'_>,
     seeker: &RowSeeker,
     above: u32,
@@ -108,43 +115,43 @@ fn explain_row(
     match seeker.row() {
         Some(row) => {
             let line = row.line.saturating_sub(1);
-            explain_text(rt, refusal, row.text, above.saturating_add(line))
+            explain_text(teller, refusal, row.text, above.saturating_add(line))
         }
-        None => explain(rt, refusal),
+        None => explain(teller, refusal),
     }
 }
 
 /// Explains a refusal in a file.
-fn explain_file(rt: &HostRuntime, refusal: &Refusal<'_>, path: &str) -> io::Result<()> {
+fn explain_file(teller: Teller<'_>, refusal: &Refusal<'_>, path: &str) -> io::Result<()> {
     if refusal.part == Part::Log {
-        return match row_of(rt, path, refusal.place) {
-            Some(seeker) => explain_row(rt, refusal, &seeker, 0),
-            None => explain(rt, refusal),
+        return match row_of(teller.rt, path, refusal.place) {
+            Some(seeker) => explain_row(teller, refusal, &seeker, 0),
+            None => explain(teller, refusal),
         };
     }
-    match bytes_of(rt, path) {
-        Some(text) => explain_text(rt, refusal, text.as_slice(), 0),
-        None => explain(rt, refusal),
+    match bytes_of(teller.rt, path) {
+        Some(text) => explain_text(teller, refusal, text.as_slice(), 0),
+        None => explain(teller, refusal),
     }
 }
 
 /// Explains a refusal in a section of a job.
-fn explain_section(rt: &HostRuntime, refusal: &Refusal<'_>, job: &[u8]) -> io::Result<()> {
+fn explain_section(teller: Teller<'_>, refusal: &Refusal<'_>, job: &[u8]) -> io::Result<()> {
     let Some(section) = section_of(job, refusal.part) else {
-        return explain(rt, refusal);
+        return explain(teller, refusal);
     };
     if refusal.part == Part::Log {
-        let mut seeker = RowSeeker::new(rt.alloc(), refusal.place);
+        let mut seeker = RowSeeker::new(teller.rt.alloc(), refusal.place);
         seeker.feed(section.text)?;
         seeker.finish();
-        return explain_row(rt, refusal, &seeker, section.above);
+        return explain_row(teller, refusal, &seeker, section.above);
     }
-    explain_text(rt, refusal, section.text, section.above)
+    explain_text(teller, refusal, section.text, section.above)
 }
 
 /// Says why an input is refused, where, and what to write instead.
 fn tell_refusal(
-    rt: &HostRuntime,
+    teller: Teller<'_>,
     sources: &Sources<'_>,
     input: Input,
     number: u16,
@@ -161,9 +168,9 @@ fn tell_refusal(
         above: 0,
     };
     match (path, sources) {
-        (Some(path), _) => explain_file(rt, &refusal, path),
-        (None, Sources::Job { bytes: Some(job) }) => explain_section(rt, &refusal, job),
-        _ => explain(rt, &refusal),
+        (Some(path), _) => explain_file(teller, &refusal, path),
+        (None, Sources::Job { bytes: Some(job) }) => explain_section(teller, &refusal, job),
+        _ => explain(teller, &refusal),
     }
 }
 
@@ -194,14 +201,14 @@ pub(crate) fn tell_write_fault(rt: &HostRuntime, cause: Option<io::Error>) -> io
 }
 
 /// Says on standard error how a command ended, where it did not succeed.
-fn tell(rt: &HostRuntime, met: &Met, sources: &Sources<'_>) -> io::Result<()> {
+fn tell(rt: &HostRuntime, form: Form, met: &Met, sources: &Sources<'_>) -> io::Result<()> {
     match met.ending {
         Ending::Done => Ok(()),
         Ending::Refused {
             input,
             number,
             place,
-        } => tell_refusal(rt, sources, input, number, place),
+        } => tell_refusal(Teller { rt, form }, sources, input, number, place),
         Ending::ReadFault { input } => tell_read_fault(rt, sources, input, met.reading),
         Ending::WriteFault => tell_write_fault(rt, met.writing),
         Ending::NoMemory => rt.eprintln("memory"),
@@ -229,12 +236,12 @@ fn with_memory(met: &Met) -> Ending {
 }
 
 /// Tells how a command ended: the exit status.
-pub(crate) fn end(rt: &HostRuntime, met: &Met, sources: &Sources<'_>) -> u8 {
+pub(crate) fn end(rt: &HostRuntime, form: Form, met: &Met, sources: &Sources<'_>) -> u8 {
     let met = Met {
         ending: with_memory(met),
         ..*met
     };
     // Where standard error fails there is nobody left to tell.
-    let _told = tell(rt, &met, sources);
+    let _told = tell(rt, form, &met, sources);
     met.ending.status()
 }

@@ -1,11 +1,16 @@
-ghost use Rattle.std.specs.Prelude.{◌≡◌, IfOk, false, codes};
-ghost use Rattle.clap.specs.Words.{FailsBy, fault_of, found_of, rule_of, app_of, rows_of};
-ghost use Rattle.wc.specs.Asked.{asked, asked_at, file_in, flag_in, number_in, texts_of, view};
+ghost use Rattle.std.specs.Prelude.{◌≡◌, IfOk, Some, false, codes, option_map};
+ghost use Rattle.std.specs.Option.{option_map_or};
+ghost use Rattle.clap.specs.Words.{FailsBy, found_of, subcommand_rows_of, rule_of, app_of, rows_of};
+ghost use Rattle.wc.specs.Asked.{asked, asked_at, asked_by, fault_in, file_in, flag_in};
+ghost use Rattle.wc.specs.Asked.{form_asked, form_in, form_named, number_in, texts_of, view};
 ghost use Rattle.wc.specs.CommandLine.{Takes, command_line, check_word, run_word, line_word};
-ghost use Rattle.wc.specs.CommandLine.{explain_word, file_option, place, flag, number_option};
+ghost use Rattle.wc.specs.CommandLine.{explain_word, file_option, flag, message_option};
+ghost use Rattle.wc.specs.CommandLine.{number_option, place};
 
+use clap::error::ErrorKind;
 use clap::{Arg, ArgAction, ArgMatches, Command, Error, value_parser};
 use std::alloc::{AllocError, Global};
+use wc_messages::Form;
 
 /// The product's version, the toolchain that its sources are for, and the digest of the legally relevant sources, which
 /// tools/legal_digest computes. Whether a build was proved is not known to the program.
@@ -26,7 +31,8 @@ const ABOUT: &str =
 With no words it reads a job from standard input: a line @plate and the plate, a line
 @program and the program, a line @log and the log. A run prints for each scan
 `S <ms> <steps> <bits> <%QD0> <%QD1> <%QD2> <%QD3>`, and for each row of line bytes that
-was answered `L <ms> <hex>`; a refusal is the last line, `refused <number> <place>`.
+was answered `L <ms> <hex>`; a refusal is the last line, `refused <number> <place>`, and
+standard error says why: with --message short on one line, with --message json as an object.
 
 Exit status: 0 done, 1 refused, 2 wrong words, 3 a device failed, 4 no memory";
 
@@ -63,6 +69,16 @@ pub(crate) enum Wanted<'a> {
         log: &'a str,
     },
 }
+
+/// What the words ask for, and in which form a refusal is to be told.
+#[derive(Clone, Copy)]
+pub(crate) struct Request<'a> {
+    pub(crate) wanted: Wanted<'a>,
+    pub(crate) form: Form,
+}
+
+/// What is said of a form that there is not.
+const NO_FORM: &str = "the form behind '--message' is none of long, short and json";
 
 /// An option that must have a file.
 fn file_option<'a>(alloc: Global, name: &'a str, help: &'a str) -> Arg<'a>
@@ -122,6 +138,17 @@ fn path_flag<'a>(alloc: Global) -> Arg<'a>
         .help("Print the lines of a longest path behind each unit too")
 }
 
+/// The option that chooses in which form a refusal is told.
+fn message_option<'a>(alloc: Global) -> Arg<'a>
+    ensures rule { rule_of result ≡ message_option }
+    ensures local { result.global ≡ false }
+{
+    Arg::new(alloc, "message")
+        .long("message")
+        .value_name("FORM")
+        .help("Tell a refusal in this form: long (else taken), short or json")
+}
+
 /// The word `check`.
 fn check_command<'a>(alloc: Global) -> Result<Command<'a>, AllocError>
     ensures { IfOk result (Takes check_word) }
@@ -129,7 +156,8 @@ fn check_command<'a>(alloc: Global) -> Result<Command<'a>, AllocError>
     let command = Command::new(alloc, "check")
         .about("Load a program and print the greatest number of steps of each unit")
         .arg(program_place(alloc))?
-        .arg(path_flag(alloc))?;
+        .arg(path_flag(alloc))?
+        .arg(message_option(alloc))?;
     Ok(command)
 }
 
@@ -155,7 +183,8 @@ fn run_command<'a>(alloc: Global) -> Result<Command<'a>, AllocError>
         .arg(plate_option(alloc))?
         .arg(program)?
         .arg(log_option(alloc))?
-        .arg(last_option(alloc))?;
+        .arg(last_option(alloc))?
+        .arg(message_option(alloc))?;
     Ok(command)
 }
 
@@ -166,7 +195,8 @@ fn line_command<'a>(alloc: Global) -> Result<Command<'a>, AllocError>
     let command = Command::new(alloc, "line")
         .about("Run a log with no program: print each answer of the line")
         .arg(plate_option(alloc))?
-        .arg(log_option(alloc))?;
+        .arg(log_option(alloc))?
+        .arg(message_option(alloc))?;
     Ok(command)
 }
 
@@ -192,6 +222,7 @@ fn command<'a>(alloc: Global) -> Result<Command<'a>, AllocError>
     let command = Command::new(alloc, "wc")
         .version(VERSION)
         .about(ABOUT)
+        .arg(message_option(alloc))?
         .subcommand(check_command(alloc)?)?
         .subcommand(run_command(alloc)?)?
         .subcommand(line_command(alloc)?)?
@@ -252,15 +283,60 @@ fn wanted_by<'a>(word: &str, matches: &ArgMatches<'a>) -> Wanted<'a>
     }
 }
 
+/// What is asked for, and the text of the form that is given behind the word, or else before it.
+fn chosen<'a>(matches: &ArgMatches<'a>) -> (Wanted<'a>, Option<&'a str>)
+    ensures asked { view result.0 ≡ asked_by (subcommand_rows_of matches.now) }
+    ensures form { option_map (λ text. text.now) result.1
+        ≡ form_in (subcommand_rows_of matches.now) (rows_of (found_of matches.now)) }
+{
+    let before = matches.get_str("message");
+    match matches.subcommand() {
+        Some((word, inner)) => match inner.get_str("message") {
+            Some(behind) => (wanted_by(word, inner), Some(behind)),
+            None => (wanted_by(word, inner), before),
+        },
+        None => (Wanted::Job, before),
+    }
+}
+
+/// The form of that name.
+fn form_named(text: &str) -> Option<Form>
+    ensures { result ≡ form_named text.now }
+{
+    match text {
+        "long" => Some(Form::Long),
+        "short" => Some(Form::Short),
+        "json" => Some(Form::Json),
+        _ => None,
+    }
+}
+
+/// The form that a text names, the long one where none is given.
+fn form_of(text: Option<&str>) -> Option<Form>
+    ensures { result ≡ option_map_or form_named
+        (option_map (λ given. given.now) text.entry) (Some Form.Long) }
+{
+    match text {
+        Some(text) => form_named(text),
+        None => Some(Form::Long),
+    }
+}
+
 /// What these words ask for, the first of which is the program's own name; or a fault in them, or help or the version that
 /// was asked for.
-pub(crate) fn read_words<'a>(alloc: Global, words: &'a [String]) -> Result<Wanted<'a>, Error>
-    ensures asked { IfOk result (λ wanted. view wanted ≡ asked (texts_of words.now)) }
-    ensures refused { FailsBy (fault_of command_line (texts_of words.now)) result }
+pub(crate) fn read_words<'a>(alloc: Global, words: &'a [String]) -> Result<Request<'a>, Error>
+    ensures asked { IfOk result (λ request. view request.wanted ≡ asked (texts_of words.now)) }
+    ensures form { IfOk result (λ request. form_asked (texts_of words.now) ≡ Some request.form) }
+    ensures refused { FailsBy (fault_in (texts_of words.now)) result }
 {
-    let matches = command(alloc)?.try_get_matches_from(words)?;
-    match matches.subcommand() {
-        Some((word, inner)) => Ok(wanted_by(word, inner)),
-        None => Ok(Wanted::Job),
+    let mut command = command(alloc)?;
+    let matches = match command.try_get_matches_from_mut(words) {
+        Ok(matches) => matches,
+        Err(error) => return Err(error),
+    };
+    let (wanted, text) = chosen(&matches);
+    match form_of(text) {
+        Some(form) => Ok(Request { wanted, form }),
+        None => Err(command.error(ErrorKind::InvalidValue, NO_FORM)?),
     }
 }

@@ -1,15 +1,10 @@
-use Rattle.std.proofs.Common.{◌≡◌, ◌∙◌, List, [], ap, refl, subst, true}
-use Rattle.clap.specs.Words.{App, Text, fault_of, is_simple_and_free}
-use Rattle.clap.proofs.OnLiterals.{clap_on_literals}
-use Rattle.wc.specs.CommandLine.{command_line}
+use Rattle.wc.specs.Asked.{texts_of}
+use Rattle.wc.proofs.FormWords.{form_is, not_refused, parsed, refused_by}
 use Rattle.wc.proofs.words.read_words.Goals as goal
 
-is_plain : is_simple_and_free command_line ≡ true
-unfolding clap_on_literals
-is_plain = refl
-
-accepted : (a : App) (words : List Text) → a ≡ command_line → (is_simple_and_free a ≡ true → fault_of a words ≡ []) → fault_of command_line words ≡ []
-accepted a words line kinds = subst (λ (b : App). fault_of b words ≡ []) line (kinds (ap is_simple_and_free line ∙ is_plain))
+pub returns-in-Err-clause-refused : goal.returns-in-Err-clause-refused
+returns-in-Err-clause-refused c = refused_by _ (texts_of c.args.words.now) c.in-Err.error c.in_ok-command.ensures c.in-Err.ensures.kinds
 
 pub returns-in-Some-clause-refused : goal.returns-in-Some-clause-refused
-returns-in-Some-clause-refused c = accepted _ _ c.in_ok-command.ensures c.in_ok-matches.ensures.kinds
+returns-in-Some-clause-refused c = not_refused (texts_of c.args.words.now) c.in-Some.form (parsed _ (texts_of c.args.words.now) c.in_ok-command.ensures c.in-Ok.ensures.kinds)
+    (form_is _ (texts_of c.args.words.now) _ _ _ c.in-Some.form c.in_ok-command.ensures c.in-Ok.ensures.ok.2 c.chosen.ensures.form c.in-Some.ensures)

@@ -13,4 +13,5 @@ returns c =
     let one = one_option _ _ _ _ _ c.in_ok-arg.ensures c.plate_option.ensures.rule c.plate_option.ensures.local zero in
     let two = one_option _ _ _ _ _ c.in_ok-arg-2.ensures c.file_option-program.ensures.rule c.file_option-program.ensures.local one in
     let three = one_option _ _ _ _ _ c.in_ok-arg-3.ensures c.log_option.ensures.rule c.log_option.ensures.local two in
-    one_option _ _ _ _ _ c.in_ok-command.ensures c.last_option.ensures.rule c.last_option.ensures.local three
+    let four = one_option _ _ _ _ _ c.in_ok-arg-4.ensures c.last_option.ensures.rule c.last_option.ensures.local three in
+    one_option _ _ _ _ _ c.in_ok-command.ensures c.message_option.ensures.rule c.message_option.ensures.local four
