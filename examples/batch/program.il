@@ -34,9 +34,7 @@ END_VAR
     OR done
     )
     ST settled.IN
-    CAL settled(PT := T#2s)
-    LD settled.Q
-    ST done
+    CAL settled(PT := T#2s, Q => done)
 END_FUNCTION_BLOCK
 
 (* Two components, the second behind the first; weights in 0.1 kg. *)
@@ -55,22 +53,14 @@ END_VAR
     CAL running(S1 := start, R := emptied)
     CAL sand(
         active := running.Q1, still := still, weight := weight,
-        fine_from := 3500, target := 4000
+        fine_from := 3500, target := 4000,
+        coarse => sand_coarse, fine => sand_fine
     )
     CAL cement(
         active := sand.done, still := still, weight := weight,
-        fine_from := 6200, target := 6500
+        fine_from := 6200, target := 6500,
+        coarse => cement_coarse, fine => cement_fine, done => full
     )
-    LD sand.coarse
-    ST sand_coarse
-    LD sand.fine
-    ST sand_fine
-    LD cement.coarse
-    ST cement_coarse
-    LD cement.fine
-    ST cement_fine
-    LD cement.done
-    ST full
 END_FUNCTION_BLOCK
 
 (* Doses 400 kg of sand and 250 kg of cement into a hopper, and empties it.
@@ -93,9 +83,7 @@ END_VAR
     ST emptied
     CAL batch(start := %IX0.0, emptied := emptied, still := %IX1.0, weight := %ID0)
     CAL gate(S1 := batch.full, R := emptied)
-    CAL batches(CU := gate.Q1)
-    LD batches.CV
-    ST %QD1
+    CAL batches(CU := gate.Q1, CV => %QD1)
 
     LD %IX1.5               (* no feed runs while the weight is not valid *)
     JMPCN closed

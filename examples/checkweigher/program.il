@@ -4,14 +4,12 @@ VAR_INPUT start : BOOL; END_VAR
 VAR_OUTPUT push : BOOL; END_VAR
 VAR
     armed : SR;
-    travel, stroke : TON;
+    travel : TON;
+    stroke : TP;
 END_VAR
-    CAL armed(S1 := start, R := stroke.Q)
+    CAL armed(S1 := start, R := travel.Q)
     CAL travel(IN := armed.Q1, PT := T#400ms)
-    CAL stroke(IN := travel.Q, PT := T#300ms)
-    LD travel.Q
-    ANDN stroke.Q
-    ST push
+    CAL stroke(IN := travel.Q, PT := T#300ms, Q => push)
 END_FUNCTION_BLOCK
 
 (* Sorts packages of 1000 g by two limits.
@@ -55,12 +53,10 @@ count:
     LD judge.Q
     AND wrong
     ST reject
-    CAL passed(CU := pass, R := %IX0.1)
-    CAL rejected(CU := reject, R := %IX0.1)
-    CAL pusher(start := reject)
+    CAL passed(CU := pass, R := %IX0.1, CV => %QD1)
+    CAL rejected(CU := reject, R := %IX0.1, CV => %QD2)
+    CAL pusher(start := reject, push => %QX0.0)
 
-    LD pusher.push
-    ST %QX0.0
     LD light
     ST %QX0.1
     LD wrong
@@ -70,8 +66,4 @@ count:
     STN %QX0.2
     LD heavy
     ST %QX0.3
-    LD passed.CV
-    ST %QD1
-    LD rejected.CV
-    ST %QD2
 END_PROGRAM
