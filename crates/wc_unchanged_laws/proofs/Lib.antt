@@ -1,1 +1,5 @@
 mod Unchanged
+mod MeaningsBefore
+mod PathsBefore
+mod RulesBefore
+mod Spelling

@@ -1,11 +1,11 @@
 -- Lists that give no output out.
-use Rattle.std.proofs.Common.{◌≡◌, ℕ, Bool, true, false, not, List, [], ◌∷◌, ◌++◌, map, Option, Some, None, Result, Ok, Err, append-nil, refl, sym, ap, subst, ◌∙◌}
+use Rattle.std.proofs.Common.{◌≡◌, ℕ, Bool, true, false, not, List, [], ◌∷◌, ◌++◌, map, Option, Result, Ok, Err, append-nil, refl, sym, ap, ◌∙◌}
 use Rattle.std.specs.List.{flat_map}
 use Rattle.std.specs.Prelude.{◌↔◌, if◌then◌else◌}
 use Rattle.wc_model.specs.Language.BodyRules.{actual_checks, argument_checks, formal_named}
-use Rattle.wc_model.specs.Language.Checks.{Check, Spot, asks, spots_behind, spots_of}
+use Rattle.wc_model.specs.Language.Checks.{Check, Spot, asks, spots_behind}
 use Rattle.wc_model.specs.Language.Declarations.{Member, VariableType, members_of}
-use Rattle.wc_model.specs.Language.Meaning.{Context, Effect, Goes, Fails, Outcome, Done, Stuck, Running, assigned, body_outcome, call_trace, called_type, from_store, given_out, made}
+use Rattle.wc_model.specs.Language.Meaning.{Context, Effect, Goes, Outcome, Done, Stuck, Running, assigned, body_outcome, call_trace, called_type, from_store, given_out, made}
 use Rattle.wc_model.specs.Language.Names.{Name}
 use Rattle.wc_model.specs.Language.Paths.{IsCallPath}
 use Rattle.wc_model.specs.Language.Reasons.{Reason}
@@ -19,7 +19,7 @@ use Rattle.wc_model.specs.declared.value.Value.{Value}
 use Rattle.wc_unchanged_laws.specs.Before.{IsCallPathBefore, argument_checks_before, called_before, made_before, trace_before}
 
 -- the first of such a list goes in, and so do the others
-first_goes_in : (b : Bool) (a : Assignment) (others : List Assignment) → (if not b then a ∷ others else others) ≡ [] → (b ≡ true) × (others ≡ [])
+pub first_goes_in : (b : Bool) (a : Assignment) (others : List Assignment) → (if not b then a ∷ others else others) ≡ [] → (b ≡ true) × (others ≡ [])
 first_goes_in true a others e = (refl, e)
 first_goes_in false a others e = cc
 

@@ -1,5 +1,5 @@
 -- What a call was before outputs could be given out in its list, kept to be compared with. (No rule of the language.)
-use Rattle.std.specs.Prelude.{◌≡◌, ℕ, not, List, [], ◌∷◌, ◌++◌, map, Option, Some, None, is_some}
+use Rattle.std.specs.Prelude.{◌≡◌, ℕ, not, List, [], ◌∷◌, ◌++◌, map, Option, is_some}
 use Rattle.std.specs.List.{list_any}
 use Rattle.wc_model.specs.Language.BodyRules.{input_named, reading_checks, suits_input}
 use Rattle.wc_model.specs.Language.Checks.{Check, Spot, asks}

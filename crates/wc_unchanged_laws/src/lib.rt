@@ -1,8 +1,9 @@
-//! Laws on what a change of the language left as it was: a call whose list gives no output out is what it was before outputs
-//! could be given out. Each function has an empty body: its clause is the law.
+//! Laws on what a change of the language left as it was: a call whose list gives no output out, and a text all of whose calls
+//! are such, is what it was before outputs could be given out. Each function has an empty body: its clause is the law.
 #![tactic(auto)]
 
 ghost use Rattle.wc_unchanged_laws.specs.Laws.{ACallHasThePathsItHad, ACallIsJudgedAsItWas, ACallMeansWhatItDid, AnInputIsSpelledAsItWas};
+ghost use Rattle.wc_unchanged_laws.specs.TextLaws.{ATextIsJudgedAsItWas, ATextIsSpelledAsItWas, ATextMeansWhatItDid, AUnitHasTheBoundItHad, AUnitHasThePathsItHad};
 
 /// A call that gives no output out does what it did.
 pub fn a_call_means_what_it_did()
@@ -22,4 +23,29 @@ pub fn a_call_is_judged_as_it_was()
 /// An input of a call is spelled as it was.
 pub fn an_input_is_spelled_as_it_was()
     ensures { AnInputIsSpelledAsItWas }
+{}
+
+/// A text that gives no output out means at each scan what it did: the same outcome, trace and store.
+pub fn a_text_means_what_it_did()
+    ensures { ATextMeansWhatItDid }
+{}
+
+/// Each unit of such a text has the paths that it had.
+pub fn a_unit_has_the_paths_it_had()
+    ensures { AUnitHasThePathsItHad }
+{}
+
+/// Each unit of such a text has the bound that it had.
+pub fn a_unit_has_the_bound_it_had()
+    ensures { AUnitHasTheBoundItHad }
+{}
+
+/// The bodies of such a text are judged by the rules by which they were, so their first fault is the same.
+pub fn a_text_is_judged_as_it_was()
+    ensures { ATextIsJudgedAsItWas }
+{}
+
+/// Such a text is spelled by the tokens by which it was, and by no others.
+pub fn a_text_is_spelled_as_it_was()
+    ensures { ATextIsSpelledAsItWas }
 {}
