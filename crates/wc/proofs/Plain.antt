@@ -28,9 +28,14 @@ unfolding clap_on_literals
 paths_form name p v = (rw (v.0, v.1, v.2) refl, rw (v.0, v.1, v.2) refl, rw (v.0, v.1, v.2) refl)
 
 pub run_form : (name p q l : Text) → IsValue p → IsValue q → IsValue l
-    → asked (name ∷ codes "run" ∷ codes "--plate" ∷ p ∷ codes "--program" ∷ q ∷ codes "--log" ∷ l ∷ []) ≡ run p q l None
+    → asked (name ∷ codes "run" ∷ codes "--plate" ∷ p ∷ codes "--program" ∷ q ∷ codes "--log" ∷ l ∷ []) ≡ run p q None l None
 unfolding clap_on_literals
 run_form name p q l u v w = rw (u.0, u.1, u.2) (rw (v.0, v.1, v.2) (rw (w.0, w.1, w.2) refl))
+
+pub next_form : (name : Text) → Ask (name ∷ codes "run" ∷ codes "--plate" ∷ codes "a" ∷ codes "--program" ∷ codes "b" ∷ codes "--next" ∷ codes "c" ∷ codes "--log" ∷ codes "d" ∷ [])
+    (run (codes "a") (codes "b") (Some (codes "c")) (codes "d") None) Long
+unfolding clap_on_literals
+next_form name = (refl, refl, refl)
 
 pub line_form : (name p l : Text) → IsValue p → IsValue l → Ask (name ∷ codes "line" ∷ codes "--plate" ∷ p ∷ codes "--log" ∷ l ∷ []) (line p l) Long
 unfolding clap_on_literals
@@ -41,6 +46,6 @@ unfolding clap_on_literals
 explain_form name = (refl, refl, refl)
 
 pub last_form : (name : Text) → Ask (name ∷ codes "run" ∷ codes "--last" ∷ codes "10" ∷ codes "--log" ∷ codes "a" ∷ codes "--program" ∷ codes "b" ∷ codes "--plate=c" ∷ [])
-    (run (codes "c") (codes "b") (codes "a") (Some 10)) Long
+    (run (codes "c") (codes "b") None (codes "a") (Some 10)) Long
 unfolding clap_on_literals
 last_form name = (refl, refl, refl)

@@ -1,6 +1,7 @@
 -- Which command is meant by which words, the first of which is the program's own name.
 use Rattle.std.specs.Prelude.{◌≡◌, ◌==◌, ℕ, Bool, false, List, [], ◌∷◌, map, Option, Some, None}
-use Rattle.std.specs.Prelude.{codes, if◌then◌else◌, is_some, option_and_then, unwrap_or, String}
+use Rattle.std.specs.Prelude.{codes, if◌then◌else◌, is_some, option_and_then, option_map, unwrap_or}
+use Rattle.std.specs.Prelude.{String}
 use Rattle.std.specs.Prelude.{string_bytes}
 use Rattle.std.specs.declared.alloc.Global.{Global}
 use Rattle.std.specs.Option.{option_map_or, option_or}
@@ -45,8 +46,9 @@ pub data Asked : Type 0 where
   job : Asked
   -- a program's file, and whether paths are wanted
   check : Text → Bool → Asked
-  -- the files of a plate, a program and a log, and how many scans are wanted
-  run : Text → Text → Text → Option ℕ → Asked
+  -- the files of a plate, a program, a next program where one is given, and a log, and how many scans
+  -- are wanted
+  run : Text → Text → Option Text → Text → Option ℕ → Asked
   explain : ℕ → Asked
   -- the files of a plate and a log
   line : Text → Text → Asked
@@ -58,7 +60,8 @@ asked_at word given =
     then check (file_in (codes "program") given) (flag_in (codes "path") given)
     else (if bytes_eq word (codes "run")
     then run (file_in (codes "plate") given) (file_in (codes "program") given)
-    (file_in (codes "log") given) (number_in (codes "last") given)
+    (first_of (codes "next") given) (file_in (codes "log") given)
+    (number_in (codes "last") given)
     else (if bytes_eq word (codes "explain")
     then explain (unwrap_or (number_in (codes "number") given) 0)
     else (if bytes_eq word (codes "line")
@@ -76,7 +79,8 @@ asked words = asked_by (subcommand_of command_line words)
 abbrev pub view : Wanted → Asked
 view wanted.Job = job
 view (wanted.Check program paths) = check program.now paths
-view (wanted.Run plate files last) = run plate.now files.program.now files.log.now last
+view (wanted.Run plate files last) =
+    run plate.now files.program.now (option_map (λ next. next.now) files.next) files.log.now last
 view (wanted.Explain number) = explain number
 view (wanted.Line plate log) = line plate.now log.now
 

@@ -31,21 +31,25 @@ number_option name least most = record (new_rule name) {
   parser = Some (Signed (pos least) (pos most));
 }
 
+-- `--NAME VALUE`, which may be given
+abbrev pub value_option : Text → Rule
+value_option name = record (new_rule name) { long = Some name; value_names = 1 }
+
 -- `--message FORM`
 abbrev pub message_option : Rule
-message_option =
-    record (new_rule (codes "message")) { long = Some (codes "message"); value_names = 1 }
+message_option = value_option (codes "message")
 
 -- `check PROGRAM [--path] [--message FORM]`
 abbrev pub check_word : App
 check_word = with_rule (with_rule (with_rule (new_app (codes "check")) (place (codes "program")))
     (flag (codes "path"))) message_option
 
--- `run --plate FILE --program FILE --log FILE [--last N] [--message FORM]`, N from 1 to 1000
+-- `run --plate FILE --program FILE [--next FILE] --log FILE [--last N] [--message FORM]`, N from 1 to
+-- 1000
 abbrev pub run_word : App
-run_word = with_rule (with_rule (with_rule (with_rule (with_rule (new_app (codes "run"))
-    (file_option (codes "plate"))) (file_option (codes "program"))) (file_option (codes "log")))
-    (number_option (codes "last") 1 1000)) message_option
+run_word = with_rule (with_rule (with_rule (with_rule (with_rule (with_rule (new_app (codes "run"))
+    (file_option (codes "plate"))) (file_option (codes "program"))) (value_option (codes "next")))
+    (file_option (codes "log"))) (number_option (codes "last") 1 1000)) message_option
 
 -- `line --plate FILE --log FILE [--message FORM]`
 abbrev pub line_word : App

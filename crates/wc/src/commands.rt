@@ -1,4 +1,4 @@
-ghost use Rattle.std.specs.Prelude.{◌≡◌, ◌≤◌, IfSome, Some};
+ghost use Rattle.std.specs.Prelude.{◌≡◌, ◌≤◌, IfSome, Some, option_map};
 ghost use Rattle.wc.specs.Asked.{asked, check, form_asked, job, line, run, texts_of};
 
 use crate::opening::Opening;
@@ -21,9 +21,29 @@ fn source<'a>(rt: &'a HostRuntime, path: &'a str, gathered: &'a RefCell<Gathered
     Device::new(Emptying::new(gathered, Noting::new(Opening::new(rt, path))))
 }
 
+/// A file that may be there.
+fn source_of<'a>(
+    rt: &'a HostRuntime,
+    path: Option<&'a str>,
+    gathered: &'a RefCell<Gathered>,
+) -> Option<Source<'a>> {
+    match path {
+        Some(path) => Some(source(rt, path, gathered)),
+        None => None,
+    }
+}
+
 /// Why a file could not be read, if the system said so.
 fn cause(source: &Source<'_>) -> Option<io::Error> {
     source.get_ref().get_ref().cause()
+}
+
+/// The same of a file that may be there.
+fn cause_of(source: &Option<Source<'_>>) -> Option<io::Error> {
+    match source {
+        Some(source) => cause(source),
+        None => None,
+    }
 }
 
 /// Writes what is still gathered, and tells how the command ended: the exit status.
@@ -112,7 +132,8 @@ pub(crate) fn check_words(
     )
 }
 
-/// Runs the log in a file with a program, and prints every scan or the last so many: the exit status.
+/// Runs the log in a file with a program, and where one is given the next one, and prints every scan or the last so many:
+/// the exit status.
 pub(crate) fn run_words(
     rt: &HostRuntime,
     _words: &[String],
@@ -122,7 +143,8 @@ pub(crate) fn run_words(
     files: ProgramFiles<'_>,
 ) -> u8
     requires asked { asked (texts_of _words.now)
-        ≡ run plate.now files.program.now files.log.now last }
+        ≡ run plate.now files.program.now (option_map (λ next. next.now) files.next)
+        files.log.now last }
     requires form { form_asked (texts_of _words.now) ≡ Some form }
     requires so_many { IfSome last (λ n. (1 ≤ n) × (n ≤ 1000)) }
 {
@@ -132,6 +154,7 @@ pub(crate) fn run_words(
     };
     let mut plate_reader = source(rt, plate, &gathered);
     let mut program_reader = source(rt, files.program, &gathered);
+    let mut next_reader = source_of(rt, files.next, &gathered);
     let mut log_reader = source(rt, files.log, &gathered);
     let mut writer = Device::new(Sharing::new(&gathered));
     let ending = run_files(
@@ -139,11 +162,13 @@ pub(crate) fn run_words(
         last,
         &mut plate_reader,
         &mut program_reader,
+        &mut next_reader,
         &mut log_reader,
         &mut writer,
     );
     let reading = cause(&plate_reader)
         .or(cause(&program_reader))
+        .or(cause_of(&next_reader))
         .or(cause(&log_reader));
     finish(
         rt,

@@ -12,10 +12,13 @@ pub(crate) fn plain_forms()
         → Ask (name ∷ codes "check" ∷ codes "--path" ∷ program ∷ []) (check program true) Long }
     ensures run { (name plate program log : Text) → IsPlain plate → IsPlain program → IsPlain log
         → asked (name ∷ codes "run" ∷ codes "--plate" ∷ plate ∷ codes "--program" ∷ program
-        ∷ codes "--log" ∷ log ∷ []) ≡ run plate program log None }
+        ∷ codes "--log" ∷ log ∷ []) ≡ run plate program None log None }
     ensures last { (name : Text) → Ask (name ∷ codes "run" ∷ codes "--last" ∷ codes "10"
         ∷ codes "--log" ∷ codes "a" ∷ codes "--program" ∷ codes "b" ∷ codes "--plate=c" ∷ [])
-        (run (codes "c") (codes "b") (codes "a") (Some 10)) Long }
+        (run (codes "c") (codes "b") None (codes "a") (Some 10)) Long }
+    ensures next { (name : Text) → Ask (name ∷ codes "run" ∷ codes "--plate" ∷ codes "a"
+        ∷ codes "--program" ∷ codes "b" ∷ codes "--next" ∷ codes "c" ∷ codes "--log"
+        ∷ codes "d" ∷ []) (run (codes "a") (codes "b") (Some (codes "c")) (codes "d") None) Long }
     ensures line { (name plate log : Text) → IsPlain plate → IsPlain log
         → Ask (name ∷ codes "line" ∷ codes "--plate" ∷ plate ∷ codes "--log" ∷ log ∷ [])
         (line plate log) Long }

@@ -41,6 +41,7 @@ impl<'a> Sources<'a> {
             Sources::Program { program } => Some(program),
             Sources::Files { plate, files } => match input {
                 Input::Plate => Some(plate),
+                Input::Next => files.next,
                 Input::Log => Some(files.log),
                 _ => Some(files.program),
             },
@@ -58,6 +59,7 @@ fn section(input: Input) -> &'static str {
         Input::Job => "standard input",
         Input::Plate => "standard input, section @plate",
         Input::Program => "standard input, section @program",
+        Input::Next => "standard input, section @next",
         Input::Log => "standard input, section @log",
     }
 }
@@ -68,6 +70,7 @@ fn part_of(input: Input) -> Part {
         Input::Job => Part::Job,
         Input::Plate => Part::Plate,
         Input::Program => Part::Program,
+        Input::Next => Part::Next,
         Input::Log => Part::Log,
     }
 }

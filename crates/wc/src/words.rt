@@ -1,11 +1,12 @@
 ghost use Rattle.std.specs.Prelude.{◌≡◌, IfOk, Some, false, codes, option_map};
 ghost use Rattle.std.specs.Option.{option_map_or};
 ghost use Rattle.clap.specs.Words.{FailsBy, found_of, subcommand_rows_of, rule_of, app_of, rows_of};
+ghost use Rattle.clap.specs.Words.{first_of};
 ghost use Rattle.wc.specs.Asked.{asked, asked_at, asked_by, fault_in, file_in, flag_in};
 ghost use Rattle.wc.specs.Asked.{form_asked, form_in, form_named, number_in, texts_of, view};
 ghost use Rattle.wc.specs.CommandLine.{Takes, command_line, check_word, run_word, line_word};
 ghost use Rattle.wc.specs.CommandLine.{explain_word, file_option, flag, message_option};
-ghost use Rattle.wc.specs.CommandLine.{number_option, place};
+ghost use Rattle.wc.specs.CommandLine.{number_option, place, value_option};
 
 use clap::error::ErrorKind;
 use clap::{Arg, ArgAction, ArgMatches, Command, Error, value_parser};
@@ -16,7 +17,7 @@ use wc_messages::Form;
 /// tools/legal_digest computes. Whether a build was proved is not known to the program.
 const VERSION: &str = "0.1.0 (Narbeddo)
 toolchain rattle-kit-13f logic dac8208d650f15bf
-legal part sha256 bd3e9493be08d8d4571f9d640865a089b19ef7a0b875307f14b24b9735f8ced4";
+legal part sha256 987bbfaa6cf702a908bec103ff0b77744dc88df3e8e31c07b2271efe512fbd2e";
 
 /// What the program does, with an example of each word.
 const ABOUT: &str =
@@ -24,22 +25,25 @@ const ABOUT: &str =
 
   ./wc check --path program.il
   ./wc run --plate plate.toml --program program.il --log log.csv --last 10
+  ./wc run --plate plate.toml --program old.il --next new.il --log log.csv
   ./wc line --plate plate.toml --log log.csv
   ./wc explain 403
   ./wc < job.txt
 
 With no words it reads a job from standard input: a line @plate and the plate, a line
-@program and the program, a line @log and the log. A run prints for each scan
+@program and the program, where there is one a line @next and the next program, a line
+@log and the log. A run prints for each scan
 `S <ms> <steps> <bits> <%QD0> <%QD1> <%QD2> <%QD3>`, and for each row of line bytes that
 was answered `L <ms> <hex>`; a refusal is the last line, `refused <number> <place>`, and
 standard error says why: with --message short on one line, with --message json as an object.
 
 Exit status: 0 done, 1 refused, 2 wrong words, 3 a device failed, 4 no memory";
 
-/// The paths of a program and of the log that is run with it.
+/// The paths of a program, of the one that takes its place where it is changed, and of the log that is run with them.
 #[derive(Clone, Copy)]
 pub(crate) struct ProgramFiles<'a> {
     pub(crate) program: &'a str,
+    pub(crate) next: Option<&'a str>,
     pub(crate) log: &'a str,
 }
 
@@ -138,6 +142,16 @@ fn path_flag<'a>(alloc: Global) -> Arg<'a>
         .help("Print the lines of a longest path behind each unit too")
 }
 
+/// The option of the next program.
+fn next_option<'a>(alloc: Global) -> Arg<'a>
+    ensures rule { rule_of result ≡ value_option (codes "next") }
+    ensures local { result.global ≡ false }
+{
+    Arg::new(alloc, "next").long("next").value_name("FILE").help(
+        "The next program, which a row of kind P takes (Instruction List)",
+    )
+}
+
 /// The option that chooses in which form a refusal is told.
 fn message_option<'a>(alloc: Global) -> Arg<'a>
     ensures rule { rule_of result ≡ message_option }
@@ -182,6 +196,7 @@ fn run_command<'a>(alloc: Global) -> Result<Command<'a>, AllocError>
         .about("Run a log with a program: print each scan, and each answer of the line")
         .arg(plate_option(alloc))?
         .arg(program)?
+        .arg(next_option(alloc))?
         .arg(log_option(alloc))?
         .arg(last_option(alloc))?
         .arg(message_option(alloc))?;
@@ -240,6 +255,14 @@ fn file<'a>(matches: &ArgMatches<'a>, name: &str) -> &'a str
     }
 }
 
+/// The file behind an option that may be there.
+fn optional_file<'a>(matches: &ArgMatches<'a>, name: &str) -> Option<&'a str>
+    ensures { option_map (λ path. path.now) result
+        ≡ first_of name.now (rows_of (found_of matches.now)) }
+{
+    matches.get_str(name)
+}
+
 /// Whether a flag is given.
 fn is_given(matches: &ArgMatches<'_>, name: &str) -> bool
     ensures { result ≡ flag_in name.now (rows_of (found_of matches.now)) }
@@ -268,6 +291,7 @@ fn wanted_by<'a>(word: &str, matches: &ArgMatches<'a>) -> Wanted<'a>
             plate: file(matches, "plate"),
             files: ProgramFiles {
                 program: file(matches, "program"),
+                next: optional_file(matches, "next"),
                 log: file(matches, "log"),
             },
             last: number(matches, "last"),

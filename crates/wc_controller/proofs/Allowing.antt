@@ -6,16 +6,15 @@ use Rattle.std.proofs.lemmas.Bool.Decides.{nat_tests}
 use Rattle.std.specs.Prelude.{◌⊎◌, Option, Some, None, IfSome, if◌then◌else◌}
 use Rattle.wc_controller.proofs.Givings.{only_refused, upto_more}
 use Rattle.wc_controller.specs.Endings.{RefusesPlate, RefusesLength, WritesUpTo, run_fault_of}
-use Rattle.wc_controller.specs.Files as files
-use Rattle.wc_controller.specs.Files.{AnswersFile, AnswersText, AnswersPlateFile, AnswersWithPlate, too_long, whole}
+use Rattle.wc_controller.specs.Files.{AnswersFile, AnswersPlateFile, AnswersWithPlate, too_long, whole}
 use Rattle.wc_controller.specs.Jobs.{Allows, AllowsSections}
+use Rattle.wc_controller.specs.TakenLogs.{IfKnown}
 use Rattle.wc_job.specs.Reads.{IsWhole}
 use Rattle.wc_model.specs.Instrument.PlateTable.{plate_of}
 use Rattle.wc_model.specs.Instrument.Plates.{PlateData}
 use Rattle.wc_model.specs.Run.JobSections.{Sections, longest_job, sections_in, sections_of, sections_or_refusal, whole_lines}
-use Rattle.wc_model.specs.Run.Log.{LogOf, log_of}
-use Rattle.wc_model.specs.Say.Job as job
-use Rattle.wc_model.specs.Say.Job.{JobAnswer, AnswersPlate, AnswersProgram, AnswersSections, refused_text, refusing}
+use Rattle.wc_model.specs.Run.Log.{log_of}
+use Rattle.wc_model.specs.Say.Job.{JobAnswer, AnswersPlate, AnswersPrograms, AnswersSections, refused_text, refusing, run_answer}
 use Rattle.wc_model.specs.declared.fault.Fault.{Fault}
 use Rattle.wc_model.specs.declared.fault.Fault.TheVariants as fault
 use Rattle.wc_plate.specs.TomlTable.{table_read}
@@ -39,16 +38,21 @@ pub of_known : (known : Option (List ℕ)) (bytes : List ℕ) (P : List ℕ → 
 of_known None bytes P e h = tt
 of_known (Some all) bytes P e h = subst P e h
 
--- what is allowed of a text whose every scan is printed is allowed of the program of a job
-of_text : (plate : PlateData) (program : List ℕ) (log : LogOf) (answer : JobAnswer) → AnswersText None plate program log answer → AnswersProgram plate program log answer
-of_text plate program log answer (files.refuses_program number line h e) = job.refuses_program number line h e
-of_text plate program log answer (files.runs_program text h e) = job.runs text h e
+-- what follows of what holds of the bytes of a reader that may be missing holds of them too
+pub known_more : {R : Type 0} (bytes_left : R → Option (List ℕ)) (reader : Option R) (P Q : Option (List ℕ) → Type 0) → ((known : Option (List ℕ)) → P known → Q known)
+    → IfKnown bytes_left reader P → IfKnown bytes_left reader Q
+known_more bytes_left None P Q f h = f None h
+known_more bytes_left (Some reader) P Q f h = on_known (bytes_left reader) (λ bytes. P (Some bytes)) (λ bytes. Q (Some bytes)) (λ bytes. f (Some bytes)) h
 
--- a plate that stands, and what is allowed of the program
+-- and what holds of whatever bytes
+pub known_each : {R : Type 0} (bytes_left : R → Option (List ℕ)) (reader : Option R) (P : Option (List ℕ) → Type 0) → ((known : Option (List ℕ)) → P known) → IfKnown bytes_left reader P
+known_each bytes_left None P f = f None
+known_each bytes_left (Some reader) P f = on_each (bytes_left reader) (λ bytes. P (Some bytes)) (λ bytes. f (Some bytes))
+
+-- a plate that stands, and what is allowed of the programs
 pub sections_run : (sections : Sections) (plate : PlateData) → plate_of (table_read sections.plate) ≡ Ok plate →
-    (answer : JobAnswer) → AnswersText None plate sections.program (log_of (records_of sections.log)) answer → AllowsSections sections answer
-sections_run sections plate e answer h =
-    subst (λ judged. AnswersPlate records_of sections judged answer) (sym e) (of_text plate sections.program (log_of (records_of sections.log)) answer h)
+    (answer : JobAnswer) → AnswersPrograms (λ logic. run_answer plate logic (log_of (records_of sections.log))) sections.program sections.next answer → AllowsSections sections answer
+sections_run sections plate e answer h = subst (λ judged. AnswersPlate records_of sections judged answer) (sym e) h
 
 -- a plate that is refused
 pub plate_refused : (sections : Sections) (why : Fault) (old : Option (List ℕ)) → AgreesWith (plate_of (table_read sections.plate)) (Err why) →
@@ -93,21 +97,20 @@ job_not_read (Some bytes) why old h =
     (λ longer. subst (λ cut. AnswersSections table_read records_of cut (refusing 702 0)) (long_job bytes longer) refl) h
 
 -- a file that was not read whole
-pub file_not_read : (known left : Option (List ℕ)) (rest : List ℕ → List ℕ → JobAnswer → Type 0) (why : RunFault) (old : Option (List ℕ)) → RefusesLength known why →
-    IfSome known (λ bytes. IfSome left (λ log. WritesUpTo (AnswersFile bytes (rest bytes log)) (Some why) old old))
-file_not_read None left rest why old h = tt
-file_not_read (Some bytes) left rest why old h =
-    on_each left (λ log. WritesUpTo (AnswersFile bytes (rest bytes log)) (Some why) old old)
-    (λ log. not_read (AnswersFile bytes (rest bytes log)) bytes why old (λ longer. too_long longer refl) h)
+pub file_not_read : (known : Option (List ℕ)) (P : List ℕ → Type 0) (why : RunFault) → ((bytes : List ℕ) → RefusesLength (Some bytes) why → P bytes)
+    → RefusesLength known why → IfSome known P
+file_not_read None P why f h = tt
+file_not_read (Some bytes) P why f h = f bytes h
 
--- a file that was read whole, and a log behind it
-pub file_read : (known left : Option (List ℕ)) (items : List ℕ) (rest : List ℕ → List ℕ → JobAnswer → Type 0) (answer : Option RunFault) (old new : Option (List ℕ)) →
-    IsWhole known items → IfSome left (λ log. WritesUpTo (rest items log) answer old new) →
-    IfSome known (λ bytes. IfSome left (λ log. WritesUpTo (AnswersFile bytes (rest bytes log)) answer old new))
-file_read known left items rest answer old new is h =
-    of_known known items (λ bytes. IfSome left (λ log. WritesUpTo (AnswersFile bytes (rest bytes log)) answer old new)) is.1
-    (on_known left (λ log. WritesUpTo (rest items log) answer old new) (λ log. WritesUpTo (AnswersFile items (rest items log)) answer old new)
-    (λ log k. upto_more (rest items log) (AnswersFile items (rest items log)) answer old new (λ one w. whole is.0 w) k) h)
+-- of its bytes what is too long is refused
+pub too_long_file : (bytes : List ℕ) (rest : JobAnswer → Type 0) (why : RunFault) (old : Option (List ℕ)) → RefusesLength (Some bytes) why
+    → WritesUpTo (AnswersFile bytes rest) (Some why) old old
+too_long_file bytes rest why old h = not_read (AnswersFile bytes rest) bytes why old (λ longer. too_long longer refl) h
+
+-- a file that was read whole
+pub file_read : (bytes : List ℕ) (rest : JobAnswer → Type 0) (answer : Option RunFault) (old new : Option (List ℕ)) → length bytes ≤ longest_job
+    → WritesUpTo rest answer old new → WritesUpTo (AnswersFile bytes rest) answer old new
+file_read bytes rest answer old new short h = upto_more rest (AnswersFile bytes rest) answer old new (λ one w. whole short w) h
 
 -- a plate's file that was not taken
 pub plate_not_read : (bytes : List ℕ) (rest : PlateData → JobAnswer → Type 0) (why : RunFault) (old : Option (List ℕ)) → RefusesPlate bytes why →

@@ -1,9 +1,14 @@
 -- A refusal names the input that breaks the rule.
 use Rattle.std.proofs.Common.{◌≡◌, ℕ, ◌≤◌, List, length, Result, Ok, Err, refl, ap, sym, ◌∙◌, subst, inr}
-use Rattle.std.specs.Prelude.{Option, Some, None, IfErr, IfSome, IsSome}
+use Rattle.std.specs.Prelude.{Option, Some, None, IfErr, IfSome, IsSome, is_some}
 use Rattle.wc_controller.proofs.Allowing.{on_known}
 use Rattle.wc_controller.specs.Blames.{Blames, RefusesLog, RefusesProgram, RefusesText, StopsFor}
-use Rattle.wc_controller.specs.Endings.{EndsBehind, EndsBehindFault, EndsRefused, HasNotFailedAt, StopsAt, TellsMemory, met, of_refused_log, of_unread_log}
+use Rattle.wc_controller.specs.Endings.{EndsBehind, EndsBehindFault, EndsRefused, HasNotFailedAt, StopsAt, TellsMemory, met, of_refused_log, of_unread_log, run_fault_of}
+use Rattle.wc_controller.specs.Loads.{IsRefusedLoad}
+use Rattle.wc_model.specs.declared.fault.Fault.{Fault}
+use Rattle.wc_model.specs.declared.fault.Fault.TheVariants as fault
+use Rattle.wc_controller.specs.TakenLogs.{log_beside}
+use Rattle.wc_cost.specs.LoadedTexts.{LoadedText}
 use Rattle.wc_controller.specs.declared.ending.Ending.{Ending}
 use Rattle.wc_controller.specs.declared.ending.Ending.TheVariants as ended
 use Rattle.wc_controller.specs.declared.input.Input.{Input}
@@ -11,20 +16,29 @@ use Rattle.wc_controller.specs.declared.input.Input.TheVariants as input
 use Rattle.wc_controller.specs.declared.input.Stopped.{Stopped}
 use Rattle.wc_job.specs.Reads.{IsWhole}
 use Rattle.wc_model.specs.Run.JobSections.{longest_job}
-use Rattle.wc_model.specs.Run.Log.{log_of}
+use Rattle.wc_model.specs.Language.Tree.{Text}
+use Rattle.wc_model.specs.Run.Log.{LogOf, log_of}
 use Rattle.wc_model.specs.Run.Rows.{LogRow}
+use Rattle.wc_model.specs.Say.LogFor.{log_for}
+use Rattle.wc_model.specs.Say.ProgramReport.{first_logic}
 use Rattle.wc_record.specs.Reading.{records_of}
+use Rattle.wc_run.specs.Logics.{text_of_next}
 use Rattle.wc_run.specs.Runs.{HasNotFailed, ReportsBy}
 use Rattle.wc_run.specs.declared.fault.RunFault.{RunFault}
 use Rattle.wc_run.specs.declared.fault.RunFault.TheVariants.{Refused, Read, Write, Memory}
 
--- a run that is refused tells the log's refusal
-pub log_refused : (whole coming : List LogRow → List ℕ) (bytes : List ℕ) (why : RunFault) (old new : Option (List ℕ))
-    → ReportsBy whole coming (log_of (records_of bytes)) (Err why) old new → RefusesLog bytes why
-log_refused whole coming bytes (Refused number place) old new told = told.0
-log_refused whole coming bytes Read old new told = tt
-log_refused whole coming bytes Write old new told = tt
-log_refused whole coming bytes Memory old new told = tt
+-- a run that is refused tells the refusal of the log as it is taken
+pub log_refused : (whole coming : List LogRow → List ℕ) (taken : List ℕ → LogOf) (bytes : List ℕ) (why : RunFault) (old new : Option (List ℕ))
+    → ReportsBy whole coming (taken bytes) (Err why) old new → RefusesLog taken bytes why
+log_refused whole coming taken bytes (Refused number place) old new told = told.0
+log_refused whole coming taken bytes Read old new told = tt
+log_refused whole coming taken bytes Write old new told = tt
+log_refused whole coming taken bytes Memory old new told = tt
+
+-- a machine takes the log by whether its next program is loaded
+pub taken_beside : (next : Option LoadedText) (text : Text) (bytes : List ℕ) → log_for (Some (first_logic text (text_of_next next))) (log_of (records_of bytes)) ≡ log_beside (is_some next) bytes
+taken_beside None text bytes = refl
+taken_beside (Some next) text bytes = refl
 
 -- a text's fault is that of its file
 text_in_file : (bytes : List ℕ) (why : RunFault) → length bytes ≤ longest_job → RefusesText bytes why → RefusesProgram bytes why
@@ -34,11 +48,16 @@ text_in_file bytes Write short h = tt
 text_in_file bytes Memory short h = tt
 
 -- a program that was read whole
-pub program_read : {X : Type 0} (result : Result X Stopped) (known : Option (List ℕ)) (bytes : List ℕ) → IsWhole known bytes
-    → IfErr result (λ stopped. stopped.input ≡ input.Program → RefusesText bytes stopped.fault) → StopsFor input.Program RefusesProgram known result
-program_read (Ok done) known bytes is h = tt
-program_read (Err stopped) None bytes is h = λ e. tt
-program_read (Err stopped) (Some all) bytes is h = λ e. subst (λ those. RefusesProgram those stopped.fault) is.1 (text_in_file bytes stopped.fault is.0 (h e))
+pub program_read : {X : Type 0} (at : Input) (result : Result X Stopped) (known : Option (List ℕ)) (bytes : List ℕ) → IsWhole known bytes
+    → IfErr result (λ stopped. stopped.input ≡ at → RefusesText bytes stopped.fault) → StopsFor at RefusesProgram known result
+program_read at (Ok done) known bytes is h = tt
+program_read at (Err stopped) None bytes is h = λ e. tt
+program_read at (Err stopped) (Some all) bytes is h = λ e. subst (λ those. RefusesProgram those stopped.fault) is.1 (text_in_file bytes stopped.fault is.0 (h e))
+
+-- a text that is not loaded is refused so
+pub load_refused : (bytes : List ℕ) (why : Fault) → IsRefusedLoad bytes why → RefusesText bytes (run_fault_of why)
+load_refused bytes (fault.Refused number place) h = h
+load_refused bytes fault.Memory h = tt
 
 -- an ending of a refusal
 of_refusal : (input at : Input) (number place : ℕ) (refuses : List ℕ → RunFault → Type 0) (known : Option (List ℕ)) (ending : Ending) (old new : Option (List ℕ))
@@ -66,33 +85,34 @@ blamed input refuses known (Ok done) ending old new k h = subst (λ e. Blames in
 blamed input refuses known (Err stopped) ending old new k h = of_fault input stopped.input stopped.fault refuses known ending old new k h
 
 -- a log that is refused has a refusal
-log_has_refusal : (bytes : List ℕ) (number place : ℕ) → RefusesLog bytes (Refused number place) → IsSome (log_of (records_of bytes)).refusal
-log_has_refusal bytes number place e = subst (λ refusal. IsSome refusal) (sym e) refl
+log_has_refusal : (taken : List ℕ → LogOf) (bytes : List ℕ) (number place : ℕ) → RefusesLog taken bytes (Refused number place) → IsSome (taken bytes).refusal
+log_has_refusal taken bytes number place e = subst (λ refusal. IsSome refusal) (sym e) refl
 
-module _ (known : Option (List ℕ)) (before failures start spent : ℕ) where
+module _ (taken : List ℕ → LogOf) (known : Option (List ℕ)) (before failures start spent : ℕ) where
   -- memory was wanted for the line of a refusal
-  behind_refusal : (at : Input) (number place : ℕ) → (at ≡ input.Plate → spent ≡ start) → (at ≡ input.Program → spent ≡ start)
-      → (at ≡ input.Job → ⊥) → (at ≡ input.Log → IfSome known (λ bytes. RefusesLog bytes (Refused number place)))
-      → (at ≡ input.Log → failures ≤ before) → TellsMemory known before failures start spent
-  behind_refusal input.Job number place plate program job log well = absurd (job refl)
-  behind_refusal input.Plate number place plate program job log well = of_unread_log (plate refl)
-  behind_refusal input.Program number place plate program job log well = of_unread_log (program refl)
-  behind_refusal input.Log number place plate program job log well =
-      of_refused_log (on_known known (λ bytes. RefusesLog bytes (Refused number place)) (λ bytes. IsSome (log_of (records_of bytes)).refusal)
-      (λ bytes e. log_has_refusal bytes number place e) (log refl)) (well refl)
+  behind_refusal : (at : Input) (number place : ℕ) → (at ≡ input.Plate → spent ≡ start) → (at ≡ input.Program → spent ≡ start) → (at ≡ input.Next → spent ≡ start)
+      → (at ≡ input.Job → ⊥) → (at ≡ input.Log → IfSome known (λ bytes. RefusesLog taken bytes (Refused number place)))
+      → (at ≡ input.Log → failures ≤ before) → TellsMemory taken known before failures start spent
+  behind_refusal input.Job number place plate program next job log well = absurd (job refl)
+  behind_refusal input.Plate number place plate program next job log well = of_unread_log (plate refl)
+  behind_refusal input.Program number place plate program next job log well = of_unread_log (program refl)
+  behind_refusal input.Next number place plate program next job log well = of_unread_log (next refl)
+  behind_refusal input.Log number place plate program next job log well =
+      of_refused_log (on_known known (λ bytes. RefusesLog taken bytes (Refused number place)) (λ bytes. IsSome (taken bytes).refusal)
+      (λ bytes e. log_has_refusal taken bytes number place e) (log refl)) (well refl)
 
   -- an ending that tells want of memory comes of it, or of a refusal
   pub memory_told : {X : Type 0} (answer : Result X Stopped) (ending : Ending) (old new : Option (List ℕ)) → EndsBehind answer ending old new
-      → (met answer ≡ Some Memory → TellsMemory known before failures start spent) → (StopsAt input.Plate answer → spent ≡ start)
-      → (StopsAt input.Program answer → spent ≡ start) → (StopsAt input.Job answer → ⊥) → StopsFor input.Log RefusesLog known answer
-      → HasNotFailedAt input.Log answer before failures → ending ≡ ended.NoMemory → TellsMemory known before failures start spent
-  memory_told (Ok done) ending old new k memory plate program job log well e = absurd (cc (sym k.0 ∙ e))
-  memory_told (Err stopped) ending old new k memory plate program job log well e = by_fault stopped.fault refl k where
-    by_fault : (why : RunFault) → stopped.fault ≡ why → EndsBehindFault stopped.input why ending old new → TellsMemory known before failures start spent
+      → (met answer ≡ Some Memory → TellsMemory taken known before failures start spent) → (StopsAt input.Plate answer → spent ≡ start)
+      → (StopsAt input.Program answer → spent ≡ start) → (StopsAt input.Next answer → spent ≡ start) → (StopsAt input.Job answer → ⊥) → StopsFor input.Log (RefusesLog taken) known answer
+      → HasNotFailedAt input.Log answer before failures → ending ≡ ended.NoMemory → TellsMemory taken known before failures start spent
+  memory_told (Ok done) ending old new k memory plate program next job log well e = absurd (cc (sym k.0 ∙ e))
+  memory_told (Err stopped) ending old new k memory plate program next job log well e = by_fault stopped.fault refl k where
+    by_fault : (why : RunFault) → stopped.fault ≡ why → EndsBehindFault stopped.input why ending old new → TellsMemory taken known before failures start spent
     by_fault (Refused number place) same h =
-        behind_refusal stopped.input number place plate program job
-        (λ at. on_known known (λ bytes. RefusesLog bytes stopped.fault) (λ bytes. RefusesLog bytes (Refused number place))
-        (λ bytes r. subst (λ one. RefusesLog bytes one) same r) (log at))
+        behind_refusal stopped.input number place plate program next job
+        (λ at. on_known known (λ bytes. RefusesLog taken bytes stopped.fault) (λ bytes. RefusesLog taken bytes (Refused number place))
+        (λ bytes r. subst (λ one. RefusesLog taken bytes one) same r) (log at))
         (λ at. subst (λ one. HasNotFailed (Err one) before failures) same (well at))
     by_fault Read same h = absurd (cc (sym h.0 ∙ e))
     by_fault Write same h = absurd (cc (sym h.0 ∙ e))

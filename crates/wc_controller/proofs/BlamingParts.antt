@@ -1,9 +1,10 @@
 -- A refusal of a job names the part that breaks the rule.
 use Rattle.std.proofs.Common.{◌≡◌, ℕ, List, Result, Ok, Err, refl, sym, subst}
-use Rattle.std.specs.Prelude.{Option, Some, None, IfSome}
+use Rattle.std.specs.Prelude.{Option, Some, None, IfSome, is_some}
 use Rattle.wc_controller.proofs.Allowing.{long_job, of_known}
-use Rattle.wc_controller.specs.Blames.{BlamesPart, RefusesLog, RefusesPart, RefusesText, StopsAsPart, StopsForPart}
+use Rattle.wc_controller.specs.Blames.{BlamesPart, RefusesLog, RefusesNextText, RefusesPart, RefusesText, StopsAsPart, StopsForPart}
 use Rattle.wc_controller.specs.Endings.{EndsBehind, EndsBehindFault, EndsRefused, RefusesLength, fault_in_memory, run_fault_of}
+use Rattle.wc_controller.specs.TakenLogs.{log_beside}
 use Rattle.wc_controller.specs.declared.ending.Ending.{Ending}
 use Rattle.wc_controller.specs.declared.ending.Ending.TheVariants as ended
 use Rattle.wc_controller.specs.declared.input.Input.{Input}
@@ -11,6 +12,7 @@ use Rattle.wc_controller.specs.declared.input.Input.TheVariants as input
 use Rattle.wc_controller.specs.declared.input.Stopped.{Stopped}
 use Rattle.wc_job.specs.Reads.{IsWhole}
 use Rattle.wc_model.specs.Instrument.PlateTable.{plate_of}
+use Rattle.wc_model.specs.Language.Loading.{IsRefused}
 use Rattle.wc_model.specs.Run.JobSections.{Sections, sections_of}
 use Rattle.wc_model.specs.declared.fault.Fault.{Fault}
 use Rattle.wc_model.specs.declared.fault.Fault.TheVariants as fault
@@ -25,19 +27,23 @@ pub plate_part : (sections : Sections) (why : Fault) → AgreesWith (plate_of (t
 plate_part sections (fault.Refused number place) h = (h.1, h.0)
 plate_part sections fault.Memory h = tt
 
+-- a next program that is refused is there
+next_part : (next : Option (List ℕ)) (number place : ℕ) → RefusesNextText next (Refused number place) → (bytes : List ℕ) × (next ≡ Some bytes) × IsRefused bytes number place
+next_part None number place h = absurd h
+next_part (Some bytes) number place h = (bytes, refl, h)
+
 -- a run of the other sections that is stopped
 pub run_part : (sections : Sections) (at : Input) (why : RunFault) → (at ≡ input.Program → RefusesText sections.program why)
-    → (at ≡ input.Log → RefusesLog sections.log why) → (at ≡ input.Plate → ⊥) → (at ≡ input.Job → ⊥) → StopsAsPart (Ok sections) at (fault_in_memory why)
-run_part sections input.Job why program log plate job = absurd (job refl)
-run_part sections input.Plate why program log plate job = absurd (plate refl)
-run_part sections input.Program (Refused number place) program log plate job = program refl
-run_part sections input.Program Read program log plate job = tt
-run_part sections input.Program Write program log plate job = tt
-run_part sections input.Program Memory program log plate job = tt
-run_part sections input.Log (Refused number place) program log plate job = log refl
-run_part sections input.Log Read program log plate job = tt
-run_part sections input.Log Write program log plate job = tt
-run_part sections input.Log Memory program log plate job = tt
+    → (at ≡ input.Next → RefusesNextText sections.next why) → (at ≡ input.Log → RefusesLog (log_beside (is_some sections.next)) sections.log why)
+    → (at ≡ input.Plate → ⊥) → (at ≡ input.Job → ⊥) → StopsAsPart (Ok sections) at (fault_in_memory why)
+run_part sections input.Job why program next log plate job = absurd (job refl)
+run_part sections input.Plate why program next log plate job = absurd (plate refl)
+run_part sections input.Program (Refused number place) program next log plate job = program refl
+run_part sections input.Next (Refused number place) program next log plate job = next_part sections.next number place (next refl)
+run_part sections input.Log (Refused number place) program next log plate job = log refl
+run_part sections at Read program next log plate job = tt
+run_part sections at Write program next log plate job = tt
+run_part sections at Memory program next log plate job = tt
 
 -- a job that has its sections
 pub job_part : {X : Type 0} (bytes : List ℕ) (sections : Sections) (result : Result X Stopped) → Ok sections ≡ sections_of bytes

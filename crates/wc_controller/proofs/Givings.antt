@@ -6,7 +6,7 @@ use Rattle.std.specs.Prelude.{Bool, Option, Some, None, flat_map}
 use Rattle.std.specs.Io.KnownBytes.{Appends, Keeps}
 use Rattle.wc_controller.specs.Checking.{Checks}
 use Rattle.wc_controller.specs.Endings.{IsAt, IsReadFaultAt, EndsAs, EndsBehind, EndsBehindFault, EndsRefused, WritesFront, WritesUpTo, answered, failed, fault_in_memory, fault_met, met, run_fault_of, status_of}
-use Rattle.wc_controller.specs.Files.{AnswersCheck, AnswersText, refuses_program, refuses_text, reports_units}
+use Rattle.wc_controller.specs.Files.{AnswersCheck, refuses_text, reports_units}
 use Rattle.wc_controller.specs.Jobs as jobs
 use Rattle.wc_controller.specs.Jobs.{Gives}
 use Rattle.wc_controller.specs.Loads.{IsRefusedLoad}
@@ -17,14 +17,15 @@ use Rattle.wc_controller.specs.declared.input.Stopped.{Stopped}
 use Rattle.wc_model.specs.Instrument.Plates.{PlateData}
 use Rattle.wc_model.specs.Run.Log.{LogOf, LogRefusal}
 use Rattle.wc_model.specs.Run.Rows.{LogRow, Past, answer_of_row}
-use Rattle.wc_model.specs.Say.Job.{JobAnswer, behind_report, refused_text}
-use Rattle.wc_model.specs.Say.ProgramReport.{scans_of}
-use Rattle.wc_model.specs.Say.Report.{ReportLine, Scans, answer_line, answer_lines, line_report, line_text, lines_with, report_lines}
+use Rattle.wc_model.specs.Language.Tree.{Text}
+use Rattle.wc_model.specs.Say.Job.{AnswersProgram, JobAnswer, behind_report, refused_text, refuses_program}
+use Rattle.wc_model.specs.Say.ProgramReport.{Logic, programs}
+use Rattle.wc_model.specs.Say.Report.{Program, ReportLine, answer_line, answer_lines, line_report, line_text, lines_with, report_lines}
 use Rattle.wc_model.specs.declared.fault.Fault.{Fault}
 use Rattle.wc_model.specs.declared.fault.Fault.TheVariants as fault
 use Rattle.wc_run.proofs.Texts.{all_is_last, at_once_is_line}
 use Rattle.wc_run.specs.Deferring.{text_at_end}
-use Rattle.wc_run.specs.Logics.{Logic, run_report, run_report_last}
+use Rattle.wc_run.specs.Logics.{run_report, run_report_last}
 use Rattle.wc_run.specs.Runs.{AppendsFirst, AppendsFront, ReportsBy}
 use Rattle.wc_run.specs.declared.fault.RunFault.{RunFault}
 use Rattle.wc_run.specs.declared.fault.RunFault.TheVariants.{Refused, Read, Write, Memory}
@@ -61,14 +62,14 @@ kept_front : (old middle new : Option (List ℕ)) (text : List ℕ) → AppendsF
 kept_front old middle new text f k = (f.0, f.1, f.2, Appends-kept old middle new f.0 f.3 k)
 
 -- the lines of the first rows stand before the lines of the others
-lines_first : {State : Type 0} (plate : PlateData) (scan : Scans State) (start : State) (past : Past) (first left : List LogRow) →
-    (others : List ReportLine) × (report_lines plate scan start past (first ++ left) ≡ report_lines plate scan start past first ++ others)
-lines_first plate scan start past [] left = (report_lines plate scan start past left, refl)
-lines_first plate scan start past (row ∷ rows) left =
-    let rest = lines_first plate scan start (row ∷ past) rows left in (
+lines_first : {State : Type 0} (plate : PlateData) (program : Program State) (start : State) (past : Past) (first left : List LogRow) →
+    (others : List ReportLine) × (report_lines plate program start past (first ++ left) ≡ report_lines plate program start past first ++ others)
+lines_first plate program start past [] left = (report_lines plate program start past left, refl)
+lines_first plate program start past (row ∷ rows) left =
+    let rest = lines_first plate program start (row ∷ past) rows left in (
       rest.0,
-      ap (λ l. lines_with plate scan start row.brings past row ++ l) rest.1
-          ∙ sym (append_assoc (lines_with plate scan start row.brings past row) (report_lines plate scan start (row ∷ past) rows) rest.0),
+      ap (λ l. lines_with plate program start row.brings past row ++ l) rest.1
+          ∙ sym (append_assoc (lines_with plate program start row.brings past row) (report_lines plate program start (row ∷ past) rows) rest.0),
     )
 
 -- the same of the answers alone
@@ -89,8 +90,8 @@ report_first plate None first left =
     let lines = answers_first plate [] first left in
     (flat_map line_text lines.0, ap (flat_map line_text) lines.1 ∙ flat_map-append line_text (answer_lines plate [] first) lines.0)
 report_first plate (Some logic) first left =
-    let lines = lines_first plate (scans_of logic.text) logic.store [] first left in
-    (flat_map line_text lines.0, ap (flat_map line_text) lines.1 ∙ flat_map-append line_text (report_lines plate (scans_of logic.text) logic.store [] first) lines.0)
+    let lines = lines_first plate programs logic [] first left in
+    (flat_map line_text lines.0, ap (flat_map line_text) lines.1 ∙ flat_map-append line_text (report_lines plate programs logic [] first) lines.0)
 
 -- the answers of the first rows are a front of the report of the last scans
 pub last_first : (number : ℕ) (plate : PlateData) (logic : Option Logic) (first left : List LogRow) →
@@ -138,10 +139,10 @@ pub only_refused : (allowed : JobAnswer → Type 0) (number place : ℕ) (old : 
 only_refused allowed number place old h = ([], h, Appends-nil old)
 
 -- a program that is not loaded
-pub not_loaded : (last : Option ℕ) (plate : PlateData) (bytes : List ℕ) (log : LogOf) (why : Fault) (old : Option (List ℕ))
-    → IsRefusedLoad bytes why → WritesUpTo (AnswersText last plate bytes log) (Some (run_fault_of why)) old old
-not_loaded last plate bytes log (fault.Refused number place) old h = only_refused (AnswersText last plate bytes log) number place old (refuses_program number place h refl)
-not_loaded last plate bytes log fault.Memory old h = inl (Keeps-refl old)
+pub not_loaded : (bytes : List ℕ) (rest : Text → JobAnswer → Type 0) (why : Fault) (old : Option (List ℕ))
+    → IsRefusedLoad bytes why → WritesUpTo (AnswersProgram bytes rest) (Some (run_fault_of why)) old old
+not_loaded bytes rest (fault.Refused number place) old h = only_refused (AnswersProgram bytes rest) number place old (refuses_program number place h refl)
+not_loaded bytes rest fault.Memory old h = inl (Keeps-refl old)
 
 -- a log that lies in memory
 pub in_memory : (allowed : JobAnswer → Type 0) (why : RunFault) (old new : Option (List ℕ))

@@ -6,7 +6,7 @@ use Rattle.wc_language_laws.proofs.TracesArePaths.{TraceIs, program_trace_is_pat
 use Rattle.wc_language_laws.proofs.UnitBounds.{path_of, longest_there}
 use Rattle.wc_model.specs.Language.Meaning.{Outcome, Done, Stuck, program_means}
 use Rattle.wc_model.specs.Language.Paths.{IsBoundOfLast, IsLongest, IsPath}
-use Rattle.wc_model.specs.Say.ProgramReport.{result_of}
+use Rattle.wc_model.specs.Say.ProgramReport.{Logic, result_of, with_logic}
 use Rattle.wc_model.specs.Language.Scans.{first_of_reversed}
 use Rattle.wc_model.specs.Language.Scopes.{Scope}
 use Rattle.wc_model.specs.Language.Store.{Store}
@@ -29,9 +29,9 @@ ends_within (program ∷ before) bound first store now longest well =
     by_outcome (record { before = before; unit = program }) bound first longest (program_means before program now store) (program_trace_is_path before program now store) well
 
 -- what a scan that ends shows
-pub shows_outcome : (first old : Store) (outcome : Outcome) → EndsWell (λ (result : Option Value). Unit {0}) first outcome → ShowsOutcome outcome (result_of old outcome)
-shows_outcome first old (Done result store trace) well = (refl, refl, refl)
-shows_outcome first old (Stuck reason) well = absurd well
+pub shows_outcome : (first : Store) (logic : Logic) (outcome : Outcome) → EndsWell (λ (result : Option Value). Unit {0}) first outcome → ShowsOutcome logic outcome (with_logic logic (result_of logic.store outcome))
+shows_outcome first logic (Done result store trace) well = (refl, refl, refl)
+shows_outcome first logic (Stuck reason) well = absurd well
 
 -- a program one of whose scans ends has a bound
 pub has_bound : (units : List ProgramUnit) (first store : Store) (now : ℕ)

@@ -1,5 +1,6 @@
 -- What a refusal says of the input that it names. (The profile's own.)
-use Rattle.std.specs.Prelude.{◌≡◌, ⊤, ℕ, ◌<◌, ◌≤◌, ◌⊎◌, List, length, Option, Some, IfSome, Result, Ok, Err}
+use Rattle.std.specs.Prelude.{◌≡◌, ⊤, ℕ, ◌<◌, ◌≤◌, ◌⊎◌, List, length, Option, Some, None, IfSome, is_some, Result, Ok, Err}
+use Rattle.wc_controller.specs.TakenLogs.{log_beside}
 use Rattle.wc_controller.specs.declared.ending.Ending.{Ending}
 use Rattle.wc_controller.specs.declared.ending.Ending.TheVariants as ended
 use Rattle.wc_controller.specs.declared.input.Input.{Input}
@@ -8,9 +9,8 @@ use Rattle.wc_controller.specs.declared.input.Stopped.{Stopped}
 use Rattle.wc_model.specs.Instrument.PlateTable.{plate_of}
 use Rattle.wc_model.specs.Language.Loading.{IsRefused}
 use Rattle.wc_model.specs.Run.JobSections.{Sections, longest_job}
-use Rattle.wc_model.specs.Run.Log.{log_of}
+use Rattle.wc_model.specs.Run.Log.{LogOf}
 use Rattle.wc_plate.specs.TomlTable.{table_read}
-use Rattle.wc_record.specs.Reading.{records_of}
 use Rattle.wc_run.specs.declared.fault.RunFault.{RunFault}
 use Rattle.wc_run.specs.declared.fault.RunFault.TheVariants.{Refused, Read, Write, Memory}
 
@@ -21,6 +21,11 @@ RefusesText bytes Read = ⊤
 RefusesText bytes Write = ⊤
 RefusesText bytes Memory = ⊤
 
+-- so is a next text, where there is one
+abbrev pub RefusesNextText : Option (List ℕ) → RunFault → Type 0
+RefusesNextText None fault = ⊥
+RefusesNextText (Some bytes) fault = RefusesText bytes fault
+
 -- a program's file is refused because it is too long, else for the first fault of its text
 abbrev pub RefusesProgram : List ℕ → RunFault → Type 0
 RefusesProgram bytes (Refused number place) =
@@ -29,12 +34,12 @@ RefusesProgram bytes Read = ⊤
 RefusesProgram bytes Write = ⊤
 RefusesProgram bytes Memory = ⊤
 
--- a log is refused at its first row that breaks a rule
-abbrev pub RefusesLog : List ℕ → RunFault → Type 0
-RefusesLog bytes (Refused number place) = (log_of (records_of bytes)).refusal ≡ Some (record { number = number; row = place })
-RefusesLog bytes Read = ⊤
-RefusesLog bytes Write = ⊤
-RefusesLog bytes Memory = ⊤
+-- a log is refused at its first row that breaks a rule, as the command takes it
+abbrev pub RefusesLog : (List ℕ → LogOf) → List ℕ → RunFault → Type 0
+RefusesLog taken bytes (Refused number place) = (taken bytes).refusal ≡ Some (record { number = number; row = place })
+RefusesLog taken bytes Read = ⊤
+RefusesLog taken bytes Write = ⊤
+RefusesLog taken bytes Memory = ⊤
 
 -- what stopped at this input is a refusal of its bytes, where it is one
 abbrev pub StopsFor : {X : Type 0} → Input → (List ℕ → RunFault → Type 0) → Option (List ℕ) → Result X Stopped → Type 0
@@ -50,13 +55,15 @@ Blames input refuses known ended.WriteFault = ⊤
 Blames input refuses known ended.NoMemory = ⊤
 
 -- What a refusal says of the part of a job that it names: the job has not its sections; the plate
--- breaks that rule first; the program has that first fault; the log has that first refused row.
+-- breaks that rule first; the program, or the next one, has that first fault; the log has that first
+-- refused row.
 abbrev pub RefusesPart : Result Sections ℕ → Input → ℕ → ℕ → Type 0
 RefusesPart (Err missing) at number place = (at ≡ input.Job) × (number ≡ missing) × (place ≡ 0)
 RefusesPart (Ok sections) input.Job number place = ⊥
 RefusesPart (Ok sections) input.Plate number place = (place ≡ 0) × (plate_of (table_read sections.plate) ≡ Err number)
 RefusesPart (Ok sections) input.Program number place = IsRefused sections.program number place
-RefusesPart (Ok sections) input.Log number place = (log_of (records_of sections.log)).refusal ≡ Some (record { number = number; row = place })
+RefusesPart (Ok sections) input.Next number place = (next : List ℕ) × (sections.next ≡ Some next) × IsRefused next number place
+RefusesPart (Ok sections) input.Log number place = (log_beside (is_some sections.next) sections.log).refusal ≡ Some (record { number = number; row = place })
 
 -- what stopped at a part of a job is a refusal of that part, where it is one
 abbrev pub StopsAsPart : Result Sections ℕ → Input → RunFault → Type 0

@@ -12,12 +12,11 @@ use Rattle.wc_model.specs.declared.fault.Fault.TheVariants as fault
 use Rattle.wc_model.specs.Instrument.PlateTable.{plate_of}
 use Rattle.wc_model.specs.Instrument.Plates.{PlateData}
 use Rattle.wc_model.specs.Run.JobSections.{longest_job}
-use Rattle.wc_model.specs.Run.Log.{log_of}
+use Rattle.wc_model.specs.Run.Log.{LogOf}
 use Rattle.wc_model.specs.Run.Writing.{HasFailedSince, TakesFront}
 use Rattle.wc_model.specs.Say.Job.{JobAnswer, refused_text}
 use Rattle.wc_plate.specs.TomlTable.{table_read}
 use Rattle.wc_record.specs.Left.{HasCause}
-use Rattle.wc_record.specs.Reading.{records_of}
 use Rattle.wc_run.specs.Runs.{AppendsFront, HasNotFailed}
 use Rattle.wc_run.specs.declared.fault.RunFault.{RunFault}
 use Rattle.wc_run.specs.declared.fault.RunFault.TheVariants.{Refused, Read, Write, Memory}
@@ -192,8 +191,8 @@ HasNotFailedAt input (Err stopped) old new = stopped.input ≡ input → HasNotF
 -- Why want of memory may be told of a command that has a log: nothing of the log was read; or its
 -- reader has no cause to be told as a fault; or the log is refused, its reader has not failed, and
 -- the line that says so was not made.
-pub data TellsMemory (known : Option (List ℕ)) (failures_before failures start spent : ℕ) : Type 0 where
-  of_unread_log : spent ≡ start → TellsMemory known failures_before failures start spent
-  of_no_cause : (HasCause failures_before failures start spent → ⊥) → TellsMemory known failures_before failures start spent
-  of_refused_log : IfSome known (λ bytes. IsSome (log_of (records_of bytes)).refusal) → failures ≤ failures_before
-      → TellsMemory known failures_before failures start spent
+pub data TellsMemory (taken : List ℕ → LogOf) (known : Option (List ℕ)) (failures_before failures start spent : ℕ) : Type 0 where
+  of_unread_log : spent ≡ start → TellsMemory taken known failures_before failures start spent
+  of_no_cause : (HasCause failures_before failures start spent → ⊥) → TellsMemory taken known failures_before failures start spent
+  of_refused_log : IfSome known (λ bytes. IsSome (taken bytes).refusal) → failures ≤ failures_before
+      → TellsMemory taken known failures_before failures start spent

@@ -4,12 +4,12 @@ use Rattle.std.specs.Prelude.{◌≡◌, ℕ, ◌<◌, ◌≤◌, Bool, List, le
 use Rattle.wc_model.specs.Instrument.PlateTable.{plate_of}
 use Rattle.wc_model.specs.Instrument.Plates.{PlateData}
 use Rattle.wc_model.specs.Language.Loading.{IsLoaded, IsRefused}
-use Rattle.wc_model.specs.Language.Scans.{initial_of}
 use Rattle.wc_model.specs.Language.Tree.{Text}
 use Rattle.wc_model.specs.Run.JobSections.{longest_job}
 use Rattle.wc_model.specs.Run.Log.{LogOf, log_of}
-use Rattle.wc_model.specs.Say.Job.{JobAnswer, behind_report, refusing, run_answer}
-use Rattle.wc_model.specs.Say.ProgramReport.{program_report_last}
+use Rattle.wc_model.specs.Say.Job.{AnswersProgram, JobAnswer, behind_report, refusing, run_answer}
+use Rattle.wc_model.specs.Say.LogFor.{log_for}
+use Rattle.wc_model.specs.Say.ProgramReport.{Logic, first_logic, program_report_last}
 use Rattle.wc_model.specs.Say.Report.{line_report}
 use Rattle.wc_model.specs.Say.UnitReport.{IsUnitReport}
 use Rattle.wc_plate.specs.TomlTable.{table_read}
@@ -29,15 +29,26 @@ AnswersPlateFile (Ok plate) rest answer = rest plate answer
 abbrev pub AnswersWithPlate : List ℕ → (PlateData → JobAnswer → Type 0) → JobAnswer → Type 0
 AnswersWithPlate bytes rest answer = AnswersFile bytes (AnswersPlateFile (plate_of (table_read bytes)) rest) answer
 
--- what a run with a program answers that prints every scan, or the last so many alone
-abbrev pub answer_printing : Option ℕ → PlateData → Text → LogOf → JobAnswer
-answer_printing None plate text log = run_answer plate text log
-answer_printing (Some number) plate text log = behind_report (program_report_last number plate text (initial_of text) log.rows) log.refusal
+-- what a run with programs answers that prints every scan, or the last so many alone
+abbrev pub answer_printing : Option ℕ → PlateData → Logic → LogOf → JobAnswer
+answer_printing None plate logic log = run_answer plate logic log
+answer_printing (Some number) plate logic log =
+    let taken = log_for (Some logic) log in
+    behind_report (program_report_last number plate logic taken.rows) taken.refusal
 
--- the refusal of a text, or the answer of its run
-pub data AnswersText (last : Option ℕ) (plate : PlateData) (program : List ℕ) (log : LogOf) (answer : JobAnswer) : Type 0 where
-  refuses_program : (number line : ℕ) → IsRefused program number line → answer ≡ refusing number line → AnswersText last plate program log answer
-  runs_program : (text : Text) → IsLoaded program text → answer ≡ answer_printing last plate text log → AnswersText last plate program log answer
+-- the answer of a run that begins with a text, and has a next one or none
+abbrev pub AnswersPrinting : Option ℕ → PlateData → LogOf → Text → Option Text → JobAnswer → Type 0
+AnswersPrinting last plate log text next answer = answer ≡ answer_printing last plate (first_logic text next) log
+
+-- the file of the next program, where there is one, is judged as the program's is, before any row
+abbrev pub AnswersNextFile : Option (List ℕ) → (Option Text → JobAnswer → Type 0) → JobAnswer → Type 0
+AnswersNextFile None rest answer = rest None answer
+AnswersNextFile (Some next) rest answer = AnswersFile next (AnswersProgram next (λ text. rest (Some text))) answer
+
+-- the program is loaded, then the next one, then the log is run
+abbrev pub AnswersText : Option ℕ → PlateData → List ℕ → Option (List ℕ) → LogOf → JobAnswer → Type 0
+AnswersText last plate program next log answer =
+    AnswersProgram program (λ text. AnswersNextFile next (AnswersPrinting last plate log text)) answer
 
 -- the answers of the line alone, and the log's refusal behind them
 abbrev pub line_answer : PlateData → LogOf → JobAnswer
@@ -49,10 +60,10 @@ pub data AnswersCheck (paths : Bool) (program : List ℕ) (answer : JobAnswer) :
   reports_units : (text : Text) (report : List ℕ) → IsLoaded program text → IsUnitReport paths text report →
       answer ≡ record { output = report; status = 0 } → AnswersCheck paths program answer
 
--- a run of a log with a program, which prints every scan or the last so many
-abbrev pub AnswersRun : Option ℕ → List ℕ → List ℕ → List ℕ → JobAnswer → Type 0
-AnswersRun last plate program log answer =
-    AnswersWithPlate plate (λ read. AnswersFile program (AnswersText last read program (log_of (records_of log)))) answer
+-- a run of a log with a program and a next one or none, which prints every scan or the last so many
+abbrev pub AnswersRun : Option ℕ → List ℕ → List ℕ → Option (List ℕ) → List ℕ → JobAnswer → Type 0
+AnswersRun last plate program next log answer =
+    AnswersWithPlate plate (λ read. AnswersFile program (AnswersText last read program next (log_of (records_of log)))) answer
 
 -- a run of a log with no program
 abbrev pub AnswersLine : List ℕ → List ℕ → JobAnswer → Type 0

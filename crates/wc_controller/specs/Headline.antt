@@ -1,15 +1,17 @@
 -- The headline, told of the definitions: the meaning of the text, its bound, and the report. (The
 -- profile's own.)
-use Rattle.std.specs.Prelude.{◌≡◌, ◌≤◌, ℕ, List, length}
+use Rattle.std.specs.Prelude.{◌≡◌, ◌≤◌, ℕ, List, length, reverse, Option, None}
+use Rattle.wc_instrument_laws.specs.Changes.{HasNoChange}
 use Rattle.wc_model.specs.Instrument.Independence.{IsFreeOfPrograms}
-use Rattle.wc_model.specs.Language.Loading.{IsLoaded}
+use Rattle.wc_model.specs.Language.Loading.{IsLoaded, IsNextLoaded}
 use Rattle.wc_model.specs.Language.Meaning.{Outcome, Done, Stuck}
 use Rattle.wc_model.specs.Language.Paths.{IsProgramBound}
 use Rattle.wc_model.specs.Instrument.Plates.{PlateData}
 use Rattle.wc_model.specs.Run.ProcessImage.{image_after}
-use Rattle.wc_model.specs.Say.ProgramReport.{scans_of, store_after}
+use Rattle.wc_model.specs.Say.LogFor.{AreRun}
+use Rattle.wc_model.specs.Say.ProgramReport.{Logic, first_logic, logic_behind, programs}
 use Rattle.wc_model.specs.Run.Rows.{LogRow, Past}
-use Rattle.wc_model.specs.Language.Scans.{initial_of, outputs_of, scan_of}
+use Rattle.wc_model.specs.Language.Scans.{outputs_of, scan_of}
 use Rattle.wc_model.specs.Language.Store.{Store}
 use Rattle.wc_model.specs.Say.Report.{ScanResult}
 use Rattle.wc_model.specs.Language.Tree.{Text}
@@ -20,28 +22,50 @@ EndsWithin bound (Done result store trace) = length trace ≤ bound
 EndsWithin bound (Stuck reason) = ⊥
 
 -- what a scan's line shows is the length of the outcome's trace and the outputs of the store that
--- it leaves, from which the next scan goes on; no line is that of a stuck scan
-abbrev pub ShowsOutcome : Outcome → ScanResult Store → Type 0
-ShowsOutcome (Done result store trace) shown =
-    (shown.steps ≡ length trace) × (shown.outputs ≡ outputs_of store) × (shown.after ≡ store)
-ShowsOutcome (Stuck reason) shown = ⊥
+-- it leaves, from which the next scan of the same text goes on; no line is that of a stuck scan
+abbrev pub ShowsOutcome : Logic → Outcome → ScanResult Logic → Type 0
+ShowsOutcome logic (Done result store trace) shown =
+    (shown.steps ≡ length trace) × (shown.outputs ≡ outputs_of store) × (shown.after ≡ record { text = logic.text; store = store; next = logic.next })
+ShowsOutcome logic (Stuck reason) shown = ⊥
 
--- Of a program beside a scale, behind whatever rows have come (newest first):
+-- the store behind rows, from that of the declarations on
+abbrev pub store_behind : PlateData → Text → Past → Store
+store_behind plate text past = (logic_behind plate (first_logic text None) past).store
+
+-- the outcome of a logic's scan at a moment, behind rows
+abbrev pub outcome_of : PlateData → Logic → Past → ℕ → Outcome
+outcome_of plate logic past ms = scan_of logic.text logic.store (image_after plate past) ms
+
+-- Of a program beside a scale, behind whatever rows have come (newest first), none of which changes
+-- the program:
 --     scan     the scan of the next moment ends within the bound
 --     shown    its line shows what that scan means
 --     line     the answers in a report are those of a run with no program
 pub record KeepsToItself (plate : PlateData) (text : Text) (bound : ℕ) : Type 0 where
-  pub scan : (past : Past) (ms : ℕ) → EndsWithin bound (scan_of text (store_after plate text (initial_of text) past) (image_after plate past) ms)
-  pub shown : (past : Past) (ms : ℕ) →
-      ShowsOutcome (scan_of text (store_after plate text (initial_of text) past) (image_after plate past) ms)
-      (scans_of text (store_after plate text (initial_of text) past) (image_after plate past) ms)
-  pub line : (rows : List LogRow) → IsFreeOfPrograms plate (scans_of text) (initial_of text) rows
+  pub scan : (past : Past) → HasNoChange past → (ms : ℕ) → EndsWithin bound (scan_of text (store_behind plate text past) (image_after plate past) ms)
+  pub shown : (past : Past) → HasNoChange past → (ms : ℕ) →
+      ShowsOutcome (record { text = text; store = store_behind plate text past; next = None }) (scan_of text (store_behind plate text past) (image_after plate past) ms)
+      (programs.scan (record { text = text; store = store_behind plate text past; next = None }) (image_after plate past) ms)
+  pub line : (rows : List LogRow) → HasNoChange rows → IsFreeOfPrograms plate programs (first_logic text None) rows
 
--- each loaded text has a bound, and with it keeps to itself beside every plate
+-- The same of a program that has a next one, behind whatever rows have come that are run, with the
+-- change to the next one among them or not. The text is the one that runs at that scan, and the bound
+-- its own.
+pub record KeepsOverAChange (plate : PlateData) (text : Text) (next : Option Text) : Type 0 where
+  pub scan : (past : Past) → AreRun next (reverse past) → (ms bound : ℕ) → IsProgramBound (logic_behind plate (first_logic text next) past).text bound →
+      EndsWithin bound (outcome_of plate (logic_behind plate (first_logic text next) past) past ms)
+  pub shown : (past : Past) → AreRun next (reverse past) → (ms : ℕ) →
+      ShowsOutcome (logic_behind plate (first_logic text next) past) (outcome_of plate (logic_behind plate (first_logic text next) past) past ms)
+      (programs.scan (logic_behind plate (first_logic text next) past) (image_after plate past) ms)
+  pub line : (rows : List LogRow) → AreRun next rows → IsFreeOfPrograms plate programs (first_logic text next) rows
+
+-- Each loaded text has a bound, and with it keeps to itself beside every plate; and so it does over a
+-- change to whatever next text is loaded.
 pub record HasTheHeadline (plate : PlateData) (text : Text) : Type 0 where
   pub bound : ℕ
   pub is_bound : IsProgramBound text bound
   pub keeps : (n : ℕ) → IsProgramBound text n → KeepsToItself plate text n
+  pub changes : (next : Option Text) → IsNextLoaded next → KeepsOverAChange plate text next
 
 abbrev pub IsTheHeadline : Type 0
 IsTheHeadline = (plate : PlateData) (bytes : List ℕ) (text : Text) → IsLoaded bytes text → HasTheHeadline plate text

@@ -3,6 +3,7 @@ pub mod Loads
 pub mod UnitLines
 pub mod Checking
 pub mod Jobs
+pub mod TakenLogs
 pub mod Files
 pub mod Endings
 pub mod Blames

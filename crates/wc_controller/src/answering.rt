@@ -1,20 +1,25 @@
-ghost use Rattle.std.specs.Prelude.{◌≡◌, ◌⊎◌, ◌+◌, Some, IfSome, Ok};
-ghost use Rattle.wc_controller.specs.Blames.{BlamesPart, StopsForPart};
-ghost use Rattle.wc_controller.specs.Endings.{EndsAs, IsReadFaultAt, TellsFailures, TellsReadEndings, TellsReadFaults, TellsWriteFaults, WritesUpTo, fault_in_memory, met};
+ghost use Rattle.std.specs.Prelude.{◌≡◌, ◌⊎◌, ◌+◌, Some, IfErr, IfSome, Ok, is_some, option_map};
+ghost use Rattle.wc_controller.specs.Blames.{BlamesPart, RefusesLog, RefusesNextText, RefusesText, StopsFor, StopsForPart};
+ghost use Rattle.wc_controller.specs.Endings.{EndsAs, IsReadFaultAt, StopsAt, TellsFailures, TellsReadEndings, TellsReadFaults, TellsWriteFaults, WritesUpTo, fault_in_memory, met};
 ghost use Rattle.wc_controller.specs.Jobs.{Allows, AllowsSections, Gives, IsStatus};
+ghost use Rattle.wc_controller.specs.TakenLogs.{log_beside};
 ghost use Rattle.wc_job.specs.Reads.{TakesAtMost};
 ghost use Rattle.wc_job.specs.Views.{sections_view};
 ghost use Rattle.wc_model.specs.Run.JobSections.{longest_job, sections_of};
+ghost use Rattle.wc_model.specs.Run.Log.{log_of};
 ghost use Rattle.wc_model.specs.Run.Writing.{HasFailedSince};
+ghost use Rattle.wc_model.specs.Say.Job.{AnswersPrograms, run_answer};
+ghost use Rattle.wc_record.specs.Reading.{records_of};
 
 use crate::ending::{Ending, end};
 use crate::input::{Input, Stopped};
+use crate::loaded::{run_loaded, run_with_next};
+use crate::loading::load;
 use crate::reading::{read_input, run_fault_of};
-use crate::running::run_text;
 use std::alloc::Global;
 use wc_job::{Sections, sections};
 use wc_model::{ByteIn, ByteOut, Device};
-use wc_plate::plate;
+use wc_plate::{Plate, plate};
 use wc_run::RunFault;
 
 /// What stopped a run of a log that lies in memory: to read it fails only for want of memory.
@@ -29,6 +34,48 @@ fn stopped_in_memory(stopped: Stopped) -> Stopped
     Stopped {
         input: stopped.input,
         fault,
+    }
+}
+
+/// Loads the program of a job, and the next one if there is one, and runs its log with them.
+fn run_sections<'a, L: ByteIn, W: ByteOut>(
+    alloc: Global,
+    plate: &Plate,
+    program: &'a [u8],
+    next: Option<&'a [u8]>,
+    log: &mut L,
+    writer: &mut W,
+) -> Result<(), Stopped>
+    ensures writes { IfSome (L.bytes_left log.old)
+        (λ bytes. WritesUpTo
+        (AnswersPrograms (λ logic. run_answer plate.now logic (log_of (records_of bytes)))
+        program.now (option_map (λ text. text.now) next.entry))
+        (met result) (W.bytes_taken writer.old) (W.bytes_taken writer.new)) }
+    ensures blames_program { IfErr result
+        (λ stopped. stopped.input ≡ Input.Program → RefusesText program.now stopped.fault) }
+    ensures blames_next { IfErr result
+        (λ stopped. stopped.input ≡ Input.Next
+        → RefusesNextText (option_map (λ text. text.now) next.entry) stopped.fault) }
+    ensures blames_log { StopsFor Input.Log
+        (RefusesLog (log_beside (is_some (option_map (λ text. text.now) next.entry))))
+        (L.bytes_left log.old) result }
+    ensures later { ¬ StopsAt Input.Plate result }
+    ensures own { ¬ StopsAt Input.Job result }
+    ensures failures { TellsWriteFaults (met result) (W.failure_count writer.old)
+        (W.failure_count writer.new) }
+{
+    let loaded = match load(alloc, program) {
+        Ok(loaded) => loaded,
+        Err(fault) => {
+            return Err(Stopped {
+                input: Input::Program,
+                fault: run_fault_of(fault),
+            });
+        }
+    };
+    match next {
+        Some(text) => run_with_next(alloc, None, plate, loaded, text, log, writer),
+        None => run_loaded(alloc, None, plate, loaded, None, log, writer),
     }
 }
 
@@ -53,7 +100,14 @@ fn answer_sections<W: ByteOut>(
         }),
     };
     let mut log = Device::new(sections.log);
-    match run_text(alloc, None, &plate, sections.program, &mut log, writer) {
+    match run_sections(
+        alloc,
+        &plate,
+        sections.program,
+        sections.next,
+        &mut log,
+        writer,
+    ) {
         Ok(()) => Ok(()),
         Err(stopped) => Err(stopped_in_memory(stopped)),
     }
@@ -102,8 +156,8 @@ fn answer_input<R: ByteIn, W: ByteOut>(
     }
 }
 
-/// Reads a job, of at most 1048576 bytes, and answers it: its plate, its program and its log are
-/// read, the log is run row by row, and each line is written as its row comes. Where something is
+/// Reads a job, of at most 1048576 bytes, and answers it: its plate, its program, its next program,
+/// if it has one, and its log are read, the log is run row by row, and each line is written as its row comes. Where something is
 /// refused, the refusal with its number and its place is written behind the lines of the rows
 /// before it. A read fault comes where the reader failed in this call and only there, a write fault
 /// where the writer did; at such a fault, and for want of memory, a front of the output is written,

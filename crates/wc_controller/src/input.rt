@@ -9,6 +9,8 @@ pub enum Input {
     Plate,
     /// The program's text.
     Program,
+    /// The text of the next program.
+    Next,
     /// The log.
     Log,
 }

@@ -8,6 +8,7 @@ mod ending;
 mod headline;
 mod input;
 mod lining;
+mod loaded;
 mod loading;
 mod reading;
 mod refusing;

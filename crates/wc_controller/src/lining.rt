@@ -2,6 +2,7 @@ ghost use Rattle.std.specs.Prelude.{◌≡◌, ◌+◌, IfErr, IfSome, Some, Non
 ghost use Rattle.wc_controller.specs.Blames.{Blames, RefusesLog, StopsFor};
 ghost use Rattle.wc_controller.specs.Endings.{EndsAs, HasNotFailedAt, IsAt, IsReadFaultAt, RefusesPlate, StopsAt, TellsFailures, TellsMemory, TellsReadEndings, TellsReadFaults, TellsWriteFaults, WritesUpTo, met};
 ghost use Rattle.wc_controller.specs.Files.{AnswersLine, line_answer};
+ghost use Rattle.wc_controller.specs.TakenLogs.{log_alone};
 ghost use Rattle.wc_job.specs.Reads.{TakesAtMost};
 ghost use Rattle.wc_model.specs.Run.JobSections.{longest_job};
 ghost use Rattle.wc_model.specs.Run.Log.{log_of};
@@ -27,7 +28,7 @@ fn line_plate<L: ByteIn, W: ByteOut>(
         (λ bytes. WritesUpTo (λ answer. answer ≡ line_answer plate.now (log_of (records_of bytes)))
         (met result) (W.bytes_taken writer.old) (W.bytes_taken writer.new)) }
     ensures blames { IfSome (L.bytes_left log.old)
-        (λ bytes. IfErr result (λ stopped. RefusesLog bytes stopped.fault)) }
+        (λ bytes. IfErr result (λ stopped. RefusesLog log_alone bytes stopped.fault)) }
     ensures input { IfErr result (λ stopped. stopped.input ≡ Input.Log) }
     ensures read { IsReadFaultAt Input.Log result
         → HasCause (L.failure_count log.old) (L.failure_count log.new)
@@ -40,7 +41,7 @@ fn line_plate<L: ByteIn, W: ByteOut>(
     ensures failures { TellsWriteFaults (met result) (W.failure_count writer.old)
         (W.failure_count writer.new) }
 {
-    match run(alloc, plate, None, log, writer) {
+    match run(alloc, plate, None, None, log, writer) {
         Ok(_) => Ok(()),
         Err(fault) => Err(Stopped {
             input: Input::Log,
@@ -60,9 +61,10 @@ fn line_inputs<P: ByteIn, L: ByteIn, W: ByteOut>(
         (λ bytes. WritesUpTo (AnswersLine table bytes) (met result)
         (W.bytes_taken writer.old) (W.bytes_taken writer.new))) }
     ensures blames_plate { StopsFor Input.Plate RefusesPlate (P.bytes_left plate.old) result }
-    ensures blames_log { StopsFor Input.Log RefusesLog (L.bytes_left log.old) result }
+    ensures blames_log { StopsFor Input.Log (RefusesLog log_alone) (L.bytes_left log.old) result }
     ensures own { ¬ StopsAt Input.Job result }
     ensures no_program { ¬ StopsAt Input.Program result }
+    ensures no_next { ¬ StopsAt Input.Next result }
     ensures unread { StopsAt Input.Plate result
         → L.spent_count log.new ≡ L.spent_count log.old }
     ensures plate { TellsReadFaults Input.Plate result (P.failure_count plate.old)
@@ -71,8 +73,8 @@ fn line_inputs<P: ByteIn, L: ByteIn, W: ByteOut>(
         → HasCause (L.failure_count log.old) (L.failure_count log.new)
         (L.spent_count log.old) (L.spent_count log.new) }
     ensures memory { met result ≡ Some RunFault.Memory
-        → TellsMemory (L.bytes_left log.old) (L.failure_count log.old) (L.failure_count log.new)
-        (L.spent_count log.old) (L.spent_count log.new) }
+        → TellsMemory log_alone (L.bytes_left log.old) (L.failure_count log.old)
+        (L.failure_count log.new) (L.spent_count log.old) (L.spent_count log.new) }
     ensures reader { HasNotFailedAt Input.Log result (L.failure_count log.old)
         (L.failure_count log.new) }
     ensures failures { TellsWriteFaults (met result) (W.failure_count writer.old)
@@ -100,10 +102,11 @@ pub fn line_files<P: ByteIn, L: ByteIn, W: ByteOut>(
         (W.bytes_taken writer.old) (W.bytes_taken writer.new))) }
     // The input that a refusal names is the one that breaks the rule.
     ensures blames_plate { Blames Input.Plate RefusesPlate (P.bytes_left plate.old) result }
-    ensures blames_log { Blames Input.Log RefusesLog (L.bytes_left log.old) result }
-    // It has neither a job nor a program: what it names is its plate or its log.
+    ensures blames_log { Blames Input.Log (RefusesLog log_alone) (L.bytes_left log.old) result }
+    // It has no job and no programs: what it names is its plate or its log.
     ensures own { ¬ IsAt Input.Job result }
     ensures no_program { ¬ IsAt Input.Program result }
+    ensures no_next { ¬ IsAt Input.Next result }
     ensures unread { IsAt Input.Plate result
         → L.spent_count log.new ≡ L.spent_count log.old }
     ensures plate { TellsReadEndings Input.Plate result (P.failure_count plate.old)
@@ -113,8 +116,8 @@ pub fn line_files<P: ByteIn, L: ByteIn, W: ByteOut>(
         (L.spent_count log.old) (L.spent_count log.new) }
     // A fault of the log's reader, or the bound that was met, is not told as want of memory.
     ensures memory { result ≡ Ending.NoMemory
-        → TellsMemory (L.bytes_left log.old) (L.failure_count log.old) (L.failure_count log.new)
-        (L.spent_count log.old) (L.spent_count log.new) }
+        → TellsMemory log_alone (L.bytes_left log.old) (L.failure_count log.old)
+        (L.failure_count log.new) (L.spent_count log.old) (L.spent_count log.new) }
     ensures failures { TellsFailures result (W.failure_count writer.old)
         (W.failure_count writer.new) }
     // Of the plate it reads no further than the byte that makes it too long.

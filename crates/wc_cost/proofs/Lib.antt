@@ -5,3 +5,4 @@ pub mod UnitNames
 pub mod WorstWays
 pub mod WholeTexts
 pub mod WorstLines
+pub mod CarriedKinds

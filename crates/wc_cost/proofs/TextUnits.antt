@@ -24,8 +24,9 @@ use Rattle.wc_soundness.proofs.Texts.{none_broken}
 use Rattle.wc_soundness.specs.Laws.{UnitsNestSimply}
 use Rattle.wc_soundness.specs.Sound.{Clean, NestsSimply}
 use Rattle.wc_laying.proofs.LayableLines.{lines_layable}
-use Rattle.wc_cost.specs.Faultless.{IsFaultless}
+use Rattle.wc_cost.specs.Faultless.{IsFaultless, IsSpelled}
 use Rattle.wc_laying.specs.Layable.{IsLayable}
+use Rattle.wc_verify.specs.CheckedTexts.{WasRead}
 
 -- the rules of a unit by its number
 unit_clean : (rules : Spot ProgramUnit → List Check) (before units : List ProgramUnit) → Clean (flat_map rules (spots_behind before units)) → (k : ℕ) (scope : Scope) → slice_get (map scope_of_spot (spots_behind before units)) k ≡ Some scope →
@@ -72,20 +73,24 @@ nests before (unit ∷ units) s zero scope e =
     subst (λ (x : Scope). NestsSimply x.unit.body) (sym (Some-same mine scope e)) s.0
 nests before (unit ∷ units) s (suc k) scope e = nests (unit ∷ before) units s.1 k scope e
 
+-- bytes that are read as a text have tokens that spell it
+pub read_is_spelled : (text : Text) → WasRead text → IsSpelled text
+read_is_spelled text (bytes, read) =
+    let c : length (map mark_of_token read.tokens) ≡ length read.tokens = length-map read.tokens mark_of_token in
+    let d = tokens_fit [] bytes read.tokens read.cut in
+    let f = read.short in
+    record { tokens = map mark_of_token read.tokens; few = omega (arith, c, d, f); spelled = read.spelled; within_limits = read.within_limits }
+
 pub unit_nests : (text : Text) → IsFaultless text → (k : ℕ) (scope : Scope) → IsUnit text k scope → NestsSimply scope.unit.body
-unit_nests text h k scope is = nests [] text (spelled_text_nests _ text h.read.1.spelled) k scope is
+unit_nests text h k scope is = nests [] text (spelled_text_nests h.read.tokens text h.read.spelled) k scope is
 
 pub unit_short : (text : Text) → IsFaultless text → (k : ℕ) (scope : Scope) → IsUnit text k scope → flat_length scope.unit.body ≤ 65536
 unit_short text h k scope is =
-    let read = h.read.1 in
-    let marks : List Mark = map mark_of_token read.tokens in
-    let s = read.spelled.spelled in
-    let a = in_sequence marks s in
+    let s = h.read.spelled.spelled in
+    let a = in_sequence h.read.tokens s in
     let b = flat_short [] text s.front s.begins k scope is in
-    let c : length marks ≡ length read.tokens = length-map read.tokens mark_of_token in
-    let d = tokens_fit [] h.read.0 read.tokens read.cut in
-    let f = read.short in
-    omega (arith, a, b, c, d, f)
+    let f = h.read.few in
+    omega (arith, a, b, f)
 
 pub unit_layable : (text : Text) → IsFaultless text → (k : ℕ) (scope : Scope) → IsUnit text k scope → IsLayable scope scope.unit.body
 unit_layable text h k scope is =
@@ -93,7 +98,7 @@ unit_layable text h k scope is =
     let names = unit_clean (λ (spot : Spot ProgramUnit). unit_checks text spot.before spot.item) [] text (none_broken (text_declaration_checks text) h.declared) k scope is in
     let own = clean_second (unit_declaration_checks text scope.before scope.unit) (body_name_checks scope.unit scope.unit.body) names.1.1.1 in
     let few = count_before [] text k scope is in
-    let most = h.read.1.within_limits.units in
+    let most = h.read.within_limits.units in
     lines_layable scope scope.unit.body [] (omega (arith, few, most)) (unit_short text h k scope is) own bodies.1
 
 -- a unit between those before it and those behind

@@ -1,7 +1,7 @@
 -- What the cost of a whole text gives.
-use Rattle.std.proofs.Common.{◌≡◌, ℕ, ◌-◌, List, [], ◌∷◌, ◌++◌, map, length, Result, Err, Vec, Global, refl, sym, ap, subst, ◌∙◌, arith}
+use Rattle.std.proofs.Common.{◌≡◌, ℕ, ◌-◌, false, List, [], ◌∷◌, ◌++◌, map, length, Option, Some, None, Result, Err, Vec, Global, refl, sym, ap, subst, ◌∙◌, arith}
 use Rattle.std.proofs.lemmas.List.{append-nil, length-map, length-reverse, reverse-reverse}
-use Rattle.std.specs.Prelude.{if◌then◌else◌, reverse}
+use Rattle.std.specs.Prelude.{if◌then◌else◌, option_and_then, reverse, slice_get}
 use Rattle.wc_names.specs.Numbered.{IsUnit}
 use Rattle.wc_names.specs.StandsFor.{AreTables, onto}
 use Rattle.wc_names.specs.declared.kept.Tables.{Tables}
@@ -9,9 +9,12 @@ use Rattle.wc_flat.proofs.Programs.{codes_length}
 use Rattle.wc_flat.proofs.Texts.{newest}
 use Rattle.wc_flat.specs.Contents.{frame_of_reversed, frame_of_text}
 use Rattle.wc_flat.specs.Laid.{AreLaid}
-use Rattle.wc_model.specs.Language.Frames.{frame_of}
+use Rattle.wc_model.specs.Language.Carried.{lead_from, path_lead, same_lead, direct_lead}
+use Rattle.wc_model.specs.Language.CarriedPlaces.{carried_number, carried_within, number_if_kept, number_if_kept_within}
+use Rattle.wc_model.specs.Language.Declarations.{is_block}
+use Rattle.wc_model.specs.Language.Frames.{frame_of, place_number}
 use Rattle.wc_model.specs.Language.Scopes.{Scope}
-use Rattle.wc_model.specs.Language.Store.{Path, program_frame, unit_places}
+use Rattle.wc_model.specs.Language.Store.{Location, Direct, Path, Content, program_frame, unit_places}
 use Rattle.wc_model.specs.Language.Tree.{ProgramUnit, Text}
 use Rattle.wc_model.specs.Language.Views.{text_view}
 use Rattle.wc_model.specs.Text.Grammar.{IsProgramLast}
@@ -45,6 +48,8 @@ pub record Last (text : Text) (n : ℕ) : Type 0 where
   pub scope : Scope
   pub is : IsUnit text n scope
   pub frame : frame_of scope ≡ frame_of_text text
+  pub no_block : is_block scope.unit ≡ false
+  pub reversed : reverse text ≡ scope.unit ∷ scope.before
 
 pub last_unit : (text : Text) → IsProgramLast text → (n : ℕ) → n ≡ length text - 1 → Last text n
 last_unit text order n e =
@@ -56,9 +61,26 @@ last_unit text order n e =
     record {
       scope = record { before = new.before; unit = new.program };
       is = unit_at text new.before new.program [] n whole (omega (arith, e, a, b));
+      no_block = new.no_block;
+      reversed = are;
       frame = ap (λ x. if x then map (λ p. (Path p.0, p.1)) (unit_places new.before new.program) else program_frame new.before new.program) new.no_block ∙ ap frame_of_reversed (sym are);
     }
 
 -- as many units are laid as there are
 pub laid_count : (text : Text) (units : List LaidUnit) → AreLaid text (codes_of units) → length units ≡ length text
 laid_count text units h = sym (length-map units (λ (u : LaidUnit). u.code.items)) ∙ codes_length [] text (codes_of units) h
+
+-- what a place keeps is told of the programs of two texts
+kept_alike : (old new : Text) (o n : ℕ) (from : Last old o) (to : Last new n) (entry : Location × Content) → number_if_kept_within from.scope to.scope entry ≡ number_if_kept old new entry
+kept_alike old new o n from to (Direct v, content) = ap (λ frame. if same_lead (direct_lead v) (direct_lead v) then place_number frame (Direct v) else None) from.frame
+kept_alike old new o n from to (Path names, content) =
+    ap (λ frame. if same_lead (lead_from names from.scope.before from.scope.unit) (lead_from names to.scope.before to.scope.unit) then place_number frame (Path names) else None) from.frame
+    ∙ ap (λ units. if same_lead (path_lead units names) (lead_from names to.scope.before to.scope.unit) then place_number (frame_of_text old) (Path names) else None) (sym from.reversed)
+    ∙ ap (λ units. if same_lead (path_lead (reverse old) names) (path_lead units names) then place_number (frame_of_text old) (Path names) else None) (sym to.reversed)
+
+pub carried_alike : (old new : Text) (o n : ℕ) (from : Last old o) (to : Last new n) (k : ℕ) → carried_within from.scope to.scope k ≡ carried_number old new k
+carried_alike old new o n from to k = ap (λ frame. option_and_then (number_if_kept_within from.scope to.scope) (slice_get frame k)) to.frame ∙ by (slice_get (frame_of_text new) k)
+  where
+    by : (found : Option (Location × Content)) → option_and_then (number_if_kept_within from.scope to.scope) found ≡ option_and_then (number_if_kept old new) found
+    by None = refl
+    by (Some entry) = kept_alike old new o n from to entry

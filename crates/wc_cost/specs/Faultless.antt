@@ -7,17 +7,27 @@ use Rattle.wc_flat.specs.Laws.{AreBoundsBelow}
 use Rattle.wc_model.specs.Language.Faults.{MOST_STEPS, IsCostFault, body_fault, declaration_fault}
 use Rattle.wc_model.specs.Language.Scopes.{Scope}
 use Rattle.wc_model.specs.Language.Tree.{Text}
+use Rattle.wc_model.specs.Text.Grammar.{Spells}
+use Rattle.wc_model.specs.Text.Limits.{IsWithinLimits}
+use Rattle.wc_model.specs.Text.Marks.{Mark}
+use Rattle.wc_model.specs.Text.Tokens.{most_bytes}
 use Rattle.wc_model.specs.declared.code.Code.{Code}
 use Rattle.wc_model.specs.declared.fault.Fault.{Fault}
 use Rattle.wc_model.specs.declared.fault.Fault.TheVariants.{Refused, Memory}
-use Rattle.wc_verify.specs.CheckedTexts.{WasRead}
 use Rattle.wc_cost.specs.LoadedInside.{AreLines, bounds_of, codes_of}
 use Rattle.wc_cost.specs.Ways.{AreSmall}
 use Rattle.wc_cost.specs.declared.laid.LaidUnit.{LaidUnit}
 
--- it was read, and breaks no rule on declarations and bodies
+-- some tokens, no more than a text has bytes, spell this text within the limits; what their lines are is not asked
+pub record IsSpelled (text : Text) : Type 0 where
+  pub tokens : List Mark
+  pub few : length tokens ≤ most_bytes
+  pub spelled : Spells tokens text
+  pub within_limits : IsWithinLimits text
+
+-- it is spelled, and breaks no rule on declarations and bodies
 pub record IsFaultless (text : Text) : Type 0 where
-  pub read : WasRead text
+  pub read : IsSpelled text
   pub declared : declaration_fault text ≡ None
   pub sound : body_fault text ≡ None
 
@@ -48,6 +58,12 @@ pub record AreLoaded (text : Text) (units : List LaidUnit) : Type 0 where
   pub bounds : AreBoundsBelow text (codes_of units) (bounds_of units) (length units)
   pub small : AreSmall (bounds_of units)
   pub costs : IsCostFault text None
+
+-- no unit of the text is too long, or the first that is
+abbrev pub Measures : Text → Result (Unit {0}) Fault → Type 0
+Measures text (Ok nothing) = IsCostFault text None
+Measures text (Err (Refused number place)) = IsCostFault text (Some (record { number = number; line = place }))
+Measures text (Err Memory) = Unit {0}
 
 abbrev pub LoadsUnits : Text → Result (Vec LaidUnit Global) Fault → Type 0
 LoadsUnits text (Ok units) = AreLoaded text units.items

@@ -2,12 +2,28 @@ ghost use Rattle.std.specs.Prelude.{◌≡◌, None};
 ghost use Rattle.wc_model.specs.Language.Faults.{IsCostFault};
 ghost use Rattle.wc_model.specs.Language.Views.{text_view};
 ghost use Rattle.wc_cost.specs.Costs.{IsCosted};
+ghost use Rattle.wc_cost.specs.Faultless.{IsFaultless, Measures};
+ghost use Rattle.wc_names.specs.StandsFor.{AreTables};
 
 use crate::loaded::Loaded;
 use crate::units::lay_units;
 use std::alloc::Global;
-use wc_model::Fault;
+use wc_model::{Fault, Source};
+use wc_names::Tables;
 use wc_verify::Checked;
+
+/// Measures the units of a text that breaks no rule on declarations and bodies: 411 at the first unit
+/// that may take more than 1000000 steps, at the line of its first keyword. The lines of the text are
+/// handed on alone, so they may be places as well.
+pub fn measure<'a>(alloc: Global, source: &Source<'a>, tables: &Tables<'a>) -> Result<(), Fault>
+    ensures { AreTables tables.now (text_view source.now) → IsFaultless (text_view source.now)
+        → Measures (text_view source.now) result }
+{
+    match lay_units(alloc, tables, source) {
+        Ok(_) => Ok(()),
+        Err(fault) => Err(fault),
+    }
+}
 
 /// Lays a verified text flat, and measures each unit. 411 at the first unit that may take more than
 /// 1000000 steps, at the line of its first keyword; `Memory` where a growth is refused.

@@ -8,5 +8,5 @@ mod path;
 mod units;
 mod ways;
 
-pub use costing::cost;
+pub use costing::{cost, measure};
 pub use loaded::Loaded;

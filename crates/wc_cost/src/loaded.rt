@@ -1,4 +1,5 @@
-ghost use Rattle.std.specs.Prelude.{◌≡◌, ◌<◌, ◌≤◌, Some, IfOk, IsOkUnless, length, option_map, slice_get};
+ghost use Rattle.std.specs.Prelude.{◌≡◌, ◌<◌, ◌≤◌, Some, IfOk, IfSome, IsOkUnless, length, option_map, slice_get};
+ghost use Rattle.wc_model.specs.Language.CarriedPlaces.{carried_number};
 ghost use Rattle.wc_model.specs.Language.Frames.{first_numbers, number_of_path, slot_kinds};
 ghost use Rattle.wc_model.specs.Language.Scopes.{Scope};
 ghost use Rattle.wc_model.specs.Language.Views.{text_view};
@@ -107,6 +108,34 @@ impl<'a> Loaded<'a> {
         let units = &self.units;
         let last = units.len().saturating_sub(1);
         self.checked.tables().place(last, path)
+    }
+
+    /// How many places the program's frame has.
+    pub fn size(&self) -> usize
+        ensures { result ≡ length (frame_of_text (text_view self.now.source)) }
+    {
+        self.kinds.len()
+    }
+
+    /// The place of the old text's program whose value a place of this text's program keeps at a change from that
+    /// text to this one; `None` where the place begins with its first value. It looks up each name of the place's
+    /// path once, and takes no memory.
+    pub fn carry(&self, old: &Loaded<'_>, place: Place) -> Option<Place>
+        requires { place.0 < length (frame_of_text (text_view self.now.source)) }
+        ensures carried { option_map (λ p. p.0) result
+            ≡ carried_number (text_view old.now.source) (text_view self.now.source) place.0 }
+        // So the number that is carried on is in the range of the place's kind.
+        ensures kind { IfSome result
+            (λ p. slice_get (slot_kinds (frame_of_text (text_view self.now.source))) place.0
+            ≡ slice_get (slot_kinds (frame_of_text (text_view old.now.source))) p.0) }
+    {
+        let units = &self.units;
+        let last = units.len().saturating_sub(1);
+        let old_units = &old.units;
+        let old_last = old_units.len().saturating_sub(1);
+        self.checked
+            .tables()
+            .carry(last, old.checked.tables(), old_last, place)
     }
 
     /// The kinds of the places of the program's frame, in their order.

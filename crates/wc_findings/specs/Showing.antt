@@ -2,7 +2,7 @@
 use Rattle.std.specs.Prelude.{◌≡◌, ◌≤◌, ℕ, List, [], is_some, length, unwrap_or, if◌then◌else◌}
 use Rattle.wc_findings.specs.Lines.{line_of_number, lines_of}
 use Rattle.wc_findings.specs.declared.refusal.Part.{Part}
-use Rattle.wc_findings.specs.declared.refusal.Part.TheVariants.{Job, Plate, Program, Log}
+use Rattle.wc_findings.specs.declared.refusal.Part.TheVariants.{Job, Plate, Program, Next, Log}
 
 -- these are the bytes of the line of that number, without its end: 0 is no line, and no line has no
 -- bytes
@@ -20,7 +20,16 @@ abbrev pub line_of_part : Part → ℕ → ℕ → ℕ
 line_of_part Job place found = 0
 line_of_part Plate place found = found
 line_of_part Program place found = place
+line_of_part Next place found = place
 line_of_part Log place found = 1
+
+-- the next program is a program
+abbrev pub read_as : Part → Part
+read_as Job = Job
+read_as Plate = Plate
+read_as Program = Program
+read_as Next = Program
+read_as Log = Log
 
 -- the line that is shown is that of its part, where the text has it
 abbrev pub IsLineOf : Part → ℕ → List ℕ → ℕ → Type 0

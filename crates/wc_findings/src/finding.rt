@@ -63,13 +63,12 @@ impl Finding {
         self.spot = Some(Spot { start, length });
     }
 
-    /// Points to nothing, and quotes nothing.
-    pub(crate) fn forget(&mut self)
-        ensures spot { self.new.spot ≡ None }
+    /// Quotes nothing.
+    pub(crate) fn quote_nothing(&mut self)
+        ensures spot { self.new.spot ≡ self.old.spot }
         ensures line { self.new.line ≡ self.old.line }
         ensures subject { self.new.subject.items ≡ [] }
     {
-        self.spot = None;
         self.subject.clear();
     }
 

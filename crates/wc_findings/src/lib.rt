@@ -1,12 +1,10 @@
-//! What exactly is wrong with a refused text. Of tokens and reading the passes tell it; the rest is found from the refusal's
-//! number, its place and the text: where that is not sure, nothing is found beyond what the number says.
+//! What exactly is wrong with a refused text. Of a program's text the passes tell it; of plates and rows it is found from the
+//! refusal's number, its place and the text: where that is not sure, nothing is found beyond what the number says.
 #![tactic(auto)]
 
-mod body_faults;
 mod finding;
+mod later;
 mod lines;
-mod meant_tokens;
-mod names;
 mod pieces;
 mod plates;
 mod refusal;

@@ -7,6 +7,8 @@ pub enum Part {
     Plate,
     /// The program's text.
     Program,
+    /// The text of the program that takes its place.
+    Next,
     /// The log.
     Log,
 }

@@ -143,8 +143,16 @@ fn tell_hexadecimal(finding: &mut Finding, kind: &[u8], data: Field<'_>) -> Resu
 /// What is wrong with a kind.
 fn kind_fault(text: &[u8]) -> &'static str {
     match text {
-        [b'c' | b'l' | b'i' | b's'] => "is no kind: kinds are capital letters",
+        [b'c' | b'l' | b'i' | b's' | b'p'] => "is no kind: kinds are capital letters",
         _ => "is no kind",
+    }
+}
+
+/// What is wrong with data where none may stand.
+fn data_fault(kind: &[u8]) -> &'static str {
+    match kind {
+        [b'P'] => "stands behind a change, which has no data",
+        _ => "stands behind a scan, which has no data",
     }
 }
 
@@ -184,9 +192,13 @@ pub(crate) fn find_row_fault(
         608 => tell_field(
             finding,
             data,
-            "a scan has no data",
-            "stands behind a scan, which has no data",
+            "a scan and a change have no data",
+            data_fault(kind.text),
         ),
+        609 => {
+            finding.point(kind.start, kind.text.len().max(1));
+            Ok(())
+        }
         _ => Ok(()),
     }
 }

@@ -1,17 +1,16 @@
 ghost use Rattle.std.specs.Prelude.{◌≡◌, ◌≤◌, ◌<◌, IfOk, IfSome, None, Some, [], length};
 ghost use Rattle.wc_findings.specs.Finds.{Finds};
-ghost use Rattle.wc_findings.specs.Meant.{HasStop, HasToken, IsKept};
-ghost use Rattle.wc_findings.specs.Showing.{ShowsLine, known_line, line_of_part};
+ghost use Rattle.wc_findings.specs.Meant.{HasLaterSpot, HasStop, IsKept};
+ghost use Rattle.wc_findings.specs.Showing.{ShowsLine, known_line, line_of_part, read_as};
 
-use crate::body_faults::find_body_fault;
 use crate::finding::Finding;
+use crate::later::find_later;
 use crate::lines::line_at;
 use crate::plates::find_plate_fault;
 use crate::refusal::{Part, Refusal};
 use crate::rows::find_row_fault;
 use crate::stops::find_stop;
 use std::alloc::{AllocError, Global};
-use wc_lexer::tokens;
 
 /// Finds the fault of a program's text on its line.
 fn find_program_fault(
@@ -24,7 +23,7 @@ fn find_program_fault(
     ensures stopped { number < 300
         → IfOk result (λ _. HasStop text.now number finding.old.line finding.new) }
     ensures meant { 300 ≤ number
-        → IfOk result (λ _. HasToken text.now finding.old.line finding.new) }
+        → IfOk result (λ _. HasLaterSpot text.now number finding.old.line finding.new) }
 {
     if finding.line == 0 {
         return Ok(());
@@ -32,9 +31,16 @@ fn find_program_fault(
     if number < 300 {
         return find_stop(alloc, finding, text, number);
     }
-    match tokens(alloc, text) {
-        Ok(tokens) => find_body_fault(alloc, finding, text, &tokens, number),
-        Err(_) => Ok(()),
+    find_later(alloc, finding, text, number)
+}
+
+/// What a part is read as: the next program is a program.
+fn read_as(part: Part) -> Part
+    ensures { result ≡ read_as part }
+{
+    match part {
+        Part::Next => Part::Program,
+        part => part,
     }
 }
 
@@ -46,17 +52,18 @@ fn find_in(
     text: &[u8],
 ) -> Result<(), AllocError>
     requires { finding.old.spot ≡ None }
-    ensures stopped { refusal.now.part ≡ Part.Program → refusal.now.number < 300
+    ensures stopped { read_as refusal.now.part ≡ Part.Program → refusal.now.number < 300
         → IfOk result
         (λ _. HasStop text.now refusal.now.number finding.old.line finding.new) }
-    ensures meant { refusal.now.part ≡ Part.Program → 300 ≤ refusal.now.number
-        → IfOk result (λ _. HasToken text.now finding.old.line finding.new) }
+    ensures meant { read_as refusal.now.part ≡ Part.Program → 300 ≤ refusal.now.number
+        → IfOk result
+        (λ _. HasLaterSpot text.now refusal.now.number finding.old.line finding.new) }
 {
-    match refusal.part {
+    match read_as(refusal.part) {
         Part::Program => find_program_fault(alloc, finding, text, refusal.number),
         Part::Plate => find_plate_fault(alloc, finding, text, refusal.number),
         Part::Log => find_row_fault(finding, text, refusal.number, refusal.place),
-        Part::Job => Ok(()),
+        Part::Job | Part::Next => Ok(()),
     }
 }
 
@@ -67,7 +74,7 @@ fn line_of_part(refusal: &Refusal<'_>, found: u32) -> u32
     match refusal.part {
         Part::Job => 0,
         Part::Plate => found,
-        Part::Program => refusal.place,
+        Part::Program | Part::Next => refusal.place,
         Part::Log => 1,
     }
 }

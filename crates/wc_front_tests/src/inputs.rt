@@ -27,7 +27,16 @@ pub(crate) fn run_of<T: ByteIn, L: ByteIn>(
 ) -> Ending {
     let last = if is_last { Some(1) } else { None };
     let (mut plate, mut writer) = (Device::new(plate), Device::new(out));
-    run_files(alloc, last, &mut plate, program, log, &mut writer)
+    let mut next: Option<Device<&[u8]>> = None;
+    run_files(
+        alloc,
+        last,
+        &mut plate,
+        program,
+        &mut next,
+        log,
+        &mut writer,
+    )
 }
 
 /// A run of these inputs ends so, and this is written.
@@ -115,4 +124,37 @@ fn is_checked(alloc: Global) -> bool {
 fn line_and_check_print_what_they_should(rt: HostRuntime) {
     assert!(rt; is_line(rt.alloc()));
     assert!(rt; is_checked(rt.alloc()));
+}
+
+/// Output 1 follows input 0.
+const NEXT: &[u8] = b"PROGRAM Q\nLD %IX0.0\nST %QX0.1\nEND_PROGRAM\n";
+
+/// A scan before a change and one behind it, and a change for which no program is left.
+const CHANGES: &[u8] = b"ms,kind,data\n0,I,0001\n0,S,\n1,P,\n1,S,\n2,P,\n";
+
+/// A run with this next program ends so, and this is written.
+fn changes_so(alloc: Global, next: &[u8], ending: Ending, output: &[u8]) -> bool {
+    let mut out = Vec::new(alloc);
+    let (mut plate, mut program) = (Device::new(PLATE), Device::new(PROGRAM));
+    let (mut next, mut log) = (Some(Device::new(next)), Device::new(CHANGES));
+    let mut writer = Device::new(&mut out);
+    let found = run_files(
+        alloc,
+        None,
+        &mut plate,
+        &mut program,
+        &mut next,
+        &mut log,
+        &mut writer,
+    );
+    found == ending && out.as_slice() == output
+}
+
+#[test]
+fn change_succeeds(rt: HostRuntime) {
+    let third = refused(Input::Log, 609, 6);
+    let output = b"S 0 2 0001 0 0 0 0\nS 1 2 0003 0 0 0 0\nrefused 609 6\n";
+    assert!(rt; changes_so(rt.alloc(), NEXT, third, output));
+    let unread = refused(Input::Next, 203, 1);
+    assert!(rt; changes_so(rt.alloc(), b"", unread, b"refused 203 1\n"));
 }

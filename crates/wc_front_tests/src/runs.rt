@@ -42,11 +42,13 @@ fn is_cut(alloc: Global) -> Result<bool, AllocError> {
     let mut narrow = FuseOut::new(alloc, 7, ZERO_ANSWER.len() + 5)?;
     let (mut plate, mut program) = (Device::new(PLATE), Device::new(PROGRAM));
     let mut log = Device::new(ZERO_LOG);
+    let mut next: Option<Device<&[u8]>> = None;
     let ending = run_files(
         alloc,
         Some(1),
         &mut plate,
         &mut program,
+        &mut next,
         &mut log,
         &mut narrow,
     );

@@ -9,7 +9,7 @@ use Rattle.wc_language_laws.proofs.Longest.{computed_is_worst, longest_of_worst}
 use Rattle.wc_token_laws.proofs.FoundTokens.{found_cut}
 use Rattle.wc_grammar_laws.proofs.Spelling.{spelling}
 use Rattle.wc_model.specs.Language.Faults.{IsCostFault}
-use Rattle.wc_model.specs.Say.Job.{JobAnswer, AnswersProgram, runs, AnswersPlate, AnswersJob}
+use Rattle.wc_model.specs.Say.Job.{JobAnswer, AnswersPlate, AnswersJob, AnswersPrograms, loads_program, run_answer}
 use Rattle.wc_model.specs.Run.JobSections.{Sections}
 use Rattle.wc_model.specs.Language.Loading.{IsLoaded}
 use Rattle.wc_model.specs.Run.Log.{Record, log_of}
@@ -42,6 +42,8 @@ pub first_answer : (table_of : List ℕ → Option Table) (records_of : List ℕ
 unfolding digits
 first_answer table_of records_of t r =
     let answer : JobAnswer = record { output = codes "S 0 2 0001 0 0 0 0" ++ 10 ∷ []; status = 0 } in
-    let sections : Sections = record { plate = plate_text; program = program_bytes; log = log_bytes } in
-    let program : (records : List Record) → log_records ≡ records → AnswersProgram plate_of_15_kg program_bytes (log_of records) answer = λ records e. subst (λ (rs : List Record). AnswersProgram plate_of_15_kg program_bytes (log_of rs) answer) e (runs copies_an_input first_is_loaded refl) in
+    let sections : Sections = record { plate = plate_text; program = program_bytes; next = None; log = log_bytes } in
+    let program : (records : List Record) → log_records ≡ records → AnswersPrograms (λ logic. run_answer plate_of_15_kg logic (log_of records)) program_bytes None answer =
+    λ records e. subst (λ (rs : List Record). AnswersPrograms (λ logic. run_answer plate_of_15_kg logic (log_of rs)) program_bytes None answer) e
+    (loads_program copies_an_input first_is_loaded refl) in
     subst (λ (found : Option Table). AnswersPlate records_of sections (plate_of found) answer) (sym t) (program (records_of log_bytes) (sym r))

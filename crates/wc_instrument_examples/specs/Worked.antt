@@ -5,7 +5,7 @@ use Rattle.wc_model.specs.Instrument.WeighingHistories.{Sample, History}
 use Rattle.wc_model.specs.Run.Log.{LogOf, first_row, log_of}
 use Rattle.wc_model.specs.Instrument.Plates.{PlateData, grams, kilograms}
 use Rattle.wc_model.specs.Instrument.PlateTable.{Table, Text, Whole, plate_of}
-use Rattle.wc_model.specs.Say.Report.{Scans}
+use Rattle.wc_model.specs.Say.Report.{Program}
 use Rattle.wc_model.specs.Run.Rows.{RowData, Counts, Bytes, Scan, LogRow, answers}
 
 -- 15 kg in steps of 5 g: 3000 intervals of 200 counts, from 10000 on
@@ -71,20 +71,26 @@ log_with_rows records = log_of (first_row ∷ records)
 abbrev pub scan_row : ℕ → ℕ → LogRow
 scan_row number ms = record { number = number; ms = ms; brings = Scan }
 
--- the scans of a program of two steps that copies the first input to the first output and keeps nothing
-abbrev pub copies_first_input : Scans (Unit {0})
-copies_first_input state image ms = record {
-  steps = 2;
-  outputs = record { bits = image.inputs % 2; words = pos 0 ∷ pos 0 ∷ pos 0 ∷ pos 0 ∷ [] };
-  after = tt;
+-- a program of two steps that copies the first input to the first output, keeps nothing and stays the same over a change
+abbrev pub copies_first_input : Program (Unit {0})
+copies_first_input = record {
+  scan = λ state image ms. record {
+    steps = 2;
+    outputs = record { bits = image.inputs % 2; words = pos 0 ∷ pos 0 ∷ pos 0 ∷ pos 0 ∷ [] };
+    after = tt;
+  };
+  change = λ state. state;
 }
 
--- the scans of a program of one step that counts them in the first output word
-abbrev pub counts_scans : Scans ℕ
-counts_scans count image ms = record {
-  steps = 1;
-  outputs = record { bits = 0; words = pos (count + 1) ∷ pos 0 ∷ pos 0 ∷ pos 0 ∷ [] };
-  after = count + 1;
+-- a program of one step that counts its scans in the first output word; a change adds 100 to what it has counted
+abbrev pub counts_scans : Program ℕ
+counts_scans = record {
+  scan = λ count image ms. record {
+    steps = 1;
+    outputs = record { bits = 0; words = pos (count + 1) ∷ pos 0 ∷ pos 0 ∷ pos 0 ∷ [] };
+    after = count + 1;
+  };
+  change = λ count. count + 100;
 }
 
 -- texts, each followed by LF

@@ -1,6 +1,6 @@
 //! The sections of a job.
 
-ghost use Rattle.std.specs.Prelude.{◌≡◌, ◌++◌, [], ◌∷◌, codes};
+ghost use Rattle.std.specs.Prelude.{◌≡◌, ◌++◌, [], ◌∷◌, codes, Some, None};
 ghost use Rattle.wc_model.specs.Run.JobSections.{sections_of};
 ghost use Rattle.wc_instrument_examples.specs.Worked.{lines_text, plate_text};
 
@@ -15,6 +15,7 @@ pub fn first_job()
           plate = plate_text;
           program = lines_text (codes "PROGRAM P" ∷ codes "LD %IX0.0" ∷ codes "ST %QX0.0"
               ∷ codes "END_PROGRAM" ∷ []);
+          next = None;
           log = lines_text (codes "ms,kind,data" ∷ codes "0,I,0001" ∷ codes "0,S," ∷ []);
         }) }
 {}
@@ -24,7 +25,34 @@ pub fn job_sections()
     ensures crlf { sections_of
         (codes "@plate" ++ 13 ∷ 10 ∷ codes "@program" ++ 10 ∷ codes "@plate" ++ 10 ∷ codes "@log"
         ++ 10 ∷ codes "x")
-        ≡ Ok (record { plate = []; program = lines_text (codes "@plate" ∷ []); log = codes "x" }) }
+        ≡ Ok (record {
+          plate = [];
+          program = lines_text (codes "@plate" ∷ []);
+          next = None;
+          log = codes "x";
+        }) }
+{}
+
+/// A next program stands behind the first heading of its own between the program and the log, and nowhere else.
+pub fn next_sections()
+    ensures between { sections_of
+        (lines_text (codes "@plate" ∷ codes "@program" ∷ codes "P" ∷ codes "@next" ∷ codes "Q"
+        ∷ codes "@next" ∷ codes "@log" ∷ []))
+        ≡ Ok (record {
+          plate = [];
+          program = lines_text (codes "P" ∷ []);
+          next = Some (lines_text (codes "Q" ∷ codes "@next" ∷ []));
+          log = [];
+        }) }
+    ensures elsewhere { sections_of
+        (lines_text (codes "@plate" ∷ codes "@next" ∷ codes "@program" ∷ codes "@log"
+        ∷ codes "@next" ∷ []))
+        ≡ Ok (record {
+          plate = lines_text (codes "@next" ∷ []);
+          program = [];
+          next = None;
+          log = lines_text (codes "@next" ∷ []);
+        }) }
 {}
 
 /// Without a heading, with one that has no line end, or with one that isn't the first line, a job is refused.

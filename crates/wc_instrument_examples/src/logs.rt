@@ -2,7 +2,7 @@
 
 ghost use Rattle.std.specs.Prelude.{◌≡◌, negsuc, [], ◌∷◌, codes, replicate};
 ghost use Rattle.wc_model.specs.Run.Log.{log_of, with_row, refused_at};
-ghost use Rattle.wc_model.specs.Run.Rows.{Counts, Bytes, Inputs};
+ghost use Rattle.wc_model.specs.Run.Rows.{Counts, Bytes, Inputs, Change};
 ghost use Rattle.wc_instrument_examples.specs.Worked.{log_with_rows, three_fields, scan_row};
 
 /// An empty log has no first row; neither has one that begins otherwise.
@@ -25,12 +25,14 @@ pub fn each_kind()
         ∷ three_fields (codes "007") (codes "L") (codes "0a5A")
         ∷ three_fields (codes "7") (codes "I") (codes "00fF")
         ∷ three_fields (codes "8") (codes "S") []
+        ∷ three_fields (codes "8") (codes "P") []
         ∷ [])
         ≡ record {
           rows = record { number = 2; ms = 0; brings = Counts (negsuc 41) }
               ∷ record { number = 3; ms = 7; brings = Bytes (10 ∷ 90 ∷ []) }
               ∷ record { number = 4; ms = 7; brings = Inputs 255 }
               ∷ scan_row 5 8
+              ∷ record { number = 6; ms = 8; brings = Change }
               ∷ [];
           refusal = None;
         } }
@@ -41,6 +43,8 @@ pub fn one_refused_row()
     ensures odd_hex { log_with_rows (three_fields (codes "0") (codes "L") (codes "0A5") ∷ [])
         ≡ refused_at 606 2 }
     ensures data_on_scan { log_with_rows (three_fields (codes "0") (codes "S") (codes "x") ∷ [])
+        ≡ refused_at 608 2 }
+    ensures data_on_change { log_with_rows (three_fields (codes "0") (codes "P") (codes "x") ∷ [])
         ≡ refused_at 608 2 }
     ensures counts { log_with_rows (three_fields (codes "0") (codes "C") (codes "8388608") ∷ [])
         ≡ refused_at 605 2 }

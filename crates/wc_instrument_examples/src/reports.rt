@@ -2,7 +2,7 @@
 
 ghost use Rattle.std.specs.Prelude.{◌≡◌, ◌++◌, pos, negsuc, [], ◌∷◌, codes};
 ghost use Rattle.wc_model.specs.Say.Report.{ScanLine, AnswerLine, line_text, line_report, report, report_last};
-ghost use Rattle.wc_model.specs.Run.Rows.{Bytes, Inputs, Scan};
+ghost use Rattle.wc_model.specs.Run.Rows.{Bytes, Change, Inputs, Scan};
 ghost use Rattle.wc_instrument_examples.specs.Worked.{plate_of_15_kg, four_rows, rows_from, scan_row, lines_text, log_with_rows, three_fields, copies_first_input, counts_scans};
 
 /// A scan's line: moment, steps, four digits of bits, four words.
@@ -75,4 +75,11 @@ pub fn scans_in_a_row()
     ensures last_two { report_last 2 plate_of_15_kg counts_scans 0
         (scan_row 2 0 ∷ scan_row 3 5 ∷ scan_row 4 5 ∷ [])
         ≡ lines_text (codes "S 5 1 0000 2 0 0 0" ∷ codes "S 5 1 0000 3 0 0 0" ∷ []) }
+{}
+
+/// A change between two scans has no line, and the scan behind it goes on from what the change makes of the state.
+pub fn a_change_between_scans()
+    ensures { report plate_of_15_kg counts_scans 0
+        (rows_from 2 (Scan ∷ Change ∷ Scan ∷ []))
+        ≡ lines_text (codes "S 0 1 0000 1 0 0 0" ∷ codes "S 0 1 0000 102 0 0 0" ∷ []) }
 {}

@@ -1,14 +1,14 @@
--- The line does not depend on scans, inputs and programs.
+-- The line does not depend on scans, inputs, programs and their changes.
 use Rattle.std.proofs.Common.{◌≡◌, ℕ, List, [], ◌∷◌, ◌++◌, refl, ap, sym, ◌∙◌, append-nil}
 use Rattle.std.proofs.lemmas.List.Elements.{filter-append}
 use Rattle.std.specs.Prelude.{filter, map}
 use Rattle.wc_model.specs.Instrument.WeighingHistories.{last_items}
 use Rattle.wc_model.specs.Instrument.Independence.{indicator_rows, IsFreeOfScans, IsFreeOfPrograms}
 use Rattle.wc_model.specs.Instrument.Plates.{PlateData}
-use Rattle.wc_model.specs.Say.Report.{Scans, is_answer_line, is_scan_line, answer_line, lines_with, report_lines, answer_lines, report_text}
-use Rattle.wc_model.specs.Run.Rows.{RowData, Counts, Bytes, Inputs, Scan, LogRow, Past, line_bytes, line_bytes_in, history_with, history_of, answer_with, answer_of_row}
+use Rattle.wc_model.specs.Say.Report.{Program, is_answer_line, is_scan_line, answer_line, lines_with, report_lines, answer_lines, report_text}
+use Rattle.wc_model.specs.Run.Rows.{RowData, Counts, Bytes, Inputs, Scan, Change, LogRow, Past, line_bytes, line_bytes_in, history_with, history_of, answer_with, answer_of_row}
 
--- a row adds the same bytes, whether scans and inputs are there or not
+-- a row adds the same bytes, whether scans, inputs and changes are there or not
 bytes_with : (number ms : ℕ) (brings : RowData) (before : Past) → line_bytes before ≡ line_bytes (indicator_rows before) →
     line_bytes (record { number = number; ms = ms; brings = brings } ∷ before)
     ≡ line_bytes (indicator_rows (record { number = number; ms = ms; brings = brings } ∷ before))
@@ -16,8 +16,9 @@ bytes_with number ms (Counts counts) before e = ap (λ b. b ++ []) e
 bytes_with number ms (Bytes bytes) before e = ap (λ b. b ++ bytes) e
 bytes_with number ms (Inputs inputs) before e = append-nil (line_bytes before) ∙ e
 bytes_with number ms Scan before e = append-nil (line_bytes before) ∙ e
+bytes_with number ms Change before e = append-nil (line_bytes before) ∙ e
 
--- the line's bytes are those of the rows without scans and inputs
+-- the line's bytes are those of the rows without scans, inputs and changes
 same_bytes : (before : Past) → line_bytes before ≡ line_bytes (indicator_rows before)
 same_bytes [] = refl
 same_bytes (row ∷ before) = bytes_with row.number row.ms row.brings before (same_bytes before)
@@ -30,8 +31,9 @@ history_with_row number ms (Counts counts) before e = λ i. history_with (Counts
 history_with_row number ms (Bytes bytes) before e = λ i. history_with (Bytes bytes) (same_bytes before i) (e i)
 history_with_row number ms (Inputs inputs) before e = e
 history_with_row number ms Scan before e = e
+history_with_row number ms Change before e = e
 
--- the history is that of the rows without scans and inputs
+-- the history is that of the rows without scans, inputs and changes
 same_history : (before : Past) → history_of before ≡ history_of (indicator_rows before)
 same_history [] = refl
 same_history (row ∷ before) = history_with_row row.number row.ms row.brings before (same_history before)
@@ -51,8 +53,9 @@ lines_with_row p before number ms (Bytes bytes) rows e =
     λ i. answer_line ms (same_answer p before (record { number = number; ms = ms; brings = Bytes bytes }) i) ++ e i
 lines_with_row p before number ms (Inputs inputs) rows e = e
 lines_with_row p before number ms Scan rows e = e
+lines_with_row p before number ms Change rows e = e
 
--- the answers are those of the rows without scans and inputs
+-- the answers are those of the rows without scans, inputs and changes
 same_lines : (p : PlateData) (before : Past) (rows : List LogRow) →
     answer_lines p before rows ≡ answer_lines p (indicator_rows before) (indicator_rows rows)
 same_lines p before [] = refl
@@ -82,7 +85,7 @@ lines_by_moments p before [] = refl
 lines_by_moments p before (row ∷ rows) =
     λ i. answer_line row.ms (answer_with p row.brings (bytes_of_moments before i) (history_of_moments before i)) ++ lines_by_moments p (row ∷ before) rows i
 
--- scans and inputs may be taken out and put in
+-- scans, inputs and changes may be taken out and put in
 pub is_free_of_scans : (p : PlateData) → IsFreeOfScans p
 is_free_of_scans p = record {
   row = same_answer p;
@@ -97,28 +100,29 @@ pub answers_kept : (ms : ℕ) (bytes : List ℕ) → filter is_answer_line (answ
 answers_kept ms [] = refl
 answers_kept ms (byte ∷ bytes) = refl
 
-module _ {State : Type 0} (p : PlateData) (scan : Scans State) (start : State) where
+module _ {State : Type 0} (p : PlateData) (program : Program State) (start : State) where
   -- of the lines of a row the answers are those with no program
   answers_of_row : (brings : RowData) (before : Past) (number ms : ℕ) →
-      filter is_answer_line (lines_with p scan start brings before (record { number = number; ms = ms; brings = brings }))
+      filter is_answer_line (lines_with p program start brings before (record { number = number; ms = ms; brings = brings }))
       ≡ answer_line ms (answer_of_row p before (record { number = number; ms = ms; brings = brings }))
   answers_of_row (Counts counts) before number ms = refl
   answers_of_row (Bytes bytes) before number ms = answers_kept ms (answer_of_row p before (record { number = number; ms = ms; brings = Bytes bytes }))
   answers_of_row (Inputs inputs) before number ms = refl
   answers_of_row Scan before number ms = refl
+  answers_of_row Change before number ms = refl
 
   -- of the lines of a report too
   answers_of_rows : (before : Past) (rows : List LogRow) →
-      filter is_answer_line (report_lines p scan start before rows) ≡ answer_lines p before rows
+      filter is_answer_line (report_lines p program start before rows) ≡ answer_lines p before rows
   answers_of_rows before [] = refl
   answers_of_rows before (row ∷ rows) =
-      filter-append is_answer_line (lines_with p scan start row.brings before row) (report_lines p scan start (row ∷ before) rows)
+      filter-append is_answer_line (lines_with p program start row.brings before row) (report_lines p program start (row ∷ before) rows)
       ∙ λ i. answers_of_row row.brings before row.number row.ms i ++ answers_of_rows (row ∷ before) rows i
 
   -- the answers in a report are those of a run with no program
-  pub is_free_of_programs : (rows : List LogRow) → IsFreeOfPrograms p scan start rows
+  pub is_free_of_programs : (rows : List LogRow) → IsFreeOfPrograms p program start rows
   is_free_of_programs rows = record {
     lines = answers_of_rows [] rows;
     bytes = ap report_text (answers_of_rows [] rows);
-    last = λ n. ap (λ lines. report_text lines ++ report_text (last_items n (filter is_scan_line (report_lines p scan start [] rows)))) (answers_of_rows [] rows);
+    last = λ n. ap (λ lines. report_text lines ++ report_text (last_items n (filter is_scan_line (report_lines p program start [] rows)))) (answers_of_rows [] rows);
   }

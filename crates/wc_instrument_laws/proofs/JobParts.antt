@@ -4,8 +4,8 @@ use Rattle.std.proofs.lemmas.Bool.{eqb-true}
 use Rattle.std.proofs.lemmas.List.{append-nil}
 use Rattle.std.specs.List.{concat}
 use Rattle.std.specs.Prelude.{nat_lt}
-use Rattle.wc_instrument_laws.specs.Jobs.{IsMadeOf, JobIsItsSections}
-use Rattle.wc_model.specs.Run.JobSections.{Parted, Sections, is_heading, longest_job, onto_first_line, part_at, sections_in, sections_or_refusal, sections_with_log, sections_with_program, whole_lines, with_line}
+use Rattle.wc_instrument_laws.specs.Jobs.{IsMadeOf, IsNextPart, JobIsItsSections}
+use Rattle.wc_model.specs.Run.JobSections.{Parted, Sections, is_heading, longest_job, onto_first_line, part_at, sections_in, sections_or_refusal, sections_with_log, sections_with_next, sections_with_program, whole_lines, with_line}
 
 -- a byte before the first line stands before all
 onto_all : (byte : ℕ) (lines : List (List ℕ)) → concat (onto_first_line byte lines) ≡ byte ∷ concat lines
@@ -52,7 +52,30 @@ parted_whole word (line ∷ lines) parted e = by_test (is_heading word line) ref
         subst (IsPartedAt word (concat (line ∷ lines))) same (record { heading = line; is = is; whole = refl })
     by_test false is f further = line_before word line (concat lines) (part_at word lines) parted further f
 
--- three lines with what stands behind each
+-- what stands between two headings is the program with what stands behind it of a next one
+record IsMadeOfPrograms (between : List ℕ) (sections : Sections) : Type 0 where
+  pub next_part : List ℕ
+  pub next_heading : IsNextPart sections.next next_part
+  pub whole : between ≡ sections.program ++ next_part
+
+programs_made : (plate between log : List ℕ) (o : Option Parted) → part_at (codes "@next") (whole_lines between) ≡ o
+    → IsMadeOfPrograms between (sections_with_next plate between log o)
+programs_made plate between log None e = record { next_part = []; next_heading = refl; whole = sym (append-nil between) }
+programs_made plate between log (Some parted) e =
+    let k = parted_whole (codes "@next") (whole_lines between) parted e in
+    record {
+      next_part = k.heading ++ concat parted.rest;
+      next_heading = (k.heading, k.is, refl);
+      whole = sym (lines_whole between) ∙ k.whole;
+    }
+
+-- the plate and the log of such sections
+same_ends : (plate between log : List ℕ) (o : Option Parted)
+    → ((sections_with_next plate between log o).plate ≡ plate) × ((sections_with_next plate between log o).log ≡ log)
+same_ends plate between log None = (refl, refl)
+same_ends plate between log (Some parted) = (refl, refl)
+
+-- the lines of the headings with what stands behind each
 made : (text first : List ℕ) (lines : List (List ℕ)) (sections : Sections) → text ≡ first ++ concat lines → is_heading (codes "@plate") first ≡ true
     → sections_with_program (part_at (codes "@program") lines) ≡ Some sections → IsMadeOf text sections
 made text first lines sections whole is e = by_program (part_at (codes "@program") lines) refl e
@@ -61,16 +84,28 @@ made text first lines sections whole is e = by_program (part_at (codes "@program
     by_log p k None f e = absurd (cc)
     by_log p k (Some q) f e =
         let l = parted_whole (codes "@log") p.rest q f in
-        let same : record { plate = p.section; program = q.section; log = concat q.rest } ≡ sections = cc in
-        let end : concat q.rest ≡ concat q.rest ++ [] = sym (append-nil (concat q.rest)) in
+        let behind = part_at (codes "@next") (whole_lines q.section) in
+        let found = sections_with_next p.section q.section (concat q.rest) behind in
+        let ends = same_ends p.section q.section (concat q.rest) behind in
+        let programs = programs_made p.section q.section (concat q.rest) behind refl in
+        let same : found ≡ sections = cc in
+        let end : concat q.rest ≡ found.log ++ [] = sym ends.1 ∙ sym (append-nil found.log) in
+        let middle : q.section ++ (l.heading ++ concat q.rest) ≡ found.program ++ (programs.next_part ++ (l.heading ++ (found.log ++ []))) =
+        ap (λ t. t ++ (l.heading ++ concat q.rest)) programs.whole
+        ∙ append_assoc found.program programs.next_part (l.heading ++ concat q.rest)
+        ∙ ap (λ t. found.program ++ (programs.next_part ++ (l.heading ++ t))) end in
         subst (IsMadeOf text) same (record {
           plate_line = first;
           program_line = k.heading;
+          next_part = programs.next_part;
           log_line = l.heading;
           plate_heading = is;
           program_heading = k.is;
+          next_heading = programs.next_heading;
           log_heading = l.is;
-          whole = whole ∙ ap (λ t. first ++ t) (k.whole ∙ ap (λ t. p.section ++ (k.heading ++ t)) (l.whole ∙ ap (λ t. q.section ++ (l.heading ++ t)) end));
+          whole = whole ∙ ap (λ t. first ++ t) (k.whole
+              ∙ ap (λ t. p.section ++ (k.heading ++ t)) (l.whole ∙ middle)
+              ∙ ap (λ t. t ++ (k.heading ++ (found.program ++ (programs.next_part ++ (l.heading ++ (found.log ++ [])))))) (sym ends.0));
         })
 
     by_program : (o : Option Parted) → part_at (codes "@program") lines ≡ o → sections_with_program o ≡ Some sections → IsMadeOf text sections

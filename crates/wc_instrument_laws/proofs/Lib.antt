@@ -8,3 +8,4 @@ pub mod JobParts
 pub mod LogRows
 pub mod LineBytes
 pub mod WrittenLines
+pub mod Changes

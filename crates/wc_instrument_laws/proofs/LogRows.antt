@@ -11,8 +11,8 @@ use Rattle.std.specs.Str.{bytes_eq}
 use Rattle.wc_instrument_laws.specs.Logs.{IsDataInRange, AreInOrder, RowsAreInOrder}
 use Rattle.wc_model.specs.Instrument.Plates.{least_sample, greatest_sample}
 use Rattle.wc_model.specs.Run.Hex.{byte_of_digits, bytes_of_hex, with_byte}
-use Rattle.wc_model.specs.Run.Log.{Record, brings_or, counts_of, first_row, greatest_moment, has_fields, inputs_word_of, is_in_order, last_moment, line_piece_of, log_after, log_with, longest_piece, moment_of, most_rows, number_within, row_at, row_data_of, row_from, row_of, row_of_fields, scan_of_data, where_passes, whole_of}
-use Rattle.wc_model.specs.Run.Rows.{RowData, Counts, Bytes, Inputs, Scan, LogRow}
+use Rattle.wc_model.specs.Run.Log.{Record, brings_or, counts_of, first_row, greatest_moment, has_fields, inputs_word_of, is_in_order, last_moment, line_piece_of, log_after, log_with, longest_piece, moment_of, most_rows, number_within, row_at, row_data_of, row_from, row_of, row_of_fields, scan_of_data, where_passes, whole_of, change_of_data}
+use Rattle.wc_model.specs.Run.Rows.{RowData, Counts, Bytes, Inputs, Scan, Change, LogRow}
 
 -- what passes a test
 passes : {A : Type 0} (test : A → Bool) (o : Option A) (value : A) → where_passes test o ≡ Some value → (o ≡ Some value) × (test value ≡ true)
@@ -83,6 +83,11 @@ scan_in_range : (text : List ℕ) (brings : RowData) → scan_of_data text ≡ O
 scan_in_range [] brings e = let same : Scan ≡ brings = cc in subst IsDataInRange same tt
 scan_in_range (byte ∷ bytes) brings e = absurd (cc)
 
+-- a change
+change_in_range : (text : List ℕ) (brings : RowData) → change_of_data text ≡ Ok brings → IsDataInRange brings
+change_in_range [] brings e = let same : Change ≡ brings = cc in subst IsDataInRange same tt
+change_in_range (byte ∷ bytes) brings e = absurd (cc)
+
 -- where one of two results is meant, what holds of both holds
 either : (b : Bool) (first second : Result RowData ℕ) (brings : RowData) → (if b then first else second) ≡ Ok brings → (first ≡ Ok brings → IsDataInRange brings) → (second ≡ Ok brings → IsDataInRange brings) → IsDataInRange brings
 either true first second brings e one other = one e
@@ -94,7 +99,8 @@ data_in_range kind text brings e =
     either (bytes_eq kind (codes "C")) _ _ brings e (λ f. brought 605 Counts (counts_of text) brings f (counts_in_range text)) (λ f.
     either (bytes_eq kind (codes "L")) _ _ brings f (λ g. brought 606 Bytes (line_piece_of text) brings g (piece_in_range text)) (λ g.
     either (bytes_eq kind (codes "I")) _ _ brings g (λ h. brought 606 Inputs (inputs_word_of text) brings h (word_in_range text)) (λ h.
-    either (bytes_eq kind (codes "S")) _ _ brings h (λ k. scan_in_range text brings k) (λ k. absurd (cc)))))
+    either (bytes_eq kind (codes "S")) _ _ brings h (λ k. scan_in_range text brings k) (λ k.
+    either (bytes_eq kind (codes "P")) _ _ brings k (λ m. change_in_range text brings m) (λ m. absurd (cc))))))
 
 -- the moment before which no row may stand
 abbrev pub earliest_after : Option ℕ → ℕ

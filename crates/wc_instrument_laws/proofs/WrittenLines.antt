@@ -8,7 +8,7 @@ use Rattle.std.proofs.lemmas.Grind.{flat_map-append}
 use Rattle.wc_model.specs.Instrument.Plates.{PlateData}
 use Rattle.wc_model.specs.Run.JobSections.{onto_first_line, whole_lines}
 use Rattle.wc_model.specs.Run.Rows.{LogRow, Past, answer_of_row}
-use Rattle.wc_model.specs.Say.Report.{ReportLine, ScanLine, AnswerLine, Scans, answer_line, answer_lines, is_answer_line, is_scan_line, line_report, line_text, report_lines, report_text}
+use Rattle.wc_model.specs.Say.Report.{ReportLine, ScanLine, AnswerLine, Program, answer_line, answer_lines, is_answer_line, is_scan_line, line_report, line_text, report_lines, report_text}
 use Rattle.wc_instrument_laws.specs.WrittenLines.{ScanLinesComeOut, begins_with_s, without_scan_lines}
 use Rattle.wc_instrument_laws.proofs.Independence.{answers_kept, is_free_of_programs}
 use Rattle.wc_instrument_laws.proofs.LineBytes.{AreAboveLineFeed, body_above, body_of, line_is}
@@ -78,10 +78,10 @@ pub line_stays : (p : PlateData) (rows : List LogRow) → without_scan_lines (li
 line_stays p rows = left_of_text (answer_lines p [] rows) ∙ ap report_text (all_answers p [] rows)
 
 -- the lines of scans come out of what a run writes
-pub scan_lines_come_out : {State : Type 0} (p : PlateData) (scan : Scans State) (start : State) (rows : List LogRow) → ScanLinesComeOut p scan start rows
-scan_lines_come_out p scan start rows =
-    let lines = report_lines p scan start [] rows in
-    let free = is_free_of_programs p scan start rows in
+pub scan_lines_come_out : {State : Type 0} (p : PlateData) (program : Program State) (start : State) (rows : List LogRow) → ScanLinesComeOut p program start rows
+scan_lines_come_out p program start rows =
+    let lines = report_lines p program start [] rows in
+    let free = is_free_of_programs p program start rows in
     record {
       whole = left_of_text lines ∙ free.bytes;
       last = λ n. scans_behind lines (length (filter is_scan_line lines) - n) ∙ free.bytes;

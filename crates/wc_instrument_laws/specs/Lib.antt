@@ -1,3 +1,4 @@
 pub mod Jobs
 pub mod Logs
 pub mod WrittenLines
+pub mod Changes

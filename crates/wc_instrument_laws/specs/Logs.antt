@@ -3,7 +3,7 @@ use Rattle.std.specs.Prelude.{◌≡◌, ℕ, suc, ◌≤◌, ◌<◌, ◌^◌, 
 use Rattle.std.specs.Int.Digits.{AllBelowBase}
 use Rattle.wc_model.specs.Instrument.Plates.{least_sample, greatest_sample}
 use Rattle.wc_model.specs.Run.Log.{Record, greatest_moment, log_of, longest_piece, most_rows}
-use Rattle.wc_model.specs.Run.Rows.{RowData, Counts, Bytes, Inputs, Scan, LogRow}
+use Rattle.wc_model.specs.Run.Rows.{RowData, Counts, Bytes, Inputs, Scan, Change, LogRow}
 
 -- what a row brings is in its range
 abbrev pub IsDataInRange : RowData → Type 0
@@ -11,6 +11,7 @@ IsDataInRange (Counts counts) = (least_sample ≤ℤ counts) × (counts ≤ℤ g
 IsDataInRange (Bytes bytes) = (length bytes ≤ longest_piece) × AllBelowBase 256 bytes
 IsDataInRange (Inputs inputs) = inputs < 2 ^ 16
 IsDataInRange Scan = Unit {0}
+IsDataInRange Change = Unit {0}
 
 -- The rows are numbered on from this number, within the limit; no moment is before the one before it, or too great.
 abbrev pub AreInOrder : (number earliest : ℕ) → List LogRow → Type 0

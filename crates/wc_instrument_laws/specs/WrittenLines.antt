@@ -4,7 +4,7 @@ use Rattle.std.specs.List.{concat}
 use Rattle.wc_model.specs.Instrument.Plates.{PlateData}
 use Rattle.wc_model.specs.Run.JobSections.{whole_lines}
 use Rattle.wc_model.specs.Run.Rows.{LogRow}
-use Rattle.wc_model.specs.Say.Report.{Scans, line_report, report, report_last}
+use Rattle.wc_model.specs.Say.Report.{Program, line_report, report, report_last}
 
 -- whether a line's first byte is an S
 abbrev pub begins_with_s : List ℕ → Bool
@@ -20,7 +20,7 @@ without_scan_lines bytes = concat (filter (λ line. not (begins_with_s line)) (w
 --     whole      of a run that writes every scan
 --     last       of a run that writes the last scans
 --     line       and with no program there is no such line
-pub record ScanLinesComeOut {State : Type 0} (p : PlateData) (scan : Scans State) (start : State) (rows : List LogRow) : Type 0 where
-  pub whole : without_scan_lines (report p scan start rows) ≡ line_report p rows
-  pub last : (n : ℕ) → without_scan_lines (report_last n p scan start rows) ≡ line_report p rows
+pub record ScanLinesComeOut {State : Type 0} (p : PlateData) (program : Program State) (start : State) (rows : List LogRow) : Type 0 where
+  pub whole : without_scan_lines (report p program start rows) ≡ line_report p rows
+  pub last : (n : ℕ) → without_scan_lines (report_last n p program start rows) ≡ line_report p rows
   pub line : without_scan_lines (line_report p rows) ≡ line_report p rows

@@ -2,6 +2,7 @@
 
 ghost use Rattle.std.specs.Prelude.{◌≡◌, ◌∷◌, ◌++◌, ℕ, ◌<◌, ℤ, List, length, Option, true, IsFalse};
 ghost use Rattle.std.specs.List.{list_all};
+ghost use Rattle.wc_instrument_laws.specs.Changes.{ReportsFromTheChange, ReportsUpToTheChange, RowsAreRun};
 ghost use Rattle.wc_instrument_laws.specs.Jobs.{JobIsItsSections};
 ghost use Rattle.wc_instrument_laws.specs.Logs.{RowsAreInOrder};
 ghost use Rattle.wc_instrument_laws.specs.WrittenLines.{ScanLinesComeOut};
@@ -13,7 +14,7 @@ ghost use Rattle.wc_model.specs.Instrument.Indication.{is_stable};
 ghost use Rattle.wc_model.specs.Run.Log.{Record, row_of};
 ghost use Rattle.wc_model.specs.Instrument.Plates.{PlateData, IsPlate};
 ghost use Rattle.wc_model.specs.Instrument.PlateTable.{Table, plate_of};
-ghost use Rattle.wc_model.specs.Say.Report.{Scans};
+ghost use Rattle.wc_model.specs.Say.Report.{Program};
 ghost use Rattle.wc_model.specs.Instrument.Requests.{IsCutAnywhere, carriage_return, is_text, line_feed, requests, requests_in};
 ghost use Rattle.wc_model.specs.Instrument.Rounding.{HasOneNearest};
 ghost use Rattle.wc_model.specs.Run.Rows.{LogRow};
@@ -23,7 +24,7 @@ pub fn one_number_is_nearest()
     ensures { (num : ℤ) (span : ℕ) → 0 < span → HasOneNearest num span }
 {}
 
-/// Scans and inputs may be taken out of a log and put into it: the line's answers stay.
+/// Scans, inputs and changes of the program may be taken out of a log and put into it: the line's answers stay.
 pub fn answers_are_free_of_scans()
     ensures { (p : PlateData) → IsFreeOfScans p }
 {}
@@ -33,17 +34,33 @@ pub fn streams_are_cut_anywhere()
     ensures { IsCutAnywhere }
 {}
 
-/// A report without the lines of its scans is that of a run with no program, byte for byte, whatever the scans do.
+/// A report without the lines of its scans is that of a run with no program, byte for byte, whatever the scans do and a change makes of
+/// the program.
 pub fn answers_are_free_of_programs<State>()
-    ensures { (p : PlateData) (scan : Scans State) (start : State) (rows : List LogRow)
-        → IsFreeOfPrograms p scan start rows }
+    ensures { (p : PlateData) (program : Program State) (start : State) (rows : List LogRow)
+        → IsFreeOfPrograms p program start rows }
 {}
 
 /// The lines of scans can be taken out of the bytes that a run writes: those that begin with an S. What is left are the
 /// bytes of a run with no program.
 pub fn scan_lines_come_out<State>()
-    ensures { (p : PlateData) (scan : Scans State) (start : State) (rows : List LogRow)
-        → ScanLinesComeOut p scan start rows }
+    ensures { (p : PlateData) (program : Program State) (start : State) (rows : List LogRow)
+        → ScanLinesComeOut p program start rows }
+{}
+
+/// Up to a change of the program the report is that of the old program alone, whatever the next one is.
+pub fn reports_up_to_the_change()
+    ensures { ReportsUpToTheChange }
+{}
+
+/// From a change of the program on the report is that of the new program, from the store that is carried over to it.
+pub fn reports_from_the_change()
+    ensures { ReportsFromTheChange }
+{}
+
+/// The rows that a run takes of a log are run beside its machine: no change among them is without a next program.
+pub fn rows_are_run()
+    ensures { RowsAreRun }
 {}
 
 /// A table that is accepted gives a plate in its ranges.

@@ -2,7 +2,7 @@
 use Rattle.std.proofs.Common.{◌≡◌, ◌<◌, ◌++◌, ℕ, ◌+◌, false, codes, List, [], ◌∷◌, length, drop, take, Option, Some, None, if◌then◌else◌, refl, sym, ap, ◌∙◌, arith, append_assoc, length-append}
 use Rattle.wc_instrument_laws.proofs.JobParts.{lines_whole}
 use Rattle.wc_job.specs.Views.{BeginsWithLine}
-use Rattle.wc_model.specs.Run.JobSections.{Parted, is_heading, part_at, sections_with_log, sections_with_program, whole_lines, with_line}
+use Rattle.wc_model.specs.Run.JobSections.{Parted, Sections, is_heading, part_at, sections_with_log, sections_with_next, sections_with_program, whole_lines, with_line}
 
 -- what is found is what is found behind the bytes that are read
 abbrev pub IsFoundFrom : List ℕ → List ℕ → ℕ → Type 0
@@ -42,8 +42,15 @@ found_further word text before rest line after start so e f long whole cut some 
     ∙ ap (λ r. with_line (take (start + length line) text) (part_at word (whole_lines r))) (sym left)
 
 -- both headings behind the first one
-pub both_found : (lines : List (List ℕ)) (plate middle program log : List ℕ) → Some (record { section = plate; rest = whole_lines middle }) ≡ part_at (codes "@program") lines → Some (record { section = program; rest = whole_lines log }) ≡ part_at (codes "@log") (whole_lines middle) → Some (record { plate = plate; program = program; log = log }) ≡ sections_with_program (part_at (codes "@program") lines)
-both_found lines plate middle program log first second =
-    ap (λ l. Some (record { plate = plate; program = program; log = l })) (sym (lines_whole log))
+pub both_found : (lines : List (List ℕ)) (plate middle between log : List ℕ) (found : Sections) → Some (record { section = plate; rest = whole_lines middle }) ≡ part_at (codes "@program") lines → Some (record { section = between; rest = whole_lines log }) ≡ part_at (codes "@log") (whole_lines middle) → found ≡ sections_with_next plate between log (part_at (codes "@next") (whole_lines between)) → Some found ≡ sections_with_program (part_at (codes "@program") lines)
+both_found lines plate middle between log found first second e =
+    ap (λ s. Some s) e
+    ∙ ap (λ l. Some (sections_with_next plate between l (part_at (codes "@next") (whole_lines between)))) (sym (lines_whole log))
     ∙ ap (sections_with_log plate) second
     ∙ ap sections_with_program first
+
+-- the next program behind its heading
+pub next_found : (plate between program next log : List ℕ) → Some (record { section = program; rest = whole_lines next }) ≡ part_at (codes "@next") (whole_lines between) → record { plate = plate; program = program; next = Some next; log = log } ≡ sections_with_next plate between log (part_at (codes "@next") (whole_lines between))
+next_found plate between program next log e =
+    ap (λ n. record { plate = plate; program = program; next = Some n; log = log }) (sym (lines_whole next))
+    ∙ ap (sections_with_next plate between log) e

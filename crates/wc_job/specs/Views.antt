@@ -1,8 +1,8 @@
 -- What the answers of this crate stand for.
-use Rattle.std.specs.Prelude.{◌≡◌, ℕ, ◌+◌, ◌<◌, ◌==◌, min, List, [], ◌∷◌, length, codes, Option, Some, None, Result, Ok, Err}
+use Rattle.std.specs.Prelude.{◌≡◌, ℕ, ◌+◌, ◌<◌, ◌==◌, min, List, [], ◌∷◌, length, codes, Option, Some, None, Result, Ok, Err, option_map}
 use Rattle.std.specs.List.{position_or_len}
 use Rattle.wc_job.specs.declared.headings.Heading.{Heading}
-use Rattle.wc_job.specs.declared.headings.Heading.TheVariants.{Plate, Program, Log}
+use Rattle.wc_job.specs.declared.headings.Heading.TheVariants.{Plate, Program, Next, Log}
 use Rattle.wc_job.specs.declared.parts.Parting.{Parting}
 use Rattle.wc_job.specs.declared.parts.Sections as answer
 use Rattle.wc_model.specs.Run.JobSections.{Parted, Sections, whole_lines}
@@ -11,6 +11,7 @@ use Rattle.wc_model.specs.Run.JobSections.{Parted, Sections, whole_lines}
 abbrev pub heading_view : Heading → List ℕ
 heading_view Plate = codes "@plate"
 heading_view Program = codes "@program"
+heading_view Next = codes "@next"
 heading_view Log = codes "@log"
 
 -- how many bytes the first line has, with its LF where it has one
@@ -27,9 +28,14 @@ abbrev pub parted_view : Option Parting → Option Parted
 parted_view None = None
 parted_view (Some parting) = Some (record { section = parting.section.now; rest = whole_lines parting.rest.now })
 
--- the three sections
+-- the sections
 abbrev pub sections_view : answer.Sections → Sections
-sections_view sections = record { plate = sections.plate.now; program = sections.program.now; log = sections.log.now }
+sections_view sections = record {
+  plate = sections.plate.now;
+  program = sections.program.now;
+  next = option_map (λ text. text.now) sections.next;
+  log = sections.log.now;
+}
 
 -- the sections, where there are some
 abbrev pub found_view : Option answer.Sections → Option Sections

@@ -1,6 +1,6 @@
 ghost use Rattle.std.specs.Prelude.{◌≡◌, codes};
-ghost use Rattle.wc_job.specs.Views.{parted_view, result_view, found_view, heading_view};
-ghost use Rattle.wc_model.specs.Run.JobSections.{part_at, sections_in, sections_of, sections_with_program, whole_lines};
+ghost use Rattle.wc_job.specs.Views.{parted_view, result_view, found_view, heading_view, sections_view};
+ghost use Rattle.wc_model.specs.Run.JobSections.{part_at, sections_in, sections_of, sections_with_next, sections_with_program, whole_lines};
 
 use crate::headings::{Heading, is_heading};
 use crate::lines::first_line;
@@ -25,6 +25,27 @@ fn part_at<'a>(heading: Heading, text: &'a [u8]) -> Option<Parting<'a>>
     None
 }
 
+/// The sections of a plate, of what stands between the headings of program and log, and of a log.
+fn with_programs<'a>(plate: &'a [u8], between: &'a [u8], log: &'a [u8]) -> Sections<'a>
+    ensures { sections_view result ≡ sections_with_next plate.entry.now between.entry.now
+        log.entry.now (part_at (codes "@next") (whole_lines between.entry.now)) }
+{
+    match part_at(Heading::Next, between) {
+        None => Sections {
+            plate,
+            program: between,
+            next: None,
+            log,
+        },
+        Some(cut) => Sections {
+            plate,
+            program: cut.section,
+            next: Some(cut.rest),
+            log,
+        },
+    }
+}
+
 /// The sections behind the first heading.
 fn sections_behind<'a>(text: &'a [u8]) -> Option<Sections<'a>>
     ensures { found_view result
@@ -34,11 +55,7 @@ fn sections_behind<'a>(text: &'a [u8]) -> Option<Sections<'a>>
         None => None,
         Some(plate) => match part_at(Heading::Log, plate.rest) {
             None => None,
-            Some(program) => Some(Sections {
-                plate: plate.section,
-                program: program.section,
-                log: program.rest,
-            }),
+            Some(programs) => Some(with_programs(plate.section, programs.section, programs.rest)),
         },
     }
 }
@@ -59,7 +76,8 @@ fn sections_in<'a>(text: &'a [u8]) -> Option<Sections<'a>>
 pub(crate) const LONGEST_JOB: usize = 1048576;
 
 /// The sections of a job of at most 1048576 bytes: what stands between `@plate`, its first line, the first line `@program`
-/// behind it, the first line `@log` behind that one, and the end. A heading stands alone on its line and ends with LF or CRLF.
+/// behind it, the first line `@log` behind that one, and the end; and, where a line `@next` stands between `@program` and
+/// `@log`, the next program behind the first such line. A heading stands alone on its line and ends with LF or CRLF.
 /// 702 where the job is longer, 701 where a heading is missing. It takes no memory. (The form is the profile's own.)
 pub fn sections<'a>(bytes: &'a [u8]) -> Result<Sections<'a>, u16>
     ensures { result_view result ≡ sections_of bytes.now }

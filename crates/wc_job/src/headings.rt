@@ -7,6 +7,7 @@ ghost use Rattle.wc_model.specs.Run.JobSections.{is_heading};
 pub(crate) enum Heading {
     Plate,
     Program,
+    Next,
     Log,
 }
 
@@ -24,6 +25,7 @@ pub(crate) fn is_heading(heading: Heading, line: &[u8]) -> bool
     match heading {
         Heading::Plate => is_either(line, b"@plate\n", b"@plate\r\n"),
         Heading::Program => is_either(line, b"@program\n", b"@program\r\n"),
+        Heading::Next => is_either(line, b"@next\n", b"@next\r\n"),
         Heading::Log => is_either(line, b"@log\n", b"@log\r\n"),
     }
 }

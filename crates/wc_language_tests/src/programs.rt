@@ -19,7 +19,7 @@ fn image(inputs: u16) -> Image
 }
 
 /// A scan of the inputs where its moment is not before the last: its steps and what stands at the outputs.
-fn scanned<S: Store>(
+pub(crate) fn scanned<S: Store>(
     machine: &mut Machine<'_, S>,
     ms: u64,
     inputs: u16,

@@ -5,7 +5,7 @@ use wc_record::{RowKind, Rows};
 
 /// A log with a row of each kind, blank lines, quotes, and counts and moments at their ends.
 const EACH_KIND: &[u8] =
-    b"ms,kind,data\r\n\r\n0,C,-8388608\r\n\n5,L,0a5A0d\n\"5\",\"I\",\"fF01\"\n0000000000006,S,\n7,L,\n8,C,-0\n1099511627775,C,0008388607";
+    b"ms,kind,data\r\n\r\n0,C,-8388608\r\n\n5,L,0a5A0d\n\"5\",\"I\",\"fF01\"\n0000000000006,S,\n7,L,\n7,P,\n8,C,-0\n1099511627775,C,0008388607";
 
 /// The next row has this number and this moment; its kind in a letter and its number; nothing where it has not.
 fn next<R: ByteIn>(rows: &mut Rows<'_, R>, number: u32, ms: u64) -> Option<(u8, i64)> {
@@ -15,6 +15,7 @@ fn next<R: ByteIn>(rows: &mut Rows<'_, R>, number: u32, ms: u64) -> Option<(u8, 
             RowKind::Bytes => Some((b'L', 0)),
             RowKind::Inputs(inputs) => Some((b'I', i64::from(inputs))),
             RowKind::Scan => Some((b'S', 0)),
+            RowKind::Change => Some((b'P', 0)),
         },
         _ => None,
     }
@@ -58,8 +59,9 @@ fn rows_of_each_kind(rt: HostRuntime) {
         (4, 5, (b'I', 0xff01), b"".as_slice()),
         (5, 6, (b'S', 0), b"".as_slice()),
         (6, 7, (b'L', 0), b"".as_slice()),
-        (7, 8, (b'C', 0), b"".as_slice()),
-        (8, 1099511627775, (b'C', 8388607), b"".as_slice()),
+        (7, 7, (b'P', 0), b"".as_slice()),
+        (8, 8, (b'C', 0), b"".as_slice()),
+        (9, 1099511627775, (b'C', 8388607), b"".as_slice()),
     ];
     assert!(rt; has_rows(rt.alloc(), EACH_KIND, &wanted));
 }

@@ -137,6 +137,24 @@ fn three_sections(rt: HostRuntime) {
     );
 }
 
+/// The job has these two programs, and this log.
+fn are_programs(job: &[u8], program: &[u8], next: Option<&[u8]>, log: &[u8]) -> bool {
+    match sections(job) {
+        Ok(found) => found.program == program && found.next == next && found.log == log,
+        Err(_) => false,
+    }
+}
+
+#[test]
+fn next_section(rt: HostRuntime) {
+    let plain = b"@plate\n@program\nP\n@next\nQ\n@log\nms\n";
+    assert!(rt; are_programs(plain, b"P\n", Some(b"Q\n"), b"ms\n"));
+    let twice = b"@plate\n@next\n@program\n@next\r\n@next\n@log\n@next\n";
+    assert!(rt; are_programs(twice, b"", Some(b"@next\n"), b"@next\n"));
+    let beside = b"@plate\n@program\n @next\n@next \n@log\n@next\n";
+    assert!(rt; are_programs(beside, b" @next\n@next \n", None, b"@next\n"));
+}
+
 /// The number by which a job is refused; 0 where it has its sections.
 fn refusal(job: &[u8]) -> u16 {
     match sections(job) {

@@ -10,3 +10,4 @@ pub mod Behind
 pub mod FirstNumbers
 pub mod FirstPlaces
 pub mod Scanning
+pub mod Carrying

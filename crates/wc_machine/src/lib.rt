@@ -2,6 +2,7 @@
 #![tactic(auto)]
 
 mod body;
+mod carry;
 mod count;
 mod course;
 mod ctu;

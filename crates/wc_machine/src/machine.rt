@@ -1,5 +1,6 @@
-ghost use Rattle.std.specs.Prelude.{◌≡◌, ◌≤◌, ◌<◌, ℕ, IfOk, IsOkUnless};
+ghost use Rattle.std.specs.Prelude.{◌≡◌, ◌≤◌, ◌<◌, ℕ, IfErr, IfOk, IsOkUnless};
 ghost use Rattle.wc_machine.specs.Machines.{text_of, Leaves, StandsFor};
+ghost use Rattle.wc_model.specs.Language.Carried.{carried};
 ghost use Rattle.wc_model.specs.Language.Paths.{IsProgramBound};
 ghost use Rattle.wc_model.specs.Language.Scans.{initial_of, outputs_of, scan_of};
 ghost use Rattle.wc_model.specs.Language.Store.{Store as Contents};
@@ -7,6 +8,7 @@ ghost use Rattle.wc_model.specs.Language.Tree.{Text};
 ghost use Rattle.wc_model.specs.Language.Views.{text_view};
 
 use crate::body::run;
+use crate::carry::carried_over;
 use crate::first::first_store;
 use crate::image::copy_image;
 use crate::outputs::outputs;
@@ -62,6 +64,40 @@ impl<'a, S: Store> Machine<'a, S> {
             loaded,
             store,
             last: 0,
+            bound,
+        })
+    }
+
+    /// The machine with another text between two scans. A place keeps its number where the same names or the same
+    /// address lead to a place of the same kind in both texts, and into the same standard function block or into none;
+    /// every other place begins with its first number. The moment of the last scan stays. `Memory` is the only fault,
+    /// and then the machine is handed back as it was.
+    pub fn change(
+        self,
+        alloc: Global,
+        loaded: Loaded<'a>,
+    ) -> Result<Machine<'a, S>, (Machine<'a, S>, Fault)>
+        ensures stands { (text : Text) (store : Contents) → StandsFor self.entry text store
+            → IfOk result (λ machine. StandsFor machine (text_view loaded.entry.source)
+            (carried text store (text_view loaded.entry.source))) }
+        ensures text { IfOk result
+            (λ machine. text_of machine ≡ text_view loaded.entry.source) }
+        ensures last { IfOk result (λ machine. machine.last ≡ self.entry.last) }
+        ensures unchanged { IfErr result (λ failed. failed.0 ≡ self.entry) }
+        ensures memory { IfErr result (λ failed. failed.1 ≡ Fault.Memory) }
+    {
+        let first = match first_store(alloc, loaded.kinds(), loaded.initials()) {
+            Ok(first) => first,
+            Err(fault) => return Err((self, fault)),
+        };
+        let units = loaded.units();
+        let bound = loaded.bound(units - 1);
+        let store = carried_over(first, &loaded, &self.loaded, &self.store);
+        let last = self.last;
+        Ok(Machine {
+            loaded,
+            store,
+            last,
             bound,
         })
     }

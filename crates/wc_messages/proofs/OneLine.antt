@@ -5,7 +5,7 @@ use Rattle.std.specs.Char.{digit_char}
 use Rattle.std.specs.Fmt.{digits, digits_onto, digit_glyph}
 use Rattle.wc_findings.specs.declared.finding.Spot.{Spot}
 use Rattle.wc_findings.specs.declared.refusal.Part.{Part}
-use Rattle.wc_findings.specs.declared.refusal.Part.TheVariants.{Job, Plate, Program, Log}
+use Rattle.wc_findings.specs.declared.refusal.Part.TheVariants.{Job, Plate, Program, Next, Log}
 use Rattle.wc_findings.specs.declared.refusal.Refusal.{Refusal}
 use Rattle.wc_messages.specs.Explanations.{left_out_text, line_text, quoted_text}
 use Rattle.wc_messages.specs.Forms.{HasNoControls, behind_colon, position_text, short_text}
@@ -94,6 +94,7 @@ row_above : (part : Part) (place : ℕ) → HasNoControls (row_text part place)
 row_above Job place = tt
 row_above Plate place = tt
 row_above Program place = tt
+row_above Next place = tt
 row_above Log place = either (place == 0) [] (counted_text Log place) tt (counted_above Log place)
 
 section_above : (part : Part) (place : ℕ) → HasNoControls (section_text part place)

@@ -4,7 +4,7 @@ use Rattle.std.specs.Prelude.{◌≡◌, ℕ, ◌+◌, ◌-◌, ◌==◌, ◌&&�
 use Rattle.wc_findings.specs.Finds.{Finds}
 use Rattle.wc_findings.specs.declared.finding.Finding.{Finding}
 use Rattle.wc_findings.specs.declared.refusal.Part.{Part}
-use Rattle.wc_findings.specs.declared.refusal.Part.TheVariants.{Job, Plate, Program, Log}
+use Rattle.wc_findings.specs.declared.refusal.Part.TheVariants.{Job, Plate, Program, Next, Log}
 use Rattle.wc_findings.specs.declared.refusal.Refusal.{Refusal}
 use Rattle.wc_messages.specs.Excerpts.{excerpt_text}
 use Rattle.wc_messages.specs.Locations.{beside_text, margin_text, number_text}
@@ -15,6 +15,7 @@ abbrev pub is_program : Part → Bool
 is_program Job = false
 is_program Plate = false
 is_program Program = true
+is_program Next = true
 is_program Log = false
 
 -- the line so many lines below others; none is above 4294967295

@@ -3,7 +3,7 @@ use Rattle.std.specs.Prelude.{ℕ, ◌+◌, ◌==◌, Bool, List, [], ◌∷◌,
 use Rattle.std.specs.Fmt.{decimal}
 use Rattle.wc_findings.specs.declared.finding.Spot.{Spot}
 use Rattle.wc_findings.specs.declared.refusal.Part.{Part}
-use Rattle.wc_findings.specs.declared.refusal.Part.TheVariants.{Job, Plate, Program, Log}
+use Rattle.wc_findings.specs.declared.refusal.Part.TheVariants.{Job, Plate, Program, Next, Log}
 use Rattle.wc_findings.specs.declared.refusal.Refusal.{Refusal}
 use Rattle.wc_messages.specs.Plain.{shown_text}
 
@@ -25,6 +25,7 @@ abbrev pub heading : Part → List ℕ
 heading Job = []
 heading Plate = codes "@plate"
 heading Program = codes "@program"
+heading Next = codes "@next"
 heading Log = codes "@log"
 
 -- what is counted in a part
@@ -32,6 +33,7 @@ abbrev pub counted_name : Part → List ℕ
 counted_name Job = codes "line "
 counted_name Plate = codes "line "
 counted_name Program = codes "line "
+counted_name Next = codes "line "
 counted_name Log = codes "row "
 
 -- a line or a row by its number
@@ -49,6 +51,7 @@ abbrev pub row_text : Part → ℕ → List ℕ
 row_text Job place = []
 row_text Plate place = []
 row_text Program place = []
+row_text Next place = []
 row_text Log place = if place == 0 then [] else counted_text Log place
 
 -- the place by which a refusal is counted, where it is not the line that is named

@@ -1,4 +1,4 @@
-ghost use Rattle.std.specs.Prelude.{◌≡◌, ◌≤◌, ◌+◌, IfSome, length, option_map};
+ghost use Rattle.std.specs.Prelude.{◌≡◌, ◌≤◌, ◌+◌, IfNone, IfSome, length, option_map};
 ghost use Rattle.wc_messages.specs.Above.{StandsBelow, line_ends};
 ghost use Rattle.wc_messages.specs.Parts.{text_of};
 ghost use Rattle.wc_model.specs.Run.JobSections.{sections_of};
@@ -31,6 +31,18 @@ fn behind_heading(above: u32, section: &[u8]) -> u32
     above.saturating_add(feeds).saturating_add(1)
 }
 
+/// How many lines stand above the log, where so many stand above what follows the program and the heading behind it.
+fn above_log(above: u32, next: Option<&[u8]>) -> u32
+    ensures none { IfNone next.entry (result ≡ above) }
+    ensures next { IfSome next.entry (λ text. above ≤ 2097152 → line_ends text.now ≤ 1048576
+        → result ≡ above + line_ends text.now + 1) }
+{
+    match next {
+        Some(text) => behind_heading(above, text),
+        None => above,
+    }
+}
+
 /// The section of a job that is this part, where the job has its headings.
 pub fn section_of(job: &[u8], part: Part) -> Option<Section<'_>>
     ensures text { option_map (λ section. section.text.now) result
@@ -41,6 +53,7 @@ pub fn section_of(job: &[u8], part: Part) -> Option<Section<'_>>
         return None;
     };
     let program = behind_heading(1, found.plate);
+    let next = behind_heading(program, found.program);
     match part {
         Part::Job => None,
         Part::Plate => Some(Section {
@@ -51,9 +64,13 @@ pub fn section_of(job: &[u8], part: Part) -> Option<Section<'_>>
             text: found.program,
             above: program,
         }),
+        Part::Next => match found.next {
+            Some(text) => Some(Section { text, above: next }),
+            None => None,
+        },
         Part::Log => Some(Section {
             text: found.log,
-            above: behind_heading(program, found.program),
+            above: above_log(next, found.next),
         }),
     }
 }

@@ -11,7 +11,7 @@ fn is_program(part: Part) -> bool
     ensures { result ≡ is_program part }
 {
     match part {
-        Part::Program => true,
+        Part::Program | Part::Next => true,
         _ => false,
     }
 }
@@ -82,6 +82,7 @@ fn heading(part: Part) -> &'static str
         Part::Job => "",
         Part::Plate => "@plate",
         Part::Program => "@program",
+        Part::Next => "@next",
         Part::Log => "@log",
     }
 }

@@ -26,3 +26,4 @@ pub mod Faults
 pub mod Views
 pub mod Loading
 pub mod Carried
+pub mod CarriedPlaces

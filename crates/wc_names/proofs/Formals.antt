@@ -6,7 +6,6 @@ use Rattle.wc_model.specs.Language.BodyRules.{formal_named, passes}
 use Rattle.wc_model.specs.Language.Declarations.{Member, VariableType, Elementary, Standard, Block, member_named, members_of, same_name, standard_members}
 use Rattle.wc_model.specs.Language.Kinds.{elementary_kind}
 use Rattle.wc_model.specs.Language.Names.{Name}
-use Rattle.wc_model.specs.Language.Scopes.{is_input, is_result}
 use Rattle.wc_model.specs.Language.Store.{standard_fields}
 use Rattle.wc_model.specs.Language.Tree.{ProgramUnit}
 use Rattle.wc_model.specs.declared.block.StandardBlock.{StandardBlock}

@@ -14,3 +14,7 @@ pub mod MemberTables
 pub mod Entities
 pub mod Formals
 pub mod PlainVariables
+pub mod VariablePlaces
+pub mod KeptPlaces
+pub mod CarriedPlaces
+pub mod OwnPlaces

@@ -67,7 +67,7 @@ at_no_unit (x ∷ xs) b ts (suc n) h e = let behind = at_no_unit xs (x ∷ b) ts
 path_in : (ns : List Name) (i : ℕ) (places : List (List Name × Content)) → position_from (λ (e : Location × Content). same_place e.0 (Path ns)) i (map (λ p. (Path p.0, p.1)) places) ≡ position_from (λ e. same_path e.0 ns) i places
 path_in ns i places = position_from-map (λ p. (Path p.0, p.1)) (λ (e : Location × Content). same_place e.0 (Path ns)) i places
 
-abbrev directs : List (Location × Content)
+abbrev pub directs : List (Location × Content)
 directs = map (λ v. (Direct v, zero_of (kind_of_direct v))) direct_variables
 
 frame_by : (scope : Scope) (ns : List Name) (b : Bool) → is_block scope.unit ≡ b → place_number (frame_of scope) (Path ns) ≡ place_from scope.before scope.unit ns
@@ -121,7 +121,7 @@ all_append p (x ∷ xs) n e =
     join : (a b : Bool) → a ≡ true → b ≡ true → (a && b) ≡ true
     join a b p q = rw p q
 
-all_below : (p : ℕ → Bool) (n m : ℕ) → list_all p (numbers_below n) ≡ true → m < n → p m ≡ true
+pub all_below : (p : ℕ → Bool) (n m : ℕ) → list_all p (numbers_below n) ≡ true → m < n → p m ≡ true
 all_below p zero m e below = absurd (omega arith)
 all_below p (suc n) m e below =
     let parts = all_append p (numbers_below n) n e in
@@ -143,7 +143,7 @@ address_in_program scope n v e below is =
     program : is_block scope.unit ≡ false → place_number (frame_of scope) (Direct (direct_at n)) ≡ Some n
     program f = rw f (found_direct n (map (λ p. (Path p.0, p.1)) (unit_places scope.before scope.unit)) below)
 
-abbrev as_entry : List Name × Content → Location × Content
+abbrev pub as_entry : List Name × Content → Location × Content
 as_entry p = (Path p.0, p.1)
 
 -- a table's size is its frame's

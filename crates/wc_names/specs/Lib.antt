@@ -5,3 +5,4 @@ pub mod Slots
 pub mod Direct
 pub mod Members
 pub mod Spelled
+pub mod Carrying

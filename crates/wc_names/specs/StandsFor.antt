@@ -1,7 +1,6 @@
 -- The text for which tables stand.
 use Rattle.std.specs.Prelude.{◌≡◌, ℕ, ◌+◌, ◌≤◌, true, false, List, [], ◌∷◌, ◌++◌, map, length, Option, Some, None, if◌then◌else◌, option_map, option_and_then, slice_get}
-use Rattle.std.specs.List.{position_from}
-use Rattle.wc_model.specs.Language.DeclarationRules.{is_among, names_block_of, places_of_type, taken_at_first}
+use Rattle.wc_model.specs.Language.DeclarationRules.{is_among, places_of_type, taken_at_first}
 use Rattle.wc_model.specs.Language.Declarations.{Variable, VariableType, Elementary, Standard, Block, is_block, same_name, type_named, variables_of}
 use Rattle.wc_model.specs.Language.Frames.{PlainVariable}
 use Rattle.wc_model.specs.Language.Names.{Name}

@@ -1,10 +1,11 @@
-ghost use Rattle.std.specs.Prelude.{◌≡◌, ◌≤◌, ℕ, None, Some, IfOk, IfSome, IsOkUnless, is_some, length, map, option_and_then, option_map, slice_get};
+ghost use Rattle.std.specs.Prelude.{◌≡◌, ◌<◌, ◌≤◌, ℕ, None, false, Some, IfOk, IfSome, IsOkUnless, is_some, length, map, option_and_then, option_map, slice_get};
 ghost use Rattle.wc_model.specs.Language.BodyRules.{formal_named};
-ghost use Rattle.wc_model.specs.Language.Declarations.{VariableType, members_of};
+ghost use Rattle.wc_model.specs.Language.CarriedPlaces.{carried_within};
+ghost use Rattle.wc_model.specs.Language.Declarations.{VariableType, is_block, members_of};
 ghost use Rattle.wc_model.specs.Language.Frames.{first_numbers, frame_of, location_of, number_of_path, place_number, plain_variables, slot_kinds};
 ghost use Rattle.wc_model.specs.Language.Names.{name_of};
 ghost use Rattle.wc_model.specs.Language.Scopes.{Scope, entity_of, type_of};
-ghost use Rattle.wc_model.specs.Language.Store.{Location};
+ghost use Rattle.wc_model.specs.Language.Store.{Content, Location};
 ghost use Rattle.wc_model.specs.Language.Tree.{Text};
 ghost use Rattle.wc_model.specs.Language.Views.{term_view};
 ghost use Rattle.wc_soundness.specs.FirstNumbers.{AreFirst};
@@ -13,6 +14,7 @@ ghost use Rattle.wc_model.specs.declared.source.Source.{Source};
 ghost use Rattle.wc_names.specs.Spelled.{AreSpelledAs, spelled, spelled_of_unit};
 ghost use Rattle.wc_names.specs.Numbered.{IsNoUnit, IsUnit, StandsFrom, numbered_entity, numbered_formal, numbered_type, plain_of_field};
 
+use crate::carry::kept_number;
 use crate::declared_type::DeclaredType;
 use crate::entity::Entity;
 use crate::field::Field;
@@ -22,7 +24,7 @@ use crate::frame::Frame;
 use crate::located::Located;
 use crate::lookup::{address, number, row};
 use crate::naming::{entity, place_at};
-use crate::unit_table::UnitTable;
+use crate::unit_table::{DIRECT_VARIABLES, UnitTable};
 use std::alloc::Global;
 use wc_model::{Direction, Fault, Operand, Path, Place};
 
@@ -146,6 +148,32 @@ impl<'a> Tables<'a> {
             Some(table) => usize::from(table.size),
             None => 0,
         }
+    }
+
+    /// The place in the frame of another text's program whose value a place of this text's program keeps at a change
+    /// from that text to this one. It takes no memory, and looks up each name of the place's path once.
+    pub fn carry(
+        &self,
+        unit: usize,
+        old: &Tables<'_>,
+        old_unit: usize,
+        place: Place,
+    ) -> Option<Place>
+        ensures carried { (text : Text) (scope : Scope) (old_text : Text) (old_scope : Scope)
+            → AreTables self.now text → IsUnit text unit scope → is_block scope.unit ≡ false
+            → AreTables old.now old_text → IsUnit old_text old_unit old_scope
+            → is_block old_scope.unit ≡ false → place.0 < length (frame_of scope)
+            → option_map (λ p. p.0) result ≡ carried_within old_scope scope place.0 }
+        // No place of the program stands at two numbers.
+        ensures own { (text : Text) (scope : Scope) (entry : Location × Content)
+            → AreTables self.now text → IsUnit text unit scope → is_block scope.unit ≡ false
+            → slice_get (frame_of scope) place.0 ≡ Some entry
+            → place_number (frame_of scope) entry.0 ≡ Some place.0 }
+    {
+        if place.0 < DIRECT_VARIABLES {
+            return Some(place);
+        }
+        place_at(kept_number(&self.units, unit, &old.units, old_unit, place.0))
     }
 
     /// The slots of a unit's frame, in the order of its places. `Memory` is its only fault.

@@ -3,6 +3,7 @@
 #![tactic(auto)]
 
 mod address;
+mod carry;
 mod declared_type;
 mod entity;
 mod field;

@@ -214,7 +214,7 @@ fn plain_at(names: &[&[u8]]) -> Option<u16>
 }
 
 /// A number behind others.
-fn behind(first: u16, inner: Option<u16>) -> Option<u16>
+pub(crate) fn behind(first: u16, inner: Option<u16>) -> Option<u16>
     ensures some { (n : ℕ) → inner ≡ Some n → first + n < 65536
         → result ≡ Some (first + n) }
     ensures none { inner ≡ None → result ≡ None }

@@ -1,4 +1,4 @@
-ghost use Rattle.std.specs.Prelude.{◌≡◌, [], ◌∷◌, ◌++◌, List, IfOk, OnErr, IsOkUnless, false, not, if◌then◌else◌};
+ghost use Rattle.std.specs.Prelude.{◌≡◌, [], ◌∷◌, ◌++◌, List, IfOk, OnErr, IsOkUnless, false, not, if◌then◌else◌, option_map, slice_get};
 ghost use Rattle.std.specs.List.{position_from};
 ghost use Rattle.wc_model.specs.Language.DeclarationRules.{is_among};
 ghost use Rattle.wc_model.specs.Language.Declarations.{same_name};
@@ -38,6 +38,16 @@ impl<'a> Names<'a> {
         ensures { result ≡ position_from (λ n. same_name n (name_of name.now)) 0 self.now }
     {
         self.keys.get_index_of(&Key { text: name })
+    }
+
+    /// The name of a number, as it is spelled; `None` where there is none.
+    pub fn at(&self, number: usize) -> Option<&'a [u8]>
+        ensures { option_map (λ name. name_of name.now) result ≡ slice_get self.now number }
+    {
+        match self.keys.get_index(number) {
+            Some(key) => Some(key.text),
+            None => None,
+        }
     }
 
     /// Whether a name is among them.

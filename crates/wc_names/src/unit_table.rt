@@ -21,7 +21,7 @@ pub struct UnitTable<'a> {
 }
 
 /// How many directly represented variables there are, with which a program's frame begins.
-const DIRECT_VARIABLES: u16 = 45;
+pub(crate) const DIRECT_VARIABLES: u16 = 45;
 
 impl<'a> UnitTable<'a> {
     /// The table of a unit with no variable.

@@ -12,5 +12,5 @@ mod words;
 
 pub use ends::at_text_end;
 pub use faults::has_program;
-pub use text::{last_line, read, read_at, reading_start, take_lines};
+pub use text::{last_line, read, read_at, read_tokens, reading_start, take_lines};
 pub use text_state::{LinePlace, Reading, TextState};

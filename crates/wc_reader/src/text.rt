@@ -301,7 +301,11 @@ pub fn reading_start<'a>(alloc: Global) -> Reading<'a>
 }
 
 /// The text that the tokens spell, or the first fault in them.
-fn read_tokens<'a>(alloc: Global, tokens: &[Token<'a>], last_line: u32) -> Result<Source<'a>, Fault>
+pub fn read_tokens<'a>(
+    alloc: Global,
+    tokens: &[Token<'a>],
+    last_line: u32,
+) -> Result<Source<'a>, Fault>
     ensures told { TellsReading (walk at_first (marks_of tokens.now) last_line).told result }
     // With no token no memory is taken.
     ensures room { IfErr result (λ fault. fault ≡ Fault.Memory → 0 < length tokens.now) }

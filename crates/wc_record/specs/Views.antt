@@ -2,7 +2,7 @@
 use Rattle.std.specs.Prelude.{◌≡◌, ◌≤◌, ◌<◌, ◌^◌, ◌≤ℤ◌, ⊤, ℕ, List, length, [], ◌∷◌, Option, Some, None, Result, Ok, Err}
 use Rattle.wc_model.specs.Run.Log.{Record}
 use Rattle.wc_model.specs.Instrument.Plates.{least_sample, greatest_sample}
-use Rattle.wc_model.specs.Run.Rows.{RowData, LogRow, Counts, Bytes, Inputs, Scan}
+use Rattle.wc_model.specs.Run.Rows.{RowData, LogRow, Counts, Bytes, Inputs, Scan, Change}
 use Rattle.wc_record.specs.declared.fields.RowFields.{RowFields}
 use Rattle.wc_record.specs.declared.row_kind.Row.{Row}
 use Rattle.wc_record.specs.declared.row_kind.RowKind.{RowKind}
@@ -16,6 +16,7 @@ data_view bytes (kind.Counts counts) = Counts counts
 data_view bytes kind.Bytes = Bytes bytes
 data_view bytes (kind.Inputs inputs) = Inputs inputs
 data_view bytes kind.Scan = Scan
+data_view bytes kind.Change = Change
 
 -- the row of the log, where these are the bytes that are lent with it
 abbrev pub row_view : List ℕ → Row → LogRow
@@ -27,6 +28,7 @@ IsDataInRange (Counts counts) = (least_sample ≤ℤ counts) × (counts ≤ℤ g
 IsDataInRange (Bytes bytes) = length bytes ≤ 4096
 IsDataInRange (Inputs inputs) = inputs < 2 ^ 16
 IsDataInRange Scan = ⊤
+IsDataInRange Change = ⊤
 
 -- the answer, with these bytes, says what is said, where memory was not refused
 abbrev pub SaysData : List ℕ → Result RowKind RowFault → Result RowData ℕ → Type 0

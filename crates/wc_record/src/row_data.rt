@@ -71,6 +71,19 @@ fn scan(text: &[u8]) -> Result<RowKind, RowFault>
     }
 }
 
+/// A change of the program, which has no data either.
+fn change(text: &[u8]) -> Result<RowKind, RowFault>
+    ensures says { (bytes : List ℕ) → SaysData bytes result (log.change_of_data text.now) }
+    ensures range { (bytes : List ℕ)
+        → IfOk result (λ kind. IsDataInRange (data_view bytes kind)) }
+{
+    if text.is_empty() {
+        Ok(RowKind::Change)
+    } else {
+        Err(RowFault::Refused(608))
+    }
+}
+
 /// What a kind and its data bring; bytes stand in the room then.
 #[inline(always)]
 pub(crate) fn row_data(room: &mut Vec<u8>, kind: &[u8], text: &[u8]) -> Result<RowKind, RowFault>
@@ -82,6 +95,7 @@ pub(crate) fn row_data(room: &mut Vec<u8>, kind: &[u8], text: &[u8]) -> Result<R
         b"L" => line_bytes(room, text),
         b"I" => inputs(text),
         b"S" => scan(text),
+        b"P" => change(text),
         _ => Err(RowFault::Refused(604)),
     }
 }

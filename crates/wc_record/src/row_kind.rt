@@ -20,6 +20,8 @@ pub enum RowKind {
     Inputs(u16),
     /// A scan.
     Scan,
+    /// A change to the next program.
+    Change,
 }
 
 /// Why a log gives no further row.

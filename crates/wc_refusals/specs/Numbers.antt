@@ -9,4 +9,4 @@ is_from first last number = nat_le first number && nat_le number last
 abbrev pub is_refusal : ℕ → Bool
 is_refusal number =
     is_from 101 107 number || is_from 201 208 number || is_from 301 308 number || is_from 401 411 number
-    || is_from 501 508 number || is_from 601 608 number || is_from 701 702 number
+    || is_from 501 508 number || is_from 601 609 number || is_from 701 702 number

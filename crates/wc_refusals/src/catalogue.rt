@@ -47,7 +47,7 @@ pub fn entry_of(number: u16) -> Option<&'static Entry>
         301..=308 => declaration_entry(number),
         401..=411 => body_entry(number),
         501..=508 => plate_entry(number),
-        601..=608 => log_entry(number),
+        601..=609 => log_entry(number),
         701..=702 => job_entry(number),
         _ => None,
     }
@@ -231,7 +231,7 @@ fn plate_entry(number: u16) -> Option<&'static Entry>
 
 /// The refusals of a log.
 fn log_entry(number: u16) -> Option<&'static Entry>
-    ensures known { is_some result ≡ is_from 601 608 number }
+    ensures known { is_some result ≡ is_from 601 609 number }
     ensures number { IfSome result (λ entry. entry.now.number ≡ number) }
 {
     entry_among! {
@@ -245,9 +245,9 @@ fn log_entry(number: u16) -> Option<&'static Entry>
         603 "log": "the moment is before that of the row above"
             at "the row", "rows 1,S, / 0,S," => 3,
             help "sort the rows by their moments";
-        604 "log": "the kind is none of C, L, I and S"
+        604 "log": "the kind is none of C, L, I, S and P"
             at "the row", "row 0,," => 2,
-            help "the kinds are C, L, I and S";
+            help "the kinds are C, L, I, S and P";
         605 "log": "the counts are not a whole number from -8388608 to 8388607"
             at "the row", "row 0,C," => 2,
             help "the counts are -8388608 to 8388607";
@@ -257,9 +257,12 @@ fn log_entry(number: u16) -> Option<&'static Entry>
         607 "log": "there are more than 1000000 rows"
             at "the row", "(the heading row and 1000000 rows 0,S,)" => 1000001,
             help "split the log: it may have 1000000 rows";
-        608 "log": "a scan has no data"
+        608 "log": "a scan and a change have no data"
             at "the row", "row 0,S,x" => 2,
-            help "leave the third field of a scan empty, as 10,S,";
+            help "leave the third field of a scan and of a change empty, as 10,S,";
+        609 "log": "there is no next program to change to"
+            at "the row", "row 0,P," => 2,
+            help "name the next program by --next or by @next; one run changes its program once";
     }
 }
 

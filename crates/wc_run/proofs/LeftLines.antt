@@ -6,9 +6,9 @@ use Rattle.wc_instrument_laws.specs.WrittenLines.{without_scan_lines}
 use Rattle.wc_model.specs.Instrument.Plates.{PlateData}
 use Rattle.wc_model.specs.Run.Log.{LogOf}
 use Rattle.wc_model.specs.Run.Rows.{LogRow}
-use Rattle.wc_model.specs.Say.ProgramReport.{scans_of}
+use Rattle.wc_model.specs.Say.ProgramReport.{Logic, programs}
 use Rattle.wc_model.specs.Say.Report.{line_report}
-use Rattle.wc_run.specs.Logics.{Logic, run_report, run_report_last}
+use Rattle.wc_run.specs.Logics.{run_report, run_report_last}
 use Rattle.wc_run.specs.Runs.{AppendsFirst, AppendsLineOfFirst, LeavesLine, Reports, ReportsBy, ReportsLast}
 use Rattle.wc_run.specs.declared.fault.RunFault.{RunFault}
 use Rattle.wc_run.specs.declared.fault.RunFault.TheVariants.{Refused, Read, Write, Memory}
@@ -20,12 +20,12 @@ LeavesAnswers plate text = (rows : List LogRow) → without_scan_lines (text row
 -- so does what a run writes
 report_leaves : (plate : PlateData) (logic : Option Logic) → LeavesAnswers plate (run_report plate logic)
 report_leaves plate None rows = line_stays plate rows
-report_leaves plate (Some logic) rows = (scan_lines_come_out plate (scans_of logic.text) logic.store rows).whole
+report_leaves plate (Some logic) rows = (scan_lines_come_out plate programs logic rows).whole
 
 -- and with the last scans alone
 last_leaves : (number : ℕ) (plate : PlateData) (logic : Option Logic) → LeavesAnswers plate (run_report_last number plate logic)
 last_leaves number plate None rows = line_stays plate rows
-last_leaves number plate (Some logic) rows = (scan_lines_come_out plate (scans_of logic.text) logic.store rows).last number
+last_leaves number plate (Some logic) rows = (scan_lines_come_out plate programs logic rows).last number
 
 -- of the first rows too
 first_leaves : (plate : PlateData) (text : List LogRow → List ℕ) → LeavesAnswers plate text → (rows : List LogRow) (old new : Option (List ℕ)) →

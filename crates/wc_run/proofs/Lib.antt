@@ -3,5 +3,6 @@ pub mod Puttings
 pub mod RunsOn
 pub mod RunEnds
 pub mod ScaleRows
+pub mod ProgramChanges
 pub mod LeftLines
 pub mod ReaderFailures

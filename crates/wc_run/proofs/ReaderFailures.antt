@@ -5,7 +5,7 @@ use Rattle.wc_model.specs.Instrument.Plates.{PlateData}
 use Rattle.wc_model.specs.Run.Log.{LogOf}
 use Rattle.wc_record.specs.Recorders.{RecorderState}
 use Rattle.wc_run.specs.Doing.{RunsRows, is_cut_short}
-use Rattle.wc_run.specs.Logics.{Logic}
+use Rattle.wc_model.specs.Say.ProgramReport.{Logic}
 use Rattle.wc_run.specs.Runs.{HasNotFailed}
 use Rattle.wc_run.specs.declared.fault.RunFault.{RunFault}
 use Rattle.wc_run.specs.declared.fault.RunFault.TheVariants.{Refused, Read, Write, Memory}

@@ -9,7 +9,8 @@ use Rattle.wc_model.specs.Run.Rows.{LogRow}
 use Rattle.wc_record.specs.Recorders.{RecorderState}
 use Rattle.wc_run.specs.Deferring.{HoldsScans, text_at_end, text_at_once, text_in_all}
 use Rattle.wc_run.specs.Doing.{Ends, IsCutShort, IsJudged, RunsRows, is_cut_short}
-use Rattle.wc_run.specs.Logics.{Logic, lines_of_rows, run_report, run_report_last}
+use Rattle.wc_model.specs.Say.ProgramReport.{Logic}
+use Rattle.wc_run.specs.Logics.{lines_of_rows, run_report, run_report_last}
 use Rattle.wc_run.specs.Runs.{AppendsFront, Reports, ReportsBy, ReportsLast}
 use Rattle.wc_run.specs.declared.fault.RunFault.{RunFault}
 use Rattle.wc_run.specs.declared.fault.RunFault.TheVariants.{Refused, Read, Write, Memory}

@@ -1,17 +1,21 @@
 -- What a row leaves in a scale, and what is printed of it, kind by kind.
-use Rattle.std.proofs.Common.{◌≡◌, ℕ, List, ◌∷◌, sym, ◌∙◌, ap, subst, append-nil, Option, Some, None, Result, Ok, Err, OnOk}
+use Rattle.std.proofs.Common.{◌≡◌, refl, ℕ, List, ◌∷◌, sym, ◌∙◌, ap, subst, append-nil, Option, Some, None, Result, Ok, Err, IfErr, IsOkUnless, OnOk}
+use Rattle.wc_instrument_laws.specs.Changes.{IsNoChange}
 use Rattle.wc_indicator.specs.Kept.{IndicatorState as IndicatorKept, Tells}
+use Rattle.wc_cost.specs.LoadedTexts.{LoadedText}
 use Rattle.wc_machine.specs.Machines.{MachineState, StandsFor}
 use Rattle.wc_model.specs.Instrument.Plates.{PlateData}
 use Rattle.wc_model.specs.Run.ProcessImage.{image_after, image_with}
-use Rattle.wc_model.specs.Say.ProgramReport.{scans_of, store_after}
-use Rattle.wc_model.specs.Run.Rows.{RowData, Bytes, Scan, Past, history_of, line_bytes}
+use Rattle.wc_model.specs.Say.ProgramReport.{Logic, logic_behind, scans_of}
+use Rattle.wc_model.specs.Run.Rows.{RowData, Counts, Bytes, Inputs, Scan, Change, LogRow, Past, history_of, line_bytes}
 use Rattle.wc_model.specs.declared.image.Image.{Image}
 use Rattle.wc_record.specs.Views.{data_view, row_view}
 use Rattle.wc_record.specs.declared.row_kind.Row.{Row}
-use Rattle.wc_run.specs.Logics.{Logic, StandsAt, logic_after}
+use Rattle.wc_run.specs.Logics.{IsTaken, StandsAt, logic_after}
 use Rattle.wc_run.specs.Standing.{Stands}
-use Rattle.wc_run.specs.Taking.{row_at, TakesRow, TakesScan}
+use Rattle.wc_run.specs.Taking.{row_at, RunsRow, StopsAtRow, TakesRow, TakesScan}
+use Rattle.wc_run.specs.declared.fault.RunFault.{RunFault}
+use Rattle.wc_run.specs.declared.fault.RunFault.TheVariants.{Memory}
 use Rattle.wc_run.specs.declared.scale.Scale.{Scale}
 use Rattle.wc_sma.specs.Feeding.{Feeds}
 use Rattle.wc_sma.specs.Standing.{StandsAfter}
@@ -28,10 +32,10 @@ on_ok_of P Q (Ok x) f h = f h
 on_ok_of P Q (Err e) f h = tt
 
 -- bytes on the line leave the logic as it was
-still_of_bytes : (machine : Option MachineState) (plate : PlateData) (logic : Option Logic) (past : Past) (number ms : ℕ) (bytes : List ℕ) →
-    StandsAt machine (logic_after plate logic past) → StandsAt machine (logic_after plate logic (row_at number ms (Bytes bytes) ∷ past))
-still_of_bytes machine plate None past number ms bytes h = h
-still_of_bytes machine plate (Some logic) past number ms bytes h = h
+still_of_bytes : (machine : Option MachineState) (next : Option LoadedText) (plate : PlateData) (logic : Option Logic) (past : Past) (number ms : ℕ) (bytes : List ℕ) →
+    StandsAt machine next (logic_after plate logic past) → StandsAt machine next (logic_after plate logic (row_at number ms (Bytes bytes) ∷ past))
+still_of_bytes machine next plate None past number ms bytes h = h
+still_of_bytes machine next plate (Some logic) past number ms bytes h = h
 
 -- a line that is fed takes the row
 pub takes_bytes : (old : Scale) (line : Line) (indicator : IndicatorKept) (taken taken' : Option (List ℕ)) (ms : ℕ) (bytes : List ℕ) →
@@ -42,7 +46,7 @@ takes_bytes old line indicator taken taken' ms bytes feeds plate logic past numb
       indicator = feeds.acts (line_bytes past) plate (history_of past) stands.line stands.indicator;
       line = feeds.stands (line_bytes past) stands.line;
       inputs = stands.inputs;
-      machine = still_of_bytes old.machine plate logic past number ms bytes stands.machine;
+      machine = still_of_bytes old.machine old.next plate logic past number ms bytes stands.machine;
     }
 
 -- what a scan sees is the image of the rows so far
@@ -52,13 +56,15 @@ seen_image old image plate logic past told stands =
     told plate (history_of past) stands.indicator ∙ ap (λ inputs. image_with plate inputs (history_of past)) stands.inputs
 
 -- a scan of a machine leaves the logic after one row more
-scanned : (machine new : MachineState) (ms : ℕ) (image : Image) (plate : PlateData) (logic : Option Logic) (past : Past) (number : ℕ) →
-    TakesScan machine new ms image → image ≡ image_after plate past → StandsAt (Some machine) (logic_after plate logic past) →
-    StandsAt (Some new) (logic_after plate logic (row_at number ms Scan ∷ past))
-scanned machine new ms image plate None past number takes same stands = stands
-scanned machine new ms image plate (Some logic) past number takes same stands =
-    subst (λ seen. StandsFor new logic.text (scans_of logic.text (store_after plate logic.text logic.store past) seen ms).after) same
-    (takes logic.text (store_after plate logic.text logic.store past) stands)
+scanned : (machine new : MachineState) (next : Option LoadedText) (ms : ℕ) (image : Image) (plate : PlateData) (logic : Option Logic) (past : Past) (number : ℕ) →
+    TakesScan machine new ms image → image ≡ image_after plate past → StandsAt (Some machine) next (logic_after plate logic past) →
+    StandsAt (Some new) next (logic_after plate logic (row_at number ms Scan ∷ past))
+scanned machine new next ms image plate None past number takes same stands = stands
+scanned machine new next ms image plate (Some logic) past number takes same stands =
+    let before : Logic = logic_behind plate logic past in (
+      subst (λ seen. StandsFor new before.text (scans_of before.text before.store seen ms).after) same (takes before.text before.store stands.0),
+      stands.1,
+    )
 
 -- with a machine the scan takes the row
 pub takes_scan : (old : Scale) (machine new : MachineState) (ms : ℕ) (image : Image) → old.machine ≡ Some machine →
@@ -69,8 +75,8 @@ takes_scan old machine new ms image is told takes plate logic past number stands
       indicator = stands.indicator;
       line = subst (λ bytes. StandsAfter old.line bytes) (sym (append-nil (line_bytes past))) stands.line;
       inputs = stands.inputs;
-      machine = scanned machine new ms image plate logic past number takes (seen_image old image plate logic past told stands)
-          (subst (λ kept. StandsAt kept (logic_after plate logic past)) is stands.machine);
+      machine = scanned machine new old.next ms image plate logic past number takes (seen_image old image plate logic past told stands)
+          (subst (λ kept. StandsAt kept old.next (logic_after plate logic past)) is stands.machine);
     }
 
 -- the scale stands after the row that brings this
@@ -78,3 +84,34 @@ pub takes_row : (old new : Scale) (bytes : List ℕ) (row : Row) (brings : RowDa
     (plate : PlateData) (logic : Option Logic) (past : Past) → Stands old plate logic past → Stands new plate logic (row_view bytes row ∷ past)
 takes_row old new bytes row brings is takes plate logic past stands =
     subst (λ kind. Stands new plate logic (row_at row.number row.ms kind ∷ past)) (sym is) (takes plate logic past row.number stands)
+
+-- a run with whatever logic takes a row that changes no program
+taken_with : (plate : PlateData) (logic : Option Logic) (past : Past) (number ms : ℕ) (brings : RowData) → IsNoChange brings →
+    IsTaken (logic_after plate logic past) (logic_after plate logic (row_at number ms brings ∷ past)) (row_at number ms brings)
+taken_with plate None past number ms brings none rest = refl
+taken_with plate (Some logic) past number ms (Counts counts) none rest = refl
+taken_with plate (Some logic) past number ms (Bytes bytes) none rest = refl
+taken_with plate (Some logic) past number ms (Inputs inputs) none rest = refl
+taken_with plate (Some logic) past number ms Scan none rest = refl
+taken_with plate (Some logic) past number ms Change none rest = absurd none
+
+-- so of the row that brings this
+pub runs_row : (old : Scale) (bytes : List ℕ) (row : Row) (brings : RowData) → data_view bytes row.kind ≡ brings → IsNoChange brings → RunsRow old (row_view bytes row)
+runs_row old bytes row brings is none plate logic past stands =
+    subst (λ kind. IsTaken (logic_after plate logic past) (logic_after plate logic (row_at row.number row.ms kind ∷ past)) (row_at row.number row.ms kind)) (sym is)
+    (taken_with plate logic past row.number row.ms brings none)
+
+-- want of memory keeps a scale from any row
+pub stops_for_memory : {X : Type 0} (old : Scale) (row : LogRow) (answer : Result X RunFault) → IsOkUnless answer Memory → IfErr answer (λ fault. StopsAtRow old row fault)
+stops_for_memory old row (Ok x) h = tt
+stops_for_memory old row (Err fault) h = subst (λ f. StopsAtRow old row f) (sym h) tt
+
+-- the row that brings this keeps a scale from it
+pub stops_at : (old : Scale) (bytes : List ℕ) (row : Row) (brings : RowData) (fault : RunFault) → data_view bytes row.kind ≡ brings →
+    StopsAtRow old (row_at row.number row.ms brings) fault → StopsAtRow old (row_view bytes row) fault
+stops_at old bytes row brings fault is stops = subst (λ kind. StopsAtRow old (row_at row.number row.ms kind) fault) (sym is) stops
+
+-- and takes it
+pub runs_this : (old : Scale) (bytes : List ℕ) (row : Row) (brings : RowData) → data_view bytes row.kind ≡ brings →
+    RunsRow old (row_at row.number row.ms brings) → RunsRow old (row_view bytes row)
+runs_this old bytes row brings is runs = subst (λ kind. RunsRow old (row_at row.number row.ms kind)) (sym is) runs

@@ -6,11 +6,11 @@ use Rattle.std.proofs.lemmas.List.Elements.{filter-append}
 use Rattle.std.specs.Prelude.{filter}
 use Rattle.wc_instrument_laws.proofs.Independence.{is_free_of_programs}
 use Rattle.wc_model.specs.Instrument.Plates.{PlateData}
-use Rattle.wc_model.specs.Say.ProgramReport.{scans_of}
+use Rattle.wc_model.specs.Say.ProgramReport.{Logic, programs}
 use Rattle.wc_model.specs.Say.Report.{ReportLine, answer_line, answer_lines, is_answer_line, is_scan_line, line_report, line_text, report_text}
 use Rattle.wc_model.specs.Run.Rows.{LogRow, Past, answer_of_row}
 use Rattle.wc_run.specs.Deferring.{lines_at_once, text_at_once, text_in_all}
-use Rattle.wc_run.specs.Logics.{Logic, lines_of_row, lines_of_rows, run_report, run_report_last}
+use Rattle.wc_run.specs.Logics.{lines_of_row, lines_of_rows, run_report, run_report_last}
 
 -- rows with those before them, the newest of which stands first
 abbrev pub onto : Past → List LogRow → List LogRow
@@ -102,7 +102,7 @@ answers_dropped plate past (row ∷ rows) =
 -- where the last scans are asked for, what is written at once is what a run with no program writes
 pub at_once_is_line : (number : ℕ) (plate : PlateData) (logic : Option Logic) (rows : List LogRow) → text_at_once (Some number) plate logic rows ≡ line_report plate rows
 at_once_is_line number plate None rows = ap report_text (answers_kept plate [] rows)
-at_once_is_line number plate (Some logic) rows = (is_free_of_programs plate (scans_of logic.text) logic.store rows).bytes
+at_once_is_line number plate (Some logic) rows = (is_free_of_programs plate programs logic rows).bytes
 
 -- nothing is left of no lines
 drop-none : (n : ℕ) (lines : List ReportLine) → lines ≡ [] → drop n lines ≡ []

@@ -7,7 +7,8 @@ use Rattle.wc_model.specs.Run.Rows.{LogRow}
 use Rattle.wc_model.specs.Say.Report.{ReportLine, is_answer_line, is_scan_line, report_text}
 use Rattle.wc_record.specs.Recorders.{RecorderState, HoldsLast}
 use Rattle.wc_record.specs.declared.last_scans.Record.{Record}
-use Rattle.wc_run.specs.Logics.{Logic, lines_of_rows}
+use Rattle.wc_model.specs.Say.ProgramReport.{Logic}
+use Rattle.wc_run.specs.Logics.{lines_of_rows}
 use Rattle.wc_run.specs.Outputs.{lines_of_records}
 
 -- those of these lines that are written at once

@@ -9,7 +9,8 @@ use Rattle.wc_record.specs.Recorders.{RecorderState}
 use Rattle.wc_record.specs.declared.row_kind.LogFault.{LogFault}
 use Rattle.wc_record.specs.declared.row_kind.LogFault.TheVariants as log
 use Rattle.wc_run.specs.Deferring.{HoldsScans, lines_at_once, text_at_once, text_in_all}
-use Rattle.wc_run.specs.Logics.{Logic, lines_of_row, lines_of_rows}
+use Rattle.wc_model.specs.Say.ProgramReport.{Logic}
+use Rattle.wc_run.specs.Logics.{IsRefusedRow, IsTaken, lines_of_row, lines_of_rows, logic_after}
 use Rattle.wc_run.specs.Runs.{AppendsFirst, AppendsFront, ReportsBy}
 use Rattle.wc_run.specs.Standing.{Stands}
 use Rattle.wc_run.specs.declared.fault.RunFault.{RunFault}
@@ -35,12 +36,20 @@ abbrev pub Puts : {X : Type 0} → Option ℕ → List ReportLine → List Repor
 Puts number before lines recorder (Ok x) old new = HoldsScans recorder number (before ++ lines) × Appends old new (report_text (lines_at_once number lines))
 Puts number before lines recorder (Err fault) old new = IsCutShort fault old new (report_text (lines_at_once number lines))
 
--- the row is done and its lines are put; or what is written of them is cut short
+-- The row is done and its lines are put. Or it is refused, and nothing is put; or the writer failed
+-- at a front of what is written of it; or memory was refused, and nothing is written.
 abbrev pub Does : {X : Type 0} → PlateData → Option Logic → Option ℕ → List ReportLine → Past → LogRow → Scale → Option RecorderState → Result X RunFault → Option (List ℕ) → Option (List ℕ) → Type 0
 Does plate logic number before past row scale recorder (Ok x) old new =
-    Stands scale plate logic (row ∷ past) × HoldsScans recorder number (before ++ lines_of_row plate logic past row)
+    IsTaken (logic_after plate logic past) (logic_after plate logic (row ∷ past)) row
+    × Stands scale plate logic (row ∷ past) × HoldsScans recorder number (before ++ lines_of_row plate logic past row)
     × Appends old new (report_text (lines_at_once number (lines_of_row plate logic past row)))
-Does plate logic number before past row scale recorder (Err fault) old new = IsCutShort fault old new (report_text (lines_at_once number (lines_of_row plate logic past row)))
+Does plate logic number before past row scale recorder (Err (Refused code place)) old new =
+    IsRefusedRow (logic_after plate logic past) row code place × HoldsScans recorder number before × Keeps old new
+Does plate logic number before past row scale recorder (Err Read) old new = ⊥
+Does plate logic number before past row scale recorder (Err Write) old new =
+    IsTaken (logic_after plate logic past) (logic_after plate logic (row ∷ past)) row
+    × AppendsFront old new (report_text (lines_at_once number (lines_of_row plate logic past row)))
+Does plate logic number before past row scale recorder (Err Memory) old new = Keeps old new
 
 -- All rows were run, or those before the refused one: what is written at once of them is written,
 -- and the rest of them is held. After a fault that of the first of them was written, or a front of

@@ -6,7 +6,8 @@ use Rattle.wc_model.specs.Instrument.Plates.{PlateData}
 use Rattle.wc_model.specs.Run.Rows.{LogRow}
 use Rattle.wc_model.specs.Say.Report.{line_report}
 use Rattle.wc_instrument_laws.specs.WrittenLines.{without_scan_lines}
-use Rattle.wc_run.specs.Logics.{Logic, run_report, run_report_last}
+use Rattle.wc_model.specs.Say.ProgramReport.{Logic}
+use Rattle.wc_run.specs.Logics.{run_report, run_report_last}
 use Rattle.wc_run.specs.declared.fault.RunFault.{RunFault}
 use Rattle.wc_run.specs.declared.fault.RunFault.TheVariants.{Refused, Read, Write, Memory}
 

@@ -4,7 +4,8 @@ use Rattle.wc_indicator.specs.Kept.{StandsForHistory}
 use Rattle.wc_model.specs.Instrument.Plates.{PlateData}
 use Rattle.wc_model.specs.Run.ProcessImage.{inputs_of}
 use Rattle.wc_model.specs.Run.Rows.{Past, history_of, line_bytes}
-use Rattle.wc_run.specs.Logics.{Logic, StandsAt, logic_after}
+use Rattle.wc_model.specs.Say.ProgramReport.{Logic}
+use Rattle.wc_run.specs.Logics.{StandsAt, logic_after}
 use Rattle.wc_run.specs.declared.scale.Scale.{Scale}
 use Rattle.wc_sma.specs.Standing.{StandsAfter}
 
@@ -13,7 +14,7 @@ pub record Stands (scale : Scale) (plate : PlateData) (logic : Option Logic) (pa
   pub indicator : StandsForHistory scale.indicator plate (history_of past)
   pub line : StandsAfter scale.line (line_bytes past)
   pub inputs : scale.inputs ≡ inputs_of past
-  pub machine : StandsAt scale.machine (logic_after plate logic past)
+  pub machine : StandsAt scale.machine scale.next (logic_after plate logic past)
 
 -- no scan so far was behind this moment
 abbrev pub IsNotBehind : Scale → ℕ → Type 0

@@ -3,6 +3,7 @@
 #![tactic(auto)]
 
 mod answers;
+mod changing;
 mod fault;
 mod log_rows;
 mod printing;

@@ -10,7 +10,8 @@ ghost use Rattle.wc_record.specs.Views.{IsDataInRange, data_view, row_view};
 ghost use Rattle.wc_run.specs.Deferring.{HoldsScans};
 ghost use Rattle.wc_run.specs.Doing.{Does, RunsRows};
 ghost use Rattle.wc_run.specs.Doing as doing;
-ghost use Rattle.wc_run.specs.Logics.{Logic};
+ghost use Rattle.wc_model.specs.Say.LogFor.{log_for};
+ghost use Rattle.wc_model.specs.Say.ProgramReport.{Logic};
 ghost use Rattle.wc_run.specs.Standing.{IsNotBehind, Stands};
 
 use crate::fault::RunFault;
@@ -24,6 +25,7 @@ use wc_record::{LogFault, Recorder, Row, Rows};
 /// Does a row, with the bytes that are lent with it, and puts what is printed of it.
 #[inline(always)]
 fn run_row<W: ByteOut>(
+    alloc: Global,
     room: &mut Room,
     scale: &mut Scale<'_>,
     row: Row,
@@ -45,7 +47,7 @@ fn run_row<W: ByteOut>(
     ensures steady { ¬ IsErrOf result RunFault.Write
         → W.failure_count writer.new ≡ W.failure_count writer.old }
 {
-    match scale.take(room, row, bytes) {
+    match scale.take(alloc, room, row, bytes) {
         Ok(output) => put(output, &mut room.text, recorder, writer),
         Err(fault) => Err(fault),
     }
@@ -64,6 +66,7 @@ fn answer_to(fault: LogFault) -> RunFault
 
 /// Runs the rows that are left: how many there were.
 fn run_rows<R: ByteIn, W: ByteOut>(
+    alloc: Global,
     room: &mut Room,
     scale: &mut Scale<'_>,
     rows: &mut Rows<'_, R>,
@@ -75,8 +78,8 @@ fn run_rows<R: ByteIn, W: ByteOut>(
     ensures reports { (log : LogOf) → HasLeft R.bytes_left rows.old log
         → (plate : PlateData) (logic : Option Logic) (number : Option ℕ)
         → Stands scale.old plate logic [] → HoldsScans recorder.old number []
-        → RunsRows number plate logic log recorder.new result (W.bytes_taken writer.old)
-        (W.bytes_taken writer.new) }
+        → RunsRows number plate logic (log_for logic log) recorder.new result
+        (W.bytes_taken writer.old) (W.bytes_taken writer.new) }
     ensures write { IsErrOf result RunFault.Write
         → HasFailedSince (W.failure_count writer.old) (W.failure_count writer.new) }
     ensures steady { ¬ IsErrOf result RunFault.Write
@@ -86,7 +89,15 @@ fn run_rows<R: ByteIn, W: ByteOut>(
     loop {
         match rows.next() {
             Ok(given) => match given {
-                Some(row) => match run_row(room, scale, row, rows.bytes(), recorder, writer) {
+                Some(row) => match run_row(
+                    alloc,
+                    room,
+                    scale,
+                    row,
+                    rows.bytes(),
+                    recorder,
+                    writer,
+                ) {
                     Ok(()) => count += 1,
                     Err(fault) => return Err(fault),
                 },
@@ -109,7 +120,7 @@ pub(crate) fn run_log<R: ByteIn, W: ByteOut>(
     ensures reports { IfSome (R.bytes_left reader.old)
         (λ bytes. (plate : PlateData) (logic : Option Logic) (number : Option ℕ)
         → Stands scale.old plate logic [] → HoldsScans recorder.old number []
-        → RunsRows number plate logic (log_of (records_of bytes)) recorder.new result
+        → RunsRows number plate logic (log_for logic (log_of (records_of bytes))) recorder.new result
         (W.bytes_taken writer.old) (W.bytes_taken writer.new)) }
     ensures write { IsErrOf result RunFault.Write
         → HasFailedSince (W.failure_count writer.old) (W.failure_count writer.new) }
@@ -118,7 +129,7 @@ pub(crate) fn run_log<R: ByteIn, W: ByteOut>(
 {
     let mut room = Room::new(alloc);
     let mut rows = Rows::new(alloc, reader);
-    let answer = run_rows(&mut room, scale, &mut rows, recorder, writer);
+    let answer = run_rows(alloc, &mut room, scale, &mut rows, recorder, writer);
     drop(rows);
     answer
 }

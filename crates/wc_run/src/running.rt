@@ -6,7 +6,9 @@ ghost use Rattle.wc_record.specs.Left.{HasCause};
 ghost use Rattle.wc_record.specs.Reading.{records_of};
 ghost use Rattle.wc_run.specs.Deferring.{HoldsScans};
 ghost use Rattle.wc_run.specs.Doing.{Ends, IsJudged, RunsRows, is_cut_short};
-ghost use Rattle.wc_run.specs.Logics.{Logic, StandsAt};
+ghost use Rattle.wc_model.specs.Say.LogFor.{log_for};
+ghost use Rattle.wc_model.specs.Say.ProgramReport.{Logic};
+ghost use Rattle.wc_run.specs.Logics.{StandsAt};
 ghost use Rattle.wc_run.specs.Runs.{HasNotFailed, LeavesLine, Reports, ReportsLast};
 ghost use Rattle.wc_run.specs.Standing.{IsNotBehind, Stands};
 
@@ -15,6 +17,7 @@ use crate::log_rows::run_log;
 use crate::printing::write_last;
 use crate::scale::Scale;
 use std::alloc::Global;
+use wc_cost::Loaded;
 use wc_machine::Machine;
 use wc_model::{ByteIn, ByteOut};
 use wc_plate::Plate;
@@ -47,8 +50,8 @@ fn run_told<R: ByteIn, W: ByteOut>(
     ensures reports { IfSome (R.bytes_left reader.old)
         (λ bytes. (plate : PlateData) (logic : Option Logic) (number : Option ℕ)
         → Stands scale.old plate logic [] → HoldsScans recorder.old number []
-        → RunsRows number plate logic (log_of (records_of bytes)) recorder.new result
-        (W.bytes_taken writer.old) (W.bytes_taken writer.new)) }
+        → RunsRows number plate logic (log_for logic (log_of (records_of bytes))) recorder.new
+        result (W.bytes_taken writer.old) (W.bytes_taken writer.new)) }
     ensures write { IsErrOf result RunFault.Write
         → HasFailedSince (W.failure_count writer.old) (W.failure_count writer.new) }
     ensures steady { ¬ IsErrOf result RunFault.Write
@@ -80,8 +83,8 @@ fn run_to_end<R: ByteIn, W: ByteOut>(
     ensures ends { IfSome (R.bytes_left reader.old)
         (λ bytes. (plate : PlateData) (logic : Option Logic) (number : Option ℕ)
         → Stands scale.old plate logic [] → HoldsScans recorder.old number []
-        → Ends number plate logic (log_of (records_of bytes)) result (W.bytes_taken writer.old)
-        (W.bytes_taken writer.new)) }
+        → Ends number plate logic (log_for logic (log_of (records_of bytes))) result
+        (W.bytes_taken writer.old) (W.bytes_taken writer.new)) }
     ensures write { IsErrOf result RunFault.Write
         → HasFailedSince (W.failure_count writer.old) (W.failure_count writer.new) }
     ensures steady { ¬ IsErrOf result RunFault.Write
@@ -115,19 +118,21 @@ fn recorder_of(alloc: Global, number: Option<u16>) -> Result<Option<Recorder>, R
 }
 
 /// Runs the log that the reader has to give with a scale to which no row has come.
-fn run_scale<R: ByteIn, W: ByteOut>(
+fn run_scale<'a, R: ByteIn, W: ByteOut>(
     alloc: Global,
     plate: &Plate,
-    machine: Option<Machine<'_, SlotStore>>,
+    machine: Option<Machine<'a, SlotStore>>,
+    next: Option<Loaded<'a>>,
     recorder: &mut Option<Recorder>,
     reader: &mut R,
     writer: &mut W,
 ) -> Result<u32, RunFault>
     requires { IfSome machine (λ m. m.last ≡ 0) }
     ensures ends { IfSome (R.bytes_left reader.old)
-        (λ bytes. (logic : Option Logic) (number : Option ℕ) → StandsAt machine.entry logic
+        (λ bytes. (logic : Option Logic) (number : Option ℕ)
+        → StandsAt machine.entry next.entry logic
         → HoldsScans recorder.old number []
-        → Ends number plate.now logic (log_of (records_of bytes)) result
+        → Ends number plate.now logic (log_for logic (log_of (records_of bytes))) result
         (W.bytes_taken writer.old) (W.bytes_taken writer.new)) }
     ensures write { IsErrOf result RunFault.Write
         → HasFailedSince (W.failure_count writer.old) (W.failure_count writer.new) }
@@ -136,7 +141,7 @@ fn run_scale<R: ByteIn, W: ByteOut>(
     ensures reader { HasNotFailed result (R.failure_count reader.old)
         (R.failure_count reader.new) }
 {
-    match Scale::new(alloc, plate, machine) {
+    match Scale::new(alloc, plate, machine, next) {
         Ok(mut scale) => run_to_end(alloc, &mut scale, recorder, reader, writer),
         Err(fault) => Err(fault),
     }
@@ -144,19 +149,20 @@ fn run_scale<R: ByteIn, W: ByteOut>(
 
 /// Runs the log that the reader has to give, with a recorder of the last so many scans where they
 /// are asked for.
-fn run_recorded<R: ByteIn, W: ByteOut>(
+fn run_recorded<'a, R: ByteIn, W: ByteOut>(
     alloc: Global,
     number: Option<u16>,
     plate: &Plate,
-    machine: Option<Machine<'_, SlotStore>>,
+    machine: Option<Machine<'a, SlotStore>>,
+    next: Option<Loaded<'a>>,
     reader: &mut R,
     writer: &mut W,
 ) -> Result<u32, RunFault>
     requires few { IfSome number (λ n. (1 ≤ n) × (n ≤ 1000)) }
     requires first { IfSome machine (λ m. m.last ≡ 0) }
     ensures ends { IfSome (R.bytes_left reader.old)
-        (λ bytes. (logic : Option Logic) → StandsAt machine.entry logic
-        → Ends number plate.now logic (log_of (records_of bytes)) result
+        (λ bytes. (logic : Option Logic) → StandsAt machine.entry next.entry logic
+        → Ends number plate.now logic (log_for logic (log_of (records_of bytes))) result
         (W.bytes_taken writer.old) (W.bytes_taken writer.new)) }
     ensures write { IsErrOf result RunFault.Write
         → HasFailedSince (W.failure_count writer.old) (W.failure_count writer.new) }
@@ -166,7 +172,7 @@ fn run_recorded<R: ByteIn, W: ByteOut>(
         (R.failure_count reader.new) }
 {
     match recorder_of(alloc, number) {
-        Ok(mut recorder) => run_scale(alloc, plate, machine, &mut recorder, reader, writer),
+        Ok(mut recorder) => run_scale(alloc, plate, machine, next, &mut recorder, reader, writer),
         Err(fault) => Err(fault),
     }
 }
@@ -195,19 +201,20 @@ fn judged<R: ByteIn>(fault: RunFault, reader: &R, failures: u64, spent: u64) -> 
 
 /// Runs a log, with the last so many scans at its end where they are asked for: a fault behind
 /// which there is no other cause is want of memory.
-fn run_judged<R: ByteIn, W: ByteOut>(
+fn run_judged<'a, R: ByteIn, W: ByteOut>(
     alloc: Global,
     number: Option<u16>,
     plate: &Plate,
-    machine: Option<Machine<'_, SlotStore>>,
+    machine: Option<Machine<'a, SlotStore>>,
+    next: Option<Loaded<'a>>,
     reader: &mut R,
     writer: &mut W,
 ) -> Result<u32, RunFault>
     requires few { IfSome number (λ n. (1 ≤ n) × (n ≤ 1000)) }
     requires first { IfSome machine (λ m. m.last ≡ 0) }
     ensures ends { IfSome (R.bytes_left reader.old)
-        (λ bytes. (logic : Option Logic) → StandsAt machine.entry logic
-        → Ends number plate.now logic (log_of (records_of bytes)) result
+        (λ bytes. (logic : Option Logic) → StandsAt machine.entry next.entry logic
+        → Ends number plate.now logic (log_for logic (log_of (records_of bytes))) result
         (W.bytes_taken writer.old) (W.bytes_taken writer.new)) }
     ensures read { IsErrOf result RunFault.Read
         → HasCause (R.failure_count reader.old) (R.failure_count reader.new)
@@ -224,7 +231,7 @@ fn run_judged<R: ByteIn, W: ByteOut>(
 {
     let failures = reader.failures();
     let spent = reader.spent();
-    match run_recorded(alloc, number, plate, machine, reader, writer) {
+    match run_recorded(alloc, number, plate, machine, next, reader, writer) {
         Ok(count) => Ok(count),
         Err(fault) => Err(judged(fault, reader, failures, spent)),
     }
@@ -241,23 +248,24 @@ fn run_judged<R: ByteIn, W: ByteOut>(
 /// `scan` promises that each scan is done. That takes two things of whoever calls it: the machine
 /// has run no scan (`first`), and it stands for the logic that the report speaks of, as `new`
 /// promises of the text and its first store.
-pub fn run<R: ByteIn, W: ByteOut>(
+pub fn run<'a, R: ByteIn, W: ByteOut>(
     alloc: Global,
     plate: &Plate,
-    machine: Option<Machine<'_, SlotStore>>,
+    machine: Option<Machine<'a, SlotStore>>,
+    next: Option<Loaded<'a>>,
     reader: &mut R,
     writer: &mut W,
 ) -> Result<u32, RunFault>
     requires { IfSome machine (λ m. m.last ≡ 0) }
     ensures reports { IfSome (R.bytes_left reader.old)
-        (λ bytes. (logic : Option Logic) → StandsAt machine.entry logic
-        → Reports plate.now logic (log_of (records_of bytes)) result (W.bytes_taken writer.old)
-        (W.bytes_taken writer.new)) }
+        (λ bytes. (logic : Option Logic) → StandsAt machine.entry next.entry logic
+        → Reports plate.now logic (log_for logic (log_of (records_of bytes))) result
+        (W.bytes_taken writer.old) (W.bytes_taken writer.new)) }
     // Whatever the program: without the lines of scans the bytes are those of a run with none.
     ensures line { IfSome (R.bytes_left reader.old)
-        (λ bytes. (logic : Option Logic) → StandsAt machine.entry logic
-        → LeavesLine plate.now (log_of (records_of bytes)) result (W.bytes_taken writer.old)
-        (W.bytes_taken writer.new)) }
+        (λ bytes. (logic : Option Logic) → StandsAt machine.entry next.entry logic
+        → LeavesLine plate.now (log_for logic (log_of (records_of bytes))) result
+        (W.bytes_taken writer.old) (W.bytes_taken writer.new)) }
     ensures read { IsErrOf result RunFault.Read
         → HasCause (R.failure_count reader.old) (R.failure_count reader.new)
         (R.spent_count reader.old) (R.spent_count reader.new) }
@@ -273,7 +281,7 @@ pub fn run<R: ByteIn, W: ByteOut>(
     ensures reader { HasNotFailed result (R.failure_count reader.old)
         (R.failure_count reader.new) }
 {
-    run_judged(alloc, None, plate, machine, reader, writer)
+    run_judged(alloc, None, plate, machine, next, reader, writer)
 }
 
 /// Runs a log as `run` does, but of its scans prints the last `number` alone, 1 to 1000, in order,
@@ -282,11 +290,12 @@ pub fn run<R: ByteIn, W: ByteOut>(
 /// record in a ring, so a run takes no more memory for more rows. After a read fault or want of
 /// memory the answers of the first rows are written and no scan, after a write fault a front of the
 /// report.
-pub fn run_last<R: ByteIn, W: ByteOut>(
+pub fn run_last<'a, R: ByteIn, W: ByteOut>(
     alloc: Global,
     number: u16,
     plate: &Plate,
-    machine: Option<Machine<'_, SlotStore>>,
+    machine: Option<Machine<'a, SlotStore>>,
+    next: Option<Loaded<'a>>,
     reader: &mut R,
     writer: &mut W,
 ) -> Result<u32, RunFault>
@@ -294,14 +303,14 @@ pub fn run_last<R: ByteIn, W: ByteOut>(
     requires few { number ≤ 1000 }
     requires first { IfSome machine (λ m. m.last ≡ 0) }
     ensures reports { IfSome (R.bytes_left reader.old)
-        (λ bytes. (logic : Option Logic) → StandsAt machine.entry logic
-        → ReportsLast number plate.now logic (log_of (records_of bytes)) result
+        (λ bytes. (logic : Option Logic) → StandsAt machine.entry next.entry logic
+        → ReportsLast number plate.now logic (log_for logic (log_of (records_of bytes))) result
         (W.bytes_taken writer.old) (W.bytes_taken writer.new)) }
     // Whatever the program: without the lines of scans the bytes are those of a run with none.
     ensures line { IfSome (R.bytes_left reader.old)
-        (λ bytes. (logic : Option Logic) → StandsAt machine.entry logic
-        → LeavesLine plate.now (log_of (records_of bytes)) result (W.bytes_taken writer.old)
-        (W.bytes_taken writer.new)) }
+        (λ bytes. (logic : Option Logic) → StandsAt machine.entry next.entry logic
+        → LeavesLine plate.now (log_for logic (log_of (records_of bytes))) result
+        (W.bytes_taken writer.old) (W.bytes_taken writer.new)) }
     ensures read { IsErrOf result RunFault.Read
         → HasCause (R.failure_count reader.old) (R.failure_count reader.new)
         (R.spent_count reader.old) (R.spent_count reader.new) }
@@ -317,5 +326,5 @@ pub fn run_last<R: ByteIn, W: ByteOut>(
     ensures reader { HasNotFailed result (R.failure_count reader.old)
         (R.failure_count reader.new) }
 {
-    run_judged(alloc, Some(number), plate, machine, reader, writer)
+    run_judged(alloc, Some(number), plate, machine, next, reader, writer)
 }

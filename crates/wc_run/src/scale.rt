@@ -1,18 +1,21 @@
-ghost use Rattle.std.specs.Prelude.{◌≡◌, ◌<◌, ◌^◌, ℕ, List, [], ◌∷◌, Option, IfOk, IsOkUnless, OnOk};
+ghost use Rattle.std.specs.Prelude.{◌≡◌, ◌<◌, ◌^◌, ℕ, List, [], ◌∷◌, Option, IfErr, IfOk, IsOkUnless, OnOk};
 ghost use Rattle.wc_model.specs.Instrument.Plates.{PlateData};
-ghost use Rattle.wc_model.specs.Run.Rows.{Past, Counts, Bytes, Inputs, Scan};
+ghost use Rattle.wc_model.specs.Run.Rows.{Past, Counts, Bytes, Inputs, Scan, Change};
 ghost use Rattle.wc_record.specs.Views.{IsDataInRange, data_view, row_view};
-ghost use Rattle.wc_run.specs.Logics.{Logic, StandsAt, lines_of_row};
+ghost use Rattle.wc_model.specs.Say.ProgramReport.{Logic};
+ghost use Rattle.wc_run.specs.Logics.{StandsAt, lines_of_row};
 ghost use Rattle.wc_run.specs.Outputs.{IsOutput};
 ghost use Rattle.wc_run.specs.Standing.{IsNotBehind, Stands};
-ghost use Rattle.wc_run.specs.Taking.{Gives, TakesRow};
+ghost use Rattle.wc_run.specs.Taking.{Gives, RunsRow, StopsAtRow, TakesRow, row_at};
 
 use crate::answers::answer_output;
+use crate::changing::changed;
 use crate::fault::RunFault;
 use crate::room::Room;
 use crate::row_output::RowOutput;
 use crate::scans::scan_record;
 use std::alloc::Global;
+use wc_cost::Loaded;
 use wc_indicator::Indicator;
 use wc_machine::Machine;
 use wc_plate::Plate;
@@ -20,14 +23,15 @@ use wc_record::{Row, RowKind, image};
 use wc_sma::Line;
 use wc_store::SlotStore;
 
-/// A scale: its indicator, its line, the digital inputs, and the machine beside it, if there is
-/// one.
+/// A scale: its indicator, its line, the digital inputs, the machine beside it, if there is one,
+/// and the next program, if one is left.
 #[derive(Drop)]
 pub(crate) struct Scale<'a> {
     indicator: Indicator,
     line: Line,
     inputs: u16,
     machine: Option<Machine<'a, SlotStore>>,
+    next: Option<Loaded<'a>>,
 }
 
 impl<'a> Scale<'a> {
@@ -36,9 +40,10 @@ impl<'a> Scale<'a> {
         alloc: Global,
         plate: &Plate,
         machine: Option<Machine<'a, SlotStore>>,
+        next: Option<Loaded<'a>>,
     ) -> Result<Scale<'a>, RunFault>
         ensures stands { IfOk result
-            (λ scale. (logic : Option Logic) → StandsAt machine.entry logic
+            (λ scale. (logic : Option Logic) → StandsAt machine.entry next.entry logic
             → Stands scale plate.now logic []) }
         ensures machine { IfOk result (λ scale. scale.machine ≡ machine.entry) }
         ensures memory { IsOkUnless result RunFault.Memory }
@@ -49,6 +54,7 @@ impl<'a> Scale<'a> {
                 line: Line::new(),
                 inputs: 0,
                 machine,
+                next,
             }),
             Err(_) => Err(RunFault::Memory),
         }
@@ -59,6 +65,7 @@ impl<'a> Scale<'a> {
     #[inline(always)]
     pub(crate) fn take(
         &mut self,
+        alloc: Global,
         room: &mut Room,
         row: Row,
         bytes: &[u8],
@@ -75,8 +82,10 @@ impl<'a> Scale<'a> {
             → Stands self.old plate logic past
             → IsOutput output room.new.text.items
             (lines_of_row plate logic past (row_view bytes.now row))) }
+        ensures runs { OnOk result (RunsRow self.old (row_view bytes.now row)) }
+        ensures stops { IfErr result
+            (λ fault. StopsAtRow self.old (row_view bytes.now row) fault) }
         ensures in_order { OnOk result (IsNotBehind self.new row.ms) }
-        ensures memory { IsOkUnless result RunFault.Memory }
     {
         match row.kind {
             RowKind::Counts(counts) => {
@@ -89,6 +98,10 @@ impl<'a> Scale<'a> {
                 Ok(RowOutput::Nothing)
             }
             RowKind::Scan => Ok(self.take_scan(row.ms)),
+            RowKind::Change => match self.take_change(alloc, row.number) {
+                Ok(()) => Ok(RowOutput::Nothing),
+                Err(fault) => Err(fault),
+            },
         }
     }
 
@@ -145,6 +158,27 @@ impl<'a> Scale<'a> {
                 RowOutput::Scan(scan_record(ms, &image, machine))
             }
             None => RowOutput::Nothing,
+        }
+    }
+
+    /// Takes the next program where there is a machine. Nothing is printed of it.
+    fn take_change(&mut self, alloc: Global, number: u32) -> Result<(), RunFault>
+        ensures stands { OnOk result ((ms : ℕ) → TakesRow self.old self.new ms Change) }
+        ensures runs { OnOk result ((ms : ℕ) → RunsRow self.old (row_at number ms Change)) }
+        ensures stops { IfErr result
+            (λ fault. (ms : ℕ) → StopsAtRow self.old (row_at number ms Change) fault) }
+        ensures in_order { OnOk result
+            ((ms : ℕ) → IsNotBehind self.old ms → IsNotBehind self.new ms) }
+    {
+        let Some(machine) = self.machine.take() else {
+            return Ok(());
+        };
+        match changed(alloc, machine, self.next.take(), number) {
+            Ok(machine) => {
+                self.machine = Some(machine);
+                Ok(())
+            }
+            Err(fault) => Err(fault),
         }
     }
 }

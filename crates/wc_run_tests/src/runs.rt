@@ -8,8 +8,8 @@ use wc_run::{RunFault, run, run_last};
 const FIFTEEN_KILOGRAMS: &[u8] =
     b"unit = \"kg\"\ndecimals = 3\nmax = 15000\ne = 5\nzero_counts = 10000\nspan_counts = 600000\nwindow = 4\n";
 
-/// A weight asked for at once, in motion, and a scan that no program does.
-const WEIGHT_LOG: &[u8] = b"ms,kind,data\n5,C,60000\n6,S,\n7,L,0a570d\n";
+/// A weight asked for at once, in motion, a scan that no program does, and a change of none.
+const WEIGHT_LOG: &[u8] = b"ms,kind,data\n5,C,60000\n6,S,\n6,P,\n7,L,0a570d\n";
 
 /// What the line answers to it.
 const WEIGHT_REPORT: &[u8] = b"L 7 0a2031474d202020202020312e3235306b67200d\n";
@@ -25,8 +25,16 @@ fn answer<R: ByteIn, W: ByteOut>(
         return Err(RunFault::Memory);
     };
     match last {
-        Some(number) => run_last(alloc, number.clamp(1, 1000), &plate, None, reader, writer),
-        None => run(alloc, &plate, None, reader, writer),
+        Some(number) => run_last(
+            alloc,
+            number.clamp(1, 1000),
+            &plate,
+            None,
+            None,
+            reader,
+            writer,
+        ),
+        None => run(alloc, &plate, None, None, reader, writer),
     }
 }
 
@@ -55,7 +63,7 @@ fn fails_behind(alloc: Global, in_all: usize, written: &[u8]) -> Result<bool, Al
 fn a_log_is_run_and_its_report_is_written(rt: HostRuntime) {
     for last in [None, Some(3)] {
         let mut log = Device::new(WEIGHT_LOG);
-        assert!(rt; gives(rt.alloc(), last, &mut log, Ok(3), WEIGHT_REPORT));
+        assert!(rt; gives(rt.alloc(), last, &mut log, Ok(4), WEIGHT_REPORT));
     }
 }
 

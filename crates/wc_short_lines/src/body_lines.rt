@@ -21,7 +21,7 @@ use wc_lines::{Begun, Operating, Operation, Step, ends_unit, operation_named, tr
 use wc_model::{Condition, Operand, Value};
 
 /// The operand that the token is by itself.
-pub(crate) fn operand_of<'a>(token: Token<'a>) -> Option<Operand<'a>>
+pub fn operand_of<'a>(token: Token<'a>) -> Option<Operand<'a>>
     ensures { option_map term_view result
         ≡ operand_of (symbol_view token.entry) token.entry.line }
 {

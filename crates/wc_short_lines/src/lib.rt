@@ -7,5 +7,6 @@ mod call_lines;
 mod label_lines;
 mod section_lines;
 
+pub use body_lines::operand_of;
 pub use call_lines::take_line_and_call;
 pub use section_lines::take_declaration;

@@ -11,3 +11,4 @@ pub mod Programs
 pub mod Texts
 pub mod Spelled
 pub mod Runs
+pub mod Carrying

@@ -1,12 +1,13 @@
 -- Statements about the runs of texts that break no rule.
-use Rattle.std.specs.Prelude.{◌≡◌, ℕ, List, [], ◌∷◌, Option, None}
+use Rattle.std.specs.Prelude.{◌≡◌, ℕ, List, [], ◌∷◌, Option, None, reverse}
 use Rattle.wc_model.specs.Language.Faults.{body_fault}
 use Rattle.wc_model.specs.Text.Grammar.{Spells}
-use Rattle.wc_model.specs.Language.Loading.{IsLoaded}
+use Rattle.wc_model.specs.Language.Loading.{IsLoaded, IsNextLoaded}
 use Rattle.wc_model.specs.Text.Marks.{Mark}
 use Rattle.wc_model.specs.Instrument.Plates.{PlateData}
 use Rattle.wc_model.specs.Run.ProcessImage.{image_after}
-use Rattle.wc_model.specs.Say.ProgramReport.{store_after}
+use Rattle.wc_model.specs.Say.LogFor.{AreRun}
+use Rattle.wc_model.specs.Say.ProgramReport.{first_logic, logic_behind}
 use Rattle.wc_model.specs.Run.Rows.{Past}
 use Rattle.wc_model.specs.Language.Scans.{scan_of, initial_of}
 use Rattle.wc_model.specs.Language.Store.{Store}
@@ -39,7 +40,10 @@ LoadedTextIsNeverStuck = (bytes : List ℕ) (text : Text) → IsLoaded bytes tex
     (store : Store) → SameSlots (initial_of text) store → (image : Image) (now : ℕ) →
     EndsWell (λ (result : Option Value). Unit {0}) (initial_of text) (scan_of text store image now)
 
--- whatever rows have come, in whatever order, the next scan of a text that is loaded is never stuck
+-- whatever rows have come that are run, in whatever order, the next scan is never stuck: that of a text that is loaded, and
+-- behind a change that of the next one
 abbrev pub NoRunIsEverStuck : Type 0
-NoRunIsEverStuck = (bytes : List ℕ) (text : Text) → IsLoaded bytes text → (plate : PlateData) (past : Past) (now : ℕ) →
-    EndsWell (λ (result : Option Value). Unit {0}) (initial_of text) (scan_of text (store_after plate text (initial_of text) past) (image_after plate past) now)
+NoRunIsEverStuck = (bytes : List ℕ) (text : Text) → IsLoaded bytes text → (next : Option Text) → IsNextLoaded next →
+    (plate : PlateData) (past : Past) → AreRun next (reverse past) → (now : ℕ) →
+    let logic = logic_behind plate (first_logic text next) past in
+    EndsWell (λ (result : Option Value). Unit {0}) (initial_of logic.text) (scan_of logic.text logic.store (image_after plate past) now)

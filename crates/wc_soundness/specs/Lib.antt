@@ -2,3 +2,4 @@ pub mod Typing
 pub mod Sound
 pub mod Laws
 pub mod FirstNumbers
+pub mod Carrying

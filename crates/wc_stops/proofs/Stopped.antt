@@ -1,5 +1,5 @@
 -- Where the reading of a text stops.
-use Rattle.std.proofs.Common.{◌≡◌, ◌==◌, ℕ, ◌≤◌, ◌<◌, true, false, List, length, map, refl, ap, subst, sym, ◌∙◌, arith, inr, Ok}
+use Rattle.std.proofs.Common.{◌≡◌, ◌==◌, ℕ, ◌≤◌, ◌<◌, true, false, List, length, map, refl, ap, subst, sym, ◌∙◌, arith, inr, Result, Ok, Err, IfOk}
 use Rattle.std.proofs.lemmas.List.{length-map}
 use Rattle.std.specs.Prelude.{if◌then◌else◌}
 use Rattle.wc_grammar_laws.proofs.Readings.{read_is_spelled, refused_is_first}
@@ -7,17 +7,21 @@ use Rattle.wc_grammar_laws.specs.Moves.{at_first, reading}
 use Rattle.wc_lexer.specs.Views.{token_view}
 use Rattle.wc_lexer.specs.declared.shape.Token.{Token}
 use Rattle.wc_lines.specs.Words.{marks_of}
+use Rattle.wc_model.specs.Language.Tree.{Text}
 use Rattle.wc_model.specs.Text.Reading.{mark_of_token}
 use Rattle.wc_model.specs.Text.ReadingFaults.{IsFirstReadingFault}
 use Rattle.wc_model.specs.Text.Tokens.{IsCut, most_bytes}
+use Rattle.wc_model.specs.Language.Views.{text_view}
+use Rattle.wc_model.specs.declared.source.Source.{Source}
 use Rattle.wc_model.specs.declared.fault.Fault.{Fault}
 use Rattle.wc_model.specs.declared.fault.Fault.TheVariants.{Memory, Refused}
 use Rattle.wc_reader.proofs.ReadTexts.{wants_room}
+use Rattle.wc_reader.specs.Told.{TellsReading}
 use Rattle.wc_short_lines.proofs.WalkSteps.{walk_tells}
 use Rattle.wc_short_lines.specs.Walks.{walk}
 use Rattle.wc_stops.proofs.StopSteps.{walk_stops}
 use Rattle.wc_stops.specs.Awaited.{awaited, awaited_with}
-use Rattle.wc_stops.specs.ReadingSpots.{IsReadByPlaces, StopsReading, place_mark, place_marks}
+use Rattle.wc_stops.specs.ReadingSpots.{AreReadByPlaces, IsReadByPlaces, StopsReading, place_mark, place_marks}
 use Rattle.wc_stops.specs.Stopping.{IsAwaitedAs, IsMetWith, IsPieceAt, IsStopAt, ReadsText, TellsMet}
 use Rattle.wc_stops.specs.declared.awaits.Awaits.{Awaits}
 use Rattle.wc_stops.specs.declared.awaits.Awaits.TheVariants.{Nothing as nothing}
@@ -73,6 +77,21 @@ read_by_places bytes tokens placed short cut m r =
     let e : reading at_first (marks_of placed) (length bytes) ≡ Ok r.text = sym (walk_tells at_first (marks_of placed) (length bytes)) ∙ r.told_is in
     let k = read_is_spelled (place_marks tokens) (length bytes) r.text (subst (λ marks. reading at_first marks (length bytes) ≡ Ok r.text) m e) in
     record { short = short; tokens = tokens; cut = cut; text = r.text; spelled = k.0; within_limits = k.1 }
+
+-- what is read in them
+pub read_as : (bytes : List ℕ) (tokens placed after : List Token) (text : Text) → length bytes ≤ most_bytes → IsCut bytes (map token_view tokens) → marks_of placed ≡ place_marks tokens
+    → after ≡ tokens → (walk at_first (marks_of placed) (length bytes)).told ≡ Ok text → AreReadByPlaces bytes after text
+read_as bytes tokens placed after text short cut m same told =
+    let e : reading at_first (marks_of placed) (length bytes) ≡ Ok text = sym (walk_tells at_first (marks_of placed) (length bytes)) ∙ told in
+    let k = read_is_spelled (place_marks tokens) (length bytes) text (subst (λ marks. reading at_first marks (length bytes) ≡ Ok text) m e) in
+    subst (λ xs. AreReadByPlaces bytes xs text) (sym same) (record { short = short; cut = cut; spelled = k.0; within_limits = k.1 })
+
+-- what is read or not
+pub read_result : (bytes : List ℕ) (tokens placed after : List Token) (result : Result Source Fault) → length bytes ≤ most_bytes → IsCut bytes (map token_view tokens)
+    → marks_of placed ≡ place_marks tokens → after ≡ tokens → TellsReading (walk at_first (marks_of placed) (length bytes)).told result
+    → IfOk result (λ source. AreReadByPlaces bytes after (text_view source))
+read_result bytes tokens placed after (Ok source) short cut m same told = read_as bytes tokens placed after (text_view source) short cut m same told
+read_result bytes tokens placed after (Err fault) short cut m same told = tt
 
 -- what is told with a number is told with it again
 told_again : (number : ℕ) (there : Awaits) → awaited_with number there ≡ awaited_with number (awaited_with number there)

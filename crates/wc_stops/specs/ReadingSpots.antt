@@ -102,3 +102,10 @@ pub record IsReadByPlaces (bytes : List ℕ) : Type 0 where
   pub text : Text
   pub spelled : Spells (place_marks tokens) text
   pub within_limits : IsWithinLimits text
+
+-- the tokens of bytes that are short enough spell this text with their places for their lines
+pub record AreReadByPlaces (bytes : List ℕ) (tokens : List Token) (text : Text) : Type 0 where
+  pub short : length bytes ≤ most_bytes
+  pub cut : IsCut bytes (map token_view tokens)
+  pub spelled : Spells (place_marks tokens) text
+  pub within_limits : IsWithinLimits text

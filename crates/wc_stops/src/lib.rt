@@ -3,8 +3,10 @@
 #![tactic(auto)]
 
 mod awaits;
+mod placed;
 mod places;
 mod stops;
 
 pub use awaits::Awaits;
+pub use placed::{Placed, read_by_places};
 pub use stops::{Stop, stop_of};

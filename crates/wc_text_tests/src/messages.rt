@@ -109,9 +109,9 @@ fn is_counted_so(alloc: Global, form: Form, wanted: &[u8]) -> Result<bool, Alloc
 
 #[test]
 fn a_row_stands_in_place_of_a_line(rt: HostRuntime) {
-    let short = b"\\xff:row 7: error[608]: a scan has no data\n";
+    let short = b"\\xff:row 7: error[608]: a scan and a change have no data\n";
     let json =
-        b"{\"file\":\"\\\\xff\",\"place\":\"row 7\",\"number\":608,\"sentence\":\"a scan has no data\",\"hint\":\"leave the third field of a scan empty, as 10,S,\"}\n";
+        b"{\"file\":\"\\\\xff\",\"place\":\"row 7\",\"number\":608,\"sentence\":\"a scan and a change have no data\",\"hint\":\"leave the third field of a scan and of a change empty, as 10,S,\"}\n";
     assert!(rt; is_counted_so(rt.alloc(), Form::Short, short) == Ok(true));
     assert!(rt; is_counted_so(rt.alloc(), Form::Json, json) == Ok(true));
 }

@@ -21,4 +21,5 @@ mod verifying;
 mod ways;
 
 pub use checked::Checked;
-pub use verifying::verify;
+pub use operators::{takes, takes_truth};
+pub use verifying::{judge_bodies, verify};

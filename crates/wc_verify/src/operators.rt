@@ -27,7 +27,7 @@ pub(crate) fn divides(operator: Operator) -> bool
 }
 
 /// Whether a literal 0 or 1 serves an operator as a BOOL.
-pub(crate) fn takes_truth(operator: Operator) -> bool
+pub fn takes_truth(operator: Operator) -> bool
     ensures { result ≡ takes_truth operator }
 {
     match operator {
@@ -44,7 +44,7 @@ pub(crate) fn takes_truth(operator: Operator) -> bool
 }
 
 /// Whether an operator takes a result of the kind.
-pub(crate) fn takes(operator: Operator, kind: Kind) -> bool
+pub fn takes(operator: Operator, kind: Kind) -> bool
     ensures { result ≡ takes operator kind }
 {
     match kind {

@@ -11,8 +11,13 @@ use std::alloc::Global;
 use wc_model::{Fault, Source};
 use wc_names::Tables;
 
-/// Judges the bodies of a text, unit by unit.
-fn judge_units<'a>(alloc: Global, source: &Source<'a>, tables: &Tables<'a>) -> Result<(), Fault>
+/// Judges the bodies of a text by its tables, unit by unit: the first of the refusals 401 to 410, at
+/// its line. The lines of the text are handed on alone, so they may be places as well.
+pub fn judge_bodies<'a>(
+    alloc: Global,
+    source: &Source<'a>,
+    tables: &Tables<'a>,
+) -> Result<(), Fault>
     ensures { AreTables tables.now (text_view source.now)
         → Judges (body_fault (text_view source.now)) None result }
 {
@@ -37,7 +42,7 @@ pub fn verify<'a>(
     ensures tables { IfOk result (λ checked. checked.tables ≡ tables.entry) }
     ensures judged { Judges (body_fault (text_view source.entry)) None result }
 {
-    match judge_units(alloc, &source, &tables) {
+    match judge_bodies(alloc, &source, &tables) {
         Ok(()) => Ok(Checked { source, tables }),
         Err(fault) => Err(fault),
     }

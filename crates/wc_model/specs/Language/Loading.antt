@@ -1,6 +1,6 @@
 -- Loading a text in five passes: tokens, reading, declarations, bodies, cost. The first pass with a fault names it. (The
 -- profile's own.)
-use Rattle.std.specs.Prelude.{◌≡◌, ℕ, List, Some, None}
+use Rattle.std.specs.Prelude.{◌≡◌, ⊤, ℕ, List, Option, Some, None}
 use Rattle.wc_model.specs.Language.Faults.{declaration_fault, body_fault, IsCostFault}
 use Rattle.wc_model.specs.Text.Reading.{IsRead, IsMisread}
 use Rattle.wc_model.specs.Text.ReadingFaults.{ReadingFault, number_of}
@@ -13,6 +13,11 @@ pub record IsLoaded (bytes : List ℕ) (text : Text) : Type 0 where
   pub declarations : declaration_fault text ≡ None
   pub bodies : body_fault text ≡ None
   pub costs : IsCostFault text None
+
+-- a next text, where there is one, is loaded from some bytes
+abbrev pub IsNextLoaded : Option Text → Type 0
+IsNextLoaded None = ⊤
+IsNextLoaded (Some text) = (bytes : List ℕ) × IsLoaded bytes text
 
 -- why bytes are refused: the fault of the first pass that has one
 pub data IsRefused (bytes : List ℕ) (number line : ℕ) : Type 0 where

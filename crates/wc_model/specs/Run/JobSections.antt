@@ -1,4 +1,5 @@
--- The sections of a job: a plate, a program text and a log, each under its heading. The form is the profile's own.
+-- The sections of a job: a plate, a program text, where there is one the text of the next program, and a log, each under its
+-- heading. The form is the profile's own.
 use Rattle.std.specs.Prelude.{ℕ, Bool, ◌||◌, ◌==◌, nat_lt, List, [], ◌∷◌, ◌++◌, length, codes, Option, Some, None, Result, Ok, Err, if◌then◌else◌}
 use Rattle.std.specs.List.{concat}
 use Rattle.std.specs.Str.{bytes_eq}
@@ -33,17 +34,25 @@ part_at word [] = None
 part_at word (line ∷ lines) =
     if is_heading word line then Some (record { section = []; rest = lines }) else with_line line (part_at word lines)
 
--- the three sections, each with the line end before the next heading
+-- the sections, each with the line end before the next heading; the next program where it has its heading
 pub record Sections : Type 0 where
   pub plate : List ℕ
   pub program : List ℕ
+  pub next : Option (List ℕ)
   pub log : List ℕ
+
+-- what stands between the headings of the program and of the log is the program, and behind the first heading of a next
+-- program, where there is one, that program
+abbrev pub sections_with_next : (plate between log : List ℕ) → Option Parted → Sections
+sections_with_next plate between log None = record { plate = plate; program = between; next = None; log = log }
+sections_with_next plate between log (Some parted) =
+    record { plate = plate; program = parted.section; next = Some (concat parted.rest); log = log }
 
 -- the sections of a plate and what is parted at the last heading
 abbrev pub sections_with_log : List ℕ → Option Parted → Option Sections
 sections_with_log plate None = None
 sections_with_log plate (Some parted) =
-    Some (record { plate = plate; program = parted.section; log = concat parted.rest })
+    Some (sections_with_next plate parted.section (concat parted.rest) (part_at (codes "@next") (whole_lines parted.section)))
 
 -- the sections of what is parted at the second heading
 abbrev pub sections_with_program : Option Parted → Option Sections

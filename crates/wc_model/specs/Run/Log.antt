@@ -7,7 +7,7 @@ use Rattle.std.specs.List.{list_all}
 use Rattle.std.specs.Str.{bytes_eq}
 use Rattle.wc_model.specs.Instrument.Plates.{least_sample, greatest_sample}
 use Rattle.wc_model.specs.Run.Hex.{bytes_of_hex}
-use Rattle.wc_model.specs.Run.Rows.{RowData, Counts, Bytes, Inputs, Scan, LogRow}
+use Rattle.wc_model.specs.Run.Rows.{RowData, Counts, Bytes, Inputs, Scan, Change, LogRow}
 
 -- a record: its fields, each a list of bytes
 abbrev pub Record : Type 0
@@ -81,6 +81,11 @@ abbrev pub scan_of_data : List ℕ → Result RowData ℕ
 scan_of_data [] = Ok Scan
 scan_of_data (byte ∷ bytes) = Err 608
 
+-- nor has a change of the program
+abbrev pub change_of_data : List ℕ → Result RowData ℕ
+change_of_data [] = Ok Change
+change_of_data (byte ∷ bytes) = Err 608
+
 -- what a kind and its data bring
 abbrev pub row_data_of : List ℕ → List ℕ → Result RowData ℕ
 row_data_of kind text =
@@ -88,6 +93,7 @@ row_data_of kind text =
     else if bytes_eq kind (codes "L") then brings_or 606 Bytes (line_piece_of text)
     else if bytes_eq kind (codes "I") then brings_or 606 Inputs (inputs_word_of text)
     else if bytes_eq kind (codes "S") then scan_of_data text
+    else if bytes_eq kind (codes "P") then change_of_data text
     else Err 604
 
 -- a row with these numbers

@@ -4,7 +4,7 @@ use Rattle.wc_model.specs.declared.image.Image.{Image}
 use Rattle.wc_model.specs.Instrument.Plates.{PlateData}
 use Rattle.wc_model.specs.Instrument.WeighingHistories.{History}
 use Rattle.wc_model.specs.Instrument.Indication.{is_stable, is_over, is_under, is_centre_of_zero, is_tare_active, is_valid, gross_intervals, net_intervals, in_units, tare_value}
-use Rattle.wc_model.specs.Run.Rows.{RowData, Counts, Bytes, Inputs, Scan, Past, history_of}
+use Rattle.wc_model.specs.Run.Rows.{RowData, Counts, Bytes, Inputs, Scan, Change, Past, history_of}
 
 -- the inputs that a row leaves
 abbrev pub inputs_with : RowData → ℕ → ℕ
@@ -12,6 +12,7 @@ inputs_with (Counts counts) inputs = inputs
 inputs_with (Bytes bytes) inputs = inputs
 inputs_with (Inputs new) inputs = new
 inputs_with Scan inputs = inputs
+inputs_with Change inputs = inputs
 
 -- the inputs of the last row that has any, 0 before it
 abbrev pub inputs_of : Past → ℕ

@@ -5,12 +5,13 @@ use Rattle.wc_model.specs.Instrument.WeighingHistories.{Sample, History}
 use Rattle.wc_model.specs.Instrument.Requests.{requests_in}
 use Rattle.wc_model.specs.Instrument.Answers.{after_requests, answers_to}
 
--- what a row brings: a sample, bytes on the line, inputs, or a scan
+-- what a row brings: a sample, bytes on the line, inputs, a scan, or a change to the next program
 pub data RowData : Type 0 where
   Counts : (counts : ℤ) → RowData
   Bytes : (bytes : List ℕ) → RowData
   Inputs : (inputs : ℕ) → RowData
   Scan : RowData
+  Change : RowData
 
 -- a row of a log: its number, its moment and what it brings
 pub record LogRow : Type 0 where
@@ -28,6 +29,7 @@ line_bytes_in (Counts counts) = []
 line_bytes_in (Bytes bytes) = bytes
 line_bytes_in (Inputs inputs) = []
 line_bytes_in Scan = []
+line_bytes_in Change = []
 
 -- the line's bytes so far, joined
 abbrev pub line_bytes : Past → List ℕ
@@ -40,6 +42,7 @@ history_with (Counts counts) before history = Sample counts ∷ history
 history_with (Bytes bytes) before history = after_requests (requests_in before bytes) history
 history_with (Inputs inputs) before history = history
 history_with Scan before history = history
+history_with Change before history = history
 
 -- the indicator's history so far
 abbrev pub history_of : Past → History
@@ -52,6 +55,7 @@ answer_with p (Counts counts) before history = []
 answer_with p (Bytes bytes) before history = answers_to p (requests_in before bytes) history
 answer_with p (Inputs inputs) before history = []
 answer_with p Scan before history = []
+answer_with p Change before history = []
 
 -- the line's answer to a row: its requests are those whose CR is among its bytes
 abbrev pub answer_of_row : PlateData → Past → LogRow → List ℕ

@@ -5,8 +5,8 @@ use Rattle.wc_model.specs.Language.Loading.{IsLoaded, IsRefused}
 use Rattle.wc_model.specs.Run.Log.{Record, LogOf, LogRefusal, log_of}
 use Rattle.wc_model.specs.Instrument.PlateTable.{Table, plate_of}
 use Rattle.wc_model.specs.Instrument.Plates.{PlateData}
-use Rattle.wc_model.specs.Say.ProgramReport.{program_report}
-use Rattle.wc_model.specs.Language.Scans.{initial_of}
+use Rattle.wc_model.specs.Say.LogFor.{log_for}
+use Rattle.wc_model.specs.Say.ProgramReport.{Logic, first_logic, program_report}
 use Rattle.wc_model.specs.Language.Tree.{Text}
 
 -- `refused`, the number and the place
@@ -27,17 +27,32 @@ abbrev pub behind_report : List ℕ → Option LogRefusal → JobAnswer
 behind_report text None = record { output = text; status = 0 }
 behind_report text (Some refusal) = record { output = text ++ refused_text refusal.number refusal.row; status = 1 }
 
-abbrev pub run_answer : PlateData → Text → LogOf → JobAnswer
-run_answer plate text log = behind_report (program_report plate text (initial_of text) log.rows) log.refusal
+-- the answer of a run with this logic
+abbrev pub run_answer : PlateData → Logic → LogOf → JobAnswer
+run_answer plate logic log =
+    let taken = log_for (Some logic) log in
+    behind_report (program_report plate logic taken.rows) taken.refusal
 
--- the plate is read first, then the program, then the log
-pub data AnswersProgram (plate : PlateData) (program : List ℕ) (log : LogOf) (answer : JobAnswer) : Type 0 where
-  refuses_program : (number line : ℕ) → IsRefused program number line → answer ≡ refusing number line → AnswersProgram plate program log answer
-  runs : (text : Text) → IsLoaded program text → answer ≡ run_answer plate text log → AnswersProgram plate program log answer
+-- the refusal of a program's text, or what is answered with it once it is loaded
+pub data AnswersProgram (program : List ℕ) (rest : Text → JobAnswer → Type 0) (answer : JobAnswer) : Type 0 where
+  refuses_program : (number line : ℕ) → IsRefused program number line → answer ≡ refusing number line → AnswersProgram program rest answer
+  loads_program : (text : Text) → IsLoaded program text → rest text answer → AnswersProgram program rest answer
 
+-- the next program, where there is one, is judged as the first is, before any row
+abbrev pub AnswersNext : Option (List ℕ) → (Option Text → JobAnswer → Type 0) → JobAnswer → Type 0
+AnswersNext None rest answer = rest None answer
+AnswersNext (Some next) rest answer = AnswersProgram next (λ text. rest (Some text)) answer
+
+-- the program is read first, then the next one, then the log is run
+abbrev pub AnswersPrograms : (Logic → JobAnswer) → List ℕ → Option (List ℕ) → JobAnswer → Type 0
+AnswersPrograms ran program next answer =
+    AnswersProgram program (λ text. AnswersNext next (λ other one. one ≡ ran (first_logic text other))) answer
+
+-- the plate is read first, then the programs, then the log
 abbrev pub AnswersPlate : (List ℕ → List Record) → Sections → Result PlateData ℕ → JobAnswer → Type 0
 AnswersPlate records_of sections (Err number) answer = answer ≡ refusing number 0
-AnswersPlate records_of sections (Ok plate) answer = AnswersProgram plate sections.program (log_of (records_of sections.log)) answer
+AnswersPlate records_of sections (Ok plate) answer =
+    AnswersPrograms (λ logic. run_answer plate logic (log_of (records_of sections.log))) sections.program sections.next answer
 
 abbrev pub AnswersSections : (List ℕ → Option Table) → (List ℕ → List Record) → Result Sections ℕ → JobAnswer → Type 0
 AnswersSections table_of records_of (Err number) answer = answer ≡ refusing number 0

@@ -6,7 +6,7 @@ use Rattle.wc_model.specs.declared.image.Outputs.{Outputs}
 use Rattle.wc_model.specs.Instrument.Plates.{PlateData}
 use Rattle.wc_model.specs.Instrument.WeighingHistories.{last_items}
 use Rattle.wc_model.specs.Run.Hex.{hex_of_bytes, hex_of_word}
-use Rattle.wc_model.specs.Run.Rows.{RowData, Counts, Bytes, Inputs, Scan, LogRow, Past, answer_of_row}
+use Rattle.wc_model.specs.Run.Rows.{RowData, Counts, Bytes, Inputs, Scan, Change, LogRow, Past, answer_of_row}
 use Rattle.wc_model.specs.Run.ProcessImage.{image_after}
 
 -- what a scan does: its steps, its outputs, and the state that it leaves
@@ -18,6 +18,11 @@ pub record ScanResult (State : Type 0) : Type 0 where
 -- the scans of a program: from a state, an image and a moment
 abbrev pub Scans : Type 0 → Type 0
 Scans State = State → Image → ℕ → ScanResult State
+
+-- a program beside a scale: its scans, and what a change to the next program makes of a state
+pub record Program (State : Type 0) : Type 0 where
+  pub scan : Scans State
+  pub change : State → State
 
 -- a line of the report: a scan's, or one with the line's answer to a row
 pub data ReportLine : Type 0 where
@@ -56,32 +61,34 @@ abbrev pub scan_line : {State : Type 0} → ℕ → ScanResult State → List Re
 scan_line ms result = ScanLine ms result.steps result.outputs ∷ []
 
 -- the state after a row, where it was this one before
-abbrev pub state_with : {State : Type 0} → PlateData → Scans State → RowData → ℕ → Past → State → State
-state_with p scan (Counts counts) ms before state = state
-state_with p scan (Bytes bytes) ms before state = state
-state_with p scan (Inputs inputs) ms before state = state
-state_with p scan Scan ms before state = (scan state (image_after p before) ms).after
+abbrev pub state_with : {State : Type 0} → PlateData → Program State → RowData → ℕ → Past → State → State
+state_with p program (Counts counts) ms before state = state
+state_with p program (Bytes bytes) ms before state = state
+state_with p program (Inputs inputs) ms before state = state
+state_with p program Scan ms before state = (program.scan state (image_after p before) ms).after
+state_with p program Change ms before state = program.change state
 
--- the state that the scans of the rows so far have left, from a first one
-abbrev pub state_after : {State : Type 0} → PlateData → Scans State → State → Past → State
-state_after p scan start [] = start
-state_after p scan start (row ∷ before) =
-    state_with p scan row.brings row.ms before (state_after p scan start before)
+-- the state that the scans and changes of the rows so far have left, from a first one
+abbrev pub state_after : {State : Type 0} → PlateData → Program State → State → Past → State
+state_after p program start [] = start
+state_after p program start (row ∷ before) =
+    state_with p program row.brings row.ms before (state_after p program start before)
 
--- the lines of a row: a scan's of a scan row, from the image of the rows before it and the state left by them, and
--- the line's answer
-abbrev pub lines_with : {State : Type 0} → PlateData → Scans State → State → RowData → Past → LogRow → List ReportLine
-lines_with p scan start (Counts counts) before row = []
-lines_with p scan start (Bytes bytes) before row = answer_line row.ms (answer_of_row p before row)
-lines_with p scan start (Inputs inputs) before row = []
-lines_with p scan start Scan before row =
-    scan_line row.ms (scan (state_after p scan start before) (image_after p before) row.ms)
+-- the lines of a row: a scan's of a scan row, from the image of the rows before it and the state left by them; the line's
+-- answer; and none of a change
+abbrev pub lines_with : {State : Type 0} → PlateData → Program State → State → RowData → Past → LogRow → List ReportLine
+lines_with p program start (Counts counts) before row = []
+lines_with p program start (Bytes bytes) before row = answer_line row.ms (answer_of_row p before row)
+lines_with p program start (Inputs inputs) before row = []
+lines_with p program start Scan before row =
+    scan_line row.ms (program.scan (state_after p program start before) (image_after p before) row.ms)
+lines_with p program start Change before row = []
 
 -- the lines of the rows that follow those so far
-abbrev pub report_lines : {State : Type 0} → PlateData → Scans State → State → Past → List LogRow → List ReportLine
-report_lines p scan start before [] = []
-report_lines p scan start before (row ∷ rows) =
-    lines_with p scan start row.brings before row ++ report_lines p scan start (row ∷ before) rows
+abbrev pub report_lines : {State : Type 0} → PlateData → Program State → State → Past → List LogRow → List ReportLine
+report_lines p program start before [] = []
+report_lines p program start before (row ∷ rows) =
+    lines_with p program start row.brings before row ++ report_lines p program start (row ∷ before) rows
 
 -- the lines with no program: the answers alone
 abbrev pub answer_lines : PlateData → Past → List LogRow → List ReportLine
@@ -96,12 +103,12 @@ report_text lines = flat_map line_text lines
 abbrev pub line_report : PlateData → List LogRow → List ℕ
 line_report p rows = report_text (answer_lines p [] rows)
 
--- what a run writes, with the scans of a program from its first state
-abbrev pub report : {State : Type 0} → PlateData → Scans State → State → List LogRow → List ℕ
-report p scan start rows = report_text (report_lines p scan start [] rows)
+-- what a run writes, with a program from its first state
+abbrev pub report : {State : Type 0} → PlateData → Program State → State → List LogRow → List ℕ
+report p program start rows = report_text (report_lines p program start [] rows)
 
 -- what a run writes that keeps the last n scans: all answers, then those scans
-abbrev pub report_last : {State : Type 0} → ℕ → PlateData → Scans State → State → List LogRow → List ℕ
-report_last n p scan start rows =
-    let lines = report_lines p scan start [] rows in
+abbrev pub report_last : {State : Type 0} → ℕ → PlateData → Program State → State → List LogRow → List ℕ
+report_last n p program start rows =
+    let lines = report_lines p program start [] rows in
     report_text (filter is_answer_line lines) ++ report_text (last_items n (filter is_scan_line lines))

@@ -6,6 +6,7 @@ use Rattle.wc_model.specs.Run.Log.{log_of}
 use Rattle.wc_model.specs.Say.Report.{line_report}
 use Rattle.wc_record.specs.Reading.{records_of}
 use Rattle.wc_controller.proofs.Blaming.{log_refused}
+use Rattle.wc_controller.specs.TakenLogs.{log_alone}
 
 pub returns-in-Ok-clause-writes : goal.returns-in-Ok-clause-writes
 returns-in-Ok-clause-writes g c =
@@ -22,5 +23,5 @@ returns-in-Err-clause-writes g c =
 pub returns-in-Err-clause-blames : goal.returns-in-Err-clause-blames
 returns-in-Err-clause-blames g c =
     on_known (g.L.ByteIn.bytes_left c.args.log.now) _ _
-    (λ bytes told. log_refused (line_report c.args.plate.now) (line_report c.args.plate.now) bytes c.in-Err.fault (g.W.ByteOut.bytes_taken c.args.writer.now) (g.W.ByteOut.bytes_taken c.run.new.writer)
+    (λ bytes told. log_refused (line_report c.args.plate.now) (line_report c.args.plate.now) log_alone bytes c.in-Err.fault (g.W.ByteOut.bytes_taken c.args.writer.now) (g.W.ByteOut.bytes_taken c.run.new.writer)
     (told None tt)) c.in-Err.ensures.reports

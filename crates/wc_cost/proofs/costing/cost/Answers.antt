@@ -1,6 +1,7 @@
 use Rattle.std.proofs.Common.{◌≡◌, ◌-◌, length, Ok, Err, refl, sym, subst, ap, ◌∙◌, rules}
 use Rattle.wc_model.specs.Language.Frames.{first_numbers, slot_kinds}
 use Rattle.wc_model.specs.Language.Views.{text_view}
+use Rattle.wc_cost.proofs.TextUnits.{read_is_spelled}
 use Rattle.wc_cost.proofs.WholeTexts.{laid_count, last_unit, of_same, refused}
 use Rattle.wc_cost.proofs.costing.cost.Goals as goal
 
@@ -8,12 +9,12 @@ pub returns-in-Err : goal.returns-in-Err
 returns-in-Err c =
     refused c.args.checked.source c.in-Err.fault
     (of_same (Err c.in-Err.fault) c.tables.result.now c.args.checked.tables c.source.result.now c.args.checked.source c.tables.ensures.tables c.source.ensures.source c.in-Err.ensures
-    c.tables.ensures.stand (record { read = c.source.ensures.read; declared = c.source.ensures.declared; sound = c.source.ensures.sound }))
+    c.tables.ensures.stand (record { read = read_is_spelled (text_view c.args.checked.source) c.source.ensures.read; declared = c.source.ensures.declared; sound = c.source.ensures.sound }))
 
 pub returns-in-Ok-frame : goal.returns-in-Ok-frame
 returns-in-Ok-frame c =
     let loaded = of_same (Ok c.in-Ok.units) c.tables.result.now c.args.checked.tables c.source.result.now c.args.checked.source c.tables.ensures.tables c.source.ensures.source c.in-Ok.ensures
-    c.tables.ensures.stand (record { read = c.source.ensures.read; declared = c.source.ensures.declared; sound = c.source.ensures.sound })
+    c.tables.ensures.stand (record { read = read_is_spelled (text_view c.args.checked.source) c.source.ensures.read; declared = c.source.ensures.declared; sound = c.source.ensures.sound })
     in
     (refl, loaded.costs)
 
@@ -21,7 +22,7 @@ pub invariant_of-result : goal.invariant_of-result
 invariant_of-result c =
     let text = text_view c.args.checked.source in
     let loaded = of_same (Ok c.in-Ok.units) c.tables.result.now c.args.checked.tables c.source.result.now c.args.checked.source c.tables.ensures.tables c.source.ensures.source c.in-Ok.ensures
-    c.tables.ensures.stand (record { read = c.source.ensures.read; declared = c.source.ensures.declared; sound = c.source.ensures.sound })
+    c.tables.ensures.stand (record { read = read_is_spelled (text_view c.args.checked.source) c.source.ensures.read; declared = c.source.ensures.declared; sound = c.source.ensures.sound })
     in
     let counted : c.len.result ≡ length c.in-Ok.units.items = search rules in
     let count : c.len.result ≡ length text = counted ∙ laid_count text c.in-Ok.units.items loaded.laid in

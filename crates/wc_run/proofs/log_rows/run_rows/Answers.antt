@@ -1,6 +1,8 @@
 use Rattle.std.proofs.Common.{Err, sym, subst, ◌∙◌, arith}
+use Rattle.wc_model.specs.Say.LogFor.{log_for}
 use Rattle.wc_run.proofs.RunsOn.{at_end, at_fault, at_row, one_more}
-use Rattle.wc_run.specs.Doing.{RunsRows}
+use Rattle.wc_record.specs.Views.{row_view}
+use Rattle.wc_run.specs.Doing.{Does, RunsRows}
 use Rattle.wc_run.specs.Standing.{IsNotBehind}
 use Rattle.wc_run.proofs.Texts.{lines_so_far}
 use Rattle.wc_run.proofs.log_rows.run_rows.Goals as goal
@@ -9,10 +11,12 @@ pub returns-in-Err-run_row-clause-reports : goal.returns-in-Err-run_row-clause-r
 returns-in-Err-run_row-clause-reports g c = λ log has plate logic number stands holds.
     let r = c.loop-given.invariant.running log has plate logic number stands holds in
     let taken = g.W.ByteOut.bytes_taken in
-    at_row g.R.ByteIn.bytes_left c.loop-given.rows c.loop-given.scale c.loop-given.recorder plate logic number log c.loop-given.count
-    (taken c.args.writer.now) (taken c.loop-given.writer) r c.next.new.self c.run_row.new.recorder (taken c.run_row.new.writer) c.in-Some.row
+    at_row g.R.ByteIn.bytes_left c.loop-given.rows c.loop-given.scale c.loop-given.recorder plate logic number (log_for logic log) c.loop-given.count
+    (taken c.args.writer.now) (taken c.loop-given.writer) r c.next.new.self c.run_row.new.scale c.run_row.new.recorder (taken c.run_row.new.writer) c.in-Some.row (Unit {0})
     (rw c.in-Some.is at (c.in-Ok.ensures.takes r.left r.has_left)) c.in-Err-run_row.fault
-    (rw c.bytes.ensures at c.in-Err-run_row.ensures.does plate logic r.past number (lines_so_far plate logic r.past) r.stands r.holds)
+    (subst (λ bytes. Does {X = Unit {0}} plate logic number (lines_so_far plate logic r.past) r.past (row_view bytes c.in-Some.row) c.run_row.new.scale c.run_row.new.recorder
+    (Err c.in-Err-run_row.fault) (taken c.loop-given.writer) (taken c.run_row.new.writer)) c.bytes.ensures
+    (c.in-Err-run_row.ensures.does plate logic r.past number (lines_so_far plate logic r.past) r.stands r.holds))
 
 pub loop-given-preserved : goal.loop-given-preserved
 loop-given-preserved g c =
@@ -23,7 +27,7 @@ loop-given-preserved g c =
       running = λ log has plate logic number stands holds.
           let r = c.loop-given.invariant.running log has plate logic number stands holds in
           let takes = rw c.in-Some.is at (c.in-Ok.ensures.takes r.left r.has_left) in
-          one_more g.R.ByteIn.bytes_left c.loop-given.rows c.loop-given.scale c.loop-given.recorder plate logic number log c.loop-given.count
+          one_more g.R.ByteIn.bytes_left c.loop-given.rows c.loop-given.scale c.loop-given.recorder plate logic number (log_for logic log) c.loop-given.count
           (taken c.args.writer.now) (taken c.loop-given.writer) r c.next.new.self c.run_row.new.scale c.run_row.new.recorder (taken c.run_row.new.writer) c.in-Some.row {X = Unit {0}} tt
           takes
           (rw c.bytes.ensures at done.does plate logic r.past number (lines_so_far plate logic r.past) r.stands r.holds);
@@ -37,13 +41,13 @@ pub returns-in-None-clause-reports : goal.returns-in-None-clause-reports
 returns-in-None-clause-reports g c = λ log has plate logic number stands holds.
     let r = c.loop-given.invariant.running log has plate logic number stands holds in
     let taken = g.W.ByteOut.bytes_taken in
-    at_end g.R.ByteIn.bytes_left c.loop-given.rows c.loop-given.scale c.loop-given.recorder plate logic number log c.loop-given.count
+    at_end g.R.ByteIn.bytes_left c.loop-given.rows c.loop-given.scale c.loop-given.recorder plate logic number (log_for logic log) c.loop-given.count
     (taken c.args.writer.now) (taken c.loop-given.writer) r c.next.new.self (rw c.in-None.is at (c.in-Ok.ensures.takes r.left r.has_left))
 
 pub returns-in-Err-clause-reports : goal.returns-in-Err-clause-reports
 returns-in-Err-clause-reports g c = λ log has plate logic number stands holds.
     let r = c.loop-given.invariant.running log has plate logic number stands holds in
     let taken = g.W.ByteOut.bytes_taken in
-    subst (λ met. RunsRows number plate logic log c.loop-given.recorder (Err met) (taken c.args.writer.now) (taken c.loop-given.writer)) (sym c.answer_to.ensures)
-    (at_fault g.R.ByteIn.bytes_left c.loop-given.rows c.loop-given.scale c.loop-given.recorder plate logic number log c.loop-given.count
+    subst (λ met. RunsRows number plate logic (log_for logic log) c.loop-given.recorder (Err met) (taken c.args.writer.now) (taken c.loop-given.writer)) (sym c.answer_to.ensures)
+    (at_fault g.R.ByteIn.bytes_left c.loop-given.rows c.loop-given.scale c.loop-given.recorder plate logic number (log_for logic log) c.loop-given.count
     (taken c.args.writer.now) (taken c.loop-given.writer) r c.next.new.self c.in-Err.fault (c.in-Err.ensures.takes r.left r.has_left))

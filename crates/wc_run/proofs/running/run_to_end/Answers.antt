@@ -2,6 +2,7 @@ use Rattle.std.proofs.Common.{◌≡◌, [], true, false, sym, ◌∙◌}
 use Rattle.std.proofs.lemmas.Option.{IfSome_then}
 use Rattle.std.specs.Prelude.{Err}
 use Rattle.wc_model.specs.Run.Log.{LogOf, log_of}
+use Rattle.wc_model.specs.Say.LogFor.{log_for}
 use Rattle.wc_record.specs.Reading.{records_of}
 use Rattle.wc_run.proofs.ReaderFailures.{whole_has_not, has_not_failed}
 use Rattle.wc_run.proofs.RunEnds.{all_put, cut_at_end, ends_short, ends_whole}
@@ -15,7 +16,7 @@ returns-then-is_cut_short-clause-ends g c =
     let taken = g.W.ByteOut.bytes_taken in
     IfSome_then (g.R.ByteIn.bytes_left c.args.reader.now) c.run_told-answer.ensures.reports
     (λ bytes says plate logic number stands holds.
-    ends_short number plate logic (log_of (records_of bytes)) (taken c.args.writer.now) (taken c.run_told-answer.new.writer) (taken c.run_told-answer.new.writer)
+    ends_short number plate logic (log_for logic (log_of (records_of bytes))) (taken c.args.writer.now) (taken c.run_told-answer.new.writer) (taken c.run_told-answer.new.writer)
     c.run_told-answer.new.recorder c.run_told-answer.result short (says plate logic number stands holds))
 
 pub returns-in-Err-clause-ends : goal.returns-in-Err-clause-ends
@@ -24,7 +25,7 @@ returns-in-Err-clause-ends g c =
     let taken = g.W.ByteOut.bytes_taken in
     IfSome_then (g.R.ByteIn.bytes_left c.args.reader.now) c.run_told-answer.ensures.reports
     (λ bytes says plate logic number stands holds.
-    let log : LogOf = log_of (records_of bytes) in
+    let log : LogOf = log_for logic (log_of (records_of bytes)) in
     let put = all_put number plate logic log (taken c.args.writer.now) (taken c.run_told-answer.new.writer) (taken c.write_last.new.writer)
     c.run_told-answer.new.recorder c.run_told-answer.result whole (says plate logic number stands holds) in
     cut_at_end number plate logic log (taken c.args.writer.now) (taken c.run_told-answer.new.writer) (taken c.write_last.new.writer)
@@ -36,7 +37,7 @@ returns-clause-ends g c =
     let taken = g.W.ByteOut.bytes_taken in
     IfSome_then (g.R.ByteIn.bytes_left c.args.reader.now) c.run_told-answer.ensures.reports
     (λ bytes says plate logic number stands holds.
-    let log : LogOf = log_of (records_of bytes) in
+    let log : LogOf = log_for logic (log_of (records_of bytes)) in
     let ran = says plate logic number stands holds in
     let put = all_put number plate logic log (taken c.args.writer.now) (taken c.run_told-answer.new.writer) (taken c.write_last.new.writer)
     c.run_told-answer.new.recorder c.run_told-answer.result whole ran in

@@ -1,6 +1,7 @@
 use Rattle.std.proofs.Common.{◌≡◌, true, false, sym, ◌∙◌}
 use Rattle.std.proofs.lemmas.Option.{IfSome_then}
 use Rattle.wc_model.specs.Run.Log.{log_of}
+use Rattle.wc_model.specs.Say.LogFor.{log_for}
 use Rattle.wc_record.specs.Reading.{records_of}
 use Rattle.wc_run.specs.Doing.{is_cut_short}
 use Rattle.wc_run.proofs.ReaderFailures.{put_as_first, short_says_nothing}
@@ -16,5 +17,5 @@ returns-then-failures-before-clause-reports g c =
     let taken = g.W.ByteOut.bytes_taken in
     IfSome_then (g.R.ByteIn.bytes_left c.args.reader.now) c.run_log-answer.ensures.reports
     (λ bytes says plate logic number stands holds.
-    put_as_first number plate logic (log_of (records_of bytes)) c.run_log-answer.new.recorder c.run_log-answer.result (taken c.args.writer.now) (taken c.run_log-answer.new.writer)
+    put_as_first number plate logic (log_for logic (log_of (records_of bytes))) c.run_log-answer.new.recorder c.run_log-answer.result (taken c.args.writer.now) (taken c.run_log-answer.new.writer)
     whole (says plate logic number stands holds))

@@ -1,9 +1,9 @@
 use Rattle.std.proofs.Common.{◌≡◌, ap, subst, to_z, of_z, w32, arith}
 use Rattle.std.proofs.lemmas.Int.{ints}
-use Rattle.wc_model.specs.Run.Rows.{Bytes, Counts, Inputs, Scan}
-use Rattle.wc_record.specs.Views.{data_view, IsDataInRange}
+use Rattle.wc_model.specs.Run.Rows.{Bytes, Change, Counts, Inputs, Scan}
+use Rattle.wc_record.specs.Views.{data_view, row_view, IsDataInRange}
 use Rattle.wc_run.specs.Taking.{TakesRow}
-use Rattle.wc_run.proofs.ScaleRows.{on_ok_of, takes_row}
+use Rattle.wc_run.proofs.ScaleRows.{on_ok, on_ok_of, runs_row, runs_this, stops_at, stops_for_memory, takes_row}
 use Rattle.wc_run.proofs.scale.Scale.take.Goals as goal
 
 pub returns-in-Counts-clause-stands : goal.returns-in-Counts-clause-stands
@@ -27,3 +27,31 @@ returns-in-Inputs-clause-stands c =
 pub returns-in-Scan-clause-stands : goal.returns-in-Scan-clause-stands
 returns-in-Scan-clause-stands c =
     takes_row c.args.self.now c.take_scan.new.self c.args.bytes.now c.args.row Scan (ap (data_view c.args.bytes.now) c.in-Scan.is) c.take_scan.ensures.stands
+
+pub returns-in-Ok-clause-stands : goal.returns-in-Ok-clause-stands
+returns-in-Ok-clause-stands c =
+    takes_row c.args.self.now c.take_change.new.self c.args.bytes.now c.args.row Change (ap (data_view c.args.bytes.now) c.in-Change.is) (c.in-Ok.ensures.stands c.args.row.ms)
+
+pub returns-in-Counts-clause-runs : goal.returns-in-Counts-clause-runs
+returns-in-Counts-clause-runs c = runs_row c.args.self.now c.args.bytes.now c.args.row (Counts c.in-Counts.counts) (ap (data_view c.args.bytes.now) c.in-Counts.is) tt
+
+pub returns-in-Bytes-clause-runs : goal.returns-in-Bytes-clause-runs
+returns-in-Bytes-clause-runs c =
+    on_ok _ c.take_bytes.result (runs_row c.args.self.now c.args.bytes.now c.args.row (Bytes c.args.bytes.now) (ap (data_view c.args.bytes.now) c.in-Bytes.is) tt)
+
+pub returns-in-Inputs-clause-runs : goal.returns-in-Inputs-clause-runs
+returns-in-Inputs-clause-runs c = runs_row c.args.self.now c.args.bytes.now c.args.row (Inputs c.in-Inputs.inputs) (ap (data_view c.args.bytes.now) c.in-Inputs.is) tt
+
+pub returns-in-Scan-clause-runs : goal.returns-in-Scan-clause-runs
+returns-in-Scan-clause-runs c = runs_row c.args.self.now c.args.bytes.now c.args.row Scan (ap (data_view c.args.bytes.now) c.in-Scan.is) tt
+
+pub returns-in-Ok-clause-runs : goal.returns-in-Ok-clause-runs
+returns-in-Ok-clause-runs c =
+    runs_this c.args.self.now c.args.bytes.now c.args.row Change (ap (data_view c.args.bytes.now) c.in-Change.is) (c.in-Ok.ensures.runs c.args.row.ms)
+
+pub returns-in-Bytes-clause-stops : goal.returns-in-Bytes-clause-stops
+returns-in-Bytes-clause-stops c = stops_for_memory c.args.self.now (row_view c.args.bytes.now c.args.row) c.take_bytes.result c.take_bytes.ensures.memory
+
+pub returns-in-Err-clause-stops : goal.returns-in-Err-clause-stops
+returns-in-Err-clause-stops c =
+    stops_at c.args.self.now c.args.bytes.now c.args.row Change c.in-Err.fault (ap (data_view c.args.bytes.now) c.in-Change.is) (c.in-Err.ensures.stops c.args.row.ms)

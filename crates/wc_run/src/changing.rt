@@ -1,0 +1,30 @@
+ghost use Rattle.wc_run.specs.Taking.{Changes};
+
+use crate::fault::RunFault;
+use std::alloc::Global;
+use wc_cost::Loaded;
+use wc_machine::Machine;
+use wc_store::SlotStore;
+
+/// The machine with the next program, at a row of that number, which is refused where none is left.
+#[cold]
+#[inline(never)]
+pub(crate) fn changed<'a>(
+    alloc: Global,
+    machine: Machine<'a, SlotStore>,
+    next: Option<Loaded<'a>>,
+    number: u32,
+) -> Result<Machine<'a, SlotStore>, RunFault>
+    ensures { Changes machine.entry next.entry number result }
+{
+    match next {
+        Some(loaded) => match machine.change(alloc, loaded) {
+            Ok(machine) => Ok(machine),
+            Err(_) => Err(RunFault::Memory),
+        },
+        None => Err(RunFault::Refused {
+            number: 609,
+            place: number,
+        }),
+    }
+}
