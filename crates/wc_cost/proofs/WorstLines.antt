@@ -55,3 +55,11 @@ worst_stands bytes text read units laid below lines k unit there given e = step 
     step : (o : Option Scope) → slice_get (scopes_of text) k ≡ o → IfSome o (λ scope. AreWorstLines scope given)
     step None f = tt
     step (Some scope) f = worst scope f
+
+-- the lines of a unit's body, by its number
+pub unit_lines : (units : List ProgramUnit) (laids : List LaidUnit) → AreLines units laids → (k : ℕ) (laid : LaidUnit) → slice_get laids k ≡ Some laid → slice_get (map (λ u. sources_of u.body) units) k ≡ Some laid.lines.items
+unit_lines [] [] h k laid e = cc
+unit_lines [] (first ∷ laids) h k laid e = absurd h
+unit_lines (unit ∷ units) [] h k laid e = absurd h
+unit_lines (unit ∷ units) (first ∷ laids) h zero laid e = ap Some (sym (ap (λ (l : LaidUnit). l.lines.items) (Some-same first laid e) ∙ h.0))
+unit_lines (unit ∷ units) (first ∷ laids) h (suc k) laid e = unit_lines units laids h.1 k laid e

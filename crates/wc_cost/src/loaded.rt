@@ -1,4 +1,4 @@
-ghost use Rattle.std.specs.Prelude.{◌≡◌, ◌<◌, ◌≤◌, Some, IfOk, IfSome, IsOkUnless, length, option_map, slice_get};
+ghost use Rattle.std.specs.Prelude.{◌≡◌, ◌<◌, ◌≤◌, Some, IfOk, IfSome, IsOkUnless, length, map, option_map, slice_get};
 ghost use Rattle.wc_model.specs.Language.CarriedPlaces.{carried_number};
 ghost use Rattle.wc_model.specs.Language.Frames.{first_numbers, number_of_path, slot_kinds};
 ghost use Rattle.wc_model.specs.Language.Scopes.{Scope};
@@ -6,6 +6,7 @@ ghost use Rattle.wc_model.specs.Language.Views.{text_view};
 ghost use Rattle.wc_model.specs.Say.UnitReport.{IsBoundAt};
 ghost use Rattle.wc_soundness.specs.FirstNumbers.{AreFirst};
 ghost use Rattle.wc_flat.specs.Contents.{frame_of_text};
+ghost use Rattle.wc_flat.specs.FlatPaths.{sources_of};
 ghost use Rattle.wc_cost.specs.LoadedTexts.{AreWorstAt, IsLoadedSound, IsProgramOf};
 
 use crate::laid::LaidUnit;
@@ -74,6 +75,16 @@ impl<'a> Loaded<'a> {
         ensures { slice_get self.now.codes unit ≡ Some result.now }
     {
         self.units[unit].code.as_slice()
+    }
+
+    /// The lines of the text at which the flat lines of a unit's body stand, one for each. What stands behind a call's own line,
+    /// up to its last output, stands at the line of the call.
+    pub fn lines(&self, unit: usize) -> &[u32]
+        requires { unit < length self.now.codes }
+        ensures { slice_get (map (λ u. sources_of u.body) (text_view self.now.source)) unit
+            ≡ Some result.now }
+    {
+        self.units[unit].lines.as_slice()
     }
 
     /// How many steps a unit takes at most: the length of its longest path.

@@ -20,3 +20,5 @@ mod places;
 mod programs;
 #[cfg(test)]
 mod texts;
+#[cfg(test)]
+mod traces;

@@ -4,3 +4,4 @@ pub mod Logic
 pub mod Running
 pub mod Machines
 pub mod Carrying
+pub mod Seeing

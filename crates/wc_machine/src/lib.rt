@@ -17,12 +17,15 @@ mod places;
 mod r_trig;
 mod results;
 mod rs;
+mod seen;
 mod sr;
 mod standard;
 mod step;
 mod tof;
 mod ton;
 mod tp;
+mod tracing;
 mod written;
 
 pub use machine::Machine;
+pub use seen::SeenLine;

@@ -1,5 +1,6 @@
 ghost use Rattle.std.specs.Prelude.{◌≡◌, ◌≤◌, ◌<◌, ℕ, IfErr, IfOk, IsOkUnless};
-ghost use Rattle.wc_machine.specs.Machines.{text_of, Leaves, StandsFor};
+ghost use Rattle.wc_machine.specs.Machines.{text_of, Leaves, LeavesStore, StandsFor};
+ghost use Rattle.wc_machine.specs.Seeing.{IsSeen};
 ghost use Rattle.wc_model.specs.Language.Carried.{carried};
 ghost use Rattle.wc_model.specs.Language.Paths.{IsProgramBound};
 ghost use Rattle.wc_model.specs.Language.Scans.{initial_of, outputs_of, scan_of};
@@ -12,6 +13,8 @@ use crate::carry::carried_over;
 use crate::first::first_store;
 use crate::image::copy_image;
 use crate::outputs::outputs;
+use crate::seen::{SeenLine, Sight};
+use crate::tracing::{Instance, run_seen};
 use std::alloc::Global;
 use std::marker::Model;
 use wc_cost::Loaded;
@@ -119,6 +122,35 @@ impl<'a, S: Store> Machine<'a, S> {
         let steps = run(&self.loaded, &mut self.store, program, 0, now);
         self.last = now;
         Steps(steps)
+    }
+
+    /// One scan as `scan` does it, and what was seen of each item that it counts, in the order of execution: which flat line, at
+    /// which line of the text and how many calls deep, what it wrote, and the result behind it. Where memory is refused for what
+    /// was seen the scan is done all the same, and `Memory` is the answer.
+    pub fn trace(&mut self, alloc: Global, now: u64, image: &Image) -> Result<Vec<SeenLine>, Fault>
+        requires not_before { self.old.last ≤ now }
+        requires in_range { now ≤ 1099511627775 }
+        // So each bit of the status has a place that the program can read. The proof does without.
+        requires status { image.now.status < 64 }
+        ensures seen { (text : Text) (store : Contents) → StandsFor self.old text store
+            → IfOk result (λ lines. IsSeen text store image.now now lines.items) }
+        ensures means { (text : Text) (store : Contents) → StandsFor self.old text store
+            → LeavesStore self.new text (scan_of text store image.now now) }
+        ensures last { self.new.last ≡ now }
+        ensures memory { IsOkUnless result Fault.Memory }
+    {
+        let store = &mut self.store;
+        copy_image(store, image);
+        let program = self.loaded.units() - 1;
+        let mut sight = Sight::new(alloc);
+        let instance = Instance {
+            base: 0,
+            now,
+            depth: 0,
+        };
+        let _steps = run_seen(&self.loaded, store, &mut sight, program, instance);
+        self.last = instance.now;
+        sight.into_lines()
     }
 
     /// What the last scan left at the outputs.

@@ -1,14 +1,14 @@
 -- What is seen of flat code is what is seen of the body that it is: parentheses, jumps, returns, and the lines one after another.
-use Rattle.std.proofs.Common.{◌≡◌, ℕ, suc, ◌+◌, ◌≤◌, ◌<◌, Bool, true, false, List, [], ◌∷◌, ◌++◌, map, length, Option, Some, None, Result, Ok, Err, ℤ, append_assoc, refl, sym, ap, subst, ◌∙◌, arith}
+use Rattle.std.proofs.Common.{◌≡◌, ℕ, ◌+◌, ◌≤◌, ◌<◌, Bool, true, false, List, [], ◌∷◌, ◌++◌, length, Option, Some, None, Result, Ok, Err, ℤ, append_assoc, refl, sym, ap, subst, ◌∙◌, arith}
 use Rattle.std.proofs.lemmas.List.{length-append}
 use Rattle.std.specs.Option.{option_map}
 use Rattle.wc_flat.proofs.Bodies.{stays, opened_by, simple_stays, deeper as depths, regrouped, step_laid_length, laid_length, IsBehind, arrives, arrives_alone, result_arriving}
 use Rattle.wc_flat.proofs.CallLines.{answer_given}
 use Rattle.wc_flat.proofs.Lines.{operand_number, operand_read, load_follows, load_negated_follows, store_follows, apply_follows, not_follows}
-use Rattle.wc_flat.proofs.Sides.{Sides, flat, AreAlike, state_of, IsCourse, result_in, by_choice}
+use Rattle.wc_flat.proofs.Sides.{Sides, flat, state_of, IsCourse, result_in, by_choice}
 use Rattle.wc_flat.proofs.Values.{value_number, ReadsAs, combined_follows, acts_follow}
 use Rattle.wc_flat.specs.Contents.{AreContents}
-use Rattle.wc_flat.specs.FlatMeaning.{State, Course, Skips, Ended, Moved, goes_on, opens, turns, line_runs}
+use Rattle.wc_flat.specs.FlatMeaning.{State, Course, Skips, Ended, goes_on, opens, turns, line_runs}
 use Rattle.wc_flat.specs.FlatPaths.{step_sources, sources_of}
 use Rattle.wc_flat.specs.Laid.{Operand, Number, At as AtPlace, load_line, apply_line, short_line, IsStepLaid, IsOpening, step_length, flat_length, IsLaid}
 use Rattle.wc_flat.specs.NumberOperators.{given, combined, acts}
@@ -22,7 +22,7 @@ use Rattle.wc_model.specs.Language.Store.{Store}
 use Rattle.wc_model.specs.Language.Traces.{At as AtLine}
 use Rattle.wc_model.specs.Language.Tree.{Term, Step, Load, Store as StoreStep, Apply, Negate, Jump, Call, Return, Lines, End, Alone, Plain, Nested}
 use Rattle.wc_model.specs.declared.code.Code.{Code}
-use Rattle.wc_model.specs.declared.code.Code.TheVariants.{Store as StoreLine, Not, Open, Close, Jump as JumpLine, Return as ReturnLine}
+use Rattle.wc_model.specs.declared.code.Code.TheVariants.{Store as StoreLine, Not, Close, Jump as JumpLine, Return as ReturnLine}
 use Rattle.wc_model.specs.declared.operator.Condition.{Condition}
 use Rattle.wc_model.specs.declared.operator.Operator.{Operator}
 use Rattle.wc_model.specs.declared.value.Value.{Value}
@@ -104,10 +104,10 @@ closing_seen w flats opening sources inner number close operator outer start put
     )
       where
         first : FlatSeen
-        first = entry w number opening (state_of start (value_number outer ∷ put_by) numbers)
+        first = entry w number opening (state_of (Some outer) put_by numbers) (state_of start (value_number outer ∷ put_by) numbers)
 
         last : FlatSeen
-        last = entry w close (Close operator) (state_of (Some result) put_by h.0)
+        last = entry w close (Close operator) (state_of (Some value) (value_number outer ∷ put_by) h.0) (state_of (Some result) put_by h.0)
 
 -- a parenthesis, where flat lines are the lines inside
 pub nested_seen : (w : Sides) (calls : SeenCalls) (flats : FlatSeenCalls) → AreSeenAlike w calls flats → (opening : Code) (sources : List ℕ) (inner : List Code) (number close : ℕ) (operator : Operator) (operand : Option Term) → IsOpening w.here.scope operand opening → (result : Option Value) (put_by : List ℤ) → length put_by < 8 → (store : Store) (numbers : List ℤ) → AreContents w.frame store numbers → (inside : Mode → Store → Outcome) (seen : Mode → Store → List Seen) → ((start : Option Value) (more : ℤ) → InsideSeen w flats sources inner start (more ∷ put_by) numbers (inside (Running start) store) (seen (Running start) store)) → OnwardSeen w flats (number ∷ sources ++ close ∷ []) (opening ∷ inner ++ Close operator ∷ []) put_by (state_of result put_by numbers) (nested_effect w.here number operator operand close inside (Running result) store) (seen_nested w.here number operator operand close seen inside (Running result) store)
@@ -237,17 +237,17 @@ turning_seen w flats rest line own number put_by store numbers contents result c
       contents,
       is,
       (
-        entry w number line state ∷ [],
+        entry w number line state state ∷ [],
         (record { item = (refl, refl, own); result = ap (λ (r : Option Value). option_map value_number r) (sym same_seen); contents = contents }, tt),
-        λ more others. turned true e more others ∙ ap (λ (r : Option Value). entry w number line state ∷ flat_seen (flat w) flats more others there (state_of r put_by numbers)) (sym same),
+        λ more others. turned true e more others ∙ ap (λ (r : Option Value). entry w number line state state ∷ flat_seen (flat w) flats more others there (state_of r put_by numbers)) (sym same),
       ),
     ))
-    (λ e. (Skips 0, numbers, contents, refl, (entry w number line state ∷ [], (record { item = (refl, refl, own); result = refl; contents = contents }, tt), turned false e)))
+    (λ e. (Skips 0, numbers, contents, refl, (entry w number line state state ∷ [], (record { item = (refl, refl, own); result = refl; contents = contents }, tt), turned false e)))
   where
     state : State
     state = state_of result put_by numbers
 
-    turned : (b : Bool) → meaning.acts condition result ≡ Ok b → (more : List ℕ) (others : List Code) → flat_seen (flat w) flats (number ∷ more) (line ∷ others) (Skips 0) state ≡ entry w number line state ∷ flat_seen (flat w) flats more others (elim b as (λ x. Course) [ true ↦ there | false ↦ Skips 0 ]) state
+    turned : (b : Bool) → meaning.acts condition result ≡ Ok b → (more : List ℕ) (others : List Code) → flat_seen (flat w) flats (number ∷ more) (line ∷ others) (Skips 0) state ≡ entry w number line state state ∷ flat_seen (flat w) flats more others (elim b as (λ x. Course) [ true ↦ there | false ↦ Skips 0 ]) state
     turned b e more others =
         line_then w flats number line state _ (body_line_runs_none line own)
         (runs_so ∙ ap (λ (x : Option Bool). turns state x there (Skips 0)) (answer_given (meaning.acts condition result) (acts condition (option_map value_number result)) b (acts_follow condition result) e)) more others

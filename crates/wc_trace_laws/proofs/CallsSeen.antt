@@ -1,15 +1,15 @@
 -- What is seen of flat calls is what is seen of the calls that they stand for.
-use Rattle.std.proofs.Common.{◌≡◌, ℕ, suc, ◌+◌, Bool, true, false, List, [], ◌∷◌, ◌++◌, map, length, Option, Some, None, Result, Ok, Err, ℤ, append_assoc, refl, sym, ap, subst, ◌∙◌, arith}
+use Rattle.std.proofs.Common.{◌≡◌, ℕ, ◌+◌, Bool, true, false, List, [], ◌∷◌, ◌++◌, map, length, Option, Some, None, Result, Ok, Err, ℤ, append_assoc, refl, sym, ap, subst, ◌∙◌, arith}
 use Rattle.std.proofs.lemmas.List.{length-append, length-map}
 use Rattle.std.specs.Option.{option_map}
 use Rattle.wc_flat.proofs.BlockLines.{CalledAs, block_follows, fields_at}
 use Rattle.wc_flat.proofs.CallLines.{argument_follows, output_follows, instance_based, answer_given, all_parts, laid_behind}
 use Rattle.wc_flat.proofs.Lines.{WritesAs}
-use Rattle.wc_flat.proofs.Sides.{Sides, flat, IsBased, BodyFollows, AreAlike, state_of, by_choice}
+use Rattle.wc_flat.proofs.Sides.{Sides, flat, BodyFollows, AreAlike, state_of}
 use Rattle.wc_flat.proofs.Values.{value_number, acts_follow}
 use Rattle.wc_flat.specs.Contents.{AreContents}
-use Rattle.wc_flat.specs.FlatMeaning.{State, Course, Skips, Moved, Ran, Calls, goes_on, with_all, turns, returns, line_runs, runs}
-use Rattle.wc_flat.specs.Laid.{Operand, Number, At as AtPlace, argument_line, IsArgument, IsOutput, AreArguments, AreOutputs, IsCallLaid, IsUnitBody, IsBodyOf}
+use Rattle.wc_flat.specs.FlatMeaning.{State, Skips, Ran, goes_on, with_all, turns, returns, line_runs}
+use Rattle.wc_flat.specs.Laid.{Operand, Number, At as AtPlace, argument_line, AreArguments, AreOutputs, IsCallLaid, IsUnitBody, IsBodyOf}
 use Rattle.wc_flat.specs.NumberBlocks.{block_called}
 use Rattle.wc_flat.specs.NumberOperators.{given, acts}
 use Rattle.wc_model.specs.Language.BlockCalls.{standard_called}
@@ -19,19 +19,19 @@ use Rattle.wc_model.specs.Language.Meaning.{Outcome, Done, Stuck, Effect, Goes, 
 use Rattle.wc_model.specs.Language.Meaning as meaning
 use Rattle.wc_model.specs.Language.Names.{Name}
 use Rattle.wc_model.specs.Language.Reasons.{Reason, NoSuchPlace}
-use Rattle.wc_model.specs.Language.Scopes.{Scope, type_of}
-use Rattle.wc_model.specs.Language.Store.{Location, Content, Store}
+use Rattle.wc_model.specs.Language.Scopes.{type_of}
+use Rattle.wc_model.specs.Language.Store.{Store}
 use Rattle.wc_model.specs.Language.Traces.{Item, At, Argument, StandardBody, Called, GivenOut}
 use Rattle.wc_model.specs.Language.Tree.{Assignment, inputs_of, outputs_of, Call, ProgramUnit}
 use Rattle.wc_model.specs.declared.block.StandardBlock.{StandardBlock}
 use Rattle.wc_model.specs.declared.code.Code.{Code}
-use Rattle.wc_model.specs.declared.code.Code.TheVariants.{Call as CallLine, Body, Standard as StandardLine}
+use Rattle.wc_model.specs.declared.code.Code.TheVariants.{Call as CallLine, Body}
 use Rattle.wc_model.specs.declared.operator.Condition.{Condition}
 use Rattle.wc_model.specs.declared.place.Place.{Place}
 use Rattle.wc_model.specs.declared.value.Value.{Value}
 use Rattle.wc_soundness.proofs.CallSteps.{IsInstance, type_of-found}
 use Rattle.wc_trace_laws.proofs.SeenSides.{OutcomeSeen, AreSeenAlike, OnwardSeen, seen_append, seen_deeper, IsNoBody, entry, line_then, passed_unseen}
-use Rattle.wc_trace_laws.specs.FlatSeen.{FlatSeen, FlatSeenCalls, deeper, flat_seen_line, flat_seen_from, flat_seen, is_body_line, IsItem, SeenAs, AreSeenAs}
+use Rattle.wc_trace_laws.specs.FlatSeen.{FlatSeen, FlatSeenCalls, deeper, flat_seen_from, flat_seen, is_body_line, IsItem, AreSeenAs}
 use Rattle.wc_trace_laws.specs.Seen.{Seen, SeenCalls, seen_at, seen_called, seen_store, seen_inputs, seen_outputs, seen_block, seen_behind, seen_with, seen_made, seen_call, seen_step}
 
 -- what is seen of lines behind which the result is the same is what is seen of a store that is written
@@ -56,10 +56,10 @@ moved_seen w flats item source sources result put_by numbers line lines part (Ok
       k.0,
       k.1,
       (
-        entry w source line (state_of result put_by h.0) ∷ k.2.0,
+        entry w source line (state_of result put_by numbers) (state_of result put_by h.0) ∷ k.2.0,
         (record { item = part.0; result = refl; contents = h.1 }, k.2.1),
         λ more others. line_then w flats source line (state_of result put_by numbers) _ part.1 h.2 (sources ++ more) (lines ++ others)
-            ∙ ap (λ (l : List FlatSeen). entry w source line (state_of result put_by h.0) ∷ l) (k.2.2 more others),
+            ∙ ap (λ (l : List FlatSeen). entry w source line (state_of result put_by numbers) (state_of result put_by h.0) ∷ l) (k.2.2 more others),
       ),
     )
 
@@ -122,7 +122,7 @@ standard_seen w alike flats source result put_by store numbers contents instance
       h.0,
       h.1,
       (
-        entry w source line (state_of result put_by h.0) ∷ [],
+        entry w source line state (state_of result put_by h.0) ∷ [],
         (record { item = (refl, subst (λ (l : Code). is_body_line l ≡ false) (sym laid.2) refl); result = refl; contents = h.1 }, tt),
         λ more others. line_then w flats source line state _ (subst IsNoBody (sym laid.2) tt)
             (ap (line_runs (flat w) state) laid.2 ∙ ap (λ (o : Option (List ℤ)). given o (λ ns. goes_on (with_all state ns))) h.2) more others,
@@ -189,10 +189,10 @@ made_seen w flats own_line body lines given number instance arguments result put
       k.0,
       k.1,
       (
-        entry w number own_line state ∷ fs ++ (h.2.0 ++ k.2.0),
+        entry w number own_line state state ∷ fs ++ (h.2.0 ++ k.2.0),
         (record { item = (refl, refl, is); result = refl; contents = contents }, seen_append w.frame inputs (block ++ seen) fs (h.2.0 ++ k.2.0) are (seen_append w.frame block seen h.2.0 k.2.0 h.2.1 k.2.1)),
         λ more others. line_then w flats number own_line state _ no_body acting ((map (λ input. number) (inputs_of arguments) ++ number ∷ map (λ output. number) (outputs_of arguments)) ++ more) ((lines ++ body ∷ given) ++ others)
-            ∙ ap (λ (l : List FlatSeen). entry w number own_line state ∷ l)
+            ∙ ap (λ (l : List FlatSeen). entry w number own_line state state ∷ l)
             (ap (λ (s : List ℕ). flat_seen (flat w) flats s ((lines ++ body ∷ given) ++ others) (Skips 0) state) (append_assoc (map (λ input. number) (inputs_of arguments)) (number ∷ map (λ output. number) (outputs_of arguments)) more)
             ∙ (ap (λ (c : List Code). flat_seen (flat w) flats (map (λ input. number) (inputs_of arguments) ++ (number ∷ map (λ output. number) (outputs_of arguments) ++ more)) c (Skips 0) state) (append_assoc lines (body ∷ given) others)
             ∙ (inputs_so (number ∷ map (λ output. number) (outputs_of arguments) ++ more) (body ∷ given ++ others)
@@ -253,7 +253,7 @@ call_seen w calls flats alike number result put_by store numbers contents condit
       numbers,
       contents,
       (
-        entry w number own_line state ∷ [],
+        entry w number own_line state state ∷ [],
         (record { item = (refl, refl, refl); result = refl; contents = contents }, tt),
         passing (answer_given (meaning.acts condition result) (acts condition (option_map value_number result)) false (acts_follow condition result) e),
       ),
@@ -271,10 +271,10 @@ call_seen w calls flats alike number result put_by store numbers contents condit
     state : State
     state = state_of result put_by numbers
 
-    passing : acts condition (option_map value_number result) ≡ Some false → (more : List ℕ) (others : List Code) → flat_seen (flat w) flats (call_sources number arguments ++ more) ((own_line ∷ behind) ++ others) (Skips 0) state ≡ (entry w number own_line state ∷ []) ++ flat_seen (flat w) flats more others (Skips 0) state
+    passing : acts condition (option_map value_number result) ≡ Some false → (more : List ℕ) (others : List Code) → flat_seen (flat w) flats (call_sources number arguments ++ more) ((own_line ∷ behind) ++ others) (Skips 0) state ≡ (entry w number own_line state state ∷ []) ++ flat_seen (flat w) flats more others (Skips 0) state
     passing e more others =
         line_then w flats number own_line state _ tt (ap (λ (b : Option Bool). turns state b (Skips 0) (Skips (1 + length arguments))) e) (behind_sources ++ more) (behind ++ others)
-        ∙ ap (λ (l : List FlatSeen). entry w number own_line state ∷ l)
+        ∙ ap (λ (l : List FlatSeen). entry w number own_line state state ∷ l)
         (ap (λ n. flat_seen (flat w) flats (behind_sources ++ more) (behind ++ others) (Skips n) state) so_many ∙ passed_unseen (flat w) flats behind_sources more behind others same 0 state)
       where
         so_many : 1 + length arguments ≡ length behind + 0

@@ -21,7 +21,7 @@ use Rattle.wc_model.specs.declared.operator.Storing.TheVariants.{Result as Store
 use Rattle.wc_model.specs.declared.value.Value.{Value}
 use Rattle.wc_model.specs.declared.value.Value.TheVariants.{Bool as Truth, Dint, Time}
 use Rattle.wc_trace_laws.specs.Laws.{HasItems}
-use Rattle.wc_trace_laws.specs.Seen.{Seen, SeenCalls, seen_at, seen_called, seen_effect, seen_from, seen_store, seen_inputs, seen_outputs, seen_block, seen_behind, seen_with, seen_made, seen_call, seen_step, seen_line, seen_inside, seen_opened, seen_nested, seen_lines, context_of, seen_of_calls, seen_of_program, seen_of_reversed, seen_of_scan}
+use Rattle.wc_trace_laws.specs.Seen.{Seen, SeenCalls, seen_at, seen_called, seen_effect, seen_from, seen_store, seen_inputs, seen_outputs, seen_block, seen_behind, seen_with, seen_made, seen_call, seen_step, seen_line, seen_inside, seen_nested, seen_lines, context_of, seen_of_calls, seen_of_reversed, seen_of_scan}
 
 -- the items of what is seen
 abbrev pub items_of : List Seen → List Item

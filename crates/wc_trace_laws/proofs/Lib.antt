@@ -1,4 +1,4 @@
-mod Items
+pub mod Items
 pub mod SeenSides
 pub mod CallsSeen
 pub mod BodiesSeen

@@ -14,7 +14,6 @@ use Rattle.wc_model.specs.Language.Frames.{slot_kinds}
 use Rattle.wc_model.specs.Language.Meaning as meaning
 use Rattle.wc_model.specs.Language.Meaning.{Outcome, Running, Context, body_means, means, called}
 use Rattle.wc_model.specs.Language.Names.{Name}
-use Rattle.wc_model.specs.Language.Scopes.{Scope}
 use Rattle.wc_model.specs.Language.Store.{Location, Content, Store}
 use Rattle.wc_model.specs.Language.Tree.{ProgramUnit}
 use Rattle.wc_model.specs.Text.Limits.{depth}

@@ -1,19 +1,16 @@
 -- When what is seen of flat code is what is seen of the tree: the relations, and one line.
-use Rattle.std.proofs.Common.{◌≡◌, ℕ, suc, ◌+◌, Bool, true, false, List, [], ◌∷◌, ◌++◌, map, length, Option, Some, None, Result, Ok, Err, ℤ, append_assoc, refl, sym, ap, subst, ◌∙◌, arith}
+use Rattle.std.proofs.Common.{◌≡◌, ℕ, suc, ◌+◌, true, List, [], ◌∷◌, ◌++◌, map, length, Option, Some, ℤ, refl, ap, ◌∙◌, arith}
 use Rattle.wc_flat.proofs.Sides.{Sides, flat, IsBased, AreAlike, state_of, LineFollows, IsCourse, result_in}
 use Rattle.wc_flat.specs.Contents.{AreContents}
 use Rattle.wc_flat.specs.FlatMeaning.{State, Course, Skips, Ended, Moved, Here, line_runs}
 use Rattle.wc_model.specs.Language.Declarations.{block_named}
 use Rattle.wc_model.specs.Language.Meaning.{Outcome, Done, Stuck, Running, Seeking, Returned, Effect, Goes, Fails}
 use Rattle.wc_model.specs.Language.Names.{Name}
-use Rattle.wc_model.specs.Language.Reasons.{Reason}
 use Rattle.wc_model.specs.Language.Store.{Location, Content, Store}
-use Rattle.wc_model.specs.Language.Traces.{Item, At, Argument, StandardBody, Called, GivenOut}
 use Rattle.wc_model.specs.Language.Tree.{Lines, ProgramUnit}
 use Rattle.wc_model.specs.declared.code.Code.{Code}
 use Rattle.wc_model.specs.declared.code.Code.TheVariants.{LoadNumber, LoadPlace, Store as StoreLine, ApplyNumber, ApplyPlace, Not, Open, OpenNumber, OpenPlace, Close, Jump, Return, Call, ArgumentNumber, ArgumentPlace, Standard, Body}
-use Rattle.wc_model.specs.declared.value.Value.{Value}
-use Rattle.wc_trace_laws.specs.FlatSeen.{FlatSeen, FlatSeenCalls, deeper, seen_moved, flat_seen_line, flat_seen_from, flat_seen, is_body_line, IsItem, SeenAs, AreSeenAs}
+use Rattle.wc_trace_laws.specs.FlatSeen.{FlatSeen, FlatSeenCalls, deeper, number_written, seen_moved, flat_seen_line, flat_seen_from, flat_seen, is_body_line, AreSeenAs}
 use Rattle.wc_trace_laws.specs.Seen.{Seen, SeenCalls, seen_called, seen_effect}
 
 -- where there is an outcome, what is seen on the two sides is the same
@@ -69,7 +66,7 @@ abbrev pub IsNoBody : Code → Type 0
 IsNoBody (Body unit at) = ⊥
 IsNoBody line = Unit {0}
 
-pub line_is_seen : (here : Here) (flats : FlatSeenCalls) (source : ℕ) (state : State) (line : Code) → IsNoBody line → flat_seen_line here flats source state line ≡ seen_moved here source line (line_runs here state line)
+pub line_is_seen : (here : Here) (flats : FlatSeenCalls) (source : ℕ) (state : State) (line : Code) → IsNoBody line → flat_seen_line here flats source state line ≡ seen_moved here source state line (line_runs here state line)
 line_is_seen here flats source state (LoadNumber n) is = refl
 line_is_seen here flats source state (LoadPlace negated place) is = refl
 line_is_seen here flats source state (StoreLine storing place) is = refl
@@ -109,13 +106,13 @@ body_line_runs_none (Standard block at) e = tt
 body_line_runs_none (Body unit at) e = cc
 
 -- what is seen of a line that does this
-abbrev pub entry : Sides → ℕ → Code → State → FlatSeen
-entry w source line state = record { depth = 0; source = source; line = line; base = w.base; result = state.result; numbers = state.numbers }
+abbrev pub entry : Sides → ℕ → Code → State → State → FlatSeen
+entry w source line before behind = record { depth = 0; source = source; line = line; base = w.base; written = number_written (flat w) before line; result = behind.result; numbers = behind.numbers }
 
-pub line_then : (w : Sides) (flats : FlatSeenCalls) (source : ℕ) (line : Code) (state : State) (moved : Moved) → IsNoBody line → line_runs (flat w) state line ≡ Some moved → (more : List ℕ) (others : List Code) → flat_seen (flat w) flats (source ∷ more) (line ∷ others) (Skips 0) state ≡ entry w source line moved.state ∷ flat_seen (flat w) flats more others moved.course moved.state
+pub line_then : (w : Sides) (flats : FlatSeenCalls) (source : ℕ) (line : Code) (state : State) (moved : Moved) → IsNoBody line → line_runs (flat w) state line ≡ Some moved → (more : List ℕ) (others : List Code) → flat_seen (flat w) flats (source ∷ more) (line ∷ others) (Skips 0) state ≡ entry w source line state moved.state ∷ flat_seen (flat w) flats more others moved.course moved.state
 line_then w flats source line state moved is e more others =
     ap (λ (l : List FlatSeen). l ++ flat_seen_from (line_runs (flat w) state line) (flat_seen (flat w) flats more others)) (line_is_seen (flat w) flats source state line is)
-    ∙ ap (λ (m : Option Moved). seen_moved (flat w) source line m ++ flat_seen_from m (flat_seen (flat w) flats more others)) e
+    ∙ ap (λ (m : Option Moved). seen_moved (flat w) source state line m ++ flat_seen_from m (flat_seen (flat w) flats more others)) e
 
 -- one flat line that is a line of the body
 pub line_seen : (w : Sides) (flats : FlatSeenCalls) (source : ℕ) (line : Code) (put_by : List ℤ) (state : State) (effect : Effect) → is_body_line line ≡ true → LineFollows w line put_by state effect → OnwardSeen w flats (source ∷ []) (line ∷ []) put_by state effect (seen_effect source effect)
@@ -123,7 +120,7 @@ line_seen w flats source line put_by state (Goes (Running result) store items) i
   h.0,
   h.1,
   (
-    entry w source line (state_of result put_by h.0) ∷ [],
+    entry w source line state (state_of result put_by h.0) ∷ [],
     (record { item = (refl, refl, is); result = refl; contents = h.1 }, tt),
     λ more others. line_then w flats source line state _ (body_line_runs_none line is) h.3 more others,
   ),

@@ -1,5 +1,5 @@
 -- What is seen of flat codes is what is seen of their text.
-use Rattle.std.proofs.Common.{◌≡◌, ℕ, suc, Bool, true, false, List, [], ◌∷◌, ◌++◌, map, length, Option, Some, None, ℤ, refl, sym, ap, subst, ◌∙◌, arith}
+use Rattle.std.proofs.Common.{◌≡◌, ℕ, suc, false, List, [], ◌∷◌, ◌++◌, length, ℤ, refl, sym, ap, subst, ◌∙◌, arith}
 use Rattle.std.proofs.lemmas.List.{length-reverse, append-nil}
 use Rattle.std.specs.Prelude.{pred, reverse, slice_get}
 use Rattle.wc_flat.proofs.Programs.{NestWell, AreCodesOf, calls_follow, codes_of, codes_length}
@@ -9,9 +9,8 @@ use Rattle.wc_flat.specs.FlatMeaning.{calls_below}
 use Rattle.wc_model.specs.Language.BodyRules.{text_body_checks}
 use Rattle.wc_model.specs.Language.Declarations.{is_block}
 use Rattle.wc_model.specs.Language.Frames.{slot_kinds}
-use Rattle.wc_model.specs.Language.Meaning.{Outcome, Done, Stuck, program_means, called}
+use Rattle.wc_model.specs.Language.Meaning.{Outcome, Done, Stuck, program_means}
 use Rattle.wc_model.specs.Language.Scans.{initial_of_reversed, with_image}
-use Rattle.wc_model.specs.Language.Scopes.{Scope}
 use Rattle.wc_model.specs.Language.Store.{Location, Content, Store, initial_store, program_frame}
 use Rattle.wc_model.specs.Language.Tree.{ProgramUnit}
 use Rattle.wc_model.specs.declared.code.Code.{Code}

@@ -1,5 +1,5 @@
 -- What is seen of a scan: statements.
-use Rattle.std.specs.Prelude.{◌≡◌, ℕ, List, map, Option, None, ℤ}
+use Rattle.std.specs.Prelude.{◌≡◌, ℕ, List, map, None, ℤ}
 use Rattle.wc_flat.specs.Contents.{frame_of_text, AreContents, with_image_numbers}
 use Rattle.wc_flat.specs.FlatPaths.{sources_of}
 use Rattle.wc_flat.specs.Laid.{AreLaid}
@@ -8,7 +8,6 @@ use Rattle.wc_model.specs.Language.Frames.{slot_kinds}
 use Rattle.wc_model.specs.Language.Meaning.{Outcome, Done, Stuck}
 use Rattle.wc_model.specs.Language.Scans.{initial_of, scan_of}
 use Rattle.wc_model.specs.Language.Store.{Store}
-use Rattle.wc_model.specs.Language.Traces.{Item}
 use Rattle.wc_model.specs.Language.Tree.{Text}
 use Rattle.wc_model.specs.Text.Reading.{IsRead}
 use Rattle.wc_model.specs.declared.code.Code.{Code}

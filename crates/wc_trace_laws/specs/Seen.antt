@@ -5,15 +5,13 @@ use Rattle.wc_model.specs.Language.BlockCalls.{standard_called}
 use Rattle.wc_model.specs.Language.Declarations.{VariableType, Elementary, Standard, Block, Member, same_name, members_of}
 use Rattle.wc_model.specs.Language.Meaning.{Outcome, Done, Stuck, Mode, Running, Seeking, Returned, Effect, Goes, Fails, Context, arriving, value_of, acts, assigned_one, assigned, body_outcome, given_one, step_effect, line_effect, closed, nested_effect, means, called}
 use Rattle.wc_model.specs.Language.Names.{Name}
-use Rattle.wc_model.specs.Language.Operators.{apply}
 use Rattle.wc_model.specs.Language.Reasons.{Reason}
 use Rattle.wc_model.specs.Language.Scans.{with_image}
-use Rattle.wc_model.specs.Language.Scopes.{Scope, type_of}
+use Rattle.wc_model.specs.Language.Scopes.{type_of}
 use Rattle.wc_model.specs.Language.Store.{Store}
 use Rattle.wc_model.specs.Language.Traces.{Item, At, Argument, StandardBody, Called, GivenOut}
 use Rattle.wc_model.specs.Language.Tree.{Term, Assignment, inputs_of, outputs_of, Step, Load, Store as StoreStep, Apply, Negate, Jump, Call, Return, Lines, End, Alone, Plain, Nested, ProgramUnit, Text}
 use Rattle.wc_model.specs.declared.image.Image.{Image}
-use Rattle.wc_model.specs.declared.operator.Condition.{Condition}
 use Rattle.wc_model.specs.declared.operator.Operator.{Operator}
 use Rattle.wc_model.specs.declared.value.Value.{Value}
 
@@ -89,8 +87,8 @@ abbrev pub seen_made : Context → SeenCalls → VariableType → ℕ → Name �
 seen_made here calls type line instance arguments result store =
     seen_at (At line) result store ∷ seen_inputs here (members_of here.scope.before type) instance result (inputs_of arguments) store
     ++ seen_with (assigned here (members_of here.scope.before type) instance (inputs_of arguments) store) (λ new.
-        seen_block here calls result type instance new
-        ++ seen_behind (body_outcome here type instance new) (seen_outputs here instance result (outputs_of arguments)))
+    seen_block here calls result type instance new
+    ++ seen_behind (body_outcome here type instance new) (seen_outputs here instance result (outputs_of arguments)))
 
 abbrev pub seen_call : Context → SeenCalls → ℕ → Name → List Assignment → Option Value → Store → List Seen
 seen_call here calls line instance arguments result store =
