@@ -149,3 +149,40 @@ def log(kinds, rows):
     yield "ms,kind,data\n"
     for number in range(rows):
         yield row(kinds[number % len(kinds)], number * 3, number)
+
+# what a line of each kind is among, the counted items of one round of it, and the lines before the first round
+STEPS = [
+    ("LD of an input bit", "LD %IX0.0\n", 1, ""),
+    ("AND of a variable", "AND a\n", 1, "LD %IX0.0\n"),
+    ("ST to an output bit", "ST %QX0.0\n", 1, "LD %IX0.0\n"),
+    ("S to a variable", "S a\n", 1, "LD %IX0.0\n"),
+    ("NOT", "NOT\n", 1, "LD %IX0.0\n"),
+    ("ADD of a variable", "ADD n\n", 1, "LD n\n"),
+    ("MUL of a literal", "MUL 3\n", 1, "LD n\n"),
+    ("DIV by a literal", "DIV 3\n", 1, "LD n\n"),
+    ("LD and GT", "LD n\nGT 5\n", 2, ""),
+    ("AND( and )", "AND(\nLD a\n)\n", 3, "LD %IX0.0\n"),
+    ("a jump that acts, and LD", "JMP L{n}\nL{n}: LD a\n", 2, ""),
+    ("a call of an empty block", "CAL empty\n", 1, ""),
+    ("a call with an input and an output", "CAL block(i := a, o => b)\n", 3, ""),
+    ("a call of R_TRIG", "CAL edge\n", 2, ""),
+    ("a call of SR", "CAL latch\n", 2, ""),
+    ("a call of CTU", "CAL count\n", 2, ""),
+    ("a call of TON, IN FALSE", "CAL on\n", 2, ""),
+    ("a call of TON, IN TRUE", "CAL on\n", 2, "LD TRUE\nST on.IN\n"),
+    ("a call of TOF, IN FALSE", "CAL off\n", 2, ""),
+    ("a call of TP, IN TRUE", "CAL pulse\n", 2, "LD TRUE\nST pulse.IN\n"),
+]
+
+
+def steps(line, first, rounds):
+    """A program of so many rounds of a line; its variables and blocks are those that any of the lines names."""
+    blocks = (
+        "FUNCTION_BLOCK Empty\nEND_FUNCTION_BLOCK\n"
+        "FUNCTION_BLOCK Block\nVAR_INPUT i : BOOL; END_VAR\nVAR_OUTPUT o : BOOL; END_VAR\nEND_FUNCTION_BLOCK\n"
+    )
+    names = (
+        "VAR a, b : BOOL; n : DINT := 7; empty : Empty; block : Block; edge : R_TRIG; latch : SR; count : CTU; on : TON; off : TOF; pulse : TP; END_VAR\n"
+    )
+    body = "".join(line.replace("{n}", str(number)) for number in range(rounds))
+    return f"{blocks}PROGRAM P\n{names}{first}{body}END_PROGRAM\n"
