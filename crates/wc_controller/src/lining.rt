@@ -7,6 +7,7 @@ ghost use Rattle.wc_job.specs.Reads.{TakesAtMost};
 ghost use Rattle.wc_model.specs.Run.JobSections.{longest_job};
 ghost use Rattle.wc_model.specs.Run.Log.{log_of};
 ghost use Rattle.wc_record.specs.Left.{HasCause};
+ghost use Rattle.wc_record.specs.Told.{fields_told};
 ghost use Rattle.wc_record.specs.Reading.{records_of};
 
 use crate::ending::{Ending, end};
@@ -15,7 +16,8 @@ use crate::reading::read_plate;
 use std::alloc::Global;
 use wc_model::{ByteIn, ByteOut};
 use wc_plate::Plate;
-use wc_run::{RunFault, run};
+use wc_record::RefusedRow;
+use wc_run::{RunFault, run_telling};
 
 /// Runs a log with no program.
 fn line_plate<L: ByteIn, W: ByteOut>(
@@ -23,12 +25,13 @@ fn line_plate<L: ByteIn, W: ByteOut>(
     plate: &Plate,
     log: &mut L,
     writer: &mut W,
+    told: &mut RefusedRow,
 ) -> Result<(), Stopped>
     ensures writes { IfSome (L.bytes_left log.old)
         (λ bytes. WritesUpTo (λ answer. answer ≡ line_answer plate.now (log_of (records_of bytes)))
         (met result) (W.bytes_taken writer.old) (W.bytes_taken writer.new)) }
     ensures blames { IfSome (L.bytes_left log.old)
-        (λ bytes. IfErr result (λ stopped. RefusesLog log_alone bytes stopped.fault)) }
+        (λ bytes. IfErr result (λ stopped. RefusesLog log_alone (fields_told told.new) bytes stopped.fault)) }
     ensures input { IfErr result (λ stopped. stopped.input ≡ Input.Log) }
     ensures read { IsReadFaultAt Input.Log result
         → HasCause (L.failure_count log.old) (L.failure_count log.new)
@@ -41,7 +44,7 @@ fn line_plate<L: ByteIn, W: ByteOut>(
     ensures failures { TellsWriteFaults (met result) (W.failure_count writer.old)
         (W.failure_count writer.new) }
 {
-    match run(alloc, plate, None, None, log, writer) {
+    match run_telling(alloc, None, plate, None, None, log, writer, told) {
         Ok(_) => Ok(()),
         Err(fault) => Err(Stopped {
             input: Input::Log,
@@ -56,12 +59,13 @@ fn line_inputs<P: ByteIn, L: ByteIn, W: ByteOut>(
     plate: &mut P,
     log: &mut L,
     writer: &mut W,
+    told: &mut RefusedRow,
 ) -> Result<(), Stopped>
     ensures writes { IfSome (P.bytes_left plate.old) (λ table. IfSome (L.bytes_left log.old)
         (λ bytes. WritesUpTo (AnswersLine table bytes) (met result)
         (W.bytes_taken writer.old) (W.bytes_taken writer.new))) }
     ensures blames_plate { StopsFor Input.Plate RefusesPlate (P.bytes_left plate.old) result }
-    ensures blames_log { StopsFor Input.Log (RefusesLog log_alone) (L.bytes_left log.old) result }
+    ensures blames_log { StopsFor Input.Log (RefusesLog log_alone (fields_told told.new)) (L.bytes_left log.old) result }
     ensures own { ¬ StopsAt Input.Job result }
     ensures no_program { ¬ StopsAt Input.Program result }
     ensures no_next { ¬ StopsAt Input.Next result }
@@ -83,7 +87,7 @@ fn line_inputs<P: ByteIn, L: ByteIn, W: ByteOut>(
         (P.bytes_left plate.new) }
 {
     match read_plate(alloc, plate) {
-        Ok(plate) => line_plate(alloc, &plate, log, writer),
+        Ok(plate) => line_plate(alloc, &plate, log, writer, told),
         Err(stopped) => Err(stopped),
     }
 }
@@ -96,13 +100,14 @@ pub fn line_files<P: ByteIn, L: ByteIn, W: ByteOut>(
     plate: &mut P,
     log: &mut L,
     writer: &mut W,
+    told: &mut RefusedRow,
 ) -> Ending
     ensures ends { IfSome (P.bytes_left plate.old) (λ table. IfSome (L.bytes_left log.old)
         (λ bytes. EndsAs (AnswersLine table bytes) result
         (W.bytes_taken writer.old) (W.bytes_taken writer.new))) }
     // The input that a refusal names is the one that breaks the rule.
     ensures blames_plate { Blames Input.Plate RefusesPlate (P.bytes_left plate.old) result }
-    ensures blames_log { Blames Input.Log (RefusesLog log_alone) (L.bytes_left log.old) result }
+    ensures blames_log { Blames Input.Log (RefusesLog log_alone (fields_told told.new)) (L.bytes_left log.old) result }
     // It has no job and no programs: what it names is its plate or its log.
     ensures own { ¬ IsAt Input.Job result }
     ensures no_program { ¬ IsAt Input.Program result }
@@ -124,6 +129,6 @@ pub fn line_files<P: ByteIn, L: ByteIn, W: ByteOut>(
     ensures taken { TakesAtMost (longest_job + 1) (P.bytes_left plate.old)
         (P.bytes_left plate.new) }
 {
-    let answer = line_inputs(alloc, plate, log, writer);
+    let answer = line_inputs(alloc, plate, log, writer, told);
     end(alloc, answer, writer)
 }

@@ -1,0 +1,41 @@
+-- A row as it is shown.
+use Rattle.std.proofs.Common.{◌≡◌, ◌∙◌, ◌+◌, ℕ, zero, suc, List, [], ◌∷◌, ◌++◌, Option, Some, None, IfSome, length, min, take, refl, ap, sym, subst, arith}
+use Rattle.std.proofs.lemmas.List.{append_assoc, append-nil}
+use Rattle.std.specs.Prelude.{flat_map}
+use Rattle.csv.specs.Records.{field_at}
+use Rattle.wc_findings.specs.Finds.{IsCutTo}
+use Rattle.wc_findings.specs.Meant.{IsKept}
+use Rattle.wc_findings.specs.Rows.{MeansField, behind_comma, cut_field, shown_row}
+use Rattle.wc_findings.specs.declared.finding.Finding.{Finding}
+use Rattle.wc_findings.specs.declared.finding.Spot.{Spot}
+use Rattle.wc_model.specs.Run.Log.{Record}
+
+-- a field behind so many others: there is a comma before it, unless it is the first
+pub glued : ℕ → List ℕ → List ℕ
+glued zero field = field
+glued (suc before) field = 44 ∷ field
+
+-- one field more behind others
+later_field : (fields : Record) (k : ℕ) (field : List ℕ) → field_at fields k ≡ Some field
+    → flat_map behind_comma (take (suc k) fields) ≡ flat_map behind_comma (take k fields) ++ behind_comma field
+later_field [] k field e = absurd (cc)
+later_field (f ∷ fs) zero field e =
+    let same : f ≡ field = cc in
+    rw same (append-nil (behind_comma field))
+later_field (f ∷ fs) (suc k) field e = ap (λ rest. behind_comma f ++ rest) (later_field fs k field e) ∙ sym (append_assoc (behind_comma f) (flat_map behind_comma (take k fs)) (behind_comma field))
+
+-- one field more
+pub one_field_more : (fields : Record) (k : ℕ) (field : List ℕ) → field_at fields k ≡ Some field
+    → shown_row (take (suc k) fields) ≡ shown_row (take k fields) ++ glued k (cut_field field)
+one_field_more [] k field e = absurd (cc)
+one_field_more (f ∷ fs) zero field e =
+    let same : f ≡ field = cc in
+    rw same (append-nil (cut_field field))
+one_field_more (f ∷ fs) (suc k) field e = ap (λ rest. cut_field f ++ rest) (later_field fs k field e) ∙ sym (append_assoc (cut_field f) (flat_map behind_comma (take k fs)) (behind_comma field))
+
+-- a spot that is kept means the field that was found
+pub field_kept : (number line : ℕ) (fields : Record) (old new : Finding) (spot : Option Spot) → IfSome old.spot (MeansField number fields)
+    → IfSome spot (λ s. IsKept old new line s) → IfSome spot (λ s. (found : Spot) × MeansField number fields found × IsCutTo new.shown.items found s)
+field_kept number line fields old new None means kept = tt
+field_kept number line fields old new (Some s) means kept =
+    (kept.found, subst (λ o. IfSome o (MeansField number fields)) kept.was means, record { start = kept.start; size = kept.size })
