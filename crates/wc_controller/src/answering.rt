@@ -92,7 +92,8 @@ fn answer_sections<W: ByteOut>(
 ) -> Result<(), Stopped>
     ensures writes { WritesUpTo (AllowsSections (sections_view sections.entry)) (met result)
         (W.bytes_taken writer.old) (W.bytes_taken writer.new) }
-    ensures blames { StopsForPart (fields_told told.new) (Ok (sections_view sections.entry)) result }
+    ensures blames { StopsForPart (fields_told told.new) (Ok (sections_view sections.entry))
+        result }
     ensures held { ¬ (met result ≡ Some RunFault.Read) }
     ensures failures { TellsWriteFaults (met result) (W.failure_count writer.old)
         (W.failure_count writer.new) }
@@ -120,7 +121,12 @@ fn answer_sections<W: ByteOut>(
 }
 
 /// Answers a job by its bytes.
-fn answer_bytes<W: ByteOut>(alloc: Global, bytes: &[u8], writer: &mut W, told: &mut RefusedRow) -> Result<(), Stopped>
+fn answer_bytes<W: ByteOut>(
+    alloc: Global,
+    bytes: &[u8],
+    writer: &mut W,
+    told: &mut RefusedRow,
+) -> Result<(), Stopped>
     ensures writes { WritesUpTo (Allows bytes.now) (met result)
         (W.bytes_taken writer.old) (W.bytes_taken writer.new) }
     ensures blames { StopsForPart (fields_told told.new) (sections_of bytes.now) result }
@@ -166,10 +172,15 @@ fn answer_input<R: ByteIn, W: ByteOut>(
 /// Reads a job, of at most 1048576 bytes, and answers it: its plate, its program, its next program,
 /// if it has one, and its log are read, the log is run row by row, and each line is written as its row comes. Where something is
 /// refused, the refusal with its number and its place is written behind the lines of the rows
-/// before it. A read fault comes where the reader failed in this call and only there, a write fault
+/// before it, and a refused row of the log is told. A read fault comes where the reader failed in this call and only there, a write fault
 /// where the writer did; at such a fault, and for want of memory, a front of the output is written,
 /// or nothing.
-pub fn answer_job<R: ByteIn, W: ByteOut>(alloc: Global, reader: &mut R, writer: &mut W, told: &mut RefusedRow) -> Ending
+pub fn answer_job<R: ByteIn, W: ByteOut>(
+    alloc: Global,
+    reader: &mut R,
+    writer: &mut W,
+    told: &mut RefusedRow,
+) -> Ending
     ensures ends { IfSome (R.bytes_left reader.old)
         (λ bytes.
         EndsAs (Allows bytes) result (W.bytes_taken writer.old) (W.bytes_taken writer.new)) }

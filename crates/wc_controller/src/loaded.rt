@@ -48,7 +48,9 @@ fn run_machine<'a, L: ByteIn, W: ByteOut>(
         (met result) (W.bytes_taken writer.old) (W.bytes_taken writer.new)) }
     ensures blames { IfSome (L.bytes_left log.old)
         (λ bytes. (text : Text) → StandsFor machine.entry text (initial_of text)
-        → IfErr result (λ stopped. RefusesLog (log_beside (is_some next.entry)) (fields_told told.new) bytes stopped.fault)) }
+        → IfErr result
+        (λ stopped. RefusesLog (log_beside (is_some next.entry)) (fields_told told.new) bytes
+        stopped.fault)) }
     ensures input { IfErr result (λ stopped. stopped.input ≡ Input.Log) }
     ensures read { IsReadFaultAt Input.Log result
         → HasCause (L.failure_count log.old) (L.failure_count log.new)
@@ -88,7 +90,9 @@ pub(crate) fn run_loaded<'a, L: ByteIn, W: ByteOut>(
         (text_of_next next.entry))
         (met result) (W.bytes_taken writer.old) (W.bytes_taken writer.new)) }
     ensures blames { IfSome (L.bytes_left log.old)
-        (λ bytes. IfErr result (λ stopped. RefusesLog (log_beside (is_some next.entry)) (fields_told told.new) bytes stopped.fault)) }
+        (λ bytes. IfErr result
+        (λ stopped. RefusesLog (log_beside (is_some next.entry)) (fields_told told.new) bytes
+        stopped.fault)) }
     ensures input { IfErr result (λ stopped. stopped.input ≡ Input.Log) }
     ensures read { IsReadFaultAt Input.Log result
         → HasCause (L.failure_count log.old) (L.failure_count log.new)

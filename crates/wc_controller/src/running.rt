@@ -163,7 +163,8 @@ fn run_program<T: ByteIn, N: ByteIn, L: ByteIn, W: ByteOut>(
         (T.bytes_left program.old) result }
     ensures blames_next { StopsFor Input.Next RefusesProgram (known_of N.bytes_left next.old)
         result }
-    ensures blames_log { StopsFor Input.Log (RefusesLog (log_beside (is_some next.old)) (fields_told told.new))
+    ensures blames_log { StopsFor Input.Log
+        (RefusesLog (log_beside (is_some next.old)) (fields_told told.new))
         (L.bytes_left log.old) result }
     ensures unread { StopsAt Input.Next result
         → L.spent_count log.new ≡ L.spent_count log.old }
@@ -219,7 +220,8 @@ fn run_inputs<P: ByteIn, T: ByteIn, N: ByteIn, L: ByteIn, W: ByteOut>(
         (T.bytes_left program.old) result }
     ensures blames_next { StopsFor Input.Next RefusesProgram (known_of N.bytes_left next.old)
         result }
-    ensures blames_log { StopsFor Input.Log (RefusesLog (log_beside (is_some next.old)) (fields_told told.new))
+    ensures blames_log { StopsFor Input.Log
+        (RefusesLog (log_beside (is_some next.old)) (fields_told told.new))
         (L.bytes_left log.old) result }
     ensures own { ¬ StopsAt Input.Job result }
     ensures unread { StopsAt Input.Next result
@@ -265,7 +267,8 @@ fn run_inputs<P: ByteIn, T: ByteIn, N: ByteIn, L: ByteIn, W: ByteOut>(
 /// plate is read and judged first, then the program, then the next program, if there is one, then
 /// the log is run row by row, and each line is written as its row comes. A row that changes the
 /// program takes the next one; where none is left it is refused. The first input that breaks a rule
-/// is refused, behind the lines of the rows before, and what follows it is not read. A read fault
+/// is refused, behind the lines of the rows before, and what follows it is not read; of a log the
+/// refused row is told. A read fault
 /// names the input whose reader failed in this call, or the log where as much was read as may be; a
 /// write fault comes where the writer failed in this call and only there. At such a fault, and for
 /// want of memory, a front of the output is written, or nothing.
@@ -290,7 +293,8 @@ pub fn run_files<P: ByteIn, T: ByteIn, N: ByteIn, L: ByteIn, W: ByteOut>(
         (T.bytes_left program.old) result }
     ensures blames_next { Blames Input.Next RefusesProgram (known_of N.bytes_left next.old)
         result }
-    ensures blames_log { Blames Input.Log (RefusesLog (log_beside (is_some next.old)) (fields_told told.new))
+    ensures blames_log { Blames Input.Log
+        (RefusesLog (log_beside (is_some next.old)) (fields_told told.new))
         (L.bytes_left log.old) result }
     // A run has no job: what it names is one of its inputs.
     ensures own { ¬ IsAt Input.Job result }

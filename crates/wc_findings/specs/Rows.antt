@@ -16,6 +16,11 @@ shown_field fields place = cut_field (unwrap_or (field_at fields place) [])
 abbrev pub behind_comma : List ℕ → List ℕ
 behind_comma field = 44 ∷ cut_field field
 
+-- a field behind so many others: there is a comma before it, unless it is the first
+abbrev pub glued : ℕ → List ℕ → List ℕ
+glued zero field = field
+glued (suc before) field = 44 ∷ field
+
 -- the fields with commas between
 abbrev pub shown_row : Record → List ℕ
 shown_row [] = []

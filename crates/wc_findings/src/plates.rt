@@ -52,13 +52,16 @@ fn key_on(line: &[u8], number: u32, name: &str) -> Option<KeyLine> {
     })
 }
 
-/// Whether a text in the plate could run over lines.
+/// Whether a text in the plate could run over lines: three quotes of a kind stand in a row.
 fn has_long_texts(text: &[u8]) -> bool {
-    for index in 0..text.len() {
-        let rest = behind(text, index);
-        if rest.starts_with(b"\"\"\"") || rest.starts_with(b"'''") {
+    let (mut last, mut earlier) = (b' ', b' ');
+    for byte in text {
+        let is_third = *byte == last && last == earlier;
+        if is_third && (*byte == b'"' || *byte == b'\'') {
             return true;
         }
+        earlier = last;
+        last = *byte;
     }
     false
 }
@@ -176,6 +179,41 @@ fn tell_unknown(
     finding.tell(key.as_bytes(), "is no key of a plate")
 }
 
+/// Says what must stand behind a key whose value is not of its kind.
+fn kind_of(key: &str) -> &'static str {
+    match key {
+        "unit" => "must be a text",
+        _ => "must be a whole number",
+    }
+}
+
+/// The key whose value a rule on values means.
+fn key_of(rule: BrokenRule<'_>) -> &'static str {
+    match rule {
+        BrokenRule::Unit => "unit",
+        BrokenRule::Decimals => "decimals",
+        BrokenRule::Interval { .. } => "e",
+        BrokenRule::Load { .. } => "max",
+        BrokenRule::ZeroCounts => "zero_counts",
+        BrokenRule::SpanCounts { .. } => "span_counts",
+        _ => "window",
+    }
+}
+
+/// Says which values a rule on values allows, where its number does not.
+fn advise(alloc: Global, finding: &mut Finding, rule: BrokenRule<'_>) -> Result<(), AllocError> {
+    match rule {
+        BrokenRule::Interval { unit, decimals } => advise_interval(alloc, finding, unit, decimals),
+        BrokenRule::Load { e } => advise_load(alloc, finding, e),
+        BrokenRule::SpanCounts { n } => advise_span(alloc, finding, n),
+        BrokenRule::ZeroCounts => {
+            finding.says = Some("zero_counts must be -8388608 to 8388607");
+            Ok(())
+        }
+        _ => Ok(()),
+    }
+}
+
 /// Says which rule is broken, and points to the key that is meant.
 fn tell_rule(
     alloc: Global,
@@ -186,39 +224,18 @@ fn tell_rule(
     match rule {
         BrokenRule::UnknownKey { key, missing } => {
             point_to_key(finding, text, key);
-            return tell_unknown(alloc, finding, key, missing);
+            tell_unknown(alloc, finding, key, missing)
         }
-        BrokenRule::MissingKey { key } => return finding.tell(key.as_bytes(), "is missing"),
+        BrokenRule::MissingKey { key } => finding.tell(key.as_bytes(), "is missing"),
         BrokenRule::WrongKind { key } => {
             point_to_value(finding, text, key);
-            let says = if key == "unit" {
-                "must be a text"
-            } else {
-                "must be a whole number"
-            };
-            return finding.tell(key.as_bytes(), says);
+            finding.tell(key.as_bytes(), kind_of(key))
         }
-        BrokenRule::Unit => point_to_value(finding, text, "unit"),
-        BrokenRule::Decimals => point_to_value(finding, text, "decimals"),
-        BrokenRule::Interval { unit, decimals } => {
-            point_to_value(finding, text, "e");
-            return advise_interval(alloc, finding, unit, decimals);
+        rule => {
+            point_to_value(finding, text, key_of(rule));
+            advise(alloc, finding, rule)
         }
-        BrokenRule::Load { e } => {
-            point_to_value(finding, text, "max");
-            return advise_load(alloc, finding, e);
-        }
-        BrokenRule::ZeroCounts => {
-            finding.says = Some("zero_counts must be -8388608 to 8388607");
-            point_to_value(finding, text, "zero_counts");
-        }
-        BrokenRule::SpanCounts { n } => {
-            point_to_value(finding, text, "span_counts");
-            return advise_span(alloc, finding, n);
-        }
-        BrokenRule::Window => point_to_value(finding, text, "window"),
     }
-    Ok(())
 }
 
 /// Says where a text stops being TOML, and why.

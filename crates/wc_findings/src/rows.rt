@@ -1,6 +1,6 @@
-ghost use Rattle.std.specs.Prelude.{◌≡◌, ◌≤◌, IfOk, IfSome, None, length};
+ghost use Rattle.std.specs.Prelude.{◌≡◌, ◌≤◌, ◌++◌, IfOk, IfSome, None, OnOk, length};
 ghost use Rattle.wc_findings.specs.Rows as rows;
-ghost use Rattle.wc_findings.specs.Rows.{IsInField, MeansField};
+ghost use Rattle.wc_findings.specs.Rows.{IsInField, MeansField, glued};
 ghost use Rattle.wc_record.specs.Told.{fields_told};
 
 use crate::finding::Finding;
@@ -13,7 +13,8 @@ const LONGEST_FIELD: usize = 16384;
 
 /// A field of a row as it is shown: an empty one behind the last.
 fn shown_field(row: &RefusedRow, place: usize) -> &[u8]
-    ensures { result.now ≡ rows.shown_field (fields_told row.now) place }
+    ensures field { result.now ≡ rows.shown_field (fields_told row.now) place }
+    ensures short { length result.now ≤ 16384 }
 {
     match row.field(place) {
         Some(field) => front(field, LONGEST_FIELD),
@@ -23,7 +24,8 @@ fn shown_field(row: &RefusedRow, place: usize) -> &[u8]
 
 /// Where one of the first three fields starts in the row as it is shown.
 fn field_start(row: &RefusedRow, place: usize) -> usize
-    ensures { result ≡ rows.field_start (fields_told row.now) place }
+    ensures start { result ≡ rows.field_start (fields_told row.now) place }
+    ensures short { result ≤ 32770 }
 {
     let second = shown_field(row, 0).len() + 1;
     match place {
@@ -33,37 +35,26 @@ fn field_start(row: &RefusedRow, place: usize) -> usize
     }
 }
 
+/// Adds a field behind those before it.
+fn add_field(text: &mut Vec<u8>, row: &RefusedRow, place: usize) -> Result<(), AllocError>
+    ensures { OnOk result (text.new.items
+        ≡ text.old.items ++ glued place (rows.shown_field (fields_told row.now) place)) }
+{
+    if place > 0 {
+        text.push(b',')?;
+    }
+    text.extend_from_slice(shown_field(row, place))
+}
+
 /// The row as it is shown: its fields, with commas between.
 pub(crate) fn shown_row(alloc: Global, row: &RefusedRow) -> Result<Vec<u8>, AllocError>
     ensures { IfOk result (λ text. text.items ≡ rows.shown_row (fields_told row.now)) }
 {
     let mut text = Vec::new(alloc);
     for place in 0..row.len() {
-        if place > 0 {
-            text.push(b',')?;
-        }
-        text.extend_from_slice(shown_field(row, place))?;
+        add_field(&mut text, row, place)?;
     }
     Ok(text)
-}
-
-/// Says what is wrong with a field, and points to it.
-fn tell_field(
-    finding: &mut Finding,
-    row: &RefusedRow,
-    place: usize,
-    empty: &'static str,
-    says: &'static str,
-) -> Result<(), AllocError>
-    ensures { IfSome finding.new.spot (IsInField (fields_told row.now) place) }
-{
-    let field = shown_field(row, place);
-    finding.point(field_start(row, place), field.len().max(1));
-    if field.is_empty() {
-        finding.says = Some(empty);
-        return Ok(());
-    }
-    finding.tell(field, says)
 }
 
 /// Semicolons stand where commas should.
@@ -179,6 +170,45 @@ fn data_fault(kind: &[u8]) -> &'static str {
     }
 }
 
+/// What is said of a field that is empty.
+fn says_of_nothing(number: u16) -> &'static str {
+    match number {
+        602 | 603 => "the moment is missing",
+        604 => "the kind is missing",
+        605 => "the counts are missing",
+        _ => "a scan and a change have no data",
+    }
+}
+
+/// What is wrong with the field that is meant.
+fn says_of(number: u16, row: &RefusedRow) -> &'static str {
+    match number {
+        602 => moment_fault(shown_field(row, 0)),
+        603 => "is before the moment of the row above",
+        604 => kind_fault(shown_field(row, 1)),
+        605 => counts_fault(shown_field(row, 2)),
+        _ => data_fault(shown_field(row, 1)),
+    }
+}
+
+/// Says what is wrong with a field, and points to it.
+fn tell_field(
+    finding: &mut Finding,
+    row: &RefusedRow,
+    number: u16,
+    place: usize,
+) -> Result<(), AllocError>
+    ensures { IfSome finding.new.spot (IsInField (fields_told row.now) place) }
+{
+    let field = shown_field(row, place);
+    finding.point(field_start(row, place), field.len().max(1));
+    if field.is_empty() {
+        finding.says = Some(says_of_nothing(number));
+        return Ok(());
+    }
+    finding.tell(field, says_of(number, row))
+}
+
 /// Says which rule of its number a row breaks, and points to the field that is meant.
 pub(crate) fn tell_row(
     finding: &mut Finding,
@@ -189,42 +219,15 @@ pub(crate) fn tell_row(
     requires { finding.old.spot ≡ None }
     ensures { IfSome finding.new.spot (MeansField number (fields_told row.now)) }
 {
-    let missing = "the moment is missing";
     match number {
         601 => {
             tell_fields(finding, row, place);
             Ok(())
         }
-        602 => tell_field(finding, row, 0, missing, moment_fault(shown_field(row, 0))),
-        603 => tell_field(
-            finding,
-            row,
-            0,
-            missing,
-            "is before the moment of the row above",
-        ),
-        604 => tell_field(
-            finding,
-            row,
-            1,
-            "the kind is missing",
-            kind_fault(shown_field(row, 1)),
-        ),
-        605 => tell_field(
-            finding,
-            row,
-            2,
-            "the counts are missing",
-            counts_fault(shown_field(row, 2)),
-        ),
+        602 | 603 => tell_field(finding, row, number, 0),
+        604 => tell_field(finding, row, number, 1),
+        605 | 608 => tell_field(finding, row, number, 2),
         606 => tell_hexadecimal(finding, row),
-        608 => tell_field(
-            finding,
-            row,
-            2,
-            "a scan and a change have no data",
-            data_fault(shown_field(row, 1)),
-        ),
         609 => {
             finding.point(field_start(row, 1), shown_field(row, 1).len().max(1));
             Ok(())

@@ -133,11 +133,15 @@ pub read_on : {R : Type 0} (bytes_left : R → Option (List ℕ)) (before left :
     → GivesRecord bytes_left before left answer given → ReadsTo bytes_left end (record given { end = end }) (all_records before left)
 read_on bytes_left before left (Ok (Some row)) given end e h =
     let stands = h.3.stands in
-    rw e (h.0, h.1, record {
-      stands = record { has = stands.has; number = stands.number; last = stands.last; few = stands.few };
-      all = h.3.all;
-      at_hand = h.3.at_hand;
-    })
+    rw e (
+      h.0,
+      h.1,
+      record {
+        stands = record { has = stands.has; number = stands.number; last = stands.last; few = stands.few };
+        all = h.3.all;
+        at_hand = h.3.at_hand;
+      },
+    )
 read_on bytes_left before left (Ok None) given end e h = rw e tt
 read_on bytes_left before left (Err (fault.Refused number place)) given end e h = rw e h.1
 read_on bytes_left before left (Err fault.Read) given end e h = rw e tt
@@ -194,8 +198,12 @@ pub all_read : {R : Type 0} (bytes_left : R → Option (List ℕ)) (rows : Rows 
     → IfSome read (λ bytes. SourceHas bytes_left rows.source (records_of bytes)) → IfSome known (λ bytes. Reads bytes_left rows (records_read bytes))
 all_read bytes_left rows None read number last end cut h = tt
 all_read bytes_left rows (Some bytes) read number last end cut h =
-    rw end ([], records_of (cut_from log_start bytes), record {
-      stands = record { has = rw cut at h; number = number; last = last; few = omega arith };
-      all = refl;
-      at_hand = tt;
-    })
+    rw end (
+      [],
+      records_of (cut_from log_start bytes),
+      record {
+        stands = record { has = rw cut at h; number = number; last = last; few = omega arith };
+        all = refl;
+        at_hand = tt;
+      },
+    )

@@ -124,41 +124,8 @@ fn recorder_of(alloc: Global, number: Option<u16>) -> Result<Option<Recorder>, R
     }
 }
 
-/// Runs the log that the reader has to give with a scale to which no row has come.
-fn run_scale<'a, R: ByteIn, W: ByteOut>(
-    alloc: Global,
-    plate: &Plate,
-    machine: Option<Machine<'a, SlotStore>>,
-    next: Option<Loaded<'a>>,
-    recorder: &mut Option<Recorder>,
-    reader: &mut R,
-    writer: &mut W,
-    told: &mut RefusedRow,
-) -> Result<u32, RunFault>
-    requires { IfSome machine (λ m. m.last ≡ 0) }
-    ensures ends { IfSome (R.bytes_left reader.old)
-        (λ bytes. (logic : Option Logic) (number : Option ℕ)
-        → StandsAt machine.entry next.entry logic
-        → HoldsScans recorder.old number []
-        → Ends number plate.now logic (log_for logic (log_of (records_of bytes))) result
-        (W.bytes_taken writer.old) (W.bytes_taken writer.new)) }
-    ensures told { IfSome (R.bytes_left reader.old)
-        (λ bytes. TellsRow (records_read bytes) (fields_told told.new) result) }
-    ensures write { IsErrOf result RunFault.Write
-        → HasFailedSince (W.failure_count writer.old) (W.failure_count writer.new) }
-    ensures steady { ¬ IsErrOf result RunFault.Write
-        → W.failure_count writer.new ≡ W.failure_count writer.old }
-    ensures reader { HasNotFailed result (R.failure_count reader.old)
-        (R.failure_count reader.new) }
-{
-    match Scale::new(alloc, plate, machine, next) {
-        Ok(mut scale) => run_to_end(alloc, &mut scale, recorder, reader, writer, told),
-        Err(fault) => Err(fault),
-    }
-}
-
-/// Runs the log that the reader has to give, with a recorder of the last so many scans where they
-/// are asked for.
+/// Runs the log that the reader has to give with a scale to which no row has come, and a recorder
+/// of the last so many scans where they are asked for.
 fn run_recorded<'a, R: ByteIn, W: ByteOut>(
     alloc: Global,
     number: Option<u16>,
@@ -184,8 +151,12 @@ fn run_recorded<'a, R: ByteIn, W: ByteOut>(
     ensures reader { HasNotFailed result (R.failure_count reader.old)
         (R.failure_count reader.new) }
 {
-    match recorder_of(alloc, number) {
-        Ok(mut recorder) => run_scale(alloc, plate, machine, next, &mut recorder, reader, writer, told),
+    let mut recorder = match recorder_of(alloc, number) {
+        Ok(recorder) => recorder,
+        Err(fault) => return Err(fault),
+    };
+    match Scale::new(alloc, plate, machine, next) {
+        Ok(mut scale) => run_to_end(alloc, &mut scale, &mut recorder, reader, writer, told),
         Err(fault) => Err(fault),
     }
 }

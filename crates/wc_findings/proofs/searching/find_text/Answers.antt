@@ -4,8 +4,8 @@ use Rattle.wc_findings.specs.Meant.{IsKept}
 use Rattle.wc_findings.specs.Showing.{known_line}
 use Rattle.wc_findings.proofs.searching.find_text.Goals as goal
 
-pub returns-in_ok-keep_line-clause-found : goal.returns-in_ok-keep_line-clause-found
-returns-in_ok-keep_line-clause-found c =
+pub returns-clause-found : goal.returns-clause-found
+returns-clause-found c =
     let refusal = c.args.refusal.now in
     let text = c.args.text.now in
     let found = c.find_in.new.finding in
