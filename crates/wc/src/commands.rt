@@ -3,12 +3,12 @@ ghost use Rattle.wc.specs.Asked.{asked, check, form_asked, job, line, run, texts
 
 use crate::opening::Opening;
 use crate::output::{Emptying, Gathered, Sharing, shared_output};
-use crate::telling::{Met, Sources, end, without_memory};
+use crate::telling::{Met, ReadFile, Sources, end, without_memory};
 use crate::words::ProgramFiles;
 use std::cell::RefCell;
 use std::io;
 use std::io::{IsTerminal, Stdin};
-use wc_controller::{Ending, answer_job, check_file, line_files, run_files};
+use wc_controller::{Ending, RefusedRow, answer_job, check_file, line_files, run_files};
 use wc_devices::{Keeping, Noting};
 use wc_messages::Form;
 use wc_model::Device;
@@ -16,19 +16,32 @@ use wc_model::Device;
 /// A file that is read, and before each read the output is emptied.
 type Source<'a> = Device<Emptying<'a, Noting<Opening<'a>>>>;
 
+/// The same of a file whose bytes are kept, so that a refusal shows those that were read.
+type KeptSource<'a> = Device<Emptying<'a, Keeping<Noting<Opening<'a>>>>>;
+
 /// A file, which is opened when it is first read.
 fn source<'a>(rt: &'a HostRuntime, path: &'a str, gathered: &'a RefCell<Gathered>) -> Source<'a> {
     Device::new(Emptying::new(gathered, Noting::new(Opening::new(rt, path))))
 }
 
-/// A file that may be there.
-fn source_of<'a>(
+/// The same of a file whose bytes are kept.
+fn kept_source<'a>(
+    rt: &'a HostRuntime,
+    path: &'a str,
+    gathered: &'a RefCell<Gathered>,
+) -> KeptSource<'a> {
+    let keeping = Keeping::new(rt.alloc(), Noting::new(Opening::new(rt, path)));
+    Device::new(Emptying::new(gathered, keeping))
+}
+
+/// A file that may be there, whose bytes are kept.
+fn kept_source_of<'a>(
     rt: &'a HostRuntime,
     path: Option<&'a str>,
     gathered: &'a RefCell<Gathered>,
-) -> Option<Source<'a>> {
+) -> Option<KeptSource<'a>> {
     match path {
-        Some(path) => Some(source(rt, path, gathered)),
+        Some(path) => Some(kept_source(rt, path, gathered)),
         None => None,
     }
 }
@@ -38,11 +51,35 @@ fn cause(source: &Source<'_>) -> Option<io::Error> {
     source.get_ref().get_ref().cause()
 }
 
+/// The same of a file whose bytes are kept.
+fn kept_cause(source: &KeptSource<'_>) -> Option<io::Error> {
+    source.get_ref().get_ref().get_ref().cause()
+}
+
 /// The same of a file that may be there.
-fn cause_of(source: &Option<Source<'_>>) -> Option<io::Error> {
+fn cause_of(source: &Option<KeptSource<'_>>) -> Option<io::Error> {
     match source {
-        Some(source) => cause(source),
+        Some(source) => kept_cause(source),
         None => None,
+    }
+}
+
+/// A file by its path, with the bytes that were read of it.
+fn read_of<'a>(path: &'a str, source: &'a KeptSource<'_>) -> ReadFile<'a> {
+    ReadFile {
+        path,
+        bytes: source.get_ref().get_ref().bytes_read(),
+    }
+}
+
+/// The same of a file that may be there.
+fn read_if_any<'a>(
+    path: Option<&'a str>,
+    source: &'a Option<KeptSource<'_>>,
+) -> Option<ReadFile<'a>> {
+    match (path, source) {
+        (Some(path), Some(source)) => Some(read_of(path, source)),
+        _ => None,
     }
 }
 
@@ -54,6 +91,7 @@ fn finish(
     reading: Option<io::Error>,
     gathered: &RefCell<Gathered>,
     sources: &Sources<'_>,
+    row: &RefusedRow,
 ) -> u8 {
     let (written, writing) = match gathered.try_borrow_mut() {
         Ok(mut gathered) => (gathered.empty().is_ok(), gathered.get_ref().cause()),
@@ -64,7 +102,7 @@ fn finish(
         reading,
         writing,
     };
-    end(rt, form, &met, sources)
+    end(rt, form, &met, sources, row)
 }
 
 /// Says that a job is awaited, where somebody types it.
@@ -90,7 +128,8 @@ pub(crate) fn run_job(rt: &HostRuntime, _words: &[String], form: Form) -> u8
     let keeping = Keeping::new(rt.alloc(), input);
     let mut reader = Device::new(Emptying::new(&gathered, keeping));
     let mut writer = Device::new(Sharing::new(&gathered));
-    let ending = answer_job(rt.alloc(), &mut reader, &mut writer);
+    let mut row = RefusedRow::new(rt.alloc());
+    let ending = answer_job(rt.alloc(), &mut reader, &mut writer, &mut row);
     let keeping = reader.get_ref().get_ref();
     let reading = keeping.get_ref().cause();
     let bytes = keeping.bytes_read();
@@ -101,6 +140,7 @@ pub(crate) fn run_job(rt: &HostRuntime, _words: &[String], form: Form) -> u8
         reading,
         &gathered,
         &Sources::Job { bytes },
+        &row,
     )
 }
 
@@ -119,16 +159,17 @@ pub(crate) fn check_words(
         Ok(gathered) => gathered,
         Err(_) => return without_memory(rt),
     };
-    let mut reader = source(rt, program, &gathered);
+    let mut reader = kept_source(rt, program, &gathered);
     let mut writer = Device::new(Sharing::new(&gathered));
     let ending = check_file(rt.alloc(), paths, &mut reader, &mut writer);
     finish(
         rt,
         form,
         ending,
-        cause(&reader),
+        kept_cause(&reader),
         &gathered,
-        &Sources::Program { program },
+        &Sources::Program(read_of(program, &reader)),
+        &RefusedRow::new(rt.alloc()),
     )
 }
 
@@ -152,9 +193,10 @@ pub(crate) fn run_words(
         Ok(gathered) => gathered,
         Err(_) => return without_memory(rt),
     };
-    let mut plate_reader = source(rt, plate, &gathered);
-    let mut program_reader = source(rt, files.program, &gathered);
-    let mut next_reader = source_of(rt, files.next, &gathered);
+    let mut plate_reader = kept_source(rt, plate, &gathered);
+    let mut program_reader = kept_source(rt, files.program, &gathered);
+    let mut next_reader = kept_source_of(rt, files.next, &gathered);
+    let mut row = RefusedRow::new(rt.alloc());
     let mut log_reader = source(rt, files.log, &gathered);
     let mut writer = Device::new(Sharing::new(&gathered));
     let ending = run_files(
@@ -165,9 +207,10 @@ pub(crate) fn run_words(
         &mut next_reader,
         &mut log_reader,
         &mut writer,
+        &mut row,
     );
-    let reading = cause(&plate_reader)
-        .or(cause(&program_reader))
+    let reading = kept_cause(&plate_reader)
+        .or(kept_cause(&program_reader))
         .or(cause_of(&next_reader))
         .or(cause(&log_reader));
     finish(
@@ -176,7 +219,13 @@ pub(crate) fn run_words(
         ending,
         reading,
         &gathered,
-        &Sources::Files { plate, files },
+        &Sources::Files {
+            plate: read_of(plate, &plate_reader),
+            program: read_of(files.program, &program_reader),
+            next: read_if_any(files.next, &next_reader),
+            log: files.log,
+        },
+        &row,
     )
 }
 
@@ -195,17 +244,28 @@ pub(crate) fn line_words(
         Ok(gathered) => gathered,
         Err(_) => return without_memory(rt),
     };
-    let mut plate_reader = source(rt, plate, &gathered);
+    let mut plate_reader = kept_source(rt, plate, &gathered);
     let mut log_reader = source(rt, log, &gathered);
     let mut writer = Device::new(Sharing::new(&gathered));
-    let ending = line_files(rt.alloc(), &mut plate_reader, &mut log_reader, &mut writer);
-    let reading = cause(&plate_reader).or(cause(&log_reader));
+    let mut row = RefusedRow::new(rt.alloc());
+    let ending = line_files(
+        rt.alloc(),
+        &mut plate_reader,
+        &mut log_reader,
+        &mut writer,
+        &mut row,
+    );
+    let reading = kept_cause(&plate_reader).or(cause(&log_reader));
     finish(
         rt,
         form,
         ending,
         reading,
         &gathered,
-        &Sources::Line { plate, log },
+        &Sources::Line {
+            plate: read_of(plate, &plate_reader),
+            log,
+        },
+        &row,
     )
 }

@@ -6,7 +6,6 @@ ghost use Rattle.std.specs.Prelude.{◌≡◌, Some};
 ghost use Rattle.wc.specs.Asked.{asked, explain as explain_asked, form_asked, texts_of, view};
 
 mod commands;
-mod excerpts;
 mod explaining;
 mod forms;
 mod opening;

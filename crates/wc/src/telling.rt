@@ -1,9 +1,7 @@
-use crate::excerpts::{bytes_of, row_of};
-use crate::words::ProgramFiles;
 use std::io;
 use std::io::Write;
-use wc_controller::{Ending, Input};
-use wc_messages::{Form, Part, Refusal, RowSeeker, explained, section_of, shown};
+use wc_controller::{Ending, Input, RefusedRow};
+use wc_messages::{Evidence, Form, Part, Refusal, Section, explained, section_of, shown};
 
 /// How a command ended, and what the system said of a read and of a write that failed.
 #[derive(Clone, Copy)]
@@ -13,42 +11,81 @@ pub(crate) struct Met {
     pub(crate) writing: Option<io::Error>,
 }
 
-/// Where the inputs of a command come from: a job on standard input, with its bytes where they were kept, or files by their
-/// paths.
+/// A file by its path, with the bytes that were read of it, where they were kept.
+#[derive(Clone, Copy)]
+pub(crate) struct ReadFile<'a> {
+    pub(crate) path: &'a str,
+    pub(crate) bytes: Option<&'a [u8]>,
+}
+
+/// Where the inputs of a command come from: a job on standard input, with its bytes where they were kept, or files. A log is
+/// read row by row, and not kept.
 #[derive(Clone, Copy)]
 pub(crate) enum Sources<'a> {
     Job {
         bytes: Option<&'a [u8]>,
     },
-    Program {
-        program: &'a str,
-    },
+    Program(ReadFile<'a>),
     Files {
-        plate: &'a str,
-        files: ProgramFiles<'a>,
+        plate: ReadFile<'a>,
+        program: ReadFile<'a>,
+        next: Option<ReadFile<'a>>,
+        log: &'a str,
     },
     Line {
-        plate: &'a str,
+        plate: ReadFile<'a>,
         log: &'a str,
     },
 }
 
+/// A log by its path, of which no bytes are kept.
+fn log_file(path: &str) -> ReadFile<'_> {
+    ReadFile {
+        path,
+        bytes: Some(b""),
+    }
+}
+
 impl<'a> Sources<'a> {
-    /// The path of an input, where it comes from a file.
-    fn path(&self, input: Input) -> Option<&'a str> {
+    /// The file of an input, where it comes from one.
+    fn file(&self, input: Input) -> Option<ReadFile<'a>> {
         match self {
             Sources::Job { .. } => None,
-            Sources::Program { program } => Some(program),
-            Sources::Files { plate, files } => match input {
-                Input::Plate => Some(plate),
-                Input::Next => files.next,
-                Input::Log => Some(files.log),
-                _ => Some(files.program),
+            Sources::Program(program) => Some(*program),
+            Sources::Files {
+                plate,
+                program,
+                next,
+                log,
+            } => match input {
+                Input::Plate => Some(*plate),
+                Input::Next => *next,
+                Input::Log => Some(log_file(log)),
+                _ => Some(*program),
             },
             Sources::Line { plate, log } => match input {
-                Input::Plate => Some(plate),
-                _ => Some(log),
+                Input::Plate => Some(*plate),
+                _ => Some(log_file(log)),
             },
+        }
+    }
+
+    /// The path of an input, where it comes from a file.
+    fn path(&self, input: Input) -> Option<&'a str> {
+        match self.file(input) {
+            Some(file) => Some(file.path),
+            None => None,
+        }
+    }
+
+    /// The text of an input, where it was kept, and how many lines stand above it in what is named.
+    fn text(&self, input: Input) -> Option<Section<'a>> {
+        match self {
+            Sources::Job { bytes } => section_of((*bytes)?, part_of(input)),
+            _ => Some(Section {
+                text: self.file(input)?.bytes?,
+                above: 0,
+            }),
         }
     }
 }
@@ -75,106 +112,49 @@ fn part_of(input: Input) -> Part {
     }
 }
 
-/// Where a refusal is told, and in which form.
-#[derive(Clone, Copy)]
-struct Teller<'a> {
-    rt: &'a HostRuntime,
-    form: Form,
-}
-
-/// Explains a refusal on standard error.
-fn explain(teller: Teller<'_>, refusal: &Refusal<'_>) -> io::Result<()> {
-    let message = explained(teller.rt.alloc(), teller.form, refusal)?;
-    teller.rt.stderr().write_all(&message)
-}
-
-/// Explains a refusal with its text, above which so many lines stand.
-fn explain_text(
-    teller: Teller<'_>,
-    refusal: &Refusal<'_>,
-    text: &[u8],
-    above: u32,
-) -> io::Result<()> {
-    let name: &[u8] = refusal.name;
-    let with_text = Refusal {
-        number: refusal.number,
-        place: refusal.place,
-        part: refusal.part,
-        name,
-        in_job: refusal.in_job,
-        text: Some(text),
-        above,
+/// What is at hand of an input that is refused, and how many lines stand above it in what is named.
+fn evidence_of<'a>(
+    sources: &Sources<'a>,
+    row: &'a RefusedRow,
+    input: Input,
+) -> (Evidence<'a>, u32) {
+    let Some(section) = sources.text(input) else {
+        return (Evidence::Nothing, 0);
     };
-    explain(teller, &with_text)
-}
-
-/// Explains a refusal of a log whose row was sought, and above which so many lines stand.
-fn explain_row(
-    teller: Teller<'_>,
-    refusal: &Refusal<'_>,
-    seeker: &RowSeeker,
-    above: u32,
-) -> io::Result<()> {
-    match seeker.row() {
-        Some(row) => {
-            let line = row.line.saturating_sub(1);
-            explain_text(teller, refusal, row.text, above.saturating_add(line))
-        }
-        None => explain(teller, refusal),
+    match input {
+        Input::Job => (Evidence::Nothing, 0),
+        Input::Log if row.line() == 0 => (Evidence::Nothing, 0),
+        Input::Log => (
+            Evidence::Row(row),
+            section.above.saturating_add(row.line() - 1),
+        ),
+        _ => (Evidence::Text(section.text), section.above),
     }
-}
-
-/// Explains a refusal in a file.
-fn explain_file(teller: Teller<'_>, refusal: &Refusal<'_>, path: &str) -> io::Result<()> {
-    if refusal.part == Part::Log {
-        return match row_of(teller.rt, path, refusal.place) {
-            Some(seeker) => explain_row(teller, refusal, &seeker, 0),
-            None => explain(teller, refusal),
-        };
-    }
-    match bytes_of(teller.rt, path) {
-        Some(text) => explain_text(teller, refusal, text.as_slice(), 0),
-        None => explain(teller, refusal),
-    }
-}
-
-/// Explains a refusal in a section of a job.
-fn explain_section(teller: Teller<'_>, refusal: &Refusal<'_>, job: &[u8]) -> io::Result<()> {
-    let Some(section) = section_of(job, refusal.part) else {
-        return explain(teller, refusal);
-    };
-    if refusal.part == Part::Log {
-        let mut seeker = RowSeeker::new(teller.rt.alloc(), refusal.place);
-        seeker.feed(section.text)?;
-        seeker.finish();
-        return explain_row(teller, refusal, &seeker, section.above);
-    }
-    explain_text(teller, refusal, section.text, section.above)
 }
 
 /// Says why an input is refused, where, and what to write instead.
 fn tell_refusal(
-    teller: Teller<'_>,
+    rt: &HostRuntime,
+    form: Form,
     sources: &Sources<'_>,
+    row: &RefusedRow,
     input: Input,
     number: u16,
     place: u32,
 ) -> io::Result<()> {
     let path = sources.path(input);
+    let (evidence, above) = evidence_of(sources, row, input);
     let refusal = Refusal {
         number,
         place,
         part: part_of(input),
         name: path.unwrap_or("standard input").as_bytes(),
         in_job: path.is_none(),
-        text: None,
-        above: 0,
+        evidence,
+        above,
     };
-    match (path, sources) {
-        (Some(path), _) => explain_file(teller, &refusal, path),
-        (None, Sources::Job { bytes: Some(job) }) => explain_section(teller, &refusal, job),
-        _ => explain(teller, &refusal),
-    }
+    let message = explained(rt.alloc(), form, &refusal)?;
+    rt.stderr().write_all(&message)
 }
 
 /// Says which input could not be read, and why.
@@ -204,14 +184,20 @@ pub(crate) fn tell_write_fault(rt: &HostRuntime, cause: Option<io::Error>) -> io
 }
 
 /// Says on standard error how a command ended, where it did not succeed.
-fn tell(rt: &HostRuntime, form: Form, met: &Met, sources: &Sources<'_>) -> io::Result<()> {
+fn tell(
+    rt: &HostRuntime,
+    form: Form,
+    met: &Met,
+    sources: &Sources<'_>,
+    row: &RefusedRow,
+) -> io::Result<()> {
     match met.ending {
         Ending::Done => Ok(()),
         Ending::Refused {
             input,
             number,
             place,
-        } => tell_refusal(Teller { rt, form }, sources, input, number, place),
+        } => tell_refusal(rt, form, sources, row, input, number, place),
         Ending::ReadFault { input } => tell_read_fault(rt, sources, input, met.reading),
         Ending::WriteFault => tell_write_fault(rt, met.writing),
         Ending::NoMemory => rt.eprintln("memory"),
@@ -239,12 +225,18 @@ fn with_memory(met: &Met) -> Ending {
 }
 
 /// Tells how a command ended: the exit status.
-pub(crate) fn end(rt: &HostRuntime, form: Form, met: &Met, sources: &Sources<'_>) -> u8 {
+pub(crate) fn end(
+    rt: &HostRuntime,
+    form: Form,
+    met: &Met,
+    sources: &Sources<'_>,
+    row: &RefusedRow,
+) -> u8 {
     let met = Met {
         ending: with_memory(met),
         ..*met
     };
     // Where standard error fails there is nobody left to tell.
-    let _told = tell(rt, form, &met, sources);
+    let _told = tell(rt, form, &met, sources, row);
     met.ending.status()
 }

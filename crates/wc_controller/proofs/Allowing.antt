@@ -28,6 +28,11 @@ pub on_known : {A : Type 0} (known : Option A) (P Q : A → Type 0) → ((value 
 on_known None P Q f h = tt
 on_known (Some value) P Q f h = f value h
 
+-- of what two things hold, both hold
+pub on_both : {A : Type 0} (known : Option A) (P Q R : A → Type 0) → ((value : A) → P value → Q value → R value) → IfSome known P → IfSome known Q → IfSome known R
+on_both None P Q R f h k = tt
+on_both (Some value) P Q R f h k = f value h k
+
 -- what holds of each value holds of one that is known
 pub on_each : {A : Type 0} (known : Option A) (P : A → Type 0) → ((value : A) → P value) → IfSome known P
 on_each None P f = tt

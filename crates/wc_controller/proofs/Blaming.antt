@@ -16,29 +16,42 @@ use Rattle.wc_controller.specs.declared.input.Input.TheVariants as input
 use Rattle.wc_controller.specs.declared.input.Stopped.{Stopped}
 use Rattle.wc_job.specs.Reads.{IsWhole}
 use Rattle.wc_model.specs.Run.JobSections.{longest_job}
+use Rattle.wc_model.specs.Instrument.Plates.{PlateData}
 use Rattle.wc_model.specs.Language.Tree.{Text}
-use Rattle.wc_model.specs.Run.Log.{LogOf, log_of}
+use Rattle.wc_model.specs.Run.Log.{LogOf, Record, log_of}
 use Rattle.wc_model.specs.Run.Rows.{LogRow}
 use Rattle.wc_model.specs.Say.LogFor.{log_for}
 use Rattle.wc_model.specs.Say.ProgramReport.{first_logic}
 use Rattle.wc_record.specs.Reading.{records_of}
+use Rattle.wc_record.specs.Told.{records_read}
+use Rattle.wc_run.specs.Deferring.{text_at_once, text_in_all}
+use Rattle.wc_run.specs.Doing.{Ends}
 use Rattle.wc_run.specs.Logics.{text_of_next}
-use Rattle.wc_run.specs.Runs.{HasNotFailed, ReportsBy}
+use Rattle.wc_run.specs.Runs.{HasNotFailed, ReportsBy, TellsFault}
 use Rattle.wc_run.specs.declared.fault.RunFault.{RunFault}
 use Rattle.wc_run.specs.declared.fault.RunFault.TheVariants.{Refused, Read, Write, Memory}
 
--- a run that is refused tells the refusal of the log as it is taken
-pub log_refused : (whole coming : List LogRow → List ℕ) (taken : List ℕ → LogOf) (bytes : List ℕ) (why : RunFault) (old new : Option (List ℕ))
-    → ReportsBy whole coming (taken bytes) (Err why) old new → RefusesLog taken bytes why
-log_refused whole coming taken bytes (Refused number place) old new told = told.0
-log_refused whole coming taken bytes Read old new told = tt
-log_refused whole coming taken bytes Write old new told = tt
-log_refused whole coming taken bytes Memory old new told = tt
+-- a run that is refused tells the refusal of the log as it is taken, and its row
+pub log_refused : (whole coming : List LogRow → List ℕ) (taken : List ℕ → LogOf) (fields : Record) (bytes : List ℕ) (why : RunFault) (old new : Option (List ℕ))
+    → ReportsBy whole coming (taken bytes) (Err why) old new → TellsFault (records_read bytes) fields why → RefusesLog taken fields bytes why
+log_refused whole coming taken fields bytes (Refused number place) old new told row = (told.0, row)
+log_refused whole coming taken fields bytes Read old new told row = tt
+log_refused whole coming taken fields bytes Write old new told row = tt
+log_refused whole coming taken fields bytes Memory old new told row = tt
 
 -- a machine takes the log by whether its next program is loaded
 pub taken_beside : (next : Option LoadedText) (text : Text) (bytes : List ℕ) → log_for (Some (first_logic text (text_of_next next))) (log_of (records_of bytes)) ≡ log_beside (is_some next) bytes
 taken_beside None text bytes = refl
 taken_beside (Some next) text bytes = refl
+
+-- so is a run with a machine, which prints every scan or the last so many
+pub machine_refused : (last : Option ℕ) (plate : PlateData) (next : Option LoadedText) (text : Text) (fields : Record) (bytes : List ℕ) (why : RunFault) (old new : Option (List ℕ))
+    → Ends last plate (Some (first_logic text (text_of_next next))) (log_for (Some (first_logic text (text_of_next next))) (log_of (records_of bytes))) (Err why) old new
+    → TellsFault (records_read bytes) fields why → RefusesLog (log_beside (is_some next)) fields bytes why
+machine_refused last plate next text fields bytes why old new told row =
+    let logic = Some (first_logic text (text_of_next next)) in
+    log_refused (text_in_all last plate logic) (text_at_once last plate logic) (log_beside (is_some next)) fields bytes why old new
+    (subst (λ log. Ends last plate logic log (Err why) old new) (taken_beside next text bytes) told) row
 
 -- a text's fault is that of its file
 text_in_file : (bytes : List ℕ) (why : RunFault) → length bytes ≤ longest_job → RefusesText bytes why → RefusesProgram bytes why
@@ -85,34 +98,34 @@ blamed input refuses known (Ok done) ending old new k h = subst (λ e. Blames in
 blamed input refuses known (Err stopped) ending old new k h = of_fault input stopped.input stopped.fault refuses known ending old new k h
 
 -- a log that is refused has a refusal
-log_has_refusal : (taken : List ℕ → LogOf) (bytes : List ℕ) (number place : ℕ) → RefusesLog taken bytes (Refused number place) → IsSome (taken bytes).refusal
-log_has_refusal taken bytes number place e = subst (λ refusal. IsSome refusal) (sym e) refl
+log_has_refusal : (taken : List ℕ → LogOf) (told : Record) (bytes : List ℕ) (number place : ℕ) → RefusesLog taken told bytes (Refused number place) → IsSome (taken bytes).refusal
+log_has_refusal taken told bytes number place e = subst (λ refusal. IsSome refusal) (sym e.0) refl
 
-module _ (taken : List ℕ → LogOf) (known : Option (List ℕ)) (before failures start spent : ℕ) where
+module _ (taken : List ℕ → LogOf) (told : Record) (known : Option (List ℕ)) (before failures start spent : ℕ) where
   -- memory was wanted for the line of a refusal
   behind_refusal : (at : Input) (number place : ℕ) → (at ≡ input.Plate → spent ≡ start) → (at ≡ input.Program → spent ≡ start) → (at ≡ input.Next → spent ≡ start)
-      → (at ≡ input.Job → ⊥) → (at ≡ input.Log → IfSome known (λ bytes. RefusesLog taken bytes (Refused number place)))
+      → (at ≡ input.Job → ⊥) → (at ≡ input.Log → IfSome known (λ bytes. RefusesLog taken told bytes (Refused number place)))
       → (at ≡ input.Log → failures ≤ before) → TellsMemory taken known before failures start spent
   behind_refusal input.Job number place plate program next job log well = absurd (job refl)
   behind_refusal input.Plate number place plate program next job log well = of_unread_log (plate refl)
   behind_refusal input.Program number place plate program next job log well = of_unread_log (program refl)
   behind_refusal input.Next number place plate program next job log well = of_unread_log (next refl)
   behind_refusal input.Log number place plate program next job log well =
-      of_refused_log (on_known known (λ bytes. RefusesLog taken bytes (Refused number place)) (λ bytes. IsSome (taken bytes).refusal)
-      (λ bytes e. log_has_refusal taken bytes number place e) (log refl)) (well refl)
+      of_refused_log (on_known known (λ bytes. RefusesLog taken told bytes (Refused number place)) (λ bytes. IsSome (taken bytes).refusal)
+      (λ bytes e. log_has_refusal taken told bytes number place e) (log refl)) (well refl)
 
   -- an ending that tells want of memory comes of it, or of a refusal
   pub memory_told : {X : Type 0} (answer : Result X Stopped) (ending : Ending) (old new : Option (List ℕ)) → EndsBehind answer ending old new
       → (met answer ≡ Some Memory → TellsMemory taken known before failures start spent) → (StopsAt input.Plate answer → spent ≡ start)
-      → (StopsAt input.Program answer → spent ≡ start) → (StopsAt input.Next answer → spent ≡ start) → (StopsAt input.Job answer → ⊥) → StopsFor input.Log (RefusesLog taken) known answer
+      → (StopsAt input.Program answer → spent ≡ start) → (StopsAt input.Next answer → spent ≡ start) → (StopsAt input.Job answer → ⊥) → StopsFor input.Log (RefusesLog taken told) known answer
       → HasNotFailedAt input.Log answer before failures → ending ≡ ended.NoMemory → TellsMemory taken known before failures start spent
   memory_told (Ok done) ending old new k memory plate program next job log well e = absurd (cc (sym k.0 ∙ e))
   memory_told (Err stopped) ending old new k memory plate program next job log well e = by_fault stopped.fault refl k where
     by_fault : (why : RunFault) → stopped.fault ≡ why → EndsBehindFault stopped.input why ending old new → TellsMemory taken known before failures start spent
     by_fault (Refused number place) same h =
         behind_refusal stopped.input number place plate program next job
-        (λ at. on_known known (λ bytes. RefusesLog taken bytes stopped.fault) (λ bytes. RefusesLog taken bytes (Refused number place))
-        (λ bytes r. subst (λ one. RefusesLog taken bytes one) same r) (log at))
+        (λ at. on_known known (λ bytes. RefusesLog taken told bytes stopped.fault) (λ bytes. RefusesLog taken told bytes (Refused number place))
+        (λ bytes r. subst (λ one. RefusesLog taken told bytes one) same r) (log at))
         (λ at. subst (λ one. HasNotFailed (Err one) before failures) same (well at))
     by_fault Read same h = absurd (cc (sym h.0 ∙ e))
     by_fault Write same h = absurd (cc (sym h.0 ∙ e))

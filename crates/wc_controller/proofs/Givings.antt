@@ -6,7 +6,7 @@ use Rattle.std.specs.Prelude.{Bool, Option, Some, None, flat_map}
 use Rattle.std.specs.Io.KnownBytes.{Appends, Keeps}
 use Rattle.wc_controller.specs.Checking.{Checks}
 use Rattle.wc_controller.specs.Endings.{IsAt, IsReadFaultAt, EndsAs, EndsBehind, EndsBehindFault, EndsRefused, WritesFront, WritesUpTo, answered, failed, fault_in_memory, fault_met, met, run_fault_of, status_of}
-use Rattle.wc_controller.specs.Files.{AnswersCheck, refuses_text, reports_units}
+use Rattle.wc_controller.specs.Files.{AnswersCheck, answer_printing, refuses_text, reports_units}
 use Rattle.wc_controller.specs.Jobs as jobs
 use Rattle.wc_controller.specs.Jobs.{Gives}
 use Rattle.wc_controller.specs.Loads.{IsRefusedLoad}
@@ -25,6 +25,9 @@ use Rattle.wc_model.specs.declared.fault.Fault.{Fault}
 use Rattle.wc_model.specs.declared.fault.Fault.TheVariants as fault
 use Rattle.wc_run.proofs.Texts.{all_is_last, at_once_is_line}
 use Rattle.wc_run.specs.Deferring.{text_at_end}
+use Rattle.wc_run.proofs.RunEnds.{ends_as_last, ends_as_report}
+use Rattle.wc_run.specs.Doing.{Ends}
+use Rattle.wc_model.specs.Say.LogFor.{log_for}
 use Rattle.wc_run.specs.Logics.{run_report, run_report_last}
 use Rattle.wc_run.specs.Runs.{AppendsFirst, AppendsFront, ReportsBy}
 use Rattle.wc_run.specs.declared.fault.RunFault.{RunFault}
@@ -238,3 +241,28 @@ read_fault_told input (Err stopped) ending old new k e = by_fault stopped.fault 
   by_fault Read at same h = (sym (subst (λ one. IsAt at one) (sym h.0 ∙ e) refl), same)
   by_fault Write at same h = absurd (cc (sym h.0 ∙ e))
   by_fault Memory at same h = absurd (cc (sym h.0 ∙ e))
+
+-- what a run with a machine writes, which prints every scan or the last so many
+module _ (plate : PlateData) (logic : Logic) (log : LogOf) (old new : Option (List ℕ)) where
+  -- of all rows
+  pub ran_machine : (last : Option ℕ) (count : ℕ) → Ends last plate (Some logic) (log_for (Some logic) log) (Ok count) old new
+      → WritesUpTo (λ answer. answer ≡ answer_printing last plate logic log) None old new
+  ran_machine None count told =
+      let report = run_report plate (Some logic) in
+      let taken = log_for (Some logic) log in
+      ran report report taken old new count (ends_as_report plate (Some logic) taken (Ok count) old new told)
+  ran_machine (Some number) count told =
+      let taken = log_for (Some logic) log in
+      ran (run_report_last number plate (Some logic)) (line_report plate) taken old new count (ends_as_last number plate (Some logic) taken (Ok count) old new told)
+
+  -- up to a fault
+  pub ran_machine_short : (last : Option ℕ) (why : RunFault) → Ends last plate (Some logic) (log_for (Some logic) log) (Err why) old new
+      → WritesUpTo (λ answer. answer ≡ answer_printing last plate logic log) (Some why) old new
+  ran_machine_short None why told =
+      let report = run_report plate (Some logic) in
+      let taken = log_for (Some logic) log in
+      ran_short report report taken old new (report_first plate (Some logic)) why (ends_as_report plate (Some logic) taken (Err why) old new told)
+  ran_machine_short (Some number) why told =
+      let taken = log_for (Some logic) log in
+      ran_short (run_report_last number plate (Some logic)) (line_report plate) taken old new (last_first number plate (Some logic)) why
+      (ends_as_last number plate (Some logic) taken (Err why) old new told)

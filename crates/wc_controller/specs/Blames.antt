@@ -9,8 +9,9 @@ use Rattle.wc_controller.specs.declared.input.Stopped.{Stopped}
 use Rattle.wc_model.specs.Instrument.PlateTable.{plate_of}
 use Rattle.wc_model.specs.Language.Loading.{IsRefused}
 use Rattle.wc_model.specs.Run.JobSections.{Sections, longest_job}
-use Rattle.wc_model.specs.Run.Log.{LogOf}
+use Rattle.wc_model.specs.Run.Log.{LogOf, Record}
 use Rattle.wc_plate.specs.TomlTable.{table_read}
+use Rattle.wc_record.specs.Told.{record_at, records_read}
 use Rattle.wc_run.specs.declared.fault.RunFault.{RunFault}
 use Rattle.wc_run.specs.declared.fault.RunFault.TheVariants.{Refused, Read, Write, Memory}
 
@@ -34,12 +35,14 @@ RefusesProgram bytes Read = ⊤
 RefusesProgram bytes Write = ⊤
 RefusesProgram bytes Memory = ⊤
 
--- a log is refused at its first row that breaks a rule, as the command takes it
-abbrev pub RefusesLog : (List ℕ → LogOf) → List ℕ → RunFault → Type 0
-RefusesLog taken bytes (Refused number place) = (taken bytes).refusal ≡ Some (record { number = number; row = place })
-RefusesLog taken bytes Read = ⊤
-RefusesLog taken bytes Write = ⊤
-RefusesLog taken bytes Memory = ⊤
+-- a log is refused at its first row that breaks a rule, as the command takes it, and these are the fields of that row: the
+-- record of its number
+abbrev pub RefusesLog : (List ℕ → LogOf) → Record → List ℕ → RunFault → Type 0
+RefusesLog taken told bytes (Refused number place) =
+    ((taken bytes).refusal ≡ Some (record { number = number; row = place })) × (told ≡ record_at (records_read bytes) place)
+RefusesLog taken told bytes Read = ⊤
+RefusesLog taken told bytes Write = ⊤
+RefusesLog taken told bytes Memory = ⊤
 
 -- what stopped at this input is a refusal of its bytes, where it is one
 abbrev pub StopsFor : {X : Type 0} → Input → (List ℕ → RunFault → Type 0) → Option (List ℕ) → Result X Stopped → Type 0
@@ -56,31 +59,31 @@ Blames input refuses known ended.NoMemory = ⊤
 
 -- What a refusal says of the part of a job that it names: the job has not its sections; the plate
 -- breaks that rule first; the program, or the next one, has that first fault; the log has that first
--- refused row.
-abbrev pub RefusesPart : Result Sections ℕ → Input → ℕ → ℕ → Type 0
-RefusesPart (Err missing) at number place = (at ≡ input.Job) × (number ≡ missing) × (place ≡ 0)
-RefusesPart (Ok sections) input.Job number place = ⊥
-RefusesPart (Ok sections) input.Plate number place = (place ≡ 0) × (plate_of (table_read sections.plate) ≡ Err number)
-RefusesPart (Ok sections) input.Program number place = IsRefused sections.program number place
-RefusesPart (Ok sections) input.Next number place = (next : List ℕ) × (sections.next ≡ Some next) × IsRefused next number place
-RefusesPart (Ok sections) input.Log number place = (log_beside (is_some sections.next) sections.log).refusal ≡ Some (record { number = number; row = place })
+-- refused row, whose fields are told.
+abbrev pub RefusesPart : Record → Result Sections ℕ → Input → ℕ → ℕ → Type 0
+RefusesPart told (Err missing) at number place = (at ≡ input.Job) × (number ≡ missing) × (place ≡ 0)
+RefusesPart told (Ok sections) input.Job number place = ⊥
+RefusesPart told (Ok sections) input.Plate number place = (place ≡ 0) × (plate_of (table_read sections.plate) ≡ Err number)
+RefusesPart told (Ok sections) input.Program number place = IsRefused sections.program number place
+RefusesPart told (Ok sections) input.Next number place = (next : List ℕ) × (sections.next ≡ Some next) × IsRefused next number place
+RefusesPart told (Ok sections) input.Log number place = RefusesLog (log_beside (is_some sections.next)) told sections.log (Refused number place)
 
 -- what stopped at a part of a job is a refusal of that part, where it is one
-abbrev pub StopsAsPart : Result Sections ℕ → Input → RunFault → Type 0
-StopsAsPart parts at (Refused number place) = RefusesPart parts at number place
-StopsAsPart parts at Read = ⊤
-StopsAsPart parts at Write = ⊤
-StopsAsPart parts at Memory = ⊤
+abbrev pub StopsAsPart : Record → Result Sections ℕ → Input → RunFault → Type 0
+StopsAsPart told parts at (Refused number place) = RefusesPart told parts at number place
+StopsAsPart told parts at Read = ⊤
+StopsAsPart told parts at Write = ⊤
+StopsAsPart told parts at Memory = ⊤
 
 -- the same of whatever is answered
-abbrev pub StopsForPart : {X : Type 0} → Result Sections ℕ → Result X Stopped → Type 0
-StopsForPart parts (Ok done) = ⊤
-StopsForPart parts (Err stopped) = StopsAsPart parts stopped.input stopped.fault
+abbrev pub StopsForPart : {X : Type 0} → Record → Result Sections ℕ → Result X Stopped → Type 0
+StopsForPart told parts (Ok done) = ⊤
+StopsForPart told parts (Err stopped) = StopsAsPart told parts stopped.input stopped.fault
 
 -- an ending of a job that names a part with a refusal says what that part breaks
-abbrev pub BlamesPart : Result Sections ℕ → Ending → Type 0
-BlamesPart parts ended.Done = ⊤
-BlamesPart parts (ended.Refused at number place) = RefusesPart parts at number place
-BlamesPart parts (ended.ReadFault at) = ⊤
-BlamesPart parts ended.WriteFault = ⊤
-BlamesPart parts ended.NoMemory = ⊤
+abbrev pub BlamesPart : Record → Result Sections ℕ → Ending → Type 0
+BlamesPart told parts ended.Done = ⊤
+BlamesPart told parts (ended.Refused at number place) = RefusesPart told parts at number place
+BlamesPart told parts (ended.ReadFault at) = ⊤
+BlamesPart told parts ended.WriteFault = ⊤
+BlamesPart told parts ended.NoMemory = ⊤

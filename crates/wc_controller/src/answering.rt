@@ -9,6 +9,7 @@ ghost use Rattle.wc_model.specs.Run.JobSections.{longest_job, sections_of};
 ghost use Rattle.wc_model.specs.Run.Log.{log_of};
 ghost use Rattle.wc_model.specs.Run.Writing.{HasFailedSince};
 ghost use Rattle.wc_model.specs.Say.Job.{AnswersPrograms, run_answer};
+ghost use Rattle.wc_record.specs.Told.{fields_told};
 ghost use Rattle.wc_record.specs.Reading.{records_of};
 
 use crate::ending::{Ending, end};
@@ -20,6 +21,7 @@ use std::alloc::Global;
 use wc_job::{Sections, sections};
 use wc_model::{ByteIn, ByteOut, Device};
 use wc_plate::{Plate, plate};
+use wc_record::RefusedRow;
 use wc_run::RunFault;
 
 /// What stopped a run of a log that lies in memory: to read it fails only for want of memory.
@@ -45,6 +47,7 @@ fn run_sections<'a, L: ByteIn, W: ByteOut>(
     next: Option<&'a [u8]>,
     log: &mut L,
     writer: &mut W,
+    told: &mut RefusedRow,
 ) -> Result<(), Stopped>
     ensures writes { IfSome (L.bytes_left log.old)
         (λ bytes. WritesUpTo
@@ -57,7 +60,8 @@ fn run_sections<'a, L: ByteIn, W: ByteOut>(
         (λ stopped. stopped.input ≡ Input.Next
         → RefusesNextText (option_map (λ text. text.now) next.entry) stopped.fault) }
     ensures blames_log { StopsFor Input.Log
-        (RefusesLog (log_beside (is_some (option_map (λ text. text.now) next.entry))))
+        (RefusesLog (log_beside (is_some (option_map (λ text. text.now) next.entry)))
+        (fields_told told.new))
         (L.bytes_left log.old) result }
     ensures later { ¬ StopsAt Input.Plate result }
     ensures own { ¬ StopsAt Input.Job result }
@@ -74,8 +78,8 @@ fn run_sections<'a, L: ByteIn, W: ByteOut>(
         }
     };
     match next {
-        Some(text) => run_with_next(alloc, None, plate, loaded, text, log, writer),
-        None => run_loaded(alloc, None, plate, loaded, None, log, writer),
+        Some(text) => run_with_next(alloc, None, plate, loaded, text, log, writer, told),
+        None => run_loaded(alloc, None, plate, loaded, None, log, writer, told),
     }
 }
 
@@ -84,10 +88,12 @@ fn answer_sections<W: ByteOut>(
     alloc: Global,
     sections: Sections<'_>,
     writer: &mut W,
+    told: &mut RefusedRow,
 ) -> Result<(), Stopped>
     ensures writes { WritesUpTo (AllowsSections (sections_view sections.entry)) (met result)
         (W.bytes_taken writer.old) (W.bytes_taken writer.new) }
-    ensures blames { StopsForPart (Ok (sections_view sections.entry)) result }
+    ensures blames { StopsForPart (fields_told told.new) (Ok (sections_view sections.entry))
+        result }
     ensures held { ¬ (met result ≡ Some RunFault.Read) }
     ensures failures { TellsWriteFaults (met result) (W.failure_count writer.old)
         (W.failure_count writer.new) }
@@ -107,6 +113,7 @@ fn answer_sections<W: ByteOut>(
         sections.next,
         &mut log,
         writer,
+        told,
     ) {
         Ok(()) => Ok(()),
         Err(stopped) => Err(stopped_in_memory(stopped)),
@@ -114,16 +121,21 @@ fn answer_sections<W: ByteOut>(
 }
 
 /// Answers a job by its bytes.
-fn answer_bytes<W: ByteOut>(alloc: Global, bytes: &[u8], writer: &mut W) -> Result<(), Stopped>
+fn answer_bytes<W: ByteOut>(
+    alloc: Global,
+    bytes: &[u8],
+    writer: &mut W,
+    told: &mut RefusedRow,
+) -> Result<(), Stopped>
     ensures writes { WritesUpTo (Allows bytes.now) (met result)
         (W.bytes_taken writer.old) (W.bytes_taken writer.new) }
-    ensures blames { StopsForPart (sections_of bytes.now) result }
+    ensures blames { StopsForPart (fields_told told.new) (sections_of bytes.now) result }
     ensures held { ¬ (met result ≡ Some RunFault.Read) }
     ensures failures { TellsWriteFaults (met result) (W.failure_count writer.old)
         (W.failure_count writer.new) }
 {
     match sections(bytes) {
-        Ok(sections) => answer_sections(alloc, sections, writer),
+        Ok(sections) => answer_sections(alloc, sections, writer, told),
         Err(number) => Err(Stopped {
             input: Input::Job,
             fault: RunFault::Refused { number, place: 0 },
@@ -136,12 +148,13 @@ fn answer_input<R: ByteIn, W: ByteOut>(
     alloc: Global,
     reader: &mut R,
     writer: &mut W,
+    told: &mut RefusedRow,
 ) -> Result<(), Stopped>
     ensures writes { IfSome (R.bytes_left reader.old)
         (λ bytes. WritesUpTo (Allows bytes) (met result)
         (W.bytes_taken writer.old) (W.bytes_taken writer.new)) }
     ensures blames { IfSome (R.bytes_left reader.old)
-        (λ bytes. StopsForPart (sections_of bytes) result) }
+        (λ bytes. StopsForPart (fields_told told.new) (sections_of bytes) result) }
     ensures reads { TellsReadFaults Input.Job result (R.failure_count reader.old)
         (R.failure_count reader.new) }
     ensures own { (input : Input) → IsReadFaultAt input result → input ≡ Input.Job }
@@ -151,7 +164,7 @@ fn answer_input<R: ByteIn, W: ByteOut>(
         (R.bytes_left reader.new) }
 {
     match read_input(alloc, Input::Job, reader) {
-        Ok(bytes) => answer_bytes(alloc, &bytes, writer),
+        Ok(bytes) => answer_bytes(alloc, &bytes, writer, told),
         Err(stopped) => Err(stopped),
     }
 }
@@ -159,16 +172,21 @@ fn answer_input<R: ByteIn, W: ByteOut>(
 /// Reads a job, of at most 1048576 bytes, and answers it: its plate, its program, its next program,
 /// if it has one, and its log are read, the log is run row by row, and each line is written as its row comes. Where something is
 /// refused, the refusal with its number and its place is written behind the lines of the rows
-/// before it. A read fault comes where the reader failed in this call and only there, a write fault
+/// before it, and a refused row of the log is told. A read fault comes where the reader failed in this call and only there, a write fault
 /// where the writer did; at such a fault, and for want of memory, a front of the output is written,
 /// or nothing.
-pub fn answer_job<R: ByteIn, W: ByteOut>(alloc: Global, reader: &mut R, writer: &mut W) -> Ending
+pub fn answer_job<R: ByteIn, W: ByteOut>(
+    alloc: Global,
+    reader: &mut R,
+    writer: &mut W,
+    told: &mut RefusedRow,
+) -> Ending
     ensures ends { IfSome (R.bytes_left reader.old)
         (λ bytes.
         EndsAs (Allows bytes) result (W.bytes_taken writer.old) (W.bytes_taken writer.new)) }
     // The part that a refusal names is the one that breaks the rule.
     ensures blames { IfSome (R.bytes_left reader.old)
-        (λ bytes. BlamesPart (sections_of bytes) result) }
+        (λ bytes. BlamesPart (fields_told told.new) (sections_of bytes) result) }
     ensures reads { TellsReadEndings Input.Job result (R.failure_count reader.old)
         (R.failure_count reader.new) }
     ensures own { (input : Input) → result ≡ Ending.ReadFault input → input ≡ Input.Job }
@@ -178,7 +196,7 @@ pub fn answer_job<R: ByteIn, W: ByteOut>(alloc: Global, reader: &mut R, writer: 
     ensures taken { TakesAtMost (longest_job + 1) (R.bytes_left reader.old)
         (R.bytes_left reader.new) }
 {
-    let answer = answer_input(alloc, reader, writer);
+    let answer = answer_input(alloc, reader, writer, told);
     end(alloc, answer, writer)
 }
 
@@ -198,5 +216,6 @@ pub fn job<R: ByteIn, W: ByteOut>(alloc: Global, reader: &mut R, writer: &mut W)
     ensures taken { TakesAtMost (longest_job + 1) (R.bytes_left reader.old)
         (R.bytes_left reader.new) }
 {
-    answer_job(alloc, reader, writer).status()
+    let mut told = RefusedRow::new(alloc);
+    answer_job(alloc, reader, writer, &mut told).status()
 }

@@ -23,4 +23,5 @@ pub use input::{Input, Stopped};
 pub use lining::line_files;
 pub use loading::load;
 pub use running::run_files;
+pub use wc_record::RefusedRow;
 pub use wc_run::{RunFault, run, run_last};

@@ -1,54 +1,20 @@
-ghost use Rattle.std.specs.Prelude.{◌≡◌, ◌+◌, IfErr, IfSome, Some, None};
+ghost use Rattle.std.specs.Prelude.{◌≡◌, ◌+◌, IfSome, Some};
 ghost use Rattle.wc_controller.specs.Blames.{Blames, RefusesLog, StopsFor};
 ghost use Rattle.wc_controller.specs.Endings.{EndsAs, HasNotFailedAt, IsAt, IsReadFaultAt, RefusesPlate, StopsAt, TellsFailures, TellsMemory, TellsReadEndings, TellsReadFaults, TellsWriteFaults, WritesUpTo, met};
-ghost use Rattle.wc_controller.specs.Files.{AnswersLine, line_answer};
+ghost use Rattle.wc_controller.specs.Files.{AnswersLine};
 ghost use Rattle.wc_controller.specs.TakenLogs.{log_alone};
 ghost use Rattle.wc_job.specs.Reads.{TakesAtMost};
 ghost use Rattle.wc_model.specs.Run.JobSections.{longest_job};
-ghost use Rattle.wc_model.specs.Run.Log.{log_of};
 ghost use Rattle.wc_record.specs.Left.{HasCause};
-ghost use Rattle.wc_record.specs.Reading.{records_of};
+ghost use Rattle.wc_record.specs.Told.{fields_told};
 
 use crate::ending::{Ending, end};
 use crate::input::{Input, Stopped};
 use crate::reading::read_plate;
 use std::alloc::Global;
 use wc_model::{ByteIn, ByteOut};
-use wc_plate::Plate;
-use wc_run::{RunFault, run};
-
-/// Runs a log with no program.
-fn line_plate<L: ByteIn, W: ByteOut>(
-    alloc: Global,
-    plate: &Plate,
-    log: &mut L,
-    writer: &mut W,
-) -> Result<(), Stopped>
-    ensures writes { IfSome (L.bytes_left log.old)
-        (λ bytes. WritesUpTo (λ answer. answer ≡ line_answer plate.now (log_of (records_of bytes)))
-        (met result) (W.bytes_taken writer.old) (W.bytes_taken writer.new)) }
-    ensures blames { IfSome (L.bytes_left log.old)
-        (λ bytes. IfErr result (λ stopped. RefusesLog log_alone bytes stopped.fault)) }
-    ensures input { IfErr result (λ stopped. stopped.input ≡ Input.Log) }
-    ensures read { IsReadFaultAt Input.Log result
-        → HasCause (L.failure_count log.old) (L.failure_count log.new)
-        (L.spent_count log.old) (L.spent_count log.new) }
-    ensures memory { met result ≡ Some RunFault.Memory
-        → ¬ HasCause (L.failure_count log.old) (L.failure_count log.new)
-        (L.spent_count log.old) (L.spent_count log.new) }
-    ensures reader { HasNotFailedAt Input.Log result (L.failure_count log.old)
-        (L.failure_count log.new) }
-    ensures failures { TellsWriteFaults (met result) (W.failure_count writer.old)
-        (W.failure_count writer.new) }
-{
-    match run(alloc, plate, None, None, log, writer) {
-        Ok(_) => Ok(()),
-        Err(fault) => Err(Stopped {
-            input: Input::Log,
-            fault,
-        }),
-    }
-}
+use wc_record::RefusedRow;
+use wc_run::{RunFault, run_telling};
 
 /// Reads a plate, and runs a log with no program.
 fn line_inputs<P: ByteIn, L: ByteIn, W: ByteOut>(
@@ -56,12 +22,14 @@ fn line_inputs<P: ByteIn, L: ByteIn, W: ByteOut>(
     plate: &mut P,
     log: &mut L,
     writer: &mut W,
+    told: &mut RefusedRow,
 ) -> Result<(), Stopped>
     ensures writes { IfSome (P.bytes_left plate.old) (λ table. IfSome (L.bytes_left log.old)
         (λ bytes. WritesUpTo (AnswersLine table bytes) (met result)
         (W.bytes_taken writer.old) (W.bytes_taken writer.new))) }
     ensures blames_plate { StopsFor Input.Plate RefusesPlate (P.bytes_left plate.old) result }
-    ensures blames_log { StopsFor Input.Log (RefusesLog log_alone) (L.bytes_left log.old) result }
+    ensures blames_log { StopsFor Input.Log (RefusesLog log_alone (fields_told told.new))
+        (L.bytes_left log.old) result }
     ensures own { ¬ StopsAt Input.Job result }
     ensures no_program { ¬ StopsAt Input.Program result }
     ensures no_next { ¬ StopsAt Input.Next result }
@@ -82,9 +50,16 @@ fn line_inputs<P: ByteIn, L: ByteIn, W: ByteOut>(
     ensures taken { TakesAtMost (longest_job + 1) (P.bytes_left plate.old)
         (P.bytes_left plate.new) }
 {
-    match read_plate(alloc, plate) {
-        Ok(plate) => line_plate(alloc, &plate, log, writer),
-        Err(stopped) => Err(stopped),
+    let plate = match read_plate(alloc, plate) {
+        Ok(plate) => plate,
+        Err(stopped) => return Err(stopped),
+    };
+    match run_telling(alloc, None, &plate, None, None, log, writer, told) {
+        Ok(_) => Ok(()),
+        Err(fault) => Err(Stopped {
+            input: Input::Log,
+            fault,
+        }),
     }
 }
 
@@ -96,13 +71,15 @@ pub fn line_files<P: ByteIn, L: ByteIn, W: ByteOut>(
     plate: &mut P,
     log: &mut L,
     writer: &mut W,
+    told: &mut RefusedRow,
 ) -> Ending
     ensures ends { IfSome (P.bytes_left plate.old) (λ table. IfSome (L.bytes_left log.old)
         (λ bytes. EndsAs (AnswersLine table bytes) result
         (W.bytes_taken writer.old) (W.bytes_taken writer.new))) }
     // The input that a refusal names is the one that breaks the rule.
     ensures blames_plate { Blames Input.Plate RefusesPlate (P.bytes_left plate.old) result }
-    ensures blames_log { Blames Input.Log (RefusesLog log_alone) (L.bytes_left log.old) result }
+    ensures blames_log { Blames Input.Log (RefusesLog log_alone (fields_told told.new))
+        (L.bytes_left log.old) result }
     // It has no job and no programs: what it names is its plate or its log.
     ensures own { ¬ IsAt Input.Job result }
     ensures no_program { ¬ IsAt Input.Program result }
@@ -124,6 +101,6 @@ pub fn line_files<P: ByteIn, L: ByteIn, W: ByteOut>(
     ensures taken { TakesAtMost (longest_job + 1) (P.bytes_left plate.old)
         (P.bytes_left plate.new) }
 {
-    let answer = line_inputs(alloc, plate, log, writer);
+    let answer = line_inputs(alloc, plate, log, writer, told);
     end(alloc, answer, writer)
 }

@@ -11,6 +11,7 @@ ghost use Rattle.wc_model.specs.Run.Log.{log_of};
 ghost use Rattle.wc_model.specs.Say.Job.{AnswersProgram};
 ghost use Rattle.wc_model.specs.Say.ProgramReport.{first_logic};
 ghost use Rattle.wc_record.specs.Left.{HasCause};
+ghost use Rattle.wc_record.specs.Told.{fields_told};
 ghost use Rattle.wc_record.specs.Reading.{records_of};
 ghost use Rattle.wc_run.specs.Logics.{text_of_next};
 
@@ -22,91 +23,9 @@ use wc_cost::Loaded;
 use wc_machine::Machine;
 use wc_model::{ByteIn, ByteOut};
 use wc_plate::Plate;
-use wc_run::{RunFault, run, run_last};
+use wc_record::RefusedRow;
+use wc_run::{RunFault, run_telling};
 use wc_store::SlotStore;
-
-/// Runs a log with a machine before its first scan, and prints every scan.
-fn run_every<'a, L: ByteIn, W: ByteOut>(
-    alloc: Global,
-    plate: &Plate,
-    machine: Machine<'a, SlotStore>,
-    next: Option<Loaded<'a>>,
-    log: &mut L,
-    writer: &mut W,
-) -> Result<(), Stopped>
-    requires first { machine.last ≡ 0 }
-    ensures writes { IfSome (L.bytes_left log.old)
-        (λ bytes. (text : Text) → StandsFor machine.entry text (initial_of text)
-        → WritesUpTo
-        (λ answer. answer ≡ answer_printing None plate.now
-        (first_logic text (text_of_next next.entry)) (log_of (records_of bytes)))
-        (met result) (W.bytes_taken writer.old) (W.bytes_taken writer.new)) }
-    ensures blames { IfSome (L.bytes_left log.old)
-        (λ bytes. (text : Text) → StandsFor machine.entry text (initial_of text)
-        → IfErr result (λ stopped. RefusesLog (log_beside (is_some next.entry)) bytes stopped.fault)) }
-    ensures input { IfErr result (λ stopped. stopped.input ≡ Input.Log) }
-    ensures read { IsReadFaultAt Input.Log result
-        → HasCause (L.failure_count log.old) (L.failure_count log.new)
-        (L.spent_count log.old) (L.spent_count log.new) }
-    ensures memory { met result ≡ Some RunFault.Memory
-        → ¬ HasCause (L.failure_count log.old) (L.failure_count log.new)
-        (L.spent_count log.old) (L.spent_count log.new) }
-    ensures reader { HasNotFailedAt Input.Log result (L.failure_count log.old)
-        (L.failure_count log.new) }
-    ensures failures { TellsWriteFaults (met result) (W.failure_count writer.old)
-        (W.failure_count writer.new) }
-{
-    match run(alloc, plate, Some(machine), next, log, writer) {
-        Ok(_) => Ok(()),
-        Err(fault) => Err(Stopped {
-            input: Input::Log,
-            fault,
-        }),
-    }
-}
-
-/// Runs a log with a machine before its first scan, and prints the last so many scans.
-fn run_latest<'a, L: ByteIn, W: ByteOut>(
-    alloc: Global,
-    number: u16,
-    plate: &Plate,
-    machine: Machine<'a, SlotStore>,
-    next: Option<Loaded<'a>>,
-    log: &mut L,
-    writer: &mut W,
-) -> Result<(), Stopped>
-    requires some { 1 ≤ number }
-    requires few { number ≤ 1000 }
-    requires first { machine.last ≡ 0 }
-    ensures writes { IfSome (L.bytes_left log.old)
-        (λ bytes. (text : Text) → StandsFor machine.entry text (initial_of text)
-        → WritesUpTo
-        (λ answer. answer ≡ answer_printing (Some number) plate.now
-        (first_logic text (text_of_next next.entry)) (log_of (records_of bytes)))
-        (met result) (W.bytes_taken writer.old) (W.bytes_taken writer.new)) }
-    ensures blames { IfSome (L.bytes_left log.old)
-        (λ bytes. (text : Text) → StandsFor machine.entry text (initial_of text)
-        → IfErr result (λ stopped. RefusesLog (log_beside (is_some next.entry)) bytes stopped.fault)) }
-    ensures input { IfErr result (λ stopped. stopped.input ≡ Input.Log) }
-    ensures read { IsReadFaultAt Input.Log result
-        → HasCause (L.failure_count log.old) (L.failure_count log.new)
-        (L.spent_count log.old) (L.spent_count log.new) }
-    ensures memory { met result ≡ Some RunFault.Memory
-        → ¬ HasCause (L.failure_count log.old) (L.failure_count log.new)
-        (L.spent_count log.old) (L.spent_count log.new) }
-    ensures reader { HasNotFailedAt Input.Log result (L.failure_count log.old)
-        (L.failure_count log.new) }
-    ensures failures { TellsWriteFaults (met result) (W.failure_count writer.old)
-        (W.failure_count writer.new) }
-{
-    match run_last(alloc, number, plate, Some(machine), next, log, writer) {
-        Ok(_) => Ok(()),
-        Err(fault) => Err(Stopped {
-            input: Input::Log,
-            fault,
-        }),
-    }
-}
 
 /// Runs a log with a machine before its first scan, and prints every scan or the last so many.
 fn run_machine<'a, L: ByteIn, W: ByteOut>(
@@ -117,6 +36,7 @@ fn run_machine<'a, L: ByteIn, W: ByteOut>(
     next: Option<Loaded<'a>>,
     log: &mut L,
     writer: &mut W,
+    told: &mut RefusedRow,
 ) -> Result<(), Stopped>
     requires few { IfSome last (λ n. (1 ≤ n) × (n ≤ 1000)) }
     requires first { machine.last ≡ 0 }
@@ -128,7 +48,9 @@ fn run_machine<'a, L: ByteIn, W: ByteOut>(
         (met result) (W.bytes_taken writer.old) (W.bytes_taken writer.new)) }
     ensures blames { IfSome (L.bytes_left log.old)
         (λ bytes. (text : Text) → StandsFor machine.entry text (initial_of text)
-        → IfErr result (λ stopped. RefusesLog (log_beside (is_some next.entry)) bytes stopped.fault)) }
+        → IfErr result
+        (λ stopped. RefusesLog (log_beside (is_some next.entry)) (fields_told told.new) bytes
+        stopped.fault)) }
     ensures input { IfErr result (λ stopped. stopped.input ≡ Input.Log) }
     ensures read { IsReadFaultAt Input.Log result
         → HasCause (L.failure_count log.old) (L.failure_count log.new)
@@ -141,9 +63,12 @@ fn run_machine<'a, L: ByteIn, W: ByteOut>(
     ensures failures { TellsWriteFaults (met result) (W.failure_count writer.old)
         (W.failure_count writer.new) }
 {
-    match last {
-        None => run_every(alloc, plate, machine, next, log, writer),
-        Some(number) => run_latest(alloc, number, plate, machine, next, log, writer),
+    match run_telling(alloc, last, plate, Some(machine), next, log, writer, told) {
+        Ok(_) => Ok(()),
+        Err(fault) => Err(Stopped {
+            input: Input::Log,
+            fault,
+        }),
     }
 }
 
@@ -156,6 +81,7 @@ pub(crate) fn run_loaded<'a, L: ByteIn, W: ByteOut>(
     next: Option<Loaded<'a>>,
     log: &mut L,
     writer: &mut W,
+    told: &mut RefusedRow,
 ) -> Result<(), Stopped>
     requires few { IfSome last (λ n. (1 ≤ n) × (n ≤ 1000)) }
     ensures writes { IfSome (L.bytes_left log.old)
@@ -164,7 +90,9 @@ pub(crate) fn run_loaded<'a, L: ByteIn, W: ByteOut>(
         (text_of_next next.entry))
         (met result) (W.bytes_taken writer.old) (W.bytes_taken writer.new)) }
     ensures blames { IfSome (L.bytes_left log.old)
-        (λ bytes. IfErr result (λ stopped. RefusesLog (log_beside (is_some next.entry)) bytes stopped.fault)) }
+        (λ bytes. IfErr result
+        (λ stopped. RefusesLog (log_beside (is_some next.entry)) (fields_told told.new) bytes
+        stopped.fault)) }
     ensures input { IfErr result (λ stopped. stopped.input ≡ Input.Log) }
     ensures read { IsReadFaultAt Input.Log result
         → HasCause (L.failure_count log.old) (L.failure_count log.new)
@@ -179,7 +107,7 @@ pub(crate) fn run_loaded<'a, L: ByteIn, W: ByteOut>(
         (W.failure_count writer.new) }
 {
     match Machine::new(alloc, loaded) {
-        Ok(machine) => run_machine(alloc, last, plate, machine, next, log, writer),
+        Ok(machine) => run_machine(alloc, last, plate, machine, next, log, writer, told),
         Err(_) => Err(Stopped {
             input: Input::Log,
             fault: RunFault::Memory,
@@ -197,6 +125,7 @@ pub(crate) fn run_with_next<'a, L: ByteIn, W: ByteOut>(
     text: &'a [u8],
     log: &mut L,
     writer: &mut W,
+    told: &mut RefusedRow,
 ) -> Result<(), Stopped>
     requires few { IfSome last (λ n. (1 ≤ n) × (n ≤ 1000)) }
     ensures writes { IfSome (L.bytes_left log.old)
@@ -207,7 +136,7 @@ pub(crate) fn run_with_next<'a, L: ByteIn, W: ByteOut>(
         (met result) (W.bytes_taken writer.old) (W.bytes_taken writer.new)) }
     ensures blames_next { IfErr result
         (λ stopped. stopped.input ≡ Input.Next → RefusesText text.now stopped.fault) }
-    ensures blames_log { StopsFor Input.Log (RefusesLog (log_beside true))
+    ensures blames_log { StopsFor Input.Log (RefusesLog (log_beside true) (fields_told told.new))
         (L.bytes_left log.old) result }
     ensures unread { StopsAt Input.Next result
         → L.spent_count log.new ≡ L.spent_count log.old }
@@ -226,7 +155,7 @@ pub(crate) fn run_with_next<'a, L: ByteIn, W: ByteOut>(
         (W.failure_count writer.new) }
 {
     match load(alloc, text) {
-        Ok(next) => run_loaded(alloc, last, plate, loaded, Some(next), log, writer),
+        Ok(next) => run_loaded(alloc, last, plate, loaded, Some(next), log, writer, told),
         Err(fault) => Err(Stopped {
             input: Input::Next,
             fault: run_fault_of(fault),

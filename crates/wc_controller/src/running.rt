@@ -7,6 +7,7 @@ ghost use Rattle.wc_job.specs.Reads.{TakesAtMost};
 ghost use Rattle.wc_model.specs.Run.JobSections.{longest_job};
 ghost use Rattle.wc_model.specs.Run.Log.{log_of};
 ghost use Rattle.wc_record.specs.Left.{HasCause};
+ghost use Rattle.wc_record.specs.Told.{fields_told};
 ghost use Rattle.wc_record.specs.Reading.{records_of};
 
 use crate::ending::{Ending, end};
@@ -17,6 +18,7 @@ use crate::reading::{read_input, read_plate, run_fault_of};
 use std::alloc::Global;
 use wc_model::{ByteIn, ByteOut};
 use wc_plate::Plate;
+use wc_record::RefusedRow;
 use wc_run::RunFault;
 
 /// Reads and loads a program, and runs a log with it alone.
@@ -27,6 +29,7 @@ fn run_alone<T: ByteIn, L: ByteIn, W: ByteOut>(
     program: &mut T,
     log: &mut L,
     writer: &mut W,
+    told: &mut RefusedRow,
 ) -> Result<(), Stopped>
     requires few { IfSome last (λ n. (1 ≤ n) × (n ≤ 1000)) }
     ensures writes { IfSome (T.bytes_left program.old) (λ text. IfSome (L.bytes_left log.old)
@@ -35,7 +38,7 @@ fn run_alone<T: ByteIn, L: ByteIn, W: ByteOut>(
         (met result) (W.bytes_taken writer.old) (W.bytes_taken writer.new))) }
     ensures blames_program { StopsFor Input.Program RefusesProgram
         (T.bytes_left program.old) result }
-    ensures blames_log { StopsFor Input.Log (RefusesLog (log_beside false))
+    ensures blames_log { StopsFor Input.Log (RefusesLog (log_beside false) (fields_told told.new))
         (L.bytes_left log.old) result }
     ensures unread { StopsAt Input.Program result
         → L.spent_count log.new ≡ L.spent_count log.old }
@@ -63,7 +66,7 @@ fn run_alone<T: ByteIn, L: ByteIn, W: ByteOut>(
         Err(stopped) => return Err(stopped),
     };
     match load(alloc, &text) {
-        Ok(loaded) => run_loaded(alloc, last, plate, loaded, None, log, writer),
+        Ok(loaded) => run_loaded(alloc, last, plate, loaded, None, log, writer, told),
         Err(fault) => Err(Stopped {
             input: Input::Program,
             fault: run_fault_of(fault),
@@ -81,6 +84,7 @@ fn run_both<T: ByteIn, N: ByteIn, L: ByteIn, W: ByteOut>(
     next: &mut N,
     log: &mut L,
     writer: &mut W,
+    told: &mut RefusedRow,
 ) -> Result<(), Stopped>
     requires few { IfSome last (λ n. (1 ≤ n) × (n ≤ 1000)) }
     ensures writes { IfSome (T.bytes_left program.old) (λ text. IfSome (N.bytes_left next.old)
@@ -91,7 +95,7 @@ fn run_both<T: ByteIn, N: ByteIn, L: ByteIn, W: ByteOut>(
     ensures blames_program { StopsFor Input.Program RefusesProgram
         (T.bytes_left program.old) result }
     ensures blames_next { StopsFor Input.Next RefusesProgram (N.bytes_left next.old) result }
-    ensures blames_log { StopsFor Input.Log (RefusesLog (log_beside true))
+    ensures blames_log { StopsFor Input.Log (RefusesLog (log_beside true) (fields_told told.new))
         (L.bytes_left log.old) result }
     ensures unread { StopsAt Input.Next result
         → L.spent_count log.new ≡ L.spent_count log.old }
@@ -134,7 +138,7 @@ fn run_both<T: ByteIn, N: ByteIn, L: ByteIn, W: ByteOut>(
         }
     };
     match read_input(alloc, Input::Next, next) {
-        Ok(other) => run_with_next(alloc, last, plate, loaded, &other, log, writer),
+        Ok(other) => run_with_next(alloc, last, plate, loaded, &other, log, writer, told),
         Err(stopped) => Err(stopped),
     }
 }
@@ -148,6 +152,7 @@ fn run_program<T: ByteIn, N: ByteIn, L: ByteIn, W: ByteOut>(
     next: &mut Option<N>,
     log: &mut L,
     writer: &mut W,
+    told: &mut RefusedRow,
 ) -> Result<(), Stopped>
     requires few { IfSome last (λ n. (1 ≤ n) × (n ≤ 1000)) }
     ensures writes { IfSome (T.bytes_left program.old) (λ text. IfKnown N.bytes_left next.old
@@ -158,7 +163,8 @@ fn run_program<T: ByteIn, N: ByteIn, L: ByteIn, W: ByteOut>(
         (T.bytes_left program.old) result }
     ensures blames_next { StopsFor Input.Next RefusesProgram (known_of N.bytes_left next.old)
         result }
-    ensures blames_log { StopsFor Input.Log (RefusesLog (log_beside (is_some next.old)))
+    ensures blames_log { StopsFor Input.Log
+        (RefusesLog (log_beside (is_some next.old)) (fields_told told.new))
         (L.bytes_left log.old) result }
     ensures unread { StopsAt Input.Next result
         → L.spent_count log.new ≡ L.spent_count log.old }
@@ -188,8 +194,8 @@ fn run_program<T: ByteIn, N: ByteIn, L: ByteIn, W: ByteOut>(
         (W.failure_count writer.new) }
 {
     match next {
-        Some(reader) => run_both(alloc, last, plate, program, reader, log, writer),
-        None => run_alone(alloc, last, plate, program, log, writer),
+        Some(reader) => run_both(alloc, last, plate, program, reader, log, writer, told),
+        None => run_alone(alloc, last, plate, program, log, writer, told),
     }
 }
 
@@ -202,6 +208,7 @@ fn run_inputs<P: ByteIn, T: ByteIn, N: ByteIn, L: ByteIn, W: ByteOut>(
     next: &mut Option<N>,
     log: &mut L,
     writer: &mut W,
+    told: &mut RefusedRow,
 ) -> Result<(), Stopped>
     requires few { IfSome last (λ n. (1 ≤ n) × (n ≤ 1000)) }
     ensures writes { IfSome (P.bytes_left plate.old) (λ table. IfSome (T.bytes_left program.old)
@@ -213,7 +220,8 @@ fn run_inputs<P: ByteIn, T: ByteIn, N: ByteIn, L: ByteIn, W: ByteOut>(
         (T.bytes_left program.old) result }
     ensures blames_next { StopsFor Input.Next RefusesProgram (known_of N.bytes_left next.old)
         result }
-    ensures blames_log { StopsFor Input.Log (RefusesLog (log_beside (is_some next.old)))
+    ensures blames_log { StopsFor Input.Log
+        (RefusesLog (log_beside (is_some next.old)) (fields_told told.new))
         (L.bytes_left log.old) result }
     ensures own { ¬ StopsAt Input.Job result }
     ensures unread { StopsAt Input.Next result
@@ -250,7 +258,7 @@ fn run_inputs<P: ByteIn, T: ByteIn, N: ByteIn, L: ByteIn, W: ByteOut>(
         (W.failure_count writer.new) }
 {
     match read_plate(alloc, plate) {
-        Ok(plate) => run_program(alloc, last, &plate, program, next, log, writer),
+        Ok(plate) => run_program(alloc, last, &plate, program, next, log, writer, told),
         Err(stopped) => Err(stopped),
     }
 }
@@ -259,7 +267,8 @@ fn run_inputs<P: ByteIn, T: ByteIn, N: ByteIn, L: ByteIn, W: ByteOut>(
 /// plate is read and judged first, then the program, then the next program, if there is one, then
 /// the log is run row by row, and each line is written as its row comes. A row that changes the
 /// program takes the next one; where none is left it is refused. The first input that breaks a rule
-/// is refused, behind the lines of the rows before, and what follows it is not read. A read fault
+/// is refused, behind the lines of the rows before, and what follows it is not read; of a log the
+/// refused row is told. A read fault
 /// names the input whose reader failed in this call, or the log where as much was read as may be; a
 /// write fault comes where the writer failed in this call and only there. At such a fault, and for
 /// want of memory, a front of the output is written, or nothing.
@@ -271,6 +280,7 @@ pub fn run_files<P: ByteIn, T: ByteIn, N: ByteIn, L: ByteIn, W: ByteOut>(
     next: &mut Option<N>,
     log: &mut L,
     writer: &mut W,
+    told: &mut RefusedRow,
 ) -> Ending
     requires few { IfSome last (λ n. (1 ≤ n) × (n ≤ 1000)) }
     ensures ends { IfSome (P.bytes_left plate.old) (λ table. IfSome (T.bytes_left program.old)
@@ -283,7 +293,8 @@ pub fn run_files<P: ByteIn, T: ByteIn, N: ByteIn, L: ByteIn, W: ByteOut>(
         (T.bytes_left program.old) result }
     ensures blames_next { Blames Input.Next RefusesProgram (known_of N.bytes_left next.old)
         result }
-    ensures blames_log { Blames Input.Log (RefusesLog (log_beside (is_some next.old)))
+    ensures blames_log { Blames Input.Log
+        (RefusesLog (log_beside (is_some next.old)) (fields_told told.new))
         (L.bytes_left log.old) result }
     // A run has no job: what it names is one of its inputs.
     ensures own { ¬ IsAt Input.Job result }
@@ -320,6 +331,6 @@ pub fn run_files<P: ByteIn, T: ByteIn, N: ByteIn, L: ByteIn, W: ByteOut>(
     ensures taken_next { TakesAtMost (longest_job + 1) (known_of N.bytes_left next.old)
         (known_of N.bytes_left next.new) }
 {
-    let answer = run_inputs(alloc, last, plate, program, next, log, writer);
+    let answer = run_inputs(alloc, last, plate, program, next, log, writer, told);
     end(alloc, answer, writer)
 }

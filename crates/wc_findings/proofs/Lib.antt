@@ -1,3 +1,4 @@
 pub mod Columns
 pub mod LineCuts
 pub mod Meaning
+pub mod RowFields

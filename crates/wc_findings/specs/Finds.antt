@@ -1,9 +1,19 @@
 -- What a finding promises of a refusal.
-use Rattle.std.specs.Prelude.{◌≡◌, ◌≤◌, ℕ, List, [], None, IfSome, length}
+use Rattle.std.specs.Prelude.{◌≡◌, ◌≤◌, ℕ, List, [], None, IfSome, length, min}
 use Rattle.wc_findings.specs.Meant.{IsMeantBy, IsStoppedBy}
+use Rattle.wc_findings.specs.Rows.{MeansField, shown_row}
 use Rattle.wc_findings.specs.Showing.{IsLineOf, ShowsLine}
 use Rattle.wc_findings.specs.declared.finding.Finding.{Finding}
+use Rattle.wc_findings.specs.declared.finding.Spot.{Spot}
+use Rattle.wc_findings.specs.declared.refusal.Evidence.{Evidence}
+use Rattle.wc_findings.specs.declared.refusal.Evidence.TheVariants.{Nothing, Text, Row}
 use Rattle.wc_findings.specs.declared.refusal.Refusal.{Refusal}
+use Rattle.wc_model.specs.Run.Log.{Record}
+use Rattle.wc_record.specs.Told.{fields_told}
+
+-- nothing is meant outside the line that is shown
+abbrev pub IsWithin : Finding → Type 0
+IsWithin finding = IfSome finding.spot (λ spot. spot.start ≤ length finding.shown.items)
 
 -- what is found in the text at hand: the line of the part, with what is meant in it
 pub record FindsIn (refusal : Refusal) (text : List ℕ) (finding : Finding) : Type 0 where
@@ -12,8 +22,29 @@ pub record FindsIn (refusal : Refusal) (text : List ℕ) (finding : Finding) : T
   pub stopped : IsStoppedBy refusal.part refusal.number text finding
   pub meant : IsMeantBy refusal.part refusal.number text finding
 
--- nothing is found without a text, and nothing is meant outside the line that is shown
+-- it begins where another spot does, or where the line that is shown ends before that
+pub record IsCutTo (shown : List ℕ) (found spot : Spot) : Type 0 where
+  pub start : spot.start ≡ min found.start (length shown)
+  pub size : spot.length ≡ found.length
+
+-- what is found in the row at hand: its fields, and the one that is meant
+pub record FindsRow (number : ℕ) (fields : Record) (finding : Finding) : Type 0 where
+  pub line : finding.line ≡ 1
+  pub shows : finding.shown.items ≡ shown_row fields
+  pub meant : IfSome finding.spot (λ spot. (found : Spot) × MeansField number fields found × IsCutTo finding.shown.items found spot)
+
+-- nothing is found where nothing is at hand
+pub record FindsNothing (finding : Finding) : Type 0 where
+  pub line : finding.line ≡ 0
+  pub spot : finding.spot ≡ None
+  pub shown : finding.shown.items ≡ []
+
+-- what is found in what is at hand
+abbrev pub FindsBy : Refusal → Evidence → Finding → Type 0
+FindsBy refusal Nothing finding = FindsNothing finding
+FindsBy refusal (Text text) finding = FindsIn refusal text.now finding
+FindsBy refusal (Row row) finding = FindsRow refusal.number (fields_told row.now) finding
+
 pub record Finds (refusal : Refusal) (finding : Finding) : Type 0 where
-  pub found : IfSome refusal.text (λ text. FindsIn refusal text.now finding)
-  pub nothing : refusal.text ≡ None → (finding.line ≡ 0) × (finding.spot ≡ None) × (finding.shown.items ≡ [])
-  pub within : IfSome finding.spot (λ spot. spot.start ≤ length finding.shown.items)
+  pub found : FindsBy refusal refusal.evidence finding
+  pub within : IsWithin finding

@@ -1,4 +1,5 @@
 pub mod Lines
 pub mod Showing
 pub mod Meant
+pub mod Rows
 pub mod Finds

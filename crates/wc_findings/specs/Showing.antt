@@ -14,14 +14,14 @@ pub record ShowsLine (text : List ℕ) (line : ℕ) (shown : List ℕ) : Type 0 
 abbrev pub known_line : List ℕ → ℕ → ℕ
 known_line text number = if is_some (line_of_number number text) then number else 0
 
--- the line that is shown: of a program the one that is refused, of a row its own, of a job none; of a
--- plate, whose refusals name no line, one that is found
+-- the line that is shown: of a program the one that is refused, of a job or a log none; of a plate, whose
+-- refusals name no line, one that is found
 abbrev pub line_of_part : Part → ℕ → ℕ → ℕ
 line_of_part Job place found = 0
 line_of_part Plate place found = found
 line_of_part Program place found = place
 line_of_part Next place found = place
-line_of_part Log place found = 1
+line_of_part Log place found = 0
 
 -- the next program is a program
 abbrev pub read_as : Part → Part

@@ -28,11 +28,14 @@ fn says_unlike(kind: Kind) -> &'static str {
 }
 
 /// A kind that is not that of the input or output.
-fn says_unpassed(kind: Kind) -> &'static str {
-    match kind {
-        Kind::Bool => "is a BOOL, and the input or output is none",
-        Kind::Dint => "is a DINT, and the input or output is none",
-        Kind::Time => "is a TIME, and the input or output is none",
+fn says_unpassed(kind: Kind, formal: Kind) -> &'static str {
+    match (kind, formal) {
+        (Kind::Bool, Kind::Dint) => "is a BOOL, and the input or output is a DINT",
+        (Kind::Bool, _) => "is a BOOL, and the input or output is a TIME",
+        (Kind::Dint, Kind::Bool) => "is a DINT, and the input or output is a BOOL",
+        (Kind::Dint, _) => "is a DINT, and the input or output is a TIME",
+        (Kind::Time, Kind::Bool) => "is a TIME, and the input or output is a BOOL",
+        (Kind::Time, _) => "is a TIME, and the input or output is a DINT",
     }
 }
 
@@ -43,7 +46,7 @@ fn says_of_kind(meant: Meant) -> Option<&'static str> {
         Meant::NoInstance => Some("is no instance of a function block"),
         Meant::Untaken(kind) => Some(says_untaken(kind)),
         Meant::Unlike(kind) => Some(says_unlike(kind)),
-        Meant::Unpassed(kind) => Some(says_unpassed(kind)),
+        Meant::Unpassed(kind, formal) => Some(says_unpassed(kind, formal)),
         Meant::Result => Some("does not take the kind of the result before it"),
         Meant::Closing => Some(
             "ends with a result of another kind than that before its parenthesis",

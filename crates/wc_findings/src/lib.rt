@@ -1,5 +1,6 @@
-//! What exactly is wrong with a refused text. Of a program's text the passes tell it; of plates and rows it is found from the
-//! refusal's number, its place and the text: where that is not sure, nothing is found beyond what the number says.
+//! What exactly is wrong with what is refused, as whoever refused it tells: of a program's text its passes, of a plate its
+//! rules, of a log the row. The line of a plate that gives a value to a key is searched for: where that is not sure, none is
+//! shown.
 #![tactic(auto)]
 
 mod finding;
@@ -13,5 +14,5 @@ mod searching;
 mod stops;
 
 pub use finding::{Finding, Spot};
-pub use refusal::{Part, Refusal};
+pub use refusal::{Evidence, Part, Refusal};
 pub use searching::find;

@@ -34,28 +34,6 @@ pub(crate) fn line_length(text: &[u8]) -> usize
     text.iter().take_while(|byte| **byte != b'\n').count()
 }
 
-/// How many line feeds there are.
-pub(crate) fn line_feeds(text: &[u8]) -> usize {
-    text.iter().filter(|byte| **byte == b'\n').count()
-}
-
-/// Where the line of that number starts, counted from 1, if the text has it.
-pub(crate) fn line_start(text: &[u8], number: u32) -> Option<usize> {
-    let mut line = 1_u32;
-    if number == line {
-        return Some(0);
-    }
-    for index in 0..text.len() {
-        if text.get(index) == Some(&b'\n') {
-            line = line.saturating_add(1);
-            if line == number {
-                return Some(index.saturating_add(1));
-            }
-        }
-    }
-    None
-}
-
 /// A line without the CR at its end.
 fn without_return(line: &[u8]) -> &[u8]
     ensures { result.now ≡ without_return line.now }
@@ -108,8 +86,8 @@ pub(crate) fn line_at(text: &[u8], number: u32) -> Option<&[u8]>
 
 /// The number of the line on which a place stands, counted from 1.
 pub(crate) fn line_of(text: &[u8], place: usize) -> u32 {
-    let number = line_feeds(front(text, place)).saturating_add(1);
-    number.min(1048577) as u32
+    let feeds = front(text, place).iter().filter(|byte| **byte == b'\n').count();
+    feeds.saturating_add(1).min(1048577) as u32
 }
 
 /// How many bytes of its line stand before a place.

@@ -1,43 +1,26 @@
 use crate::finding::Finding;
-use crate::lines::{behind, front, line_at, line_feeds, line_of, line_start};
+use crate::lines::{behind, column_at, line_length, line_of, piece};
 use std::alloc::{AllocError, Global};
-use toml::Table;
-
-/// The keys of a plate.
-const KEYS: [&str; 7] = [
-    "unit",
-    "decimals",
-    "max",
-    "e",
-    "zero_counts",
-    "span_counts",
-    "window",
-];
+use toml::de::Error;
+use wc_plate::{BrokenRule, allows_interval, plate_of};
 
 /// The scale intervals that some plate may have.
 const INTERVALS: [i64; 6] = [1, 2, 5, 10, 20, 50];
+
+/// The line of a text that gives a value to a key, counted from 1, and where the value starts in it.
+#[derive(Clone, Copy)]
+struct KeyLine {
+    number: u32,
+    key: usize,
+    value: usize,
+    length: usize,
+}
 
 /// How many spaces and tabs stand in front.
 fn blanks(text: &[u8]) -> usize {
     text.iter()
         .take_while(|byte| **byte == b' ' || **byte == b'\t')
         .count()
-}
-
-/// Where the value starts on a line that gives it to that key.
-fn value_start(line: &[u8], key: &str) -> Option<usize> {
-    let first = blanks(line);
-    let word = behind(line, first);
-    if !word.starts_with(key.as_bytes()) {
-        return None;
-    }
-    let end = first.saturating_add(key.len());
-    let sign = end.saturating_add(blanks(behind(line, end)));
-    if behind(line, sign).first() != Some(&b'=') {
-        return None;
-    }
-    let value = sign.saturating_add(1);
-    Some(value.saturating_add(blanks(behind(line, value))))
 }
 
 /// How many bytes a value has, up to a blank, a comment or the line's end.
@@ -47,178 +30,92 @@ fn value_length(text: &[u8]) -> usize {
         .count()
 }
 
-/// Whether a text in the plate could run over lines.
+/// Where that key is given its value, if the line of that number does so.
+fn key_on(line: &[u8], number: u32, name: &str) -> Option<KeyLine> {
+    let key = blanks(line);
+    let word = behind(line, key);
+    if !word.starts_with(name.as_bytes()) {
+        return None;
+    }
+    let end = key.saturating_add(name.len());
+    let sign = end.saturating_add(blanks(behind(line, end)));
+    if behind(line, sign).first() != Some(&b'=') {
+        return None;
+    }
+    let value = sign.saturating_add(1);
+    let value = value.saturating_add(blanks(behind(line, value)));
+    Some(KeyLine {
+        number,
+        key,
+        value,
+        length: value_length(behind(line, value)).max(1),
+    })
+}
+
+/// Whether a text in the plate could run over lines: three quotes of a kind stand in a row.
 fn has_long_texts(text: &[u8]) -> bool {
-    for index in 0..text.len() {
-        let rest = behind(text, index);
-        if rest.starts_with(b"\"\"\"") || rest.starts_with(b"'''") {
+    let (mut last, mut earlier) = (b' ', b' ');
+    for byte in text {
+        let is_third = *byte == last && last == earlier;
+        if is_third && (*byte == b'"' || *byte == b'\'') {
             return true;
         }
+        earlier = last;
+        last = *byte;
     }
     false
 }
 
-/// The one line of a plate that gives a value to that key.
-fn line_of_key(text: &[u8], key: &str) -> Option<u32> {
+/// Searches the text for the one line that gives a value to that key: once through it, line by line. Nothing is found where
+/// two do so, or where a text could run over lines.
+fn search_key(text: &[u8], name: &str) -> Option<KeyLine> {
+    if has_long_texts(text) {
+        return None;
+    }
     let mut found = None;
-    let most = line_feeds(text).min(1048576) as u32;
-    for number in 1..=most.saturating_add(1) {
-        if let Some(line) = line_at(text, number) {
-            if value_start(line, key).is_some() {
-                if found.is_some() {
-                    return None;
-                }
-                found = Some(number);
+    let mut number = 1_u32;
+    for line in text.split(|byte| *byte == b'\n') {
+        if let Some(here) = key_on(line, number, name) {
+            if found.is_some() {
+                return None;
             }
+            found = Some(here);
         }
+        number = number.saturating_add(1);
     }
     found
 }
 
 /// Points to the value of a key, where one line gives it.
-fn point_to_key(finding: &mut Finding, text: &[u8], key: &str) {
-    if text.len() > 4096 || has_long_texts(text) {
-        return;
-    }
-    let Some(number) = line_of_key(text, key) else {
-        return;
-    };
-    let Some(line) = line_at(text, number) else {
-        return;
-    };
-    if let Some(start) = value_start(line, key) {
-        finding.line = number;
-        finding.point(start, value_length(behind(line, start)).max(1));
+fn point_to_value(finding: &mut Finding, text: &[u8], name: &str) {
+    if let Some(found) = search_key(text, name) {
+        finding.line = found.number;
+        finding.point(found.value, found.length);
     }
 }
 
-/// Points to a key in place of its value.
-fn point_to_word(finding: &mut Finding, text: &[u8], key: &str) {
-    if let Some(line) = line_at(text, finding.line) {
-        finding.point(blanks(line), key.len());
+/// Points to a key itself.
+fn point_to_key(finding: &mut Finding, text: &[u8], name: &str) {
+    if let Some(found) = search_key(text, name) {
+        finding.line = found.number;
+        finding.point(found.key, name.len());
     }
 }
 
-/// The whole number behind a key.
-fn number_at(table: &Table, key: &str) -> Option<i64> {
-    match table.get(key) {
-        Some(value) => value.as_integer(),
-        None => None,
+/// A unit as a plate writes it.
+fn unit_word(unit: [u8; 3]) -> &'static str {
+    match &unit {
+        b"t  " => "t",
+        b"kg " => "kg",
+        _ => "g",
     }
-}
-
-/// The text behind a key.
-fn text_at<'t>(table: &'t Table, key: &str) -> Option<&'t str> {
-    match table.get(key) {
-        Some(value) => value.as_str(),
-        None => None,
-    }
-}
-
-/// Whether this is a key of a plate.
-fn is_key(word: &str) -> bool {
-    for key in KEYS {
-        if word == key {
-            return true;
-        }
-    }
-    false
-}
-
-/// The first key of a table that is none of a plate.
-fn unknown_key(table: &Table) -> Option<&str> {
-    for key in table.keys() {
-        if !is_key(key.as_str()) {
-            return Some(key.as_str());
-        }
-    }
-    None
-}
-
-/// The first key of a plate that a table has not.
-fn missing_key(table: &Table) -> Option<&'static str> {
-    for key in KEYS {
-        if table.get(key).is_none() {
-            return Some(key);
-        }
-    }
-    None
-}
-
-/// The first key of a plate whose value has not its kind.
-fn misfit_key(table: &Table) -> Option<&'static str> {
-    for key in KEYS {
-        let fits = if key == "unit" {
-            text_at(table, key).is_some()
-        } else {
-            number_at(table, key).is_some()
-        };
-        if !fits {
-            return Some(key);
-        }
-    }
-    None
-}
-
-/// Says which key is missing, unknown or of a wrong kind.
-fn tell_key(
-    alloc: Global,
-    finding: &mut Finding,
-    text: &[u8],
-    table: &Table,
-) -> Result<(), AllocError> {
-    match (unknown_key(table), missing_key(table), misfit_key(table)) {
-        (Some(key), missing, _) => {
-            point_to_key(finding, text, key);
-            point_to_word(finding, text, key);
-            if let Some(missing) = missing {
-                finding.advice = format!(in alloc; "{missing} is missing")?;
-            }
-            finding.tell(key.as_bytes(), "is no key of a plate")
-        }
-        (None, Some(key), _) => finding.tell(key.as_bytes(), "is missing"),
-        (None, None, Some("unit")) => {
-            point_to_key(finding, text, "unit");
-            finding.tell(b"unit", "must be a text")
-        }
-        (None, None, Some(key)) => {
-            point_to_key(finding, text, key);
-            finding.tell(key.as_bytes(), "must be a whole number")
-        }
-        _ => Ok(()),
-    }
-}
-
-/// How many grams one of a unit has.
-fn grams(unit: &str) -> i64 {
-    match unit {
-        "t" => 1000000,
-        "kg" => 1000,
-        _ => 1,
-    }
-}
-
-/// Ten to the number of decimals.
-fn scale(decimals: i64) -> i64 {
-    match decimals {
-        0 => 1,
-        1 => 10,
-        2 => 100,
-        _ => 1000,
-    }
-}
-
-/// Whether a scale interval is allowed with a unit and decimals: at least 5 g, and 10, 20 and 50 with 0 or 3 decimals alone.
-fn is_allowed(unit: &str, decimals: i64, e: i64) -> bool {
-    let fits = e <= 5 || decimals == 0 || decimals == 3;
-    fits && e.saturating_mul(grams(unit)) >= scale(decimals).saturating_mul(5)
 }
 
 /// The scale intervals that are allowed with a unit and decimals, with commas between.
-fn allowed_intervals(alloc: Global, unit: &str, decimals: i64) -> Result<String, AllocError> {
+fn allowed_intervals(alloc: Global, unit: [u8; 3], decimals: u32) -> Result<String, AllocError> {
     let mut found = String::new(alloc);
     for e in INTERVALS {
-        if is_allowed(unit, decimals, e) {
+        if allows_interval(unit, decimals, e) {
             found = if found.is_empty() {
                 format!(in alloc; "{e}")?
             } else {
@@ -230,11 +127,14 @@ fn allowed_intervals(alloc: Global, unit: &str, decimals: i64) -> Result<String,
 }
 
 /// Says which scale intervals are allowed.
-fn advise_interval(alloc: Global, finding: &mut Finding, table: &Table) -> Result<(), AllocError> {
-    let (Some(unit), Some(decimals)) = (text_at(table, "unit"), number_at(table, "decimals")) else {
-        return Ok(());
-    };
+fn advise_interval(
+    alloc: Global,
+    finding: &mut Finding,
+    unit: [u8; 3],
+    decimals: u32,
+) -> Result<(), AllocError> {
     let allowed = allowed_intervals(alloc, unit, decimals)?;
+    let unit = unit_word(unit);
     finding.advice = if allowed.is_empty() {
         format!(in alloc;
             "no e is allowed with unit = \"{unit}\" and decimals = {decimals}; write fewer decimals"
@@ -248,70 +148,94 @@ fn advise_interval(alloc: Global, finding: &mut Finding, table: &Table) -> Resul
 }
 
 /// Says which greatest loads are allowed.
-fn advise_max(alloc: Global, finding: &mut Finding, table: &Table) -> Result<(), AllocError> {
-    if let Some(e) = number_at(table, "e") {
-        let (least, most) = (e.saturating_mul(500), e.saturating_mul(10000));
-        finding.advice = format!(in alloc;
-            "with e = {e}, max is a multiple of {e} from {least} to {most}"
-        )?;
-    }
+fn advise_load(alloc: Global, finding: &mut Finding, e: u32) -> Result<(), AllocError> {
+    let (least, most) = (e as u64 * 500, e as u64 * 10000);
+    finding.advice = format!(in alloc;
+        "with e = {e}, max is a multiple of {e} from {least} to {most}"
+    )?;
     Ok(())
 }
 
-/// How many intervals the greatest load has.
-fn intervals(table: &Table) -> Option<i64> {
-    number_at(table, "max")?.checked_div(number_at(table, "e")?)
-}
-
-/// Says which of the two counts is out of range.
-fn tell_counts(
-    alloc: Global,
-    finding: &mut Finding,
-    text: &[u8],
-    table: &Table,
-) -> Result<(), AllocError> {
-    let zero = number_at(table, "zero_counts").unwrap_or(0);
-    if zero < -8388608 || zero > 8388607 {
-        finding.says = Some("zero_counts must be -8388608 to 8388607");
-        point_to_key(finding, text, "zero_counts");
-        return Ok(());
-    }
+/// Says which counts to the greatest load are allowed.
+fn advise_span(alloc: Global, finding: &mut Finding, n: u32) -> Result<(), AllocError> {
+    let least = n as u64 * 4;
     finding.says = Some("span_counts is out of range");
-    point_to_key(finding, text, "span_counts");
-    if let Some(n) = intervals(table) {
-        let least = n.saturating_mul(4);
-        finding.advice = format!(in alloc;
-            "with max / e = {n}, span_counts is {least} to 8000000"
-        )?;
-    }
+    finding.advice = format!(in alloc;
+        "with max / e = {n}, span_counts is {least} to 8000000"
+    )?;
     Ok(())
 }
 
-/// Says what is wrong with a plate that is TOML.
-fn find_value_fault(
+/// Says which key is none of a plate, and which is missing.
+fn tell_unknown(
+    alloc: Global,
+    finding: &mut Finding,
+    key: &str,
+    missing: Option<&'static str>,
+) -> Result<(), AllocError> {
+    if let Some(missing) = missing {
+        finding.advice = format!(in alloc; "{missing} is missing")?;
+    }
+    finding.tell(key.as_bytes(), "is no key of a plate")
+}
+
+/// Says what must stand behind a key whose value is not of its kind.
+fn kind_of(key: &str) -> &'static str {
+    match key {
+        "unit" => "must be a text",
+        _ => "must be a whole number",
+    }
+}
+
+/// The key whose value a rule on values means.
+fn key_of(rule: BrokenRule<'_>) -> &'static str {
+    match rule {
+        BrokenRule::Unit => "unit",
+        BrokenRule::Decimals => "decimals",
+        BrokenRule::Interval { .. } => "e",
+        BrokenRule::Load { .. } => "max",
+        BrokenRule::ZeroCounts => "zero_counts",
+        BrokenRule::SpanCounts { .. } => "span_counts",
+        _ => "window",
+    }
+}
+
+/// Says which values a rule on values allows, where its number does not.
+fn advise(alloc: Global, finding: &mut Finding, rule: BrokenRule<'_>) -> Result<(), AllocError> {
+    match rule {
+        BrokenRule::Interval { unit, decimals } => advise_interval(alloc, finding, unit, decimals),
+        BrokenRule::Load { e } => advise_load(alloc, finding, e),
+        BrokenRule::SpanCounts { n } => advise_span(alloc, finding, n),
+        BrokenRule::ZeroCounts => {
+            finding.says = Some("zero_counts must be -8388608 to 8388607");
+            Ok(())
+        }
+        _ => Ok(()),
+    }
+}
+
+/// Says which rule is broken, and points to the key that is meant.
+fn tell_rule(
     alloc: Global,
     finding: &mut Finding,
     text: &[u8],
-    table: &Table,
-    number: u16,
+    rule: BrokenRule<'_>,
 ) -> Result<(), AllocError> {
-    match number {
-        502 => return tell_key(alloc, finding, text, table),
-        503 => point_to_key(finding, text, "unit"),
-        504 => point_to_key(finding, text, "decimals"),
-        505 => {
-            point_to_key(finding, text, "e");
-            return advise_interval(alloc, finding, table);
+    match rule {
+        BrokenRule::UnknownKey { key, missing } => {
+            point_to_key(finding, text, key);
+            tell_unknown(alloc, finding, key, missing)
         }
-        506 => {
-            point_to_key(finding, text, "max");
-            return advise_max(alloc, finding, table);
+        BrokenRule::MissingKey { key } => finding.tell(key.as_bytes(), "is missing"),
+        BrokenRule::WrongKind { key } => {
+            point_to_value(finding, text, key);
+            finding.tell(key.as_bytes(), kind_of(key))
         }
-        507 => return tell_counts(alloc, finding, text, table),
-        508 => point_to_key(finding, text, "window"),
-        _ => {}
+        rule => {
+            point_to_value(finding, text, key_of(rule));
+            advise(alloc, finding, rule)
+        }
     }
-    Ok(())
 }
 
 /// Says where a text stops being TOML, and why.
@@ -319,44 +243,31 @@ fn tell_syntax(
     alloc: Global,
     finding: &mut Finding,
     text: &[u8],
-    error: &toml::de::Error,
+    error: &Error,
 ) -> Result<(), AllocError> {
     let Some(span) = error.span() else {
         return Err(AllocError);
     };
-    let line = line_of(text, span.start);
-    if let Some(start) = line_start(text, line) {
-        finding.line = line;
-        let rest = front(
-            behind(text, span.start),
-            span.end.saturating_sub(span.start),
-        );
-        finding.point(
-            span.start.saturating_sub(start),
-            rest.iter()
-                .take_while(|byte| **byte != b'\n')
-                .count()
-                .max(1),
-        );
-    }
+    let meant = piece(text, span.start, span.end.saturating_sub(span.start));
+    finding.line = line_of(text, span.start);
+    finding.point(column_at(text, span.start), line_length(meant).max(1));
     let why = error.message();
     finding.detail = format!(in alloc; "{why}")?;
     Ok(())
 }
 
-/// Finds the fault of a plate.
+/// Finds the fault of a plate: the rule of that number that its judge names.
 pub(crate) fn find_plate_fault(
     alloc: Global,
     finding: &mut Finding,
     text: &[u8],
     number: u16,
 ) -> Result<(), AllocError> {
-    let Ok(words) = str::from_utf8(text) else {
-        finding.detail = format!(in alloc; "it is not UTF-8")?;
-        return Ok(());
-    };
-    match toml::table_from_str(alloc, words) {
-        Ok(table) => find_value_fault(alloc, finding, text, &table, number),
+    match toml::table_from_slice(alloc, text) {
+        Ok(table) => match plate_of(&table) {
+            Err(rule) if rule.number() == number => tell_rule(alloc, finding, text, rule),
+            _ => Ok(()),
+        },
         Err(error) => tell_syntax(alloc, finding, text, &error),
     }
 }

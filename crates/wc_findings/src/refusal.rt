@@ -1,3 +1,5 @@
+use wc_record::RefusedRow;
+
 /// An input of the program, or a section of a job.
 #[derive(Clone, Copy, PartialEq, Eq)]
 pub enum Part {
@@ -13,6 +15,17 @@ pub enum Part {
     Log,
 }
 
+/// What is at hand of what is refused.
+#[derive(Clone, Copy)]
+pub enum Evidence<'a> {
+    /// Nothing.
+    Nothing,
+    /// The whole plate or program.
+    Text(&'a [u8]),
+    /// The row of the log.
+    Row(&'a RefusedRow),
+}
+
 /// A refusal, and what is at hand to explain it.
 #[derive(Clone, Copy)]
 pub struct Refusal<'a> {
@@ -26,8 +39,8 @@ pub struct Refusal<'a> {
     pub name: &'a [u8],
     /// Whether it is a section of a job.
     pub in_job: bool,
-    /// The whole plate or program, or the row of the log, where they are at hand.
-    pub text: Option<&'a [u8]>,
-    /// How many lines stand above this text in what is named.
+    /// What is at hand of it.
+    pub evidence: Evidence<'a>,
+    /// How many lines stand above this text or row in what is named.
     pub above: u32,
 }

@@ -1,61 +1,70 @@
+ghost use Rattle.std.specs.Prelude.{◌≡◌, ◌≤◌, ◌++◌, IfOk, IfSome, None, OnOk, length};
+ghost use Rattle.wc_findings.specs.Rows as rows;
+ghost use Rattle.wc_findings.specs.Rows.{IsInField, MeansField, glued};
+ghost use Rattle.wc_record.specs.Told.{fields_told};
+
 use crate::finding::Finding;
-use crate::lines::{behind, front, piece};
-use std::alloc::AllocError;
+use crate::lines::{front, piece};
+use std::alloc::{AllocError, Global};
+use wc_record::RefusedRow;
 
-/// A field of a row: where it starts, and its bytes.
-#[derive(Clone, Copy)]
-struct Field<'a> {
-    start: usize,
-    text: &'a [u8],
-}
+/// How many bytes of a field are shown at most.
+const LONGEST_FIELD: usize = 16384;
 
-/// How many bytes stand before the first comma.
-fn field_length(row: &[u8]) -> usize {
-    row.iter().take_while(|byte| **byte != b',').count()
-}
-
-/// How many commas a row has.
-fn commas(row: &[u8]) -> usize {
-    row.iter().filter(|byte| **byte == b',').count()
-}
-
-/// The field of a row by its index, counted from 0; an empty one behind the last.
-fn field_of(row: &[u8], index: usize) -> Field<'_> {
-    let mut start = 0_usize;
-    for _ in 0..index {
-        let length = field_length(behind(row, start));
-        start = start.saturating_add(length).saturating_add(1);
-    }
-    let rest = behind(row, start);
-    Field {
-        start,
-        text: front(rest, field_length(rest)),
+/// A field of a row as it is shown: an empty one behind the last.
+fn shown_field(row: &RefusedRow, place: usize) -> &[u8]
+    ensures field { result.now ≡ rows.shown_field (fields_told row.now) place }
+    ensures short { length result.now ≤ 16384 }
+{
+    match row.field(place) {
+        Some(field) => front(field, LONGEST_FIELD),
+        None => b"",
     }
 }
 
-/// Says what is wrong with a field, and points to it.
-fn tell_field(
-    finding: &mut Finding,
-    field: Field<'_>,
-    empty: &'static str,
-    says: &'static str,
-) -> Result<(), AllocError> {
-    finding.point(field.start, field.text.len().max(1));
-    if field.text.is_empty() {
-        finding.says = Some(empty);
-        return Ok(());
+/// Where one of the first three fields starts in the row as it is shown.
+fn field_start(row: &RefusedRow, place: usize) -> usize
+    ensures start { result ≡ rows.field_start (fields_told row.now) place }
+    ensures short { result ≤ 32770 }
+{
+    let second = shown_field(row, 0).len() + 1;
+    match place {
+        0 => 0,
+        1 => second,
+        _ => second + shown_field(row, 1).len() + 1,
     }
-    finding.tell(field.text, says)
+}
+
+/// Adds a field behind those before it.
+fn add_field(text: &mut Vec<u8>, row: &RefusedRow, place: usize) -> Result<(), AllocError>
+    ensures { OnOk result (text.new.items
+        ≡ text.old.items ++ glued place (rows.shown_field (fields_told row.now) place)) }
+{
+    if place > 0 {
+        text.push(b',')?;
+    }
+    text.extend_from_slice(shown_field(row, place))
+}
+
+/// The row as it is shown: its fields, with commas between.
+pub(crate) fn shown_row(alloc: Global, row: &RefusedRow) -> Result<Vec<u8>, AllocError>
+    ensures { IfOk result (λ text. text.items ≡ rows.shown_row (fields_told row.now)) }
+{
+    let mut text = Vec::new(alloc);
+    for place in 0..row.len() {
+        add_field(&mut text, row, place)?;
+    }
+    Ok(text)
 }
 
 /// Semicolons stand where commas should.
-fn has_semicolons(row: &[u8]) -> bool {
-    commas(row) == 0 && row.contains(&b';')
+fn has_semicolons(row: &RefusedRow) -> bool {
+    row.len() == 1 && shown_field(row, 0).contains(&b';')
 }
 
 /// What is wrong with the first row.
-fn heading_fault(row: &[u8]) -> &'static str {
-    if row.is_empty() {
+fn heading_fault(row: &RefusedRow) -> &'static str {
+    if row.len() == 0 {
         "the log is empty: its first row ms,kind,data is missing"
     } else if has_semicolons(row) {
         "the first row is not ms,kind,data: fields end with a comma, not with a semicolon"
@@ -65,13 +74,12 @@ fn heading_fault(row: &[u8]) -> &'static str {
 }
 
 /// Says how many fields a row has.
-fn tell_fields(finding: &mut Finding, row: &[u8], place: u32) {
+fn tell_fields(finding: &mut Finding, row: &RefusedRow, place: u32) {
     if place == 1 {
         finding.says = Some(heading_fault(row));
-    } else if commas(row) > 2 {
+    } else if row.len() > 3 {
         finding.says = Some("the row has more than three fields");
-        let third = field_of(row, 2);
-        finding.point(third.start.saturating_add(third.text.len()), 1);
+        finding.point(field_start(row, 2) + shown_field(row, 2).len(), 1);
     } else if has_semicolons(row) {
         finding.says = Some("the row has semicolons where commas should stand");
     } else {
@@ -111,7 +119,9 @@ fn counts_fault(text: &[u8]) -> &'static str {
 }
 
 /// How many hexadecimal digits stand in front.
-fn hexadecimal_length(text: &[u8]) -> usize {
+fn hexadecimal_length(text: &[u8]) -> usize
+    ensures { result ≤ length text.now }
+{
     text.iter()
         .take_while(|byte| byte.is_ascii_hexdigit())
         .count()
@@ -129,14 +139,18 @@ fn length_fault(kind: &[u8], digits: usize) -> &'static str {
 }
 
 /// Says what is wrong with hexadecimal data.
-fn tell_hexadecimal(finding: &mut Finding, kind: &[u8], data: Field<'_>) -> Result<(), AllocError> {
-    let digits = hexadecimal_length(data.text);
-    if digits < data.text.len() {
-        finding.point(data.start.saturating_add(digits), 1);
-        return finding.tell(piece(data.text, digits, 1), "is no hexadecimal digit");
+fn tell_hexadecimal(finding: &mut Finding, row: &RefusedRow) -> Result<(), AllocError>
+    ensures { IfSome finding.new.spot (IsInField (fields_told row.now) 2) }
+{
+    let data = shown_field(row, 2);
+    let start = field_start(row, 2);
+    let digits = hexadecimal_length(data);
+    if digits < data.len() {
+        finding.point(start + digits, 1);
+        return finding.tell(piece(data, digits, 1), "is no hexadecimal digit");
     }
-    finding.point(data.start, digits.max(1));
-    finding.says = Some(length_fault(kind, digits));
+    finding.point(start, digits.max(1));
+    finding.says = Some(length_fault(shown_field(row, 1), digits));
     Ok(())
 }
 
@@ -156,47 +170,66 @@ fn data_fault(kind: &[u8]) -> &'static str {
     }
 }
 
-/// Finds the fault of a log in its row, which has no quotes.
-pub(crate) fn find_row_fault(
+/// What is said of a field that is empty.
+fn says_of_nothing(number: u16) -> &'static str {
+    match number {
+        602 | 603 => "the moment is missing",
+        604 => "the kind is missing",
+        605 => "the counts are missing",
+        _ => "a scan and a change have no data",
+    }
+}
+
+/// What is wrong with the field that is meant.
+fn says_of(number: u16, row: &RefusedRow) -> &'static str {
+    match number {
+        602 => moment_fault(shown_field(row, 0)),
+        603 => "is before the moment of the row above",
+        604 => kind_fault(shown_field(row, 1)),
+        605 => counts_fault(shown_field(row, 2)),
+        _ => data_fault(shown_field(row, 1)),
+    }
+}
+
+/// Says what is wrong with a field, and points to it.
+fn tell_field(
     finding: &mut Finding,
-    row: &[u8],
+    row: &RefusedRow,
+    number: u16,
+    place: usize,
+) -> Result<(), AllocError>
+    ensures { IfSome finding.new.spot (IsInField (fields_told row.now) place) }
+{
+    let field = shown_field(row, place);
+    finding.point(field_start(row, place), field.len().max(1));
+    if field.is_empty() {
+        finding.says = Some(says_of_nothing(number));
+        return Ok(());
+    }
+    finding.tell(field, says_of(number, row))
+}
+
+/// Says which rule of its number a row breaks, and points to the field that is meant.
+pub(crate) fn tell_row(
+    finding: &mut Finding,
+    row: &RefusedRow,
     number: u16,
     place: u32,
-) -> Result<(), AllocError> {
-    let (moment, kind, data) = (field_of(row, 0), field_of(row, 1), field_of(row, 2));
+) -> Result<(), AllocError>
+    requires { finding.old.spot ≡ None }
+    ensures { IfSome finding.new.spot (MeansField number (fields_told row.now)) }
+{
     match number {
         601 => {
             tell_fields(finding, row, place);
             Ok(())
         }
-        602 => tell_field(
-            finding,
-            moment,
-            "the moment is missing",
-            moment_fault(moment.text),
-        ),
-        603 => tell_field(
-            finding,
-            moment,
-            "the moment is missing",
-            "is before the moment of the row above",
-        ),
-        604 => tell_field(finding, kind, "the kind is missing", kind_fault(kind.text)),
-        605 => tell_field(
-            finding,
-            data,
-            "the counts are missing",
-            counts_fault(data.text),
-        ),
-        606 => tell_hexadecimal(finding, kind.text, data),
-        608 => tell_field(
-            finding,
-            data,
-            "a scan and a change have no data",
-            data_fault(kind.text),
-        ),
+        602 | 603 => tell_field(finding, row, number, 0),
+        604 => tell_field(finding, row, number, 1),
+        605 | 608 => tell_field(finding, row, number, 2),
+        606 => tell_hexadecimal(finding, row),
         609 => {
-            finding.point(kind.start, kind.text.len().max(1));
+            finding.point(field_start(row, 1), shown_field(row, 1).len().max(1));
             Ok(())
         }
         _ => Ok(()),

@@ -1,16 +1,18 @@
 ghost use Rattle.std.specs.Prelude.{◌≡◌, ◌≤◌, ◌<◌, IfOk, IfSome, None, Some, [], length};
-ghost use Rattle.wc_findings.specs.Finds.{Finds};
+ghost use Rattle.wc_findings.specs.Finds.{Finds, FindsIn, FindsRow, IsWithin};
 ghost use Rattle.wc_findings.specs.Meant.{HasLaterSpot, HasStop, IsKept};
+ghost use Rattle.wc_record.specs.Told.{fields_told};
 ghost use Rattle.wc_findings.specs.Showing.{ShowsLine, known_line, line_of_part, read_as};
 
 use crate::finding::Finding;
 use crate::later::find_later;
 use crate::lines::line_at;
 use crate::plates::find_plate_fault;
-use crate::refusal::{Part, Refusal};
-use crate::rows::find_row_fault;
+use crate::refusal::{Evidence, Part, Refusal};
+use crate::rows::{shown_row, tell_row};
 use crate::stops::find_stop;
 use std::alloc::{AllocError, Global};
+use wc_record::RefusedRow;
 
 /// Finds the fault of a program's text on its line.
 fn find_program_fault(
@@ -62,8 +64,7 @@ fn find_in(
     match read_as(refusal.part) {
         Part::Program => find_program_fault(alloc, finding, text, refusal.number),
         Part::Plate => find_plate_fault(alloc, finding, text, refusal.number),
-        Part::Log => find_row_fault(finding, text, refusal.number, refusal.place),
-        Part::Job | Part::Next => Ok(()),
+        Part::Job | Part::Next | Part::Log => Ok(()),
     }
 }
 
@@ -72,10 +73,9 @@ fn line_of_part(refusal: &Refusal<'_>, found: u32) -> u32
     ensures { result ≡ line_of_part refusal.now.part refusal.now.place found }
 {
     match refusal.part {
-        Part::Job => 0,
+        Part::Job | Part::Log => 0,
         Part::Plate => found,
         Part::Program | Part::Next => refusal.place,
-        Part::Log => 1,
     }
 }
 
@@ -130,25 +130,47 @@ fn keep_line(finding: &mut Finding, text: &[u8], line: u32) -> Result<(), AllocE
     Ok(())
 }
 
-/// What exactly is wrong, as far as the text at hand says it; nothing without a text. What is meant
-/// stands in the line that is shown, or at its end. The error is want of memory.
-pub fn find(alloc: Global, refusal: &Refusal<'_>) -> Result<Finding, AllocError>
-    ensures nothing { refusal.now.text ≡ None
-        → IfOk result (λ finding. (finding.spot ≡ None) × (finding.shown.items ≡ [])) }
-    ensures within { IfOk result
-        (λ finding. IfSome finding.spot (λ spot. spot.start ≤ length finding.shown.items)) }
-    ensures line { IfOk result (λ finding. IfSome refusal.now.text
-        (λ text. ShowsLine text.now finding.line finding.shown.items)) }
-    ensures all { IfOk result (λ finding. Finds refusal.now finding) }
+/// What is wrong with the row of a log.
+fn find_row(
+    alloc: Global,
+    refusal: &Refusal<'_>,
+    row: &RefusedRow,
+) -> Result<Finding, AllocError>
+    ensures found { IfOk result (FindsRow refusal.now.number (fields_told row.now)) }
+    ensures within { IfOk result (λ finding. IsWithin finding) }
 {
-    match refusal.text {
-        Some(text) => {
-            let mut finding = Finding::new(alloc, line_of_part(refusal, 0));
-            find_in(alloc, &mut finding, refusal, text)?;
-            let line = line_of_part(refusal, finding.line);
-            keep_line(&mut finding, text, line)?;
-            Ok(finding)
-        }
-        None => Ok(Finding::new(alloc, 0)),
+    let mut finding = Finding::new(alloc, 1);
+    tell_row(&mut finding, row, refusal.number, refusal.place)?;
+    finding.line = 1;
+    finding.shown = shown_row(alloc, row)?;
+    keep_spot(&mut finding);
+    Ok(finding)
+}
+
+/// What is wrong with the text of a part.
+fn find_text(
+    alloc: Global,
+    refusal: &Refusal<'_>,
+    text: &[u8],
+) -> Result<Finding, AllocError>
+    ensures found { IfOk result (FindsIn refusal.now text.now) }
+    ensures within { IfOk result (λ finding. IsWithin finding) }
+{
+    let mut finding = Finding::new(alloc, line_of_part(refusal, 0));
+    find_in(alloc, &mut finding, refusal, text)?;
+    let line = line_of_part(refusal, finding.line);
+    keep_line(&mut finding, text, line)?;
+    Ok(finding)
+}
+
+/// What exactly is wrong, as far as what is at hand tells it; nothing where nothing is. What is
+/// meant stands in the line that is shown, or at its end. The error is want of memory.
+pub fn find(alloc: Global, refusal: &Refusal<'_>) -> Result<Finding, AllocError>
+    ensures { IfOk result (Finds refusal.now) }
+{
+    match refusal.evidence {
+        Evidence::Text(text) => find_text(alloc, refusal, text),
+        Evidence::Row(row) => find_row(alloc, refusal, row),
+        Evidence::Nothing => Ok(Finding::new(alloc, 0)),
     }
 }

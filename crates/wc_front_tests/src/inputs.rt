@@ -1,6 +1,6 @@
 //! What the words of the program answer to their inputs: how they end, and what is read.
 use std::alloc::Global;
-use wc_controller::{Ending, Input, check_file, line_files, run_files};
+use wc_controller::{Ending, Input, RefusedRow, check_file, line_files, run_files};
 use wc_model::{ByteIn, Device, FuseIn};
 
 /// The plate of 15 kg in steps of 5 g.
@@ -36,6 +36,7 @@ pub(crate) fn run_of<T: ByteIn, L: ByteIn>(
         &mut next,
         log,
         &mut writer,
+        &mut RefusedRow::new(alloc),
     )
 }
 
@@ -104,6 +105,7 @@ fn is_line(alloc: Global) -> bool {
         &mut Device::new(PLATE),
         &mut Device::new(LOG),
         &mut writer,
+        &mut RefusedRow::new(alloc),
     );
     ending == Ending::Done && out.as_slice() == ANSWER
 }
@@ -146,6 +148,7 @@ fn changes_so(alloc: Global, next: &[u8], ending: Ending, output: &[u8]) -> bool
         &mut next,
         &mut log,
         &mut writer,
+        &mut RefusedRow::new(alloc),
     );
     found == ending && out.as_slice() == output
 }

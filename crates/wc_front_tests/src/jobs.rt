@@ -1,7 +1,7 @@
 //! Texts loaded and checked, and jobs answered.
 use crate::inputs::{PROGRAM, refused};
 use std::alloc::{AllocError, Global};
-use wc_controller::{Input, answer_job, check, job, load};
+use wc_controller::{Input, RefusedRow, answer_job, check, job, load};
 use wc_model::{Device, Fault, FuseOut};
 
 /// The first of the examples.
@@ -19,7 +19,12 @@ fn is_answered(alloc: Global, text: &[u8], status: u8, output: &[u8]) -> bool {
 fn is_refused_as_a_job(alloc: Global) -> bool {
     let mut out = Vec::new(alloc);
     let mut reader = Device::new(b"@plate\n@log\n".as_slice());
-    let ending = answer_job(alloc, &mut reader, &mut Device::new(&mut out));
+    let ending = answer_job(
+        alloc,
+        &mut reader,
+        &mut Device::new(&mut out),
+        &mut RefusedRow::new(alloc),
+    );
     ending == refused(Input::Job, 701, 0) && out.as_slice() == b"refused 701 0\n".as_slice()
 }
 

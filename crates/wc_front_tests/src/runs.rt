@@ -1,7 +1,7 @@
 //! Runs of files over devices that fail: of all scans, and of the last.
 use crate::inputs::{PLATE, PROGRAM, run_of};
 use std::alloc::{AllocError, Global};
-use wc_controller::{Ending, Input, run_files};
+use wc_controller::{Ending, Input, RefusedRow, run_files};
 use wc_model::{Device, FuseIn, FuseOut};
 
 /// A request over two rows, with a scan between.
@@ -51,6 +51,7 @@ fn is_cut(alloc: Global) -> Result<bool, AllocError> {
         &mut next,
         &mut log,
         &mut narrow,
+        &mut RefusedRow::new(alloc),
     );
     let wanted = b"L 420 0a5a314720202020202020302e3030306b67200d\nS 410".as_slice();
     Ok(ending == Ending::WriteFault && ending.status() == 3 && narrow.written() == wanted)

@@ -9,6 +9,8 @@ mod logs;
 #[cfg(test)]
 mod long_rows;
 #[cfg(test)]
+mod refused_rows;
+#[cfg(test)]
 mod rows;
 #[cfg(test)]
 mod scans;

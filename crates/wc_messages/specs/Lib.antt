@@ -2,8 +2,6 @@ pub mod Parts
 pub mod Plain
 pub mod Locations
 pub mod Excerpts
-pub mod Rows
-pub mod Seekers
 pub mod Above
 pub mod Explanations
 pub mod Known

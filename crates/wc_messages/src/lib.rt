@@ -13,8 +13,6 @@ mod object;
 mod page;
 mod parts;
 mod placing;
-mod seeker;
-mod seeking;
 mod short;
 
 pub use explaining::explained;
@@ -22,5 +20,4 @@ pub use form::Form;
 pub use jobs::{Section, section_of};
 pub use message::{Message, shown};
 pub use page::page as page_of;
-pub use seeker::{Row, RowSeeker};
-pub use wc_findings::{Part, Refusal};
+pub use wc_findings::{Evidence, Part, Refusal};

@@ -1,7 +1,7 @@
 -- What a look-up in a TOML table finds, as the rules for a plate see it.
-use Rattle.std.proofs.Common.{◌≡◌, ℕ, Bool, true, false, cond, ◌&&◌, List, [], ◌∷◌, refl, ap, ◌∙◌, string_bytes, nat_cmp, Ordering, Less, Equal, Greater, is_eq, String, Global}
+use Rattle.std.proofs.Common.{◌≡◌, ℕ, Bool, true, false, cond, ◌&&◌, ◌||◌, List, [], ◌∷◌, refl, sym, ap, ◌∙◌, string_bytes, nat_cmp, Ordering, Less, Equal, Greater, is_eq, String, Global}
 use Rattle.std.proofs.lemmas.Map.Text.{is_eq-slice_cmp}
-use Rattle.std.specs.Prelude.{Option, Some, None, option_map, option_and_then, find}
+use Rattle.std.specs.Prelude.{Option, Some, None, is_some, option_map, option_and_then, find}
 use Rattle.std.specs.List.{list_all, list_any}
 use Rattle.std.specs.Map.{keys_of}
 use Rattle.std.specs.Str.{bytes_eq}
@@ -25,7 +25,7 @@ found_at Greater true l d rest more e h = absurd (cc)
 found_at Greater false l d rest more e h = h
 
 -- what stands behind a key
-entry_found : (key : List ℕ) (ms : Members) → entry_at (entries_of ms) key ≡ option_map entry_of (get_member key ms)
+pub entry_found : (key : List ℕ) (ms : Members) → entry_at (entries_of ms) key ≡ option_map entry_of (get_member key ms)
 entry_found key no_members = refl
 entry_found key (member l d ms) =
     found_at (slice_cmp nat_cmp key l) (bytes_eq l key) l d (find (λ m. bytes_eq m.0 key) (entries_of ms)) (get_member key ms)
@@ -66,3 +66,23 @@ pub same_keys : (entries : List (String Global × Value)) →
     list_all (λ key. list_any (bytes_eq (string_bytes key)) plate_keys) (keys_of entries) ≡ has_no_other_key (entries_of (members_view entries))
 same_keys [] = refl
 same_keys (x ∷ xs) = ap (λ b. list_any (bytes_eq (string_bytes x.0)) plate_keys && b) (same_keys xs)
+
+-- a key that stands in a map stands in its table
+pub keys_there : (entries : List (String Global × Value)) (wanted : List ℕ) → list_any (λ key. bytes_eq (string_bytes key) wanted) (keys_of entries) ≡ true
+    → is_some (entry_at (entries_of (members_view entries)) wanted) ≡ true
+keys_there [] wanted h = absurd (cc)
+keys_there (x ∷ xs) wanted h = by_key (bytes_eq (string_bytes x.0) wanted) refl (keys_there xs wanted) h
+  where
+    by_key : (b : Bool) → bytes_eq (string_bytes x.0) wanted ≡ b
+        → (list_any (λ key. bytes_eq (string_bytes key) wanted) (keys_of xs) ≡ true → is_some (entry_at (entries_of (members_view xs)) wanted) ≡ true)
+        → (b || list_any (λ key. bytes_eq (string_bytes key) wanted) (keys_of xs)) ≡ true → is_some (entry_at (entries_of (members_view (x ∷ xs))) wanted) ≡ true
+    by_key true e later h = rw e refl
+    by_key false e later h = rw e (later h)
+
+-- a key that is there has something behind it
+pub there : (key : List ℕ) (ms : Members) (d : Data) → Some d ≡ get_member key ms → is_some (entry_at (entries_of ms) key) ≡ true
+there key ms d found = ap is_some (entry_found key ms) ∙ ap (λ o. is_some (option_map entry_of o)) (sym found)
+
+-- behind a key that is not there stands nothing
+pub not_there : (key : List ℕ) (ms : Members) → None ≡ get_member key ms → entry_at (entries_of ms) key ≡ None
+not_there key ms found = entry_found key ms ∙ ap (option_map entry_of) (sym found)

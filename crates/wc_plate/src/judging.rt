@@ -1,9 +1,11 @@
-ghost use Rattle.std.specs.Prelude.{◌≡◌, ◌≤◌, ◌*◌, ◌*ℤ◌, ◌≤ℤ◌, ◌&&◌, pos, int_le, int_div, is_some, IfSome, IsTrue};
+ghost use Rattle.std.specs.Prelude.{◌≡◌, ◌≤◌, ◌*◌, ◌*ℤ◌, ◌≤ℤ◌, ◌&&◌, pos, int_le, int_div, nat_le, is_some, IfSome, IsTrue};
 ghost use Rattle.std.specs.List.{list_any};
 ghost use Rattle.wc_model.specs.Instrument.Plates.{grams_of, allowed_intervals, least_sample, greatest_sample};
 ghost use Rattle.wc_model.specs.Instrument.PlateTable as plate;
+ghost use Rattle.wc_plate.specs.Broken.{Judges};
 ghost use Rattle.wc_plate.specs.Seen.{written_seen};
 
+use crate::broken::BrokenRule;
 use crate::kept::Plate;
 use crate::keys::Written;
 
@@ -82,6 +84,13 @@ fn interval(unit: [u8; 3], decimals: u32, e: i64) -> Option<u32>
     }
 }
 
+/// Whether a scale interval is allowed with a unit, as the line writes it, and so many decimals, 3 at most.
+pub fn allows_interval(unit: [u8; 3], decimals: u32, e: i64) -> bool
+    ensures { result ≡ (nat_le decimals 3 && plate.is_interval unit decimals e) }
+{
+    decimals <= 3 && interval(unit, decimals, e).is_some()
+}
+
 /// How many intervals the greatest load is, where it is a whole number of them and in range. A load below zero
 /// fails the range.
 fn count(max: i64, e: u32) -> Option<u32>
@@ -98,31 +107,30 @@ fn count(max: i64, e: u32) -> Option<u32>
     }
 }
 
-/// The plate of what is written, or the number of the first rule that it breaks.
-pub(crate) fn judged(written: &Written) -> Result<Plate, u16>
-    ensures { result
-        ≡ plate.judged (written_seen written.now) (plate.line_unit written.now.unit.now) }
+/// The plate of what is written, or the first rule that it breaks.
+pub(crate) fn judged(written: &Written) -> Result<Plate, BrokenRule<'static>>
+    ensures { Judges (written_seen written.now) result }
 {
     let Some(unit) = line_unit(written.unit) else {
-        return Err(503);
+        return Err(BrokenRule::Unit);
     };
     let Some(decimals) = between(0, 3, written.decimals) else {
-        return Err(504);
+        return Err(BrokenRule::Decimals);
     };
     let Some(e) = interval(unit, decimals, written.e) else {
-        return Err(505);
+        return Err(BrokenRule::Interval { unit, decimals });
     };
     let Some(n) = count(written.max, e) else {
-        return Err(506);
+        return Err(BrokenRule::Load { e });
     };
     let Some(zero_counts) = sample(written.zero_counts) else {
-        return Err(507);
+        return Err(BrokenRule::ZeroCounts);
     };
     let Some(span_counts) = between(4 * n, 8000000, written.span_counts) else {
-        return Err(507);
+        return Err(BrokenRule::SpanCounts { n });
     };
     let Some(window) = between(2, 16, written.window) else {
-        return Err(508);
+        return Err(BrokenRule::Window);
     };
     Ok(Plate {
         unit,

@@ -1,11 +1,12 @@
-ghost use Rattle.std.specs.Prelude.{◌≡◌, string_bytes, option_map};
+ghost use Rattle.std.specs.Prelude.{◌≡◌, IfErr, IfOk, IfSome, MatchOption, Some, string_bytes, true};
 ghost use Rattle.std.specs.List.{list_any};
 ghost use Rattle.std.specs.Str.{bytes_eq};
 ghost use Rattle.toml.specs.View.{table_view};
 ghost use Rattle.wc_model.specs.Instrument.PlateTable as plate;
+ghost use Rattle.wc_plate.specs.KeyFaults.{BlamesNumber, BlamesText, HasOther, Lacks, ReadsEach, ReadsKeys};
 ghost use Rattle.wc_plate.specs.TomlTable.{entries_of};
-ghost use Rattle.wc_plate.specs.Seen.{written_seen};
 
+use crate::broken::BrokenRule;
 use toml::Table;
 
 /// What stands behind the seven keys, before it is judged.
@@ -30,48 +31,55 @@ fn is_plate_key(key: &str) -> bool
     )
 }
 
-/// Whether the table has no key beside the seven.
-#[tactic(auto, using(crate::proofs::Lookups::same_keys))]
-fn has_no_other_key(table: &Table) -> bool
-    ensures { result ≡ plate.has_no_other_key (entries_of (table_view table.now)) }
+/// The first key of the table beside the seven.
+#[tactic(auto, using(crate::proofs::Lookups::same_keys, crate::proofs::Lookups::keys_there))]
+fn other_key(table: &Table) -> Option<&str>
+    ensures { MatchOption result
+        (plate.has_no_other_key (entries_of (table_view table.now)) ≡ true)
+        (λ key. HasOther (entries_of (table_view table.now)) key.now) }
 {
     for key in table.keys() {
         if !is_plate_key(key.as_str()) {
-            return false;
+            return Some(key.as_str());
         }
     }
-    true
+    None
 }
 
 /// The text behind a key.
-fn text_at<'t>(table: &'t Table, key: &str) -> Option<&'t str>
-    ensures { option_map (λ s. s.now) result
-        ≡ plate.text_at (entries_of (table_view table.now)) key.now }
+fn text_at<'t>(table: &'t Table, key: &'static str) -> Result<&'t str, BrokenRule<'static>>
+    ensures text { IfOk result
+        (λ text. plate.text_at (entries_of (table_view table.now)) key.now ≡ Some text.now) }
+    ensures fault { IfErr result (BlamesText (entries_of (table_view table.now)) key.now) }
 {
     match table.get(key) {
-        Some(value) => value.as_str(),
-        None => None,
+        Some(value) => match value.as_str() {
+            Some(text) => Ok(text),
+            None => Err(BrokenRule::WrongKind { key }),
+        },
+        None => Err(BrokenRule::MissingKey { key }),
     }
 }
 
 /// The whole number behind a key.
-fn number_at(table: &Table, key: &str) -> Option<i64>
-    ensures { result ≡ plate.number_at (entries_of (table_view table.now)) key.now }
+fn number_at(table: &Table, key: &'static str) -> Result<i64, BrokenRule<'static>>
+    ensures number { IfOk result
+        (λ number. plate.number_at (entries_of (table_view table.now)) key.now ≡ Some number) }
+    ensures fault { IfErr result (BlamesNumber (entries_of (table_view table.now)) key.now) }
 {
     match table.get(key) {
-        Some(value) => value.as_integer(),
-        None => None,
+        Some(value) => match value.as_integer() {
+            Some(number) => Ok(number),
+            None => Err(BrokenRule::WrongKind { key }),
+        },
+        None => Err(BrokenRule::MissingKey { key }),
     }
 }
 
-/// What stands behind the seven keys, where each is there in its kind and there is no other.
-pub(crate) fn written_in(table: &Table) -> Option<Written<'_>>
-    ensures { option_map written_seen result
-        ≡ plate.written_of (entries_of (table_view table.now)) }
+/// What stands behind the seven keys, or the first of them that is missing or not of its kind.
+fn each_key(table: &Table) -> Result<Written<'_>, BrokenRule<'static>>
+    ensures { ReadsEach (entries_of (table_view table.now)) result }
 {
-    if !has_no_other_key(table) {
-        return None;
-    }
     let unit = text_at(table, "unit")?;
     let decimals = number_at(table, "decimals")?;
     let max = number_at(table, "max")?;
@@ -79,7 +87,7 @@ pub(crate) fn written_in(table: &Table) -> Option<Written<'_>>
     let zero_counts = number_at(table, "zero_counts")?;
     let span_counts = number_at(table, "span_counts")?;
     let window = number_at(table, "window")?;
-    Some(Written {
+    Ok(Written {
         unit,
         decimals,
         max,
@@ -88,4 +96,30 @@ pub(crate) fn written_in(table: &Table) -> Option<Written<'_>>
         span_counts,
         window,
     })
+}
+
+/// One of the seven keys that is missing, where none before it is of a wrong kind.
+fn missing_key(table: &Table) -> Option<&'static str>
+    ensures { IfSome result (λ key. Lacks (entries_of (table_view table.now)) key.now) }
+{
+    match each_key(table) {
+        Err(BrokenRule::MissingKey { key }) => Some(key),
+        _ => None,
+    }
+}
+
+/// What stands behind the seven keys, where each is there in its kind and there is no other.
+pub(crate) fn written_in(table: &Table) -> Result<Written<'_>, BrokenRule<'_>>
+    ensures { ReadsKeys (entries_of (table_view table.now)) result }
+{
+    match other_key(table) {
+        Some(key) => Err(BrokenRule::UnknownKey {
+            key,
+            missing: missing_key(table),
+        }),
+        None => match each_key(table) {
+            Ok(written) => Ok(written),
+            Err(rule) => Err(rule),
+        },
+    }
 }

@@ -1,10 +1,10 @@
-ghost use Rattle.std.specs.Prelude.{◌≡◌, Some, IsErrOf};
+ghost use Rattle.std.specs.Prelude.{IsErrOf};
 ghost use Rattle.toml.specs.Errors.{IsBlank};
 ghost use Rattle.toml.specs.View.{table_view};
-ghost use Rattle.wc_model.specs.Instrument.PlateTable.{plate_of};
 ghost use Rattle.wc_plate.specs.TomlTable.{entries_of};
-ghost use Rattle.wc_plate.specs.Verdict.{IsVerdictOn};
+ghost use Rattle.wc_plate.specs.Verdict.{IsVerdictOn, JudgesTable};
 
+use crate::broken::BrokenRule;
 use crate::judging::judged;
 use crate::kept::Plate;
 use crate::keys::written_in;
@@ -12,13 +12,16 @@ use std::alloc::Global;
 use toml::Table;
 use wc_model::Fault;
 
-/// The plate of a table, or the number of its refusal.
-fn plate_in(table: &Table) -> Result<Plate, u16>
-    ensures { result ≡ plate_of (Some (entries_of (table_view table.now))) }
+/// The plate of a table, or the first rule that it breaks, with the key that is meant and what it was judged by.
+pub fn plate_of(table: &Table) -> Result<Plate, BrokenRule<'_>>
+    ensures { JudgesTable (entries_of (table_view table.now)) result }
 {
     match written_in(table) {
-        Some(written) => judged(&written),
-        None => Err(502),
+        Ok(written) => match judged(&written) {
+            Ok(plate) => Ok(plate),
+            Err(rule) => Err(rule),
+        },
+        Err(rule) => Err(rule),
     }
 }
 
@@ -37,8 +40,11 @@ pub fn plate(alloc: Global, text: &[u8]) -> Result<Plate, Fault>
             place: 0,
         }),
     };
-    match plate_in(&table) {
+    match plate_of(&table) {
         Ok(plate) => Ok(plate),
-        Err(number) => Err(Fault::Refused { number, place: 0 }),
+        Err(rule) => Err(Fault::Refused {
+            number: rule.number(),
+            place: 0,
+        }),
     }
 }

@@ -5,7 +5,7 @@ mod StatusBits
 mod RecordEnds
 mod ReadRecords
 mod Sources
-mod LogSteps
+pub mod LogSteps
 mod Cuts
 mod Standing
 mod CutRecords

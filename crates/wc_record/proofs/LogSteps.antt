@@ -1,6 +1,9 @@
 -- One step of a log, from a record that was read.
-use Rattle.std.proofs.Common.{◌≡◌, ◌≤◌, ◌<◌, ◌+◌, ◌^◌, ◌&&◌, ℕ, suc, Bool, true, false, cond, List, [], ◌∷◌, length, Option, Some, None, Result, Ok, Err, refl, sym, ap, ◌∙◌, arith}
+use Rattle.std.proofs.Common.{◌≡◌, ◌≤◌, ◌<◌, ◌+◌, ◌^◌, ◌&&◌, ℕ, suc, Bool, true, false, cond, List, [], ◌∷◌, ◌++◌, length, reverse, Option, Some, None, Result, Ok, Err, refl, sym, ap, ◌∙◌, arith}
 use Rattle.std.proofs.lemmas.Bool.Decides.{nat_tests}
+use Rattle.circular_buffer.proofs.Places.{slice_get-append_right}
+use Rattle.std.proofs.lemmas.Grind.{reverse_onto}
+use Rattle.std.proofs.lemmas.List.{append_assoc, length-reverse}
 use Rattle.std.proofs.lemmas.Slice.Eq.{bytes_eq-Decides}
 use Rattle.std.specs.Prelude.{codes, nat_le, nat_lt, IfSome, option_map}
 use Rattle.std.specs.Str.{bytes_eq}
@@ -11,6 +14,7 @@ use Rattle.wc_record.specs.Cutting.{cut_from}
 use Rattle.wc_record.specs.Places.{log_start}
 use Rattle.wc_record.specs.Left.{Answer, HasLeft, IsLeft, Takes, end_behind, log_behind, moment_or_zero}
 use Rattle.wc_record.specs.Steps.{GivesRecord}
+use Rattle.wc_record.specs.Told.{IsAmong, Reads, ReadsTo, all_records, record_at, records_read}
 use Rattle.wc_record.specs.Reading.{records_of}
 use Rattle.wc_record.specs.Source.{SourceHas}
 use Rattle.wc_record.specs.declared.log.LogEnd.{LogEnd}
@@ -93,6 +97,13 @@ step_refused before rest fields n last number counted few is e =
     let next : suc (length before) ≡ n + 1 = omega arith in
     ap (λ r. log_with before r (log_after (fields ∷ before) rest)) (row_within before fields n last counted few is ∙ e) ∙ ap (refused_at number) next
 
+-- a record that is one too many
+pub step_too_many : (before rest : List Record) (fields : Record) (n place : ℕ) → n ≡ length before → 1000000 ≤ n → place ≡ n + 1 → log_after before (fields ∷ rest) ≡ refused_at 607 place
+step_too_many before rest fields n place counted many is =
+    let above : nat_lt 1000000 (suc (length before)) ≡ true = grind (arith, nat_tests) in
+    let next : suc (length before) ≡ place = omega (arith, counted, is) in
+    rw above (ap (refused_at 607) next)
+
 -- the first row has no moment
 pub first_has_none : (fields : Record) → true ≡ has_fields first_row fields → last_moment (fields ∷ []) ≡ None
 first_has_none [] e = refl
@@ -107,16 +118,73 @@ pub first_read : (left rest : List Record) (fields : Record) → left ≡ fields
 first_read left rest fields e f = rw (e, ← f) refl
 
 -- what is given is taken, and the end is kept
-pub taken : {R : Type 0} (bytes_left : R → Option (List ℕ)) (log : LogOf) (answer : Answer) (given : Rows R) (end : Option LogEnd) → end ≡ end_behind answer → GivesRecord bytes_left log answer given → Takes bytes_left log answer (record given { end = end })
-taken bytes_left log (Ok (Some row)) given end e h = (log_behind h.0 h.1, h.2, rw e (h.0, h.1, record { has = h.3.has; number = h.3.number; last = h.3.last; few = h.3.few }, refl))
-taken bytes_left log (Ok None) given end e h = (h, rw e h)
-taken bytes_left log (Err (fault.Refused number place)) given end e h = (h, rw e h)
-taken bytes_left log (Err fault.Read) given end e h = tt
-taken bytes_left log (Err fault.Memory) given end e h = tt
+pub taken : {R : Type 0} (bytes_left : R → Option (List ℕ)) (before left : List Record) (answer : Answer) (given : Rows R) (end : Option LogEnd) → end ≡ end_behind answer
+    → GivesRecord bytes_left before left answer given → Takes bytes_left (log_behind before left) answer (record given { end = end })
+taken bytes_left before left (Ok (Some row)) given end e h =
+    let stands = h.3.stands in
+    (log_behind h.0 h.1, h.2, rw e (h.0, h.1, record { has = stands.has; number = stands.number; last = stands.last; few = stands.few }, refl))
+taken bytes_left before left (Ok None) given end e h = (h, rw e h)
+taken bytes_left before left (Err (fault.Refused number place)) given end e h = (h.0, rw e h.0)
+taken bytes_left before left (Err fault.Read) given end e h = tt
+taken bytes_left before left (Err fault.Memory) given end e h = tt
+
+-- behind it stand the same records, up to the end
+pub read_on : {R : Type 0} (bytes_left : R → Option (List ℕ)) (before left : List Record) (answer : Answer) (given : Rows R) (end : Option LogEnd) → end ≡ end_behind answer
+    → GivesRecord bytes_left before left answer given → ReadsTo bytes_left end (record given { end = end }) (all_records before left)
+read_on bytes_left before left (Ok (Some row)) given end e h =
+    let stands = h.3.stands in
+    rw e (
+      h.0,
+      h.1,
+      record {
+        stands = record { has = stands.has; number = stands.number; last = stands.last; few = stands.few };
+        all = h.3.all;
+        at_hand = h.3.at_hand;
+      },
+    )
+read_on bytes_left before left (Ok None) given end e h = rw e tt
+read_on bytes_left before left (Err (fault.Refused number place)) given end e h = rw e h.1
+read_on bytes_left before left (Err fault.Read) given end e h = rw e tt
+read_on bytes_left before left (Err fault.Memory) given end e h = rw e tt
+
+-- what is given of the same log and the same records
+pub gives_as : {R : Type 0} (bytes_left : R → Option (List ℕ)) (before left before' left' : List Record) (answer : Answer) (given : Rows R)
+    → log_behind before left ≡ log_behind before' left' → all_records before left ≡ all_records before' left' → GivesRecord bytes_left before' left' answer given → GivesRecord bytes_left before left answer given
+gives_as bytes_left before left before' left' (Ok (Some row)) given e f h = (h.0, h.1, e ∙ h.2, record { stands = h.3.stands; all = f ∙ h.3.all; at_hand = h.3.at_hand })
+gives_as bytes_left before left before' left' (Ok None) given e f h = e ∙ h
+gives_as bytes_left before left before' left' (Err (fault.Refused number place)) given e f h = (e ∙ h.0, rw f h.1)
+gives_as bytes_left before left before' left' (Err fault.Read) given e f h = (tt, tt)
+gives_as bytes_left before left before' left' (Err fault.Memory) given e f h = (tt, tt)
+
+-- no record was read
+pub none_read : (before : List Record) → 0 ≡ length before → before ≡ []
+none_read [] e = refl
+none_read (fields ∷ before) e = absurd (omega (arith, e))
+
+-- one record more was read
+pub one_read : (fields : Record) (before rest : List Record) → all_records before (fields ∷ rest) ≡ all_records (fields ∷ before) rest
+one_read fields before rest = sym (ap (λ l. l ++ rest) (reverse_onto before fields []) ∙ append_assoc (reverse before) (fields ∷ []) rest)
+
+-- the record behind so many is the one of the next number
+pub record_there : (fields : Record) (before rest : List Record) (n : ℕ) → n ≡ length before → fields ≡ record_at (all_records before (fields ∷ rest)) (n + 1)
+record_there fields before rest n counted =
+    let place : n ≡ length (reverse before) + 0 = omega (arith, length-reverse before) in
+    let next : n + 1 ≡ suc n = omega arith in
+    rw (next, slice_get-append_right (reverse before) (fields ∷ rest) n 0 place) refl
+
+-- so it is where it was read last
+pub record_read : (fields : Record) (earlier left : List Record) (n : ℕ) → n ≡ suc (length earlier) → fields ≡ record_at (all_records (fields ∷ earlier) left) n
+record_read fields earlier left n counted =
+    let next : n ≡ length earlier + 1 = omega arith in
+    rw (next, ← one_read fields earlier left) (record_there fields earlier left (length earlier) refl)
 
 -- what is left where nothing has ended the log
 pub not_ended : {R : Type 0} (bytes_left : R → Option (List ℕ)) (rows : Rows R) (log : LogOf) (end : Option LogEnd) → end ≡ None → IsLeft bytes_left end rows log → IsLeft bytes_left None rows log
 not_ended bytes_left rows log end e h = rw e at h
+
+-- the records where nothing has ended the log
+pub reads_still : {R : Type 0} (bytes_left : R → Option (List ℕ)) (rows : Rows R) (records : List Record) (end : Option LogEnd) → end ≡ None → ReadsTo bytes_left end rows records → ReadsTo bytes_left None rows records
+reads_still bytes_left rows records end e h = rw e at h
 
 -- where the bytes are known, their log is left at first: what is cut off changes none of it
 pub all_left : {R : Type 0} (bytes_left : R → Option (List ℕ)) (rows : Rows R) (known read : Option (List ℕ)) → rows.number ≡ 0 → rows.last ≡ 0 → rows.end ≡ None → read ≡ option_map (cut_from log_start) known
@@ -124,3 +192,18 @@ pub all_left : {R : Type 0} (bytes_left : R → Option (List ℕ)) (rows : Rows 
 all_left bytes_left rows None read number last end cut h = tt
 all_left bytes_left rows (Some bytes) read number last end cut h =
     rw end ([], records_of (cut_from log_start bytes), record { has = rw cut at h; number = number; last = last; few = omega arith }, sym (cut_log_is_same bytes))
+
+-- and its records are read up to the cut
+pub all_read : {R : Type 0} (bytes_left : R → Option (List ℕ)) (rows : Rows R) (known read : Option (List ℕ)) → rows.number ≡ 0 → rows.last ≡ 0 → rows.end ≡ None → read ≡ option_map (cut_from log_start) known
+    → IfSome read (λ bytes. SourceHas bytes_left rows.source (records_of bytes)) → IfSome known (λ bytes. Reads bytes_left rows (records_read bytes))
+all_read bytes_left rows None read number last end cut h = tt
+all_read bytes_left rows (Some bytes) read number last end cut h =
+    rw end (
+      [],
+      records_of (cut_from log_start bytes),
+      record {
+        stands = record { has = rw cut at h; number = number; last = last; few = omega arith };
+        all = refl;
+        at_hand = tt;
+      },
+    )

@@ -8,3 +8,4 @@ pub mod Left
 pub mod Steps
 pub mod Recorders
 pub mod RecorderFields
+pub mod Told

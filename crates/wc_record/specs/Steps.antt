@@ -1,15 +1,18 @@
 -- What the steps on the way to a row say and keep.
 use Rattle.std.specs.Prelude.{◌≡◌, ⊤, ℕ, List, [], ◌∷◌, Option, Some, None, Ok, Err}
-use Rattle.wc_model.specs.Run.Log.{Record, LogOf, log_after, refused_at, with_row}
+use Rattle.csv.specs.Records.{fields_of}
+use Rattle.wc_model.specs.Run.Log.{Record, LogOf, log_after, log_of, refused_at, with_row}
 use Rattle.wc_record.specs.Left.{Answer, StandsBehind, log_behind, nothing_left}
+use Rattle.wc_record.specs.Told.{HasRefused, IsAmong, all_records}
 use Rattle.wc_record.specs.Views.{row_view}
 use Rattle.wc_record.specs.declared.log.Rows.{Rows}
 use Rattle.wc_record.specs.declared.row_kind.LogFault.{LogFault}
 use Rattle.wc_record.specs.declared.row_kind.LogFault.TheVariants as fault
 
--- the first row was read, and behind it stands this log
-abbrev pub IsBehindFirst : {R : Type 0} → (R → Option (List ℕ)) → Rows R → LogOf → Type 0
-IsBehindFirst bytes_left rows log = (fields : Record) × (rest : List Record) × (log ≡ log_after (fields ∷ []) rest) × StandsBehind bytes_left rows (fields ∷ []) rest
+-- the first row was read, and behind it stands the rest of these records
+abbrev pub IsBehindFirst : {R : Type 0} → (R → Option (List ℕ)) → Rows R → List Record → Type 0
+IsBehindFirst bytes_left rows left =
+    (fields : Record) × (rest : List Record) × (log_of left ≡ log_after (fields ∷ []) rest) × StandsBehind bytes_left rows (fields ∷ []) rest × (left ≡ fields ∷ rest)
 
 -- a refusal says what is left; a fault of the reader or of memory says nothing
 abbrev pub RefusesRow : LogFault → LogOf → Type 0
@@ -17,12 +20,18 @@ RefusesRow (fault.Refused number place) log = log ≡ refused_at number place
 RefusesRow fault.Read log = ⊤
 RefusesRow fault.Memory log = ⊤
 
--- an answer gives the first row that is left, with its bytes in the room, or tells that none is
--- left, or the refusal
-abbrev pub GivesRecord : {R : Type 0} → (R → Option (List ℕ)) → LogOf → Answer → Rows R → Type 0
-GivesRecord bytes_left log (Ok (Some row)) rows = (before : List Record) × (left : List Record) × (log ≡ with_row (row_view rows.room.items row) (log_behind before left)) × StandsBehind bytes_left rows before left
-GivesRecord bytes_left log (Ok None) rows = log ≡ nothing_left
-GivesRecord bytes_left log (Err met) rows = RefusesRow met log
+-- a refusal says what is left of the log, and its record is at hand
+abbrev pub RefusesAt : {R : Type 0} → LogFault → List Record → List Record → Rows R → Type 0
+RefusesAt met before left rows = RefusesRow met (log_behind before left) × HasRefused met (all_records before left) (fields_of rows.row)
+
+-- where these records were read and these are left, an answer gives the first row that is left, with its bytes in the
+-- room and its record at hand, or tells that none is left, or the refusal
+abbrev pub GivesRecord : {R : Type 0} → (R → Option (List ℕ)) → List Record → List Record → Answer → Rows R → Type 0
+GivesRecord bytes_left before left (Ok (Some row)) rows =
+    (read : List Record) × (rest : List Record) × (log_behind before left ≡ with_row (row_view rows.room.items row) (log_behind read rest))
+    × IsAmong bytes_left rows (all_records before left) read rest
+GivesRecord bytes_left before left (Ok None) rows = log_behind before left ≡ nothing_left
+GivesRecord bytes_left before left (Err met) rows = RefusesAt met before left rows
 
 -- what a step on the way to a row keeps
 pub record Keeps {R : Type 0} (old new : Rows R) : Type 0 where

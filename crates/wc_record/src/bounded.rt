@@ -7,7 +7,9 @@ ghost use Rattle.wc_record.specs.Cutting.{cut_from};
 ghost use Rattle.wc_record.specs.Places.{is_cut, log_start};
 ghost use Rattle.wc_record.specs.Reading.{lent, lent_bytes};
 
+use crate::given::Given;
 use crate::place::Place;
+use std::alloc::Global;
 use std::io;
 use std::io::Read;
 use wc_model::ByteIn;
@@ -49,11 +51,12 @@ pub(crate) struct Bounded<'r, R> {
     pub(crate) reader: &'r mut R,
     pub(crate) start: u64,
     place: Place,
+    given: Given,
 }
 
 impl<'r, R: ByteIn> Bounded<'r, R> {
     /// The reader of a log, of which nothing is read yet.
-    pub(crate) fn new(reader: &'r mut R, start: u64) -> Bounded<'r, R>
+    pub(crate) fn new(alloc: Global, reader: &'r mut R, start: u64) -> Bounded<'r, R>
         ensures bytes { lent_bytes R.bytes_left result
             ≡ option_map (cut_from log_start) (R.bytes_left reader.old) }
         ensures lent { lent result ≡ reader.old }
@@ -63,6 +66,7 @@ impl<'r, R: ByteIn> Bounded<'r, R> {
             reader,
             start,
             place: Place::new(),
+            given: Given::new(alloc),
         }
     }
 
@@ -82,9 +86,21 @@ impl<'r, R: ByteIn> Bounded<'r, R> {
         ensures start { self.new.start ≡ self.old.start }
     {
         match read_within(self.reader, self.start, buffer) {
-            Ok(given) => Ok(self.place.walk(&buffer[..given])),
+            Ok(given) => {
+                let count = self.place.walk(&buffer[..given]);
+                self.given.note(&buffer[..count]);
+                Ok(count)
+            }
             Err(fault) => Err(fault),
         }
+    }
+}
+
+impl<R> Bounded<'_, R> {
+    /// Whether a line ends directly before that byte of the log, as far as that is known. A line feed in quotes that are open
+    /// at the log's end ends no record.
+    pub(crate) fn ends_line(&self, byte: u64) -> bool {
+        self.given.ends_line(byte) && !(self.place.is_in_quotes() && self.given.is_end(byte))
     }
 }
 

@@ -4,6 +4,7 @@
 
 mod bounded;
 mod fields;
+mod given;
 mod hexadecimal;
 mod last_scans;
 mod log;
@@ -11,6 +12,7 @@ mod numbers;
 mod place;
 mod process_image;
 mod records;
+mod refused_row;
 mod row_data;
 mod row_kind;
 mod source;
@@ -19,4 +21,5 @@ pub use bounded::is_used_up;
 pub use last_scans::{Record, Recorder};
 pub use log::Rows;
 pub use process_image::image;
+pub use refused_row::RefusedRow;
 pub use row_kind::{LogFault, Row, RowKind};

@@ -5,15 +5,18 @@ ghost use Rattle.wc_record.specs.Left.{HasCauseIn, HasLeft, IsNext, StandsBehind
 ghost use Rattle.wc_record.specs.Left as left;
 ghost use Rattle.wc_record.specs.Reading.{TakesFirst, records_of};
 ghost use Rattle.wc_record.specs.Source.{SourceHas};
-ghost use Rattle.wc_record.specs.Steps.{GivesRecord, IsBehindFirst, Keeps, KeepsRow, RefusesRow};
+ghost use Rattle.wc_record.specs.Steps.{GivesRecord, IsBehindFirst, Keeps, KeepsRow, RefusesAt};
+ghost use Rattle.wc_record.specs.Told.{Reads, at_hand, fields_told, records_read};
 
 use crate::bounded::{Bounded, is_used_up};
 use crate::fields::{is_first_row, row_in};
+use crate::refused_row::RefusedRow;
 use crate::row_data::RowFault;
 use crate::row_kind::{LogFault, Row};
 use crate::source::Source;
 use csv::ByteRecord;
 use std::alloc::Global;
+use std::mem::replace;
 use wc_model::ByteIn;
 
 /// The most rows that a log has, the first one too.
@@ -71,6 +74,8 @@ impl<'r, R: ByteIn> Rows<'r, R> {
     pub fn new(alloc: Global, reader: &'r mut R) -> Rows<'r, R>
         ensures rows { IfSome (R.bytes_left reader.old)
             (λ bytes. HasLeft R.bytes_left result (log_of (records_of bytes))) }
+        ensures records { IfSome (R.bytes_left reader.old)
+            (λ bytes. Reads R.bytes_left result (records_read bytes)) }
         ensures fresh { (rows_read result ≡ 0) × (last_ms result ≡ 0) × (ended result ≡ None) }
         ensures start { started_at result ≡ R.spent_count reader.old }
         ensures bounded { bounded_from result ≡ Some (R.spent_count reader.old) }
@@ -79,7 +84,7 @@ impl<'r, R: ByteIn> Rows<'r, R> {
     {
         let start = reader.spent();
         Rows {
-            source: Source::new(alloc, Bounded::new(reader, start)),
+            source: Source::new(alloc, Bounded::new(alloc, reader, start)),
             row: ByteRecord::new(alloc),
             room: Vec::new(alloc),
             start,
@@ -134,10 +139,10 @@ impl<'r, R: ByteIn> Rows<'r, R> {
     fn first_row(&mut self) -> Result<(), LogFault>
         ensures first { OnOk result
             ((left : List Record) → StandsBehind R.bytes_left self.old [] left
-            → IsBehindFirst R.bytes_left self.new (log_of left)) }
+            → IsBehindFirst R.bytes_left self.new left) }
         ensures refused { IfErr result
             (λ met. (left : List Record) → StandsBehind R.bytes_left self.old [] left
-            → RefusesRow met (log_of left)) }
+            → RefusesAt met [] left self.new) }
         ensures no_device { IfErr result (λ met. met ≡ LogFault.Read → ⊥) }
         ensures counted { OnOk result
             ((rows_read self.new ≡ 1) × (last_ms self.new ≡ last_ms self.old)) }
@@ -148,13 +153,15 @@ impl<'r, R: ByteIn> Rows<'r, R> {
             Ok(found) => {
                 if found && is_first_row(&self.row) {
                     self.number = 1;
-                    Ok(())
-                } else {
-                    Err(LogFault::Refused {
-                        number: 601,
-                        place: 1,
-                    })
+                    return Ok(());
                 }
+                if !found {
+                    self.row.clear();
+                }
+                Err(LogFault::Refused {
+                    number: 601,
+                    place: 1,
+                })
             }
             Err(fault) => Err(fault),
         }
@@ -165,8 +172,8 @@ impl<'r, R: ByteIn> Rows<'r, R> {
     fn judged(&mut self) -> Result<Option<Row>, LogFault>
         ensures gives { (first : Record) (before rest : List Record)
             → StandsBehind R.bytes_left self.old (first ∷ before) rest
-            → GivesRecord R.bytes_left
-            (log_after (first ∷ before) (fields_of self.old.row ∷ rest)) result self.new }
+            → GivesRecord R.bytes_left (first ∷ before) (fields_of self.old.row ∷ rest)
+            result self.new }
         ensures row { IfOk result
             (λ given.
             IfSome given
@@ -200,7 +207,7 @@ impl<'r, R: ByteIn> Rows<'r, R> {
     fn later_row(&mut self) -> Result<Option<Row>, LogFault>
         ensures gives { (first : Record) (before left : List Record)
             → StandsBehind R.bytes_left self.old (first ∷ before) left
-            → GivesRecord R.bytes_left (log_after (first ∷ before) left) result self.new }
+            → GivesRecord R.bytes_left (first ∷ before) left result self.new }
         ensures row { IfOk result
             (λ given.
             IfSome given
@@ -219,7 +226,7 @@ impl<'r, R: ByteIn> Rows<'r, R> {
     #[inline(always)]
     fn next_row(&mut self) -> Result<Option<Row>, LogFault>
         ensures gives { (before left : List Record) → StandsBehind R.bytes_left self.old before left
-            → GivesRecord R.bytes_left (log_behind before left) result self.new }
+            → GivesRecord R.bytes_left before left result self.new }
         ensures row { IfOk result
             (λ given.
             IfSome given
@@ -242,7 +249,7 @@ impl<'r, R: ByteIn> Rows<'r, R> {
     #[inline(always)]
     fn told_row(&mut self) -> Result<Option<Row>, LogFault>
         ensures gives { (before left : List Record) → StandsBehind R.bytes_left self.old before left
-            → GivesRecord R.bytes_left (log_behind before left) result self.new }
+            → GivesRecord R.bytes_left before left result self.new }
         ensures row { IfOk result
             (λ given.
             IfSome given
@@ -275,6 +282,8 @@ impl<'r, R: ByteIn> Rows<'r, R> {
     pub fn next(&mut self) -> Result<Option<Row>, LogFault>
         ensures takes { (log : LogOf) → HasLeft R.bytes_left self.old log
             → Takes R.bytes_left log result self.new }
+        ensures records { (records : List Record) → Reads R.bytes_left self.old records
+            → Reads R.bytes_left self.new records }
         ensures row { IfOk result
             (λ given.
             IfSome given
@@ -310,5 +319,28 @@ impl<'r, R: ByteIn> Rows<'r, R> {
         ensures { result.now ≡ row_bytes self.now }
     {
         self.room.as_slice()
+    }
+
+    /// The line of the log on which the row that was read last starts, counted from 1.
+    fn line(&self) -> u32 {
+        let feeds = self
+            .row
+            .as_slice()
+            .iter()
+            .filter(|byte| **byte == b'\n')
+            .count();
+        let line = self.source.line().saturating_sub(feeds as u64);
+        line.clamp(1, u32::MAX as u64) as u32
+    }
+
+    /// Tells the row that was read last, which is the one that a refusal names. It takes no memory, and behind it the rows
+    /// are not read on.
+    #[cold]
+    #[inline(never)]
+    pub fn tell(&mut self, alloc: Global, told: &mut RefusedRow)
+        ensures { fields_told told.new ≡ at_hand self.old }
+    {
+        told.line = self.line();
+        told.row = replace(&mut self.row, ByteRecord::new(alloc));
     }
 }

@@ -140,6 +140,11 @@ impl Place {
         self.ended >= 3 && self.size >= MOST_READ
     }
 
+    /// Whether it stands in quotes that are open.
+    pub(crate) fn is_in_quotes(self) -> bool {
+        self.spot == Spot::Quoted
+    }
+
     /// The place behind this byte.
     #[inline(always)]
     fn behind(self, byte: u8) -> Place

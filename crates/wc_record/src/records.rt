@@ -68,4 +68,15 @@ impl<'r, R: ByteIn> Records<'r, R> {
     {
         self.csv.get_ref().reader.spent()
     }
+
+    /// The line on which the last record ends, counted from 1. `csv` counts the line feeds that it has passed, and it passes
+    /// that which ends a record, but not one behind a CR.
+    pub(crate) fn line(&self) -> u64 {
+        let position = self.csv.position();
+        if self.csv.get_ref().ends_line(position.byte) {
+            position.line.saturating_sub(1)
+        } else {
+            position.line
+        }
+    }
 }

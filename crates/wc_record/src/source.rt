@@ -119,4 +119,12 @@ impl<'r, R: ByteIn> Source<'r, R> {
             },
         }
     }
+
+    /// The line at which the reading stands, counted from 1: of a record that was read the one on which it ends.
+    pub(crate) fn line(&self) -> u64 {
+        match &self.opened {
+            Some(records) => records.line(),
+            None => 1,
+        }
+    }
 }

@@ -6,3 +6,4 @@ pub mod ScaleRows
 pub mod ProgramChanges
 pub mod LeftLines
 pub mod ReaderFailures
+pub mod ToldRows

@@ -1,12 +1,13 @@
 -- What an answer of a run says of the log and of what was written.
 use Rattle.std.specs.Prelude.{◌≡◌, ◌≤◌, ℕ, List, ◌++◌, length, Option, Some, None, Result, Ok, Err}
 use Rattle.std.specs.Io.KnownBytes.{Appends}
-use Rattle.wc_model.specs.Run.Log.{LogOf}
+use Rattle.wc_model.specs.Run.Log.{LogOf, Record}
 use Rattle.wc_model.specs.Instrument.Plates.{PlateData}
 use Rattle.wc_model.specs.Run.Rows.{LogRow}
 use Rattle.wc_model.specs.Say.Report.{line_report}
 use Rattle.wc_instrument_laws.specs.WrittenLines.{without_scan_lines}
 use Rattle.wc_model.specs.Say.ProgramReport.{Logic}
+use Rattle.wc_record.specs.Told.{record_at}
 use Rattle.wc_run.specs.Logics.{run_report, run_report_last}
 use Rattle.wc_run.specs.declared.fault.RunFault.{RunFault}
 use Rattle.wc_run.specs.declared.fault.RunFault.TheVariants.{Refused, Read, Write, Memory}
@@ -64,3 +65,29 @@ HasNotFailed (Err (Refused number place)) old new = new ≤ old
 HasNotFailed (Err Read) old new = Unit {0}
 HasNotFailed (Err Write) old new = Unit {0}
 HasNotFailed (Err Memory) old new = Unit {0}
+
+-- at a refusal these are the fields of the refused row: the record of that number
+abbrev pub TellsFault : List Record → Record → RunFault → Type 0
+TellsFault records fields (Refused number place) = fields ≡ record_at records place
+TellsFault records fields Read = Unit {0}
+TellsFault records fields Write = Unit {0}
+TellsFault records fields Memory = Unit {0}
+
+-- the same of whatever a run answers
+abbrev pub TellsRow : {X : Type 0} → List Record → Record → Result X RunFault → Type 0
+TellsRow records fields (Ok x) = Unit {0}
+TellsRow records fields (Err fault) = TellsFault records fields fault
+
+-- a fault at a row is a refusal of that row, or of a device or memory
+abbrev pub IsFaultAt : ℕ → RunFault → Type 0
+IsFaultAt row (Refused number place) = place ≡ row
+IsFaultAt row Read = Unit {0}
+IsFaultAt row Write = Unit {0}
+IsFaultAt row Memory = Unit {0}
+
+-- a fault of a device or of memory
+abbrev pub IsNoRefusal : RunFault → Type 0
+IsNoRefusal (Refused number place) = ⊥
+IsNoRefusal Read = Unit {0}
+IsNoRefusal Write = Unit {0}
+IsNoRefusal Memory = Unit {0}

@@ -1,3 +1,5 @@
+ghost use Rattle.std.specs.Prelude.{IfErr};
+ghost use Rattle.wc_run.specs.Runs.{IsFaultAt};
 ghost use Rattle.wc_run.specs.Taking.{Changes};
 
 use crate::fault::RunFault;
@@ -15,7 +17,8 @@ pub(crate) fn changed<'a>(
     next: Option<Loaded<'a>>,
     number: u32,
 ) -> Result<Machine<'a, SlotStore>, RunFault>
-    ensures { Changes machine.entry next.entry number result }
+    ensures changes { Changes machine.entry next.entry number result }
+    ensures place { IfErr result (IsFaultAt number) }
 {
     match next {
         Some(loaded) => match machine.change(alloc, loaded) {

@@ -14,4 +14,4 @@ mod scale;
 mod scans;
 
 pub use fault::RunFault;
-pub use running::{run, run_last};
+pub use running::{run, run_last, run_telling};

@@ -1,17 +1,19 @@
-ghost use Rattle.std.specs.Prelude.{◌≡◌, ◌<◌, ◌^◌, ℕ, List, [], Option, IfSome, IsErrOf, OnOk};
-ghost use Rattle.wc_model.specs.Run.Log.{LogOf, log_of};
+ghost use Rattle.std.specs.Prelude.{◌≡◌, ◌<◌, ◌^◌, ℕ, List, [], Option, IfErr, IfSome, IsErrOf, OnOk};
+ghost use Rattle.wc_model.specs.Run.Log.{LogOf, Record, log_of};
 ghost use Rattle.wc_model.specs.Instrument.Plates.{PlateData};
 ghost use Rattle.wc_model.specs.Run.Rows.{Past};
 ghost use Rattle.wc_model.specs.Run.Writing.{HasFailedSince};
 ghost use Rattle.wc_model.specs.Say.Report.{ReportLine};
 ghost use Rattle.wc_record.specs.Left.{HasLeft, last_ms, rows_read};
 ghost use Rattle.wc_record.specs.Reading.{records_of};
+ghost use Rattle.wc_record.specs.Told.{Reads, at_hand, fields_told, records_read};
 ghost use Rattle.wc_record.specs.Views.{IsDataInRange, data_view, row_view};
 ghost use Rattle.wc_run.specs.Deferring.{HoldsScans};
 ghost use Rattle.wc_run.specs.Doing.{Does, RunsRows};
 ghost use Rattle.wc_run.specs.Doing as doing;
 ghost use Rattle.wc_model.specs.Say.LogFor.{log_for};
 ghost use Rattle.wc_model.specs.Say.ProgramReport.{Logic};
+ghost use Rattle.wc_run.specs.Runs.{IsFaultAt, TellsRow};
 ghost use Rattle.wc_run.specs.Standing.{IsNotBehind, Stands};
 
 use crate::fault::RunFault;
@@ -20,7 +22,7 @@ use crate::room::Room;
 use crate::scale::Scale;
 use std::alloc::Global;
 use wc_model::{ByteIn, ByteOut};
-use wc_record::{LogFault, Recorder, Row, Rows};
+use wc_record::{LogFault, Recorder, RefusedRow, Row, Rows};
 
 /// Does a row, with the bytes that are lent with it, and puts what is printed of it.
 #[inline(always)]
@@ -41,6 +43,7 @@ fn run_row<W: ByteOut>(
         → Stands scale.old plate logic past → HoldsScans recorder.old number before
         → Does plate logic number before past (row_view bytes.now row) scale.new recorder.new result
         (W.bytes_taken writer.old) (W.bytes_taken writer.new) }
+    ensures place { IfErr result (IsFaultAt row.number) }
     ensures in_order { OnOk result (IsNotBehind scale.new row.ms) }
     ensures write { IsErrOf result RunFault.Write
         → HasFailedSince (W.failure_count writer.old) (W.failure_count writer.new) }
@@ -80,6 +83,8 @@ fn run_rows<R: ByteIn, W: ByteOut>(
         → Stands scale.old plate logic [] → HoldsScans recorder.old number []
         → RunsRows number plate logic (log_for logic log) recorder.new result
         (W.bytes_taken writer.old) (W.bytes_taken writer.new) }
+    ensures told { (records : List Record) → Reads R.bytes_left rows.old records
+        → TellsRow records (at_hand rows.new) result }
     ensures write { IsErrOf result RunFault.Write
         → HasFailedSince (W.failure_count writer.old) (W.failure_count writer.new) }
     ensures steady { ¬ IsErrOf result RunFault.Write
@@ -108,13 +113,14 @@ fn run_rows<R: ByteIn, W: ByteOut>(
     }
 }
 
-/// Runs the log that the reader has to give.
+/// Runs the log that the reader has to give, and tells its refused row, if it has one.
 pub(crate) fn run_log<R: ByteIn, W: ByteOut>(
     alloc: Global,
     scale: &mut Scale<'_>,
     recorder: &mut Option<Recorder>,
     reader: &mut R,
     writer: &mut W,
+    told: &mut RefusedRow,
 ) -> Result<u32, RunFault>
     requires { IsNotBehind scale.old 0 }
     ensures reports { IfSome (R.bytes_left reader.old)
@@ -122,6 +128,8 @@ pub(crate) fn run_log<R: ByteIn, W: ByteOut>(
         → Stands scale.old plate logic [] → HoldsScans recorder.old number []
         → RunsRows number plate logic (log_for logic (log_of (records_of bytes))) recorder.new result
         (W.bytes_taken writer.old) (W.bytes_taken writer.new)) }
+    ensures told { IfSome (R.bytes_left reader.old)
+        (λ bytes. TellsRow (records_read bytes) (fields_told told.new) result) }
     ensures write { IsErrOf result RunFault.Write
         → HasFailedSince (W.failure_count writer.old) (W.failure_count writer.new) }
     ensures steady { ¬ IsErrOf result RunFault.Write
@@ -130,6 +138,7 @@ pub(crate) fn run_log<R: ByteIn, W: ByteOut>(
     let mut room = Room::new(alloc);
     let mut rows = Rows::new(alloc, reader);
     let answer = run_rows(alloc, &mut room, scale, &mut rows, recorder, writer);
+    rows.tell(alloc, told);
     drop(rows);
     answer
 }

@@ -1,8 +1,9 @@
-ghost use Rattle.std.specs.Prelude.{◌≡◌, ◌∷◌, [], ℕ, List, Option, IsErrOf};
+ghost use Rattle.std.specs.Prelude.{◌≡◌, ◌∷◌, [], ℕ, List, Option, IfErr, IsErrOf};
 ghost use Rattle.wc_model.specs.Run.Writing.{HasFailedSince};
 ghost use Rattle.wc_model.specs.Say.Report.{ReportLine, line_text, report_text};
 ghost use Rattle.wc_run.specs.Deferring.{HoldsScans, lines_at_end};
 ghost use Rattle.wc_run.specs.Doing.{Puts, Writes};
+ghost use Rattle.wc_run.specs.Runs.{IsNoRefusal};
 ghost use Rattle.wc_run.specs.Outputs.{IsOutput, line_of_record};
 
 use crate::fault::RunFault;
@@ -16,6 +17,7 @@ use wc_record::{Record, Recorder};
 #[inline(always)]
 fn write_text<W: ByteOut>(text: &[u8], writer: &mut W) -> Result<(), RunFault>
     ensures writes { Writes text.now result (W.bytes_taken writer.old) (W.bytes_taken writer.new) }
+    ensures held { IfErr result IsNoRefusal }
     ensures write { IsErrOf result RunFault.Write
         → HasFailedSince (W.failure_count writer.old) (W.failure_count writer.new) }
     ensures steady { ¬ IsErrOf result RunFault.Write
@@ -32,6 +34,7 @@ fn write_text<W: ByteOut>(text: &[u8], writer: &mut W) -> Result<(), RunFault>
 fn write_scan<W: ByteOut>(scan: &Record, text: &mut Vec<u8>, writer: &mut W) -> Result<(), RunFault>
     ensures writes { Writes (line_text (line_of_record scan.now)) result
         (W.bytes_taken writer.old) (W.bytes_taken writer.new) }
+    ensures held { IfErr result IsNoRefusal }
     ensures write { IsErrOf result RunFault.Write
         → HasFailedSince (W.failure_count writer.old) (W.failure_count writer.new) }
     ensures steady { ¬ IsErrOf result RunFault.Write
@@ -56,6 +59,7 @@ fn put_scan<W: ByteOut>(
         → lines ≡ line_of_record scan ∷ [] → HoldsScans recorder.old number before
         → Puts number before lines recorder.new result (W.bytes_taken writer.old)
         (W.bytes_taken writer.new) }
+    ensures held { IfErr result IsNoRefusal }
     ensures write { IsErrOf result RunFault.Write
         → HasFailedSince (W.failure_count writer.old) (W.failure_count writer.new) }
     ensures steady { ¬ IsErrOf result RunFault.Write
@@ -83,6 +87,7 @@ pub(crate) fn put<W: ByteOut>(
         → IsOutput output text.old.items lines → HoldsScans recorder.old number before
         → Puts number before lines recorder.new result (W.bytes_taken writer.old)
         (W.bytes_taken writer.new) }
+    ensures held { IfErr result IsNoRefusal }
     ensures write { IsErrOf result RunFault.Write
         → HasFailedSince (W.failure_count writer.old) (W.failure_count writer.new) }
     ensures steady { ¬ IsErrOf result RunFault.Write
@@ -105,6 +110,7 @@ pub(crate) fn write_last<W: ByteOut>(
         → HoldsScans recorder.now number lines
         → Writes (report_text (lines_at_end number lines)) result (W.bytes_taken writer.old)
         (W.bytes_taken writer.new) }
+    ensures held { IfErr result IsNoRefusal }
     ensures write { IsErrOf result RunFault.Write
         → HasFailedSince (W.failure_count writer.old) (W.failure_count writer.new) }
     ensures steady { ¬ IsErrOf result RunFault.Write

@@ -4,12 +4,13 @@ ghost use Rattle.wc_model.specs.Instrument.Plates.{PlateData};
 ghost use Rattle.wc_model.specs.Run.Writing.{HasFailedSince};
 ghost use Rattle.wc_record.specs.Left.{HasCause};
 ghost use Rattle.wc_record.specs.Reading.{records_of};
+ghost use Rattle.wc_record.specs.Told.{fields_told, records_read};
 ghost use Rattle.wc_run.specs.Deferring.{HoldsScans};
 ghost use Rattle.wc_run.specs.Doing.{Ends, IsJudged, RunsRows, is_cut_short};
 ghost use Rattle.wc_model.specs.Say.LogFor.{log_for};
 ghost use Rattle.wc_model.specs.Say.ProgramReport.{Logic};
 ghost use Rattle.wc_run.specs.Logics.{StandsAt};
-ghost use Rattle.wc_run.specs.Runs.{HasNotFailed, LeavesLine, Reports, ReportsLast};
+ghost use Rattle.wc_run.specs.Runs.{HasNotFailed, LeavesLine, Reports, ReportsLast, TellsRow};
 ghost use Rattle.wc_run.specs.Standing.{IsNotBehind, Stands};
 
 use crate::fault::RunFault;
@@ -21,7 +22,7 @@ use wc_cost::Loaded;
 use wc_machine::Machine;
 use wc_model::{ByteIn, ByteOut};
 use wc_plate::Plate;
-use wc_record::{Recorder, is_used_up};
+use wc_record::{Recorder, RefusedRow, is_used_up};
 use wc_store::SlotStore;
 
 /// Whether a device failed or memory was refused before a log came to its end or to a refused row.
@@ -45,6 +46,7 @@ fn run_told<R: ByteIn, W: ByteOut>(
     recorder: &mut Option<Recorder>,
     reader: &mut R,
     writer: &mut W,
+    told: &mut RefusedRow,
 ) -> Result<u32, RunFault>
     requires { IsNotBehind scale.old 0 }
     ensures reports { IfSome (R.bytes_left reader.old)
@@ -52,6 +54,8 @@ fn run_told<R: ByteIn, W: ByteOut>(
         → Stands scale.old plate logic [] → HoldsScans recorder.old number []
         → RunsRows number plate logic (log_for logic (log_of (records_of bytes))) recorder.new
         result (W.bytes_taken writer.old) (W.bytes_taken writer.new)) }
+    ensures told { IfSome (R.bytes_left reader.old)
+        (λ bytes. TellsRow (records_read bytes) (fields_told told.new) result) }
     ensures write { IsErrOf result RunFault.Write
         → HasFailedSince (W.failure_count writer.old) (W.failure_count writer.new) }
     ensures steady { ¬ IsErrOf result RunFault.Write
@@ -60,7 +64,7 @@ fn run_told<R: ByteIn, W: ByteOut>(
         (R.failure_count reader.new) }
 {
     let before = reader.failures();
-    let answer = run_log(alloc, scale, recorder, reader, writer);
+    let answer = run_log(alloc, scale, recorder, reader, writer, told);
     if is_cut_short(&answer) {
         return answer;
     }
@@ -78,6 +82,7 @@ fn run_to_end<R: ByteIn, W: ByteOut>(
     recorder: &mut Option<Recorder>,
     reader: &mut R,
     writer: &mut W,
+    told: &mut RefusedRow,
 ) -> Result<u32, RunFault>
     requires { IsNotBehind scale.old 0 }
     ensures ends { IfSome (R.bytes_left reader.old)
@@ -85,6 +90,8 @@ fn run_to_end<R: ByteIn, W: ByteOut>(
         → Stands scale.old plate logic [] → HoldsScans recorder.old number []
         → Ends number plate logic (log_for logic (log_of (records_of bytes))) result
         (W.bytes_taken writer.old) (W.bytes_taken writer.new)) }
+    ensures told { IfSome (R.bytes_left reader.old)
+        (λ bytes. TellsRow (records_read bytes) (fields_told told.new) result) }
     ensures write { IsErrOf result RunFault.Write
         → HasFailedSince (W.failure_count writer.old) (W.failure_count writer.new) }
     ensures steady { ¬ IsErrOf result RunFault.Write
@@ -92,7 +99,7 @@ fn run_to_end<R: ByteIn, W: ByteOut>(
     ensures reader { HasNotFailed result (R.failure_count reader.old)
         (R.failure_count reader.new) }
 {
-    let answer = run_told(alloc, scale, recorder, reader, writer);
+    let answer = run_told(alloc, scale, recorder, reader, writer, told);
     if is_cut_short(&answer) {
         return answer;
     }
@@ -117,38 +124,8 @@ fn recorder_of(alloc: Global, number: Option<u16>) -> Result<Option<Recorder>, R
     }
 }
 
-/// Runs the log that the reader has to give with a scale to which no row has come.
-fn run_scale<'a, R: ByteIn, W: ByteOut>(
-    alloc: Global,
-    plate: &Plate,
-    machine: Option<Machine<'a, SlotStore>>,
-    next: Option<Loaded<'a>>,
-    recorder: &mut Option<Recorder>,
-    reader: &mut R,
-    writer: &mut W,
-) -> Result<u32, RunFault>
-    requires { IfSome machine (λ m. m.last ≡ 0) }
-    ensures ends { IfSome (R.bytes_left reader.old)
-        (λ bytes. (logic : Option Logic) (number : Option ℕ)
-        → StandsAt machine.entry next.entry logic
-        → HoldsScans recorder.old number []
-        → Ends number plate.now logic (log_for logic (log_of (records_of bytes))) result
-        (W.bytes_taken writer.old) (W.bytes_taken writer.new)) }
-    ensures write { IsErrOf result RunFault.Write
-        → HasFailedSince (W.failure_count writer.old) (W.failure_count writer.new) }
-    ensures steady { ¬ IsErrOf result RunFault.Write
-        → W.failure_count writer.new ≡ W.failure_count writer.old }
-    ensures reader { HasNotFailed result (R.failure_count reader.old)
-        (R.failure_count reader.new) }
-{
-    match Scale::new(alloc, plate, machine, next) {
-        Ok(mut scale) => run_to_end(alloc, &mut scale, recorder, reader, writer),
-        Err(fault) => Err(fault),
-    }
-}
-
-/// Runs the log that the reader has to give, with a recorder of the last so many scans where they
-/// are asked for.
+/// Runs the log that the reader has to give with a scale to which no row has come, and a recorder
+/// of the last so many scans where they are asked for.
 fn run_recorded<'a, R: ByteIn, W: ByteOut>(
     alloc: Global,
     number: Option<u16>,
@@ -157,6 +134,7 @@ fn run_recorded<'a, R: ByteIn, W: ByteOut>(
     next: Option<Loaded<'a>>,
     reader: &mut R,
     writer: &mut W,
+    told: &mut RefusedRow,
 ) -> Result<u32, RunFault>
     requires few { IfSome number (λ n. (1 ≤ n) × (n ≤ 1000)) }
     requires first { IfSome machine (λ m. m.last ≡ 0) }
@@ -164,6 +142,8 @@ fn run_recorded<'a, R: ByteIn, W: ByteOut>(
         (λ bytes. (logic : Option Logic) → StandsAt machine.entry next.entry logic
         → Ends number plate.now logic (log_for logic (log_of (records_of bytes))) result
         (W.bytes_taken writer.old) (W.bytes_taken writer.new)) }
+    ensures told { IfSome (R.bytes_left reader.old)
+        (λ bytes. TellsRow (records_read bytes) (fields_told told.new) result) }
     ensures write { IsErrOf result RunFault.Write
         → HasFailedSince (W.failure_count writer.old) (W.failure_count writer.new) }
     ensures steady { ¬ IsErrOf result RunFault.Write
@@ -171,8 +151,12 @@ fn run_recorded<'a, R: ByteIn, W: ByteOut>(
     ensures reader { HasNotFailed result (R.failure_count reader.old)
         (R.failure_count reader.new) }
 {
-    match recorder_of(alloc, number) {
-        Ok(mut recorder) => run_scale(alloc, plate, machine, next, &mut recorder, reader, writer),
+    let mut recorder = match recorder_of(alloc, number) {
+        Ok(recorder) => recorder,
+        Err(fault) => return Err(fault),
+    };
+    match Scale::new(alloc, plate, machine, next) {
+        Ok(mut scale) => run_to_end(alloc, &mut scale, &mut recorder, reader, writer, told),
         Err(fault) => Err(fault),
     }
 }
@@ -199,9 +183,9 @@ fn judged<R: ByteIn>(fault: RunFault, reader: &R, failures: u64, spent: u64) -> 
     }
 }
 
-/// Runs a log, with the last so many scans at its end where they are asked for: a fault behind
-/// which there is no other cause is want of memory.
-fn run_judged<'a, R: ByteIn, W: ByteOut>(
+/// Runs a log as `run` does, or as `run_last` where the last so many scans are asked for, and tells
+/// the refused row, if there is one: the record of the log that has its number.
+pub fn run_telling<'a, R: ByteIn, W: ByteOut>(
     alloc: Global,
     number: Option<u16>,
     plate: &Plate,
@@ -209,6 +193,7 @@ fn run_judged<'a, R: ByteIn, W: ByteOut>(
     next: Option<Loaded<'a>>,
     reader: &mut R,
     writer: &mut W,
+    told: &mut RefusedRow,
 ) -> Result<u32, RunFault>
     requires few { IfSome number (λ n. (1 ≤ n) × (n ≤ 1000)) }
     requires first { IfSome machine (λ m. m.last ≡ 0) }
@@ -216,6 +201,8 @@ fn run_judged<'a, R: ByteIn, W: ByteOut>(
         (λ bytes. (logic : Option Logic) → StandsAt machine.entry next.entry logic
         → Ends number plate.now logic (log_for logic (log_of (records_of bytes))) result
         (W.bytes_taken writer.old) (W.bytes_taken writer.new)) }
+    ensures told { IfSome (R.bytes_left reader.old)
+        (λ bytes. TellsRow (records_read bytes) (fields_told told.new) result) }
     ensures read { IsErrOf result RunFault.Read
         → HasCause (R.failure_count reader.old) (R.failure_count reader.new)
         (R.spent_count reader.old) (R.spent_count reader.new) }
@@ -231,7 +218,7 @@ fn run_judged<'a, R: ByteIn, W: ByteOut>(
 {
     let failures = reader.failures();
     let spent = reader.spent();
-    match run_recorded(alloc, number, plate, machine, next, reader, writer) {
+    match run_recorded(alloc, number, plate, machine, next, reader, writer, told) {
         Ok(count) => Ok(count),
         Err(fault) => Err(judged(fault, reader, failures, spent)),
     }
@@ -281,7 +268,8 @@ pub fn run<'a, R: ByteIn, W: ByteOut>(
     ensures reader { HasNotFailed result (R.failure_count reader.old)
         (R.failure_count reader.new) }
 {
-    run_judged(alloc, None, plate, machine, next, reader, writer)
+    let mut told = RefusedRow::new(alloc);
+    run_telling(alloc, None, plate, machine, next, reader, writer, &mut told)
 }
 
 /// Runs a log as `run` does, but of its scans prints the last `number` alone, 1 to 1000, in order,
@@ -326,5 +314,6 @@ pub fn run_last<'a, R: ByteIn, W: ByteOut>(
     ensures reader { HasNotFailed result (R.failure_count reader.old)
         (R.failure_count reader.new) }
 {
-    run_judged(alloc, Some(number), plate, machine, next, reader, writer)
+    let mut told = RefusedRow::new(alloc);
+    run_telling(alloc, Some(number), plate, machine, next, reader, writer, &mut told)
 }

@@ -5,6 +5,7 @@ ghost use Rattle.wc_record.specs.Views.{IsDataInRange, data_view, row_view};
 ghost use Rattle.wc_model.specs.Say.ProgramReport.{Logic};
 ghost use Rattle.wc_run.specs.Logics.{StandsAt, lines_of_row};
 ghost use Rattle.wc_run.specs.Outputs.{IsOutput};
+ghost use Rattle.wc_run.specs.Runs.{IsFaultAt};
 ghost use Rattle.wc_run.specs.Standing.{IsNotBehind, Stands};
 ghost use Rattle.wc_run.specs.Taking.{Gives, RunsRow, StopsAtRow, TakesRow, row_at};
 
@@ -83,6 +84,7 @@ impl<'a> Scale<'a> {
             → IsOutput output room.new.text.items
             (lines_of_row plate logic past (row_view bytes.now row))) }
         ensures runs { OnOk result (RunsRow self.old (row_view bytes.now row)) }
+        ensures place { IfErr result (IsFaultAt row.number) }
         ensures stops { IfErr result
             (λ fault. StopsAtRow self.old (row_view bytes.now row) fault) }
         ensures in_order { OnOk result (IsNotBehind self.new row.ms) }
@@ -165,6 +167,7 @@ impl<'a> Scale<'a> {
     fn take_change(&mut self, alloc: Global, number: u32) -> Result<(), RunFault>
         ensures stands { OnOk result ((ms : ℕ) → TakesRow self.old self.new ms Change) }
         ensures runs { OnOk result ((ms : ℕ) → RunsRow self.old (row_at number ms Change)) }
+        ensures place { IfErr result (IsFaultAt number) }
         ensures stops { IfErr result
             (λ fault. (ms : ℕ) → StopsAtRow self.old (row_at number ms Change) fault) }
         ensures in_order { OnOk result

@@ -105,7 +105,7 @@ fn unfit_value(
         None => Some(Meant::Instance),
         Some(kind) if kind == formal => None,
         Some(_) if direction == Direction::Into && formal == Kind::Bool && is_bit => None,
-        Some(kind) => Some(Meant::Unpassed(kind)),
+        Some(kind) => Some(Meant::Unpassed(kind, formal)),
     }
 }
 

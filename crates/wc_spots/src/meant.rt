@@ -21,8 +21,8 @@ pub enum Meant {
     Untaken(Kind),
     /// An operand of that kind, where the result is of another.
     Unlike(Kind),
-    /// A value or a target of that kind, where the input or the output is of another.
-    Unpassed(Kind),
+    /// A value or a target of the first kind, where the input or the output is of the second.
+    Unpassed(Kind, Kind),
     /// An operator that does not take the result.
     Result,
     /// The operator, since what is meant begins on a line below.

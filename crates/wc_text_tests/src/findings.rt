@@ -1,6 +1,6 @@
 //! What is found to be wrong in a text.
 use std::alloc::{AllocError, Global};
-use wc_findings::{Part, Refusal, Spot, find};
+use wc_findings::{Evidence, Part, Refusal, Spot, find};
 
 /// In an unexpected operand its token is meant, and nothing but the line's end is expected.
 fn is_found(alloc: Global) -> Result<bool, AllocError> {
@@ -10,7 +10,7 @@ fn is_found(alloc: Global) -> Result<bool, AllocError> {
         part: Part::Program,
         name: b"a.txt",
         in_job: false,
-        text: Some(b"PROGRAM P\nLD TRUE\nNOT %IX0.0\nEND_PROGRAM\n"),
+        evidence: Evidence::Text(b"PROGRAM P\nLD TRUE\nNOT %IX0.0\nEND_PROGRAM\n"),
         above: 0,
     };
     let finding = find(alloc, &refusal)?;

@@ -1,6 +1,6 @@
 //! Messages as they are printed, and the pages.
 use std::alloc::{AllocError, Global};
-use wc_messages::{Form, Part, Refusal, explained, page_of, section_of, shown};
+use wc_messages::{Evidence, Form, Part, Refusal, explained, page_of, section_of, shown};
 
 /// A plate whose sixth line is out of range.
 const PLATE: &[u8] =
@@ -16,7 +16,7 @@ fn begins(
     part: Part,
     number: u16,
     place: u32,
-    text: Option<&'static [u8]>,
+    evidence: Evidence<'static>,
     wanted: &[u8],
 ) -> Result<bool, AllocError> {
     let refusal = Refusal {
@@ -25,7 +25,7 @@ fn begins(
         part,
         name: b"a.txt",
         in_job: false,
-        text,
+        evidence,
         above: 0,
     };
     let message = explained(alloc, Form::Long, &refusal)?;
@@ -37,14 +37,32 @@ fn a_token_is_marked(rt: HostRuntime) {
     let text = b"PROGRAM P\nLD TRUE\nNOT\t%IX0.0\nEND_PROGRAM\n";
     let wanted =
         b"error[201]: `%IX0.0` can't stand here\n --> a.txt:3:5\n  |\n3 | NOT %IX0.0\n  |     ^^^^^^ expected the end of the line\nhelp: ";
-    assert!(rt; begins(rt.alloc(), Part::Program, 201, 3, Some(text), wanted) == Ok(true));
+    assert!(rt;
+        begins(
+            rt.alloc(),
+            Part::Program,
+            201,
+            3,
+            Evidence::Text(text),
+            wanted
+        ) == Ok(true)
+    );
 }
 
 #[test]
 fn a_line_with_a_return_is_marked_at_its_end(rt: HostRuntime) {
     let text = b"PROGRAM P\r\nLD\r\nEND_PROGRAM\r\n";
     let wanted = b"error[201]: the line can't end here\n --> a.txt:2:3\n  |\n2 | LD\n  |   ^";
-    assert!(rt; begins(rt.alloc(), Part::Program, 201, 2, Some(text), wanted) == Ok(true));
+    assert!(rt;
+        begins(
+            rt.alloc(),
+            Part::Program,
+            201,
+            2,
+            Evidence::Text(text),
+            wanted
+        ) == Ok(true)
+    );
 }
 
 #[test]
@@ -52,20 +70,38 @@ fn a_byte_that_is_escaped_moves_the_marks(rt: HostRuntime) {
     let text = b"PROGRAM P\n\t(*\xe9*) LD xy\nEND_PROGRAM\n";
     let wanted =
         b"error[401]: `xy` is not declared in this unit\n --> a.txt:2:11\n  |\n2 |  (*\\xe9*) LD xy\n  |              ^^\nhelp: ";
-    assert!(rt; begins(rt.alloc(), Part::Program, 401, 2, Some(text), wanted) == Ok(true));
+    assert!(rt;
+        begins(
+            rt.alloc(),
+            Part::Program,
+            401,
+            2,
+            Evidence::Text(text),
+            wanted
+        ) == Ok(true)
+    );
 }
 
 #[test]
 fn a_number_says_what_is_not_found(rt: HostRuntime) {
     let wanted = b"error[403]: there is no current result\n --> a.txt:7\nhelp: ";
-    assert!(rt; begins(rt.alloc(), Part::Program, 403, 7, None, wanted) == Ok(true));
+    assert!(rt; begins(rt.alloc(), Part::Program, 403, 7, Evidence::Nothing, wanted) == Ok(true));
 }
 
 #[test]
 fn a_key_is_marked(rt: HostRuntime) {
     let wanted =
         b"error[507]: span_counts is out of range\n --> a.txt:6:15\n  |\n6 | span_counts = 11999\n  |               ^^^^^\nhelp: with max / e = 3000, span_counts is 12000 to 8000000; `wc explain 507` says more\n";
-    assert!(rt; begins(rt.alloc(), Part::Plate, 507, 0, Some(PLATE), wanted) == Ok(true));
+    assert!(rt;
+        begins(
+            rt.alloc(),
+            Part::Plate,
+            507,
+            0,
+            Evidence::Text(PLATE),
+            wanted
+        ) == Ok(true)
+    );
 }
 
 /// A name that is not declared, in a file whose name has a quote and a letter beyond ASCII, is told so in a form.
@@ -76,7 +112,7 @@ fn is_told_so(alloc: Global, form: Form, wanted: &[u8]) -> Result<bool, AllocErr
         part: Part::Program,
         name: b"t\xc3\xbcr\".il",
         in_job: false,
-        text: Some(b"PROGRAM P\nLD xy\nEND_PROGRAM\n"),
+        evidence: Evidence::Text(b"PROGRAM P\nLD xy\nEND_PROGRAM\n"),
         above: 0,
     };
     let told = explained(alloc, form, &refusal)?;
@@ -100,7 +136,7 @@ fn is_counted_so(alloc: Global, form: Form, wanted: &[u8]) -> Result<bool, Alloc
         part: Part::Log,
         name: b"\xff",
         in_job: false,
-        text: None,
+        evidence: Evidence::Nothing,
         above: 0,
     };
     let told = explained(alloc, form, &refusal)?;
@@ -127,7 +163,7 @@ fn begins_in_job(alloc: Global, wanted: &[u8]) -> Result<bool, AllocError> {
         part: Part::Program,
         name: b"standard input",
         in_job: true,
-        text: Some(section.text),
+        evidence: Evidence::Text(section.text),
         above: section.above,
     };
     let message = explained(alloc, Form::Long, &refusal)?;

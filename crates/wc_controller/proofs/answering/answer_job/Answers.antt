@@ -3,6 +3,7 @@ use Rattle.wc_controller.proofs.BlamingParts.{blamed_part}
 use Rattle.wc_controller.proofs.Givings.{ends, read_fault_told}
 use Rattle.wc_controller.proofs.answering.answer_job.Goals as goal
 use Rattle.wc_controller.specs.Jobs.{Allows}
+use Rattle.wc_record.specs.Told.{fields_told}
 use Rattle.wc_model.specs.Run.JobSections.{sections_of}
 
 pub returns-clause-ends : goal.returns-clause-ends
@@ -22,5 +23,5 @@ pub returns-clause-blames : goal.returns-clause-blames
 returns-clause-blames g c =
     let taken = g.W.ByteOut.bytes_taken in
     on_known (g.R.ByteIn.bytes_left c.args.reader.now) _ _
-    (λ bytes told. blamed_part (sections_of bytes) c.answer_input-answer.result c.end.result (taken c.answer_input-answer.new.writer) (taken c.end.new.writer) c.end.ensures.ends told)
+    (λ bytes told. blamed_part (fields_told c.answer_input-answer.new.told) (sections_of bytes) c.answer_input-answer.result c.end.result (taken c.answer_input-answer.new.writer) (taken c.end.new.writer) c.end.ensures.ends told)
     c.answer_input-answer.ensures.blames

@@ -13,6 +13,7 @@ use Rattle.wc_job.specs.Views.{sections_view}
 use Rattle.wc_model.specs.Run.Log.{log_of}
 use Rattle.wc_model.specs.Say.Job.{AnswersPrograms, run_answer}
 use Rattle.wc_record.specs.Reading.{records_of}
+use Rattle.wc_record.specs.Told.{fields_told}
 
 pub returns-in-Ok-run_sections-clause-writes : goal.returns-in-Ok-run_sections-clause-writes
 returns-in-Ok-run_sections-clause-writes g c =
@@ -39,15 +40,16 @@ returns-in-Err-run_sections-clause-writes g c =
 
 pub returns-in-Err-clause-blames : goal.returns-in-Err-clause-blames
 returns-in-Err-clause-blames g c =
-    subst (λ why. StopsAsPart (Ok (sections_view c.args.sections)) input.Plate why) (sym c.run_fault_of.ensures)
-    (plate_part (sections_view c.args.sections) c.in-Err.fault c.in-Err.ensures.verdict)
+    subst (λ why. StopsAsPart (fields_told c.args.told.now) (Ok (sections_view c.args.sections)) input.Plate why) (sym c.run_fault_of.ensures)
+    (plate_part (fields_told c.args.told.now) (sections_view c.args.sections) c.in-Err.fault c.in-Err.ensures.verdict)
 
 pub returns-in-Err-run_sections-clause-blames : goal.returns-in-Err-run_sections-clause-blames
 returns-in-Err-run_sections-clause-blames g c =
+    let told = fields_told c.run_sections.new.told in
     let sections = sections_view c.args.sections in
     let stopped = c.in-Err-run_sections.stopped in
     let said = c.in-Err-run_sections.ensures in
-    subst (λ at. StopsAsPart (Ok sections) at c.stopped_in_memory.result.fault) (sym c.stopped_in_memory.ensures.input)
-    (subst (λ why. StopsAsPart (Ok sections) stopped.input why) (sym c.stopped_in_memory.ensures.fault)
-    (run_part sections stopped.input stopped.fault said.blames_program said.blames_next
-    (subst (λ log. stopped.input ≡ input.Log → RefusesLog (log_beside (is_some sections.next)) log stopped.fault) (ap (λ log. log.now) c.new-log.ensures.inner) said.blames_log) said.later said.own))
+    subst (λ at. StopsAsPart told (Ok sections) at c.stopped_in_memory.result.fault) (sym c.stopped_in_memory.ensures.input)
+    (subst (λ why. StopsAsPart told (Ok sections) stopped.input why) (sym c.stopped_in_memory.ensures.fault)
+    (run_part told sections stopped.input stopped.fault said.blames_program said.blames_next
+    (subst (λ log. stopped.input ≡ input.Log → RefusesLog (log_beside (is_some sections.next)) told log stopped.fault) (ap (λ log. log.now) c.new-log.ensures.inner) said.blames_log) said.later said.own))

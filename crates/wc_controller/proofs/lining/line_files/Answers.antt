@@ -4,6 +4,7 @@ use Rattle.wc_controller.proofs.Givings.{ends}
 use Rattle.wc_controller.proofs.lining.line_files.Goals as goal
 use Rattle.wc_controller.specs.Files.{AnswersLine}
 use Rattle.wc_controller.specs.TakenLogs.{log_alone}
+use Rattle.wc_record.specs.Told.{fields_told}
 
 pub returns-clause-ends : goal.returns-clause-ends
 returns-clause-ends g c =
@@ -18,6 +19,6 @@ returns-clause-memory g c =
     let said = c.line_inputs-answer.ensures in
     let failures = g.L.ByteIn.failure_count in
     let spent = g.L.ByteIn.spent_count in
-    memory_told log_alone (g.L.ByteIn.bytes_left c.args.log.now) (failures c.args.log.now) (failures c.line_inputs-answer.new.log) (spent c.args.log.now) (spent c.line_inputs-answer.new.log)
+    memory_told log_alone (fields_told c.line_inputs-answer.new.told) (g.L.ByteIn.bytes_left c.args.log.now) (failures c.args.log.now) (failures c.line_inputs-answer.new.log) (spent c.args.log.now) (spent c.line_inputs-answer.new.log)
     c.line_inputs-answer.result c.end.result (g.W.ByteOut.bytes_taken c.line_inputs-answer.new.writer) (g.W.ByteOut.bytes_taken c.end.new.writer) c.end.ensures.ends
     said.memory said.unread (λ at. absurd (said.no_program at)) (λ at. absurd (said.no_next at)) said.own said.blames_log said.reader

@@ -6,6 +6,7 @@ use Rattle.wc_controller.proofs.running.run_files.Goals as goal
 use Rattle.wc_controller.specs.Blames.{RefusesProgram}
 use Rattle.wc_controller.specs.Files.{AnswersRun}
 use Rattle.wc_controller.specs.TakenLogs.{known_of, log_beside}
+use Rattle.wc_record.specs.Told.{fields_told}
 use Rattle.wc_controller.specs.declared.input.Input.TheVariants as input
 
 pub returns-clause-ends : goal.returns-clause-ends
@@ -33,6 +34,6 @@ returns-clause-memory g c =
     let said = c.run_inputs-answer.ensures in
     let failures = g.L.ByteIn.failure_count in
     let spent = g.L.ByteIn.spent_count in
-    memory_told (log_beside (is_some c.args.next.now)) (g.L.ByteIn.bytes_left c.args.log.now) (failures c.args.log.now) (failures c.run_inputs-answer.new.log) (spent c.args.log.now) (spent c.run_inputs-answer.new.log)
+    memory_told (log_beside (is_some c.args.next.now)) (fields_told c.run_inputs-answer.new.told) (g.L.ByteIn.bytes_left c.args.log.now) (failures c.args.log.now) (failures c.run_inputs-answer.new.log) (spent c.args.log.now) (spent c.run_inputs-answer.new.log)
     c.run_inputs-answer.result c.end.result (g.W.ByteOut.bytes_taken c.run_inputs-answer.new.writer) (g.W.ByteOut.bytes_taken c.end.new.writer) c.end.ensures.ends
     said.memory (λ at. (said.unread_behind_plate at).2) (λ at. (said.unread_behind_program at).1) said.unread said.own said.blames_log said.reader

@@ -1,3 +1,4 @@
+use Rattle.wc_record.specs.Told.{fields_told}
 use Rattle.std.proofs.Common.{◌≡◌, ◌+◌, [], arith, sym, subst}
 use Rattle.std.proofs.KnownBytes.{Consumes-nil}
 use Rattle.std.specs.Prelude.{IfSome, Some, None, is_some}
@@ -36,11 +37,11 @@ returns-in-Some-clause-blames_next g c =
 
 pub returns-in-Some-clause-blames_log : goal.returns-in-Some-clause-blames_log
 returns-in-Some-clause-blames_log g c =
-    subst (λ next. StopsFor input.Log (RefusesLog (log_beside (is_some next))) (g.L.ByteIn.bytes_left c.args.log.now) c.run_both.result) (sym c.in-Some.is) c.run_both.ensures.blames_log
+    subst (λ next. StopsFor input.Log (RefusesLog (log_beside (is_some next)) (fields_told c.run_both.new.told)) (g.L.ByteIn.bytes_left c.args.log.now) c.run_both.result) (sym c.in-Some.is) c.run_both.ensures.blames_log
 
 pub returns-in-None-clause-blames_log : goal.returns-in-None-clause-blames_log
 returns-in-None-clause-blames_log g c =
-    subst (λ next. StopsFor input.Log (RefusesLog (log_beside (is_some next))) (g.L.ByteIn.bytes_left c.args.log.now) c.run_alone.result) (sym c.in-None.is) c.run_alone.ensures.blames_log
+    subst (λ next. StopsFor input.Log (RefusesLog (log_beside (is_some next)) (fields_told c.run_alone.new.told)) (g.L.ByteIn.bytes_left c.args.log.now) c.run_alone.result) (sym c.in-None.is) c.run_alone.ensures.blames_log
 
 pub returns-in-Some-clause-memory : goal.returns-in-Some-clause-memory
 returns-in-Some-clause-memory g c =

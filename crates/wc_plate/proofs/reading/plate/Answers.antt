@@ -1,4 +1,4 @@
-use Rattle.std.proofs.Common.{◌∙◌, refl, sym}
+use Rattle.std.proofs.Common.{◌∙◌, Err, ap, refl, sym}
 use Rattle.std.proofs.lemmas.Bool.{false≢true}
 use Rattle.toml.specs.View.{table_view}
 use Rattle.wc_plate.proofs.Texts.{read_some, read_none}
@@ -8,10 +8,10 @@ pub returns-in-Err-2-clause-verdict : goal.returns-in-Err-2-clause-verdict
 returns-in-Err-2-clause-verdict c =
     (rw (read_none c.args.text.now (c.in-Err.ensures.refused (λ m. false≢true (sym c.if-is_memory.false ∙ c.is_memory.ensures.1 m)))), refl)
 
-pub returns-in-Ok-plate_in-clause-verdict : goal.returns-in-Ok-plate_in-clause-verdict
-returns-in-Ok-plate_in-clause-verdict c =
-    rw (read_some c.args.text.now (table_view c.in-Ok.table) c.in-Ok.ensures.ok) (sym c.plate_in.ensures ∙ c.in-Ok-plate_in.is)
+pub returns-in-Ok-plate_of-clause-verdict : goal.returns-in-Ok-plate_of-clause-verdict
+returns-in-Ok-plate_of-clause-verdict c =
+    rw (read_some c.args.text.now (table_view c.in-Ok.table) c.in-Ok.ensures.ok) c.in-Ok-plate_of.ensures
 
 pub returns-clause-verdict : goal.returns-clause-verdict
 returns-clause-verdict c =
-    (rw (read_some c.args.text.now (table_view c.in-Ok.table) c.in-Ok.ensures.ok) (sym c.plate_in.ensures ∙ c.in-Err-plate_in.is), refl)
+    (rw (read_some c.args.text.now (table_view c.in-Ok.table) c.in-Ok.ensures.ok) (c.in-Err-plate_of.ensures.0 ∙ ap Err (sym c.number.ensures)), refl)

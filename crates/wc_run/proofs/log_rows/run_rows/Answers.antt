@@ -1,6 +1,8 @@
-use Rattle.std.proofs.Common.{Err, sym, subst, ◌∙◌, arith}
+use Rattle.std.proofs.Common.{Ok, Err, ap, sym, subst, ◌∙◌, arith}
 use Rattle.wc_model.specs.Say.LogFor.{log_for}
 use Rattle.wc_run.proofs.RunsOn.{at_end, at_fault, at_row, one_more}
+use Rattle.wc_record.specs.Left.{end_behind}
+use Rattle.wc_run.proofs.ToldRows.{told_at_end, told_at_row}
 use Rattle.wc_record.specs.Views.{row_view}
 use Rattle.wc_run.specs.Doing.{Does, RunsRows}
 use Rattle.wc_run.specs.Standing.{IsNotBehind}
@@ -31,6 +33,7 @@ loop-given-preserved g c =
           (taken c.args.writer.now) (taken c.loop-given.writer) r c.next.new.self c.run_row.new.scale c.run_row.new.recorder (taken c.run_row.new.writer) c.in-Some.row {X = Unit {0}} tt
           takes
           (rw c.bytes.ensures at done.does plate logic r.past number (lines_so_far plate logic r.past) r.stands r.holds);
+      told = λ records reads. c.in-Ok.ensures.records records (c.loop-given.invariant.told records reads);
       in_order = subst (λ ms. IsNotBehind c.run_row.new.scale ms) (sym next.kept) done.in_order;
       numbered = omega (arith, c.loop-given.invariant.numbered, next.number_is, next.counted);
       few = omega (arith, next.counted, next.few);
@@ -51,3 +54,13 @@ returns-in-Err-clause-reports g c = λ log has plate logic number stands holds.
     subst (λ met. RunsRows number plate logic (log_for logic log) c.loop-given.recorder (Err met) (taken c.args.writer.now) (taken c.loop-given.writer)) (sym c.answer_to.ensures)
     (at_fault g.R.ByteIn.bytes_left c.loop-given.rows c.loop-given.scale c.loop-given.recorder plate logic number (log_for logic log) c.loop-given.count
     (taken c.args.writer.now) (taken c.loop-given.writer) r c.next.new.self c.in-Err.fault (c.in-Err.ensures.takes r.left r.has_left))
+
+pub returns-in-Err-run_row-clause-told : goal.returns-in-Err-run_row-clause-told
+returns-in-Err-run_row-clause-told g c = λ records reads.
+    let next = rw c.in-Some.is at c.in-Ok.ensures.row in
+    told_at_row g.R.ByteIn.bytes_left c.next.new.self records c.in-Some.row.number (c.in-Ok.ensures.ends ∙ ap (λ given. end_behind (Ok given)) c.in-Some.is) next.counted
+    (omega (arith, next.number_is)) (c.in-Ok.ensures.records records (c.loop-given.invariant.told records reads)) c.in-Err-run_row.fault c.in-Err-run_row.ensures.place
+
+pub returns-in-Err-clause-told : goal.returns-in-Err-clause-told
+returns-in-Err-clause-told g c = λ records reads.
+    rw c.answer_to.ensures (told_at_end g.R.ByteIn.bytes_left c.next.new.self records c.in-Err.fault c.in-Err.ensures.ends (c.in-Err.ensures.records records (c.loop-given.invariant.told records reads)))

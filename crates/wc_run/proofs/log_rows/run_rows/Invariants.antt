@@ -1,8 +1,9 @@
-use Rattle.std.proofs.Common.{◌≡◌, ◌≤◌, ◌+◌, ◌-◌, ℕ, [], Option}
+use Rattle.std.proofs.Common.{◌≡◌, ◌≤◌, ◌+◌, ◌-◌, ℕ, List, [], Option}
 use Rattle.std.specs.Prelude.{max}
-use Rattle.wc_model.specs.Run.Log.{LogOf}
+use Rattle.wc_model.specs.Run.Log.{LogOf, Record}
 use Rattle.wc_model.specs.Instrument.Plates.{PlateData}
 use Rattle.wc_record.specs.Left.{HasLeft, last_ms, rows_read}
+use Rattle.wc_record.specs.Told.{Reads}
 use Rattle.wc_run.specs.Deferring.{HoldsScans}
 use Rattle.wc_model.specs.Say.LogFor.{log_for}
 use Rattle.wc_model.specs.Say.ProgramReport.{Logic}
@@ -16,6 +17,7 @@ invariant-loop-given g l = record {
   running : (log : LogOf) → HasLeft g.R.ByteIn.bytes_left l.initial.rows log → (plate : PlateData) (logic : Option Logic) (number : Option ℕ)
       → Stands l.initial.scale plate logic [] → HoldsScans l.initial.recorder number []
       → Running g.R.ByteIn.bytes_left l.rows l.scale l.recorder plate logic number (log_for logic log) l.count (g.W.ByteOut.bytes_taken l.initial.writer) (g.W.ByteOut.bytes_taken l.writer);
+  told : (records : List Record) → Reads g.R.ByteIn.bytes_left l.initial.rows records → Reads g.R.ByteIn.bytes_left l.rows records;
   in_order : IsNotBehind l.scale (last_ms l.rows);
   numbered : l.count + 1 ≡ max 1 (rows_read l.rows);
   few : rows_read l.rows ≤ 1000000;

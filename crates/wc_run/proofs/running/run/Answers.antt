@@ -7,13 +7,13 @@ use Rattle.wc_run.proofs.RunEnds.{ends_as_report}
 use Rattle.wc_run.proofs.running.run.Goals as goal
 
 pub returns-clause-reports : goal.returns-clause-reports
-returns-clause-reports g c = IfSome_then (g.R.ByteIn.bytes_left c.args.reader.now) c.run_judged.ensures.ends
-    (λ bytes says logic stands. ends_as_report c.args.plate.now logic (log_for logic (log_of (records_of bytes))) c.run_judged.result
-    (g.W.ByteOut.bytes_taken c.args.writer.now) (g.W.ByteOut.bytes_taken c.run_judged.new.writer) (says logic stands))
+returns-clause-reports g c = IfSome_then (g.R.ByteIn.bytes_left c.args.reader.now) c.run_telling.ensures.ends
+    (λ bytes says logic stands. ends_as_report c.args.plate.now logic (log_for logic (log_of (records_of bytes))) c.run_telling.result
+    (g.W.ByteOut.bytes_taken c.args.writer.now) (g.W.ByteOut.bytes_taken c.run_telling.new.writer) (says logic stands))
 
 pub returns-clause-line : goal.returns-clause-line
-returns-clause-line g c = IfSome_then (g.R.ByteIn.bytes_left c.args.reader.now) c.run_judged.ensures.ends
-    (λ bytes says logic stands. run_leaves c.args.plate.now logic (log_for logic (log_of (records_of bytes))) c.run_judged.result
-    (g.W.ByteOut.bytes_taken c.args.writer.now) (g.W.ByteOut.bytes_taken c.run_judged.new.writer)
-    (ends_as_report c.args.plate.now logic (log_for logic (log_of (records_of bytes))) c.run_judged.result
-    (g.W.ByteOut.bytes_taken c.args.writer.now) (g.W.ByteOut.bytes_taken c.run_judged.new.writer) (says logic stands)))
+returns-clause-line g c = IfSome_then (g.R.ByteIn.bytes_left c.args.reader.now) c.run_telling.ensures.ends
+    (λ bytes says logic stands. run_leaves c.args.plate.now logic (log_for logic (log_of (records_of bytes))) c.run_telling.result
+    (g.W.ByteOut.bytes_taken c.args.writer.now) (g.W.ByteOut.bytes_taken c.run_telling.new.writer)
+    (ends_as_report c.args.plate.now logic (log_for logic (log_of (records_of bytes))) c.run_telling.result
+    (g.W.ByteOut.bytes_taken c.args.writer.now) (g.W.ByteOut.bytes_taken c.run_telling.new.writer) (says logic stands)))

@@ -5,6 +5,8 @@ use Rattle.wc_model.specs.Run.Log.{LogOf, log_of}
 use Rattle.wc_model.specs.Say.LogFor.{log_for}
 use Rattle.wc_record.specs.Reading.{records_of}
 use Rattle.wc_run.proofs.ReaderFailures.{whole_has_not, has_not_failed}
+use Rattle.wc_record.specs.Told.{fields_told}
+use Rattle.wc_run.proofs.ToldRows.{none_told}
 use Rattle.wc_run.proofs.RunEnds.{all_put, cut_at_end, ends_short, ends_whole}
 use Rattle.wc_run.specs.Doing.{is_cut_short}
 use Rattle.wc_run.specs.Logics.{lines_of_rows}
@@ -48,3 +50,6 @@ pub returns-in-Err-clause-reader : goal.returns-in-Err-clause-reader
 returns-in-Err-clause-reader g c =
     has_not_failed (Err c.in-Err.fault) (g.R.ByteIn.failure_count c.args.reader.now) (g.R.ByteIn.failure_count c.run_told-answer.new.reader)
     (whole_has_not c.run_told-answer.result (g.R.ByteIn.failure_count c.args.reader.now) (g.R.ByteIn.failure_count c.run_told-answer.new.reader) (sym c.is_cut_short.ensures ∙ c.if-is_cut_short.false) c.run_told-answer.ensures.reader)
+
+pub returns-in-Err-clause-told : goal.returns-in-Err-clause-told
+returns-in-Err-clause-told g c = none_told (g.R.ByteIn.bytes_left c.args.reader.now) (fields_told c.run_told-answer.new.told) c.in-Err.fault c.in-Err.ensures.held

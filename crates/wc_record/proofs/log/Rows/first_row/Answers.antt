@@ -19,4 +19,5 @@ returns-then-is_first_row-clause-first g c =
         last = c.in-Ok.ensures.keeps.last ∙ stands.last ∙ sym (ap moment_or_zero (first_has_none fields first));
         few = omega arith;
       },
+      read.1,
     )

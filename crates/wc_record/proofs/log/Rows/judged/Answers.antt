@@ -1,6 +1,6 @@
-use Rattle.std.proofs.Common.{◌∙◌, ◌∷◌, suc, sym, ap, refl, add-one, arith}
+use Rattle.std.proofs.Common.{◌≡◌, ◌∙◌, ◌+◌, ◌∷◌, suc, sym, ap, refl, add-one, arith}
 use Rattle.csv.specs.Records.{fields_of}
-use Rattle.wc_record.proofs.LogSteps.{row_facts, step_refused, step_row}
+use Rattle.wc_record.proofs.LogSteps.{one_read, record_there, row_facts, step_refused, step_row, step_too_many}
 use Rattle.wc_record.proofs.log.Rows.judged.Goals as goal
 use Rattle.wc_record.specs.Left.{moment_or_zero}
 use Rattle.wc_record.specs.Views.{row_view}
@@ -16,10 +16,14 @@ returns-in-Ok-clause-gives g c =
       rest,
       step_row (first ∷ before) rest fields c.args.self.now.number c.args.self.now.last (row_view c.row_in.new.room.items c.in-Ok.row) stands.number c.if-self-ge-MOST_ROWS.false stands.last says,
       record {
-        has = stands.has;
-        number = add-one c.args.self.now.number ∙ ap suc stands.number;
-        last = sym (ap moment_or_zero (facts.moment (first ∷ before)));
-        few = omega arith;
+        stands = record {
+          has = stands.has;
+          number = add-one c.args.self.now.number ∙ ap suc stands.number;
+          last = sym (ap moment_or_zero (facts.moment (first ∷ before)));
+          few = omega arith;
+        };
+        all = one_read fields (first ∷ before) rest;
+        at_hand = refl;
       },
     )
 
@@ -38,5 +42,17 @@ returns-in-Ok-clause-row g c =
 
 pub returns-in-Err-Refused-clause-gives : goal.returns-in-Err-Refused-clause-gives
 returns-in-Err-Refused-clause-gives g c =
+    λ first before rest stands. (
+      step_refused (first ∷ before) rest (fields_of c.args.self.now.row) c.args.self.now.number c.args.self.now.last c.in-Err-Refused.rule stands.number c.if-self-ge-MOST_ROWS.false stands.last (rw c.in-Err-Refused.field-0-is at c.in-Err-Refused.ensures.says),
+      record_there (fields_of c.args.self.now.row) (first ∷ before) rest c.args.self.now.number stands.number,
+    )
+
+pub returns-then-self-ge-MOST_ROWS-clause-gives : goal.returns-then-self-ge-MOST_ROWS-clause-gives
+returns-then-self-ge-MOST_ROWS-clause-gives g c =
     λ first before rest stands.
-    step_refused (first ∷ before) rest (fields_of c.args.self.now.row) c.args.self.now.number c.args.self.now.last c.in-Err-Refused.rule stands.number c.if-self-ge-MOST_ROWS.false stands.last (rw c.in-Err-Refused.field-0-is at c.in-Err-Refused.ensures.says)
+    let fields = fields_of c.args.self.now.row in
+    let n = c.args.self.now.number in
+    let place : c.saturating_add.result ≡ n + 1 = omega (arith, stands.few) in (
+      step_too_many (first ∷ before) rest fields n c.saturating_add.result stands.number c.if-self-ge-MOST_ROWS.true place,
+      rw place (record_there fields (first ∷ before) rest n stands.number),
+    )

@@ -1,0 +1,44 @@
+ghost use Rattle.std.specs.Prelude.{◌≡◌, [], length, option_map};
+ghost use Rattle.csv.specs.Records.{field_at, fields_of};
+ghost use Rattle.wc_record.specs.Told.{fields_told};
+
+use csv::ByteRecord;
+use std::alloc::Global;
+
+/// The row of a log that was read last, as it is told where it is refused.
+#[derive(Drop)]
+pub struct RefusedRow {
+    pub(crate) row: ByteRecord,
+    pub(crate) line: u32,
+}
+
+impl RefusedRow {
+    /// No row. It takes no memory.
+    pub fn new(alloc: Global) -> RefusedRow
+        ensures { fields_told result ≡ [] }
+    {
+        RefusedRow {
+            row: ByteRecord::new(alloc),
+            line: 0,
+        }
+    }
+
+    /// The line of the log on which its first field starts, counted from 1; 0 where there is no row.
+    pub fn line(&self) -> u32 {
+        self.line
+    }
+
+    /// How many fields it has.
+    pub fn len(&self) -> usize
+        ensures { result ≡ length (fields_told self.now) }
+    {
+        self.row.len()
+    }
+
+    /// The field at a place, counted from 0.
+    pub fn field(&self, place: usize) -> Option<&[u8]>
+        ensures { option_map (λ field. field.now) result ≡ field_at (fields_told self.now) place }
+    {
+        self.row.get(place)
+    }
+}
