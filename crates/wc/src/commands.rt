@@ -1,4 +1,4 @@
-ghost use Rattle.std.specs.Prelude.{◌≡◌, ◌≤◌, IfSome, Some, option_map};
+ghost use Rattle.std.specs.Prelude.{◌≡◌, ◌≤◌, IfSome, Some, None, option_map};
 ghost use Rattle.wc.specs.Asked.{asked, check, form_asked, job, line, run, texts_of};
 
 use crate::opening::Opening;
@@ -12,6 +12,7 @@ use wc_controller::{Ending, answer_job, check_file, line_files, run_files};
 use wc_devices::{Keeping, Noting};
 use wc_messages::Form;
 use wc_model::Device;
+use wc_preview::preview_files;
 
 /// A file that is read, and before each read the output is emptied.
 type Source<'a> = Device<Emptying<'a, Noting<Opening<'a>>>>;
@@ -112,7 +113,7 @@ pub(crate) fn check_words(
     program: &str,
     paths: bool,
 ) -> u8
-    requires asked { asked (texts_of _words.now) ≡ check program.now paths }
+    requires asked { asked (texts_of _words.now) ≡ check program.now None paths }
     requires form { form_asked (texts_of _words.now) ≡ Some form }
 {
     let gathered = match shared_output(rt) {
@@ -128,7 +129,44 @@ pub(crate) fn check_words(
         ending,
         cause(&reader),
         &gathered,
-        &Sources::Program { program },
+        &Sources::Program {
+            program,
+            next: None,
+        },
+    )
+}
+
+/// Tells what a change from the program in a file to the one in another keeps: the exit status.
+pub(crate) fn preview_words(
+    rt: &HostRuntime,
+    _words: &[String],
+    form: Form,
+    program: &str,
+    next: &str,
+    paths: bool,
+) -> u8
+    requires asked { asked (texts_of _words.now) ≡ check program.now (Some next.now) paths }
+    requires form { form_asked (texts_of _words.now) ≡ Some form }
+{
+    let gathered = match shared_output(rt) {
+        Ok(gathered) => gathered,
+        Err(_) => return without_memory(rt),
+    };
+    let mut reader = source(rt, program, &gathered);
+    let mut next_reader = source(rt, next, &gathered);
+    let mut writer = Device::new(Sharing::new(&gathered));
+    let ending = preview_files(rt.alloc(), paths, &mut reader, &mut next_reader, &mut writer);
+    let reading = cause(&reader).or(cause(&next_reader));
+    finish(
+        rt,
+        form,
+        ending,
+        reading,
+        &gathered,
+        &Sources::Program {
+            program,
+            next: Some(next),
+        },
     )
 }
 

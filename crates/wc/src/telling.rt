@@ -22,6 +22,7 @@ pub(crate) enum Sources<'a> {
     },
     Program {
         program: &'a str,
+        next: Option<&'a str>,
     },
     Files {
         plate: &'a str,
@@ -38,7 +39,10 @@ impl<'a> Sources<'a> {
     fn path(&self, input: Input) -> Option<&'a str> {
         match self {
             Sources::Job { .. } => None,
-            Sources::Program { program } => Some(program),
+            Sources::Program { program, next } => match input {
+                Input::Next => *next,
+                _ => Some(program),
+            },
             Sources::Files { plate, files } => match input {
                 Input::Plate => Some(plate),
                 Input::Next => files.next,
