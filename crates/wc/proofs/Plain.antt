@@ -19,13 +19,17 @@ pub job_form : (name : Text) → Ask (name ∷ []) job Long
 unfolding clap_on_literals
 job_form name = (refl, refl, refl)
 
-pub check_form : (name p : Text) → IsValue p → Ask (name ∷ codes "check" ∷ p ∷ []) (check p false) Long
+pub check_form : (name p : Text) → IsValue p → Ask (name ∷ codes "check" ∷ p ∷ []) (check p None false) Long
 unfolding clap_on_literals
 check_form name p v = (rw (v.0, v.1, v.2) refl, rw (v.0, v.1, v.2) refl, rw (v.0, v.1, v.2) refl)
 
-pub paths_form : (name p : Text) → IsValue p → Ask (name ∷ codes "check" ∷ codes "--path" ∷ p ∷ []) (check p true) Long
+pub paths_form : (name p : Text) → IsValue p → Ask (name ∷ codes "check" ∷ codes "--path" ∷ p ∷ []) (check p None true) Long
 unfolding clap_on_literals
 paths_form name p v = (rw (v.0, v.1, v.2) refl, rw (v.0, v.1, v.2) refl, rw (v.0, v.1, v.2) refl)
+
+pub preview_form : (name : Text) → Ask (name ∷ codes "check" ∷ codes "--next" ∷ codes "b" ∷ codes "a" ∷ []) (check (codes "a") (Some (codes "b")) false) Long
+unfolding clap_on_literals
+preview_form name = (refl, refl, refl)
 
 pub run_form : (name p q l : Text) → IsValue p → IsValue q → IsValue l
     → asked (name ∷ codes "run" ∷ codes "--plate" ∷ p ∷ codes "--program" ∷ q ∷ codes "--log" ∷ l ∷ []) ≡ run p q None l None

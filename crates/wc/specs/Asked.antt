@@ -44,8 +44,9 @@ number_in option given = option_and_then number_of (one_of option given)
 -- what the words ask for, with the texts of files in the order of the options
 pub data Asked : Type 0 where
   job : Asked
-  -- a program's file, and whether paths are wanted
-  check : Text → Bool → Asked
+  -- a program's file, that of one that may take its place where it is given, and whether paths are
+  -- wanted
+  check : Text → Option Text → Bool → Asked
   -- the files of a plate, a program, a next program where one is given, and a log, and how many scans
   -- are wanted
   run : Text → Text → Option Text → Text → Option ℕ → Asked
@@ -57,7 +58,8 @@ pub data Asked : Type 0 where
 abbrev pub asked_at : Text → List Row → Asked
 asked_at word given =
     if bytes_eq word (codes "check")
-    then check (file_in (codes "program") given) (flag_in (codes "path") given)
+    then check (file_in (codes "program") given) (first_of (codes "next") given)
+    (flag_in (codes "path") given)
     else (if bytes_eq word (codes "run")
     then run (file_in (codes "plate") given) (file_in (codes "program") given)
     (first_of (codes "next") given) (file_in (codes "log") given)
@@ -78,7 +80,8 @@ asked words = asked_by (subcommand_of command_line words)
 -- a command of the code as what is asked for
 abbrev pub view : Wanted → Asked
 view wanted.Job = job
-view (wanted.Check program paths) = check program.now paths
+view (wanted.Check program next paths) =
+    check program.now (option_map (λ path. path.now) next) paths
 view (wanted.Run plate files last) =
     run plate.now files.program.now (option_map (λ next. next.now) files.next) files.log.now last
 view (wanted.Explain number) = explain number

@@ -39,10 +39,10 @@ value_option name = record (new_rule name) { long = Some name; value_names = 1 }
 abbrev pub message_option : Rule
 message_option = value_option (codes "message")
 
--- `check PROGRAM [--path] [--message FORM]`
+-- `check PROGRAM [--next FILE] [--path] [--message FORM]`
 abbrev pub check_word : App
-check_word = with_rule (with_rule (with_rule (new_app (codes "check")) (place (codes "program")))
-    (flag (codes "path"))) message_option
+check_word = with_rule (with_rule (with_rule (with_rule (new_app (codes "check"))
+    (place (codes "program"))) (value_option (codes "next"))) (flag (codes "path"))) message_option
 
 -- `run --plate FILE --program FILE [--next FILE] --log FILE [--last N] [--message FORM]`, N from 1 to
 -- 1000

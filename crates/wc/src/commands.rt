@@ -1,4 +1,4 @@
-ghost use Rattle.std.specs.Prelude.{◌≡◌, ◌≤◌, IfSome, Some, option_map};
+ghost use Rattle.std.specs.Prelude.{◌≡◌, ◌≤◌, IfSome, Some, None, option_map};
 ghost use Rattle.wc.specs.Asked.{asked, check, form_asked, job, line, run, texts_of};
 
 use crate::opening::Opening;
@@ -12,6 +12,7 @@ use wc_controller::{Ending, RefusedRow, answer_job, check_file, line_files, run_
 use wc_devices::{Keeping, Noting};
 use wc_messages::Form;
 use wc_model::Device;
+use wc_preview::preview_files;
 
 /// A file that is read, and before each read the output is emptied.
 type Source<'a> = Device<Emptying<'a, Noting<Opening<'a>>>>;
@@ -152,7 +153,7 @@ pub(crate) fn check_words(
     program: &str,
     paths: bool,
 ) -> u8
-    requires asked { asked (texts_of _words.now) ≡ check program.now paths }
+    requires asked { asked (texts_of _words.now) ≡ check program.now None paths }
     requires form { form_asked (texts_of _words.now) ≡ Some form }
 {
     let gathered = match shared_output(rt) {
@@ -168,7 +169,45 @@ pub(crate) fn check_words(
         ending,
         kept_cause(&reader),
         &gathered,
-        &Sources::Program(read_of(program, &reader)),
+        &Sources::Program {
+            program: read_of(program, &reader),
+            next: None,
+        },
+        &RefusedRow::new(rt.alloc()),
+    )
+}
+
+/// Tells what a change from the program in a file to the one in another keeps: the exit status.
+pub(crate) fn preview_words(
+    rt: &HostRuntime,
+    _words: &[String],
+    form: Form,
+    program: &str,
+    next: &str,
+    paths: bool,
+) -> u8
+    requires asked { asked (texts_of _words.now) ≡ check program.now (Some next.now) paths }
+    requires form { form_asked (texts_of _words.now) ≡ Some form }
+{
+    let gathered = match shared_output(rt) {
+        Ok(gathered) => gathered,
+        Err(_) => return without_memory(rt),
+    };
+    let mut reader = kept_source(rt, program, &gathered);
+    let mut next_reader = kept_source(rt, next, &gathered);
+    let mut writer = Device::new(Sharing::new(&gathered));
+    let ending = preview_files(rt.alloc(), paths, &mut reader, &mut next_reader, &mut writer);
+    let reading = kept_cause(&reader).or(kept_cause(&next_reader));
+    finish(
+        rt,
+        form,
+        ending,
+        reading,
+        &gathered,
+        &Sources::Program {
+            program: read_of(program, &reader),
+            next: Some(read_of(next, &next_reader)),
+        },
         &RefusedRow::new(rt.alloc()),
     )
 }

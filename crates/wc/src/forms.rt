@@ -7,9 +7,13 @@ ghost use Rattle.wc.specs.Asked.{Ask, IsPlain, check, explain, job, line, asked,
 pub(crate) fn plain_forms()
     ensures job { (name : Text) → Ask (name ∷ []) job Long }
     ensures check { (name program : Text) → IsPlain program
-        → Ask (name ∷ codes "check" ∷ program ∷ []) (check program false) Long }
+        → Ask (name ∷ codes "check" ∷ program ∷ []) (check program None false) Long }
     ensures paths { (name program : Text) → IsPlain program
-        → Ask (name ∷ codes "check" ∷ codes "--path" ∷ program ∷ []) (check program true) Long }
+        → Ask (name ∷ codes "check" ∷ codes "--path" ∷ program ∷ [])
+        (check program None true) Long }
+    ensures preview { (name : Text)
+        → Ask (name ∷ codes "check" ∷ codes "--next" ∷ codes "b" ∷ codes "a" ∷ [])
+        (check (codes "a") (Some (codes "b")) false) Long }
     ensures run { (name plate program log : Text) → IsPlain plate → IsPlain program → IsPlain log
         → asked (name ∷ codes "run" ∷ codes "--plate" ∷ plate ∷ codes "--program" ∷ program
         ∷ codes "--log" ∷ log ∷ []) ≡ run plate program None log None }

@@ -15,7 +15,7 @@ mod words;
 
 use clap::Error;
 use clap::error::ErrorKind;
-use commands::{check_words, line_words, run_job, run_words};
+use commands::{check_words, line_words, preview_words, run_job, run_words};
 use explaining::explain;
 use std::fs::File;
 use std::io::Write;
@@ -116,7 +116,10 @@ fn execute(rt: &HostRuntime, words: &[String], request: Request<'_>) -> u8
     let form = request.form;
     match request.wanted {
         Wanted::Job => run_job(rt, words, form),
-        Wanted::Check { program, paths } => check_words(rt, words, form, program, paths),
+        Wanted::Check { program, next, paths } => match next {
+            Some(next) => preview_words(rt, words, form, program, next, paths),
+            None => check_words(rt, words, form, program, paths),
+        },
         Wanted::Run { plate, files, last } => match last {
             Some(number) if number < 1 || number > 1000 => WRONG_WORDS,
             last => run_words(rt, words, form, last, plate, files),

@@ -25,7 +25,10 @@ pub(crate) enum Sources<'a> {
     Job {
         bytes: Option<&'a [u8]>,
     },
-    Program(ReadFile<'a>),
+    Program {
+        program: ReadFile<'a>,
+        next: Option<ReadFile<'a>>,
+    },
     Files {
         plate: ReadFile<'a>,
         program: ReadFile<'a>,
@@ -51,7 +54,10 @@ impl<'a> Sources<'a> {
     fn file(&self, input: Input) -> Option<ReadFile<'a>> {
         match self {
             Sources::Job { .. } => None,
-            Sources::Program(program) => Some(*program),
+            Sources::Program { program, next } => match input {
+                Input::Next => *next,
+                _ => Some(*program),
+            },
             Sources::Files {
                 plate,
                 program,

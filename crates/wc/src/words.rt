@@ -24,6 +24,7 @@ const ABOUT: &str =
     "A legal weighing indicator and, beside it, the customer's logic in Instruction List.
 
   ./wc check --path program.il
+  ./wc check --next new.il old.il
   ./wc run --plate plate.toml --program program.il --log log.csv --last 10
   ./wc run --plate plate.toml --program old.il --next new.il --log log.csv
   ./wc line --plate plate.toml --log log.csv
@@ -52,9 +53,11 @@ pub(crate) struct ProgramFiles<'a> {
 pub(crate) enum Wanted<'a> {
     /// No words: a job from standard input.
     Job,
-    /// The cost of each unit of a program, and its worst path where `paths` says so.
+    /// The cost of each unit of a program, and its worst path where `paths` says so; with a next program that one's, and
+    /// what a change to it keeps.
     Check {
         program: &'a str,
+        next: Option<&'a str>,
         paths: bool,
     },
     /// A run of a log with a program, which prints every scan or the last so many.
@@ -143,13 +146,14 @@ fn path_flag<'a>(alloc: Global) -> Arg<'a>
 }
 
 /// The option of the next program.
-fn next_option<'a>(alloc: Global) -> Arg<'a>
+fn next_option<'a>(alloc: Global, help: &'a str) -> Arg<'a>
     ensures rule { rule_of result ≡ value_option (codes "next") }
     ensures local { result.global ≡ false }
 {
-    Arg::new(alloc, "next").long("next").value_name("FILE").help(
-        "The next program, which a row of kind P takes (Instruction List)",
-    )
+    Arg::new(alloc, "next")
+        .long("next")
+        .value_name("FILE")
+        .help(help)
 }
 
 /// The option that chooses in which form a refusal is told.
@@ -167,9 +171,14 @@ fn message_option<'a>(alloc: Global) -> Arg<'a>
 fn check_command<'a>(alloc: Global) -> Result<Command<'a>, AllocError>
     ensures { IfOk result (Takes check_word) }
 {
+    let next = next_option(
+        alloc,
+        "The next program: print its numbers of steps, and what a change to it keeps",
+    );
     let command = Command::new(alloc, "check")
         .about("Load a program and print the greatest number of steps of each unit")
         .arg(program_place(alloc))?
+        .arg(next)?
         .arg(path_flag(alloc))?
         .arg(message_option(alloc))?;
     Ok(command)
@@ -192,11 +201,15 @@ fn run_command<'a>(alloc: Global) -> Result<Command<'a>, AllocError>
     ensures { IfOk result (Takes run_word) }
 {
     let program = file_option(alloc, "program", "The program text (Instruction List)");
+    let next = next_option(
+        alloc,
+        "The next program, which a row of kind P takes (Instruction List)",
+    );
     let command = Command::new(alloc, "run")
         .about("Run a log with a program: print each scan, and each answer of the line")
         .arg(plate_option(alloc))?
         .arg(program)?
-        .arg(next_option(alloc))?
+        .arg(next)?
         .arg(log_option(alloc))?
         .arg(last_option(alloc))?
         .arg(message_option(alloc))?;
@@ -285,6 +298,7 @@ fn wanted_by<'a>(word: &str, matches: &ArgMatches<'a>) -> Wanted<'a>
     match word {
         "check" => Wanted::Check {
             program: file(matches, "program"),
+            next: optional_file(matches, "next"),
             paths: is_given(matches, "path"),
         },
         "run" => Wanted::Run {

@@ -11,7 +11,7 @@ use crate::ending::{Ending, end};
 use crate::input::{Input, Stopped};
 use crate::loading::load;
 use crate::reading::read_input;
-use crate::unit_lines::unit_lines;
+use crate::unit_lines::text_of_units;
 use std::alloc::Global;
 use wc_cost::Loaded;
 use wc_model::{ByteIn, ByteOut, Fault, write_whole};
@@ -31,7 +31,7 @@ fn write_report<W: ByteOut>(
     ensures steady { ¬ IsErrOf result RunFault.Write
         → W.failure_count writer.new ≡ W.failure_count writer.old }
 {
-    let lines = match unit_lines(alloc, loaded, paths) {
+    let lines = match text_of_units(alloc, loaded, paths) {
         Ok(lines) => lines,
         Err(_) => return Err(RunFault::Memory),
     };

@@ -76,7 +76,7 @@ fn end_refused<W: ByteOut>(
 
 /// The ending of what was done, or of what stopped it: a refusal's line is written behind what
 /// stands.
-pub(crate) fn end<W: ByteOut>(alloc: Global, answer: Result<(), Stopped>, writer: &mut W) -> Ending
+pub fn end<W: ByteOut>(alloc: Global, answer: Result<(), Stopped>, writer: &mut W) -> Ending
     ensures ends { EndsBehind answer result (W.bytes_taken writer.old)
         (W.bytes_taken writer.new) }
     ensures failures { (before : ℕ)

@@ -17,11 +17,13 @@ mod unit_lines;
 
 pub use answering::{answer_job, job};
 pub use checking::{check, check_file};
-pub use ending::Ending;
+pub use ending::{Ending, end};
 pub use headline::the_headline;
 pub use input::{Input, Stopped};
 pub use lining::line_files;
 pub use loading::load;
+pub use reading::{read_input, run_fault_of};
 pub use running::run_files;
+pub use unit_lines::text_of_units;
 pub use wc_record::RefusedRow;
 pub use wc_run::{RunFault, run, run_last};

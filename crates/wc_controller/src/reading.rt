@@ -12,7 +12,7 @@ use wc_plate::{Plate, plate};
 use wc_run::RunFault;
 
 /// A fault of loading, as the fault of a command.
-pub(crate) fn run_fault_of(fault: Fault) -> RunFault
+pub fn run_fault_of(fault: Fault) -> RunFault
     ensures { result ≡ endings.run_fault_of fault }
 {
     match fault {
@@ -36,7 +36,7 @@ fn whole_fault(fault: ReadFault) -> RunFault
 }
 
 /// All bytes of an input, at most 1048576.
-pub(crate) fn read_input<R: ByteIn>(
+pub fn read_input<R: ByteIn>(
     alloc: Global,
     input: Input,
     reader: &mut R,

@@ -60,7 +60,7 @@ fn lines_at(
 }
 
 /// The lines of all units, in the text's order. `Memory` is the only fault.
-pub(crate) fn unit_lines(
+pub fn text_of_units(
     alloc: Global,
     loaded: &Loaded<'_>,
     paths: bool,

@@ -45,6 +45,13 @@ impl<'a> Model for Loaded<'a> {
 }
 
 impl<'a> Loaded<'a> {
+    /// The text that was loaded, with its tables.
+    pub fn checked(&self) -> &Checked<'a>
+        ensures { result.now.source ≡ self.now.source }
+    {
+        &self.checked
+    }
+
     /// How many units the text has. Units are counted in text order from 0; the program is the last.
     pub fn units(&self) -> usize
         ensures count { result ≡ length (text_view self.now.source) }

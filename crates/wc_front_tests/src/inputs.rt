@@ -2,6 +2,7 @@
 use std::alloc::Global;
 use wc_controller::{Ending, Input, RefusedRow, check_file, line_files, run_files};
 use wc_model::{ByteIn, Device, FuseIn};
+use wc_preview::preview_files;
 
 /// The plate of 15 kg in steps of 5 g.
 pub(crate) const PLATE: &[u8] =
@@ -160,4 +161,25 @@ fn change_succeeds(rt: HostRuntime) {
     assert!(rt; changes_so(rt.alloc(), NEXT, third, output));
     let unread = refused(Input::Next, 203, 1);
     assert!(rt; changes_so(rt.alloc(), b"", unread, b"refused 203 1\n"));
+}
+
+/// How it ends where a change to the program is looked at, and what is written.
+fn is_previewed(alloc: Global, old: &[u8], ending: Ending, output: &[u8]) -> bool {
+    let mut out = Vec::new(alloc);
+    let mut writer = Device::new(&mut out);
+    let found = preview_files(
+        alloc,
+        true,
+        &mut Device::new(old),
+        &mut Device::new(PROGRAM),
+        &mut writer,
+    );
+    found == ending && out.as_slice() == output
+}
+
+#[test]
+fn a_change_is_looked_at(rt: HostRuntime) {
+    assert!(rt; is_previewed(rt.alloc(), PROGRAM, Ending::Done, b"unit P cost 2\npath 2 3\n"));
+    let old = refused(Input::Program, 203, 1);
+    assert!(rt; is_previewed(rt.alloc(), b"", old, b"refused 203 1\n"));
 }

@@ -3,6 +3,7 @@
 use crate::programs::scanned;
 use crate::texts::loaded;
 use std::alloc::Global;
+use wc_changes::changes;
 use wc_cost::Loaded;
 use wc_machine::Machine;
 use wc_model::{Outputs, Place, Steps};
@@ -85,4 +86,24 @@ fn are_carried(alloc: Global) -> bool {
 #[test]
 fn places_are_carried_by_name(rt: HostRuntime) {
     assert!(rt; are_carried(rt.alloc()));
+}
+
+/// What a change from the counting program to another keeps is told in these lines.
+fn is_told(alloc: Global, next: &[u8], lines: &[u8]) -> bool {
+    let Ok(old) = loaded(alloc, COUNTING) else {
+        return false;
+    };
+    let Ok(new) = loaded(alloc, next) else {
+        return false;
+    };
+    match changes(alloc, &old, &new) {
+        Ok(told) => told.as_slice() == lines,
+        Err(_) => false,
+    }
+}
+
+#[test]
+fn what_a_change_keeps_is_told(rt: HostRuntime) {
+    assert!(rt; is_told(rt.alloc(), SUMMING, b"kept t\nkept N\nfirst k DINT 7 new\n"));
+    assert!(rt; is_told(rt.alloc(), OTHER_TIMER, b"first u TON new\nkept N\nfirst k DINT 7 new\n"));
 }

@@ -1,4 +1,4 @@
-use Rattle.wc.proofs.Plain.{check_form, explain_form, job_form, last_form, line_form, next_form, paths_form, plain, run_form}
+use Rattle.wc.proofs.Plain.{check_form, explain_form, job_form, last_form, line_form, next_form, paths_form, plain, preview_form, run_form}
 use Rattle.wc.proofs.forms.plain_forms.Goals as goal
 
 pub returns : goal.returns
@@ -6,6 +6,7 @@ returns c = record {
   job = job_form;
   check = λ name p h. check_form name p (plain p h);
   paths = λ name p h. paths_form name p (plain p h);
+  preview = preview_form;
   run = λ name p q l h i j. run_form name p q l (plain p h) (plain q i) (plain l j);
   last = last_form;
   next = next_form;

@@ -1,0 +1,29 @@
+use Rattle.std.proofs.Common.{◌≡◌, ◌*◌, ◌+◌, ◌++◌, List, Option, take}
+use Rattle.std.specs.List.{flat_map}
+use Rattle.wc_model.specs.Language.Scopes.{Scope}
+use Rattle.wc_model.specs.Language.Views.{text_view}
+use Rattle.wc_model.specs.declared.operand.Word.{Word}
+use Rattle.wc_model.specs.declared.source.Unit.{Unit as CodeUnit}
+use Rattle.wc_changes.specs.Sides.{IsAt, IsSide, declaration_lines, variable_lines}
+use Rattle.wc_changes.proofs.describing.+describing.Given as goal
+
+abbrev pub decreases-describe_variable : goal.decreases-describe_variable
+decreases-describe_variable l = 3 * l.unit
+
+abbrev pub decreases-describe_declaration : goal.decreases-describe_declaration
+decreases-describe_declaration l = 3 * l.unit + 1
+
+abbrev pub decreases-describe_unit : goal.decreases-describe_unit
+decreases-describe_unit l = 3 * l.unit + 2
+
+-- the lines of the names so far are written
+abbrev pub invariant-describe_declaration-loop-word : goal.invariant-describe_declaration-loop-word
+invariant-describe_declaration-loop-word l =
+    (side : Option Scope) (before : List CodeUnit) (u : CodeUnit) → IsSide (text_view l.fn.old.source) l.fn.old_unit side → IsAt l.fn.new.source l.fn.unit before u →
+    l.out.items ≡ l.fn.out.items ++ flat_map (λ (w : Word). variable_lines side before u l.fn.prefix (record { name = w.text.now; initial = l.fn.declaration.initial })) (take l.word-index l.word-items)
+
+-- the lines of the declarations so far are written
+abbrev pub invariant-describe_unit-loop-declaration : goal.invariant-describe_unit-loop-declaration
+invariant-describe_unit-loop-declaration l =
+    (side : Option Scope) (before : List CodeUnit) (u : CodeUnit) → IsSide (text_view l.fn.old.source) l.fn.old_unit side → IsAt l.fn.new.source l.fn.unit before u →
+    l.out.items ≡ l.fn.out.items ++ flat_map (declaration_lines side before u l.fn.prefix) (take l.declaration-index l.declaration-items)

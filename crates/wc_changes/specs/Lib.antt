@@ -1,0 +1,4 @@
+pub mod ChangeReport
+pub mod Forms
+pub mod Shown
+pub mod Sides
