@@ -17,7 +17,7 @@ use wc_messages::Form;
 /// tools/legal_digest computes. Whether a build was proved is not known to the program.
 const VERSION: &str = "0.1.0 (Narbeddo)
 toolchain rattle-kit-13f logic dac8208d650f15bf
-legal part sha256 987bbfaa6cf702a908bec103ff0b77744dc88df3e8e31c07b2271efe512fbd2e";
+legal part sha256 38071da2b3d49baab41bbc528f538ecc196bfce6f6889d471e4f7c17c408366c";
 
 /// What the program does, with an example of each word.
 const ABOUT: &str =

@@ -86,7 +86,10 @@ pub(crate) fn line_at(text: &[u8], number: u32) -> Option<&[u8]>
 
 /// The number of the line on which a place stands, counted from 1.
 pub(crate) fn line_of(text: &[u8], place: usize) -> u32 {
-    let feeds = front(text, place).iter().filter(|byte| **byte == b'\n').count();
+    let feeds = front(text, place)
+        .iter()
+        .filter(|byte| **byte == b'\n')
+        .count();
     feeds.saturating_add(1).min(1048577) as u32
 }
 

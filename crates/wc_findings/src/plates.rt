@@ -160,9 +160,7 @@ fn advise_load(alloc: Global, finding: &mut Finding, e: u32) -> Result<(), Alloc
 fn advise_span(alloc: Global, finding: &mut Finding, n: u32) -> Result<(), AllocError> {
     let least = n as u64 * 4;
     finding.says = Some("span_counts is out of range");
-    finding.advice = format!(in alloc;
-        "with max / e = {n}, span_counts is {least} to 8000000"
-    )?;
+    finding.advice = format!(in alloc; "with max / e = {n}, span_counts is {least} to 8000000")?;
     Ok(())
 }
 

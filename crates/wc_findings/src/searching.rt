@@ -131,11 +131,7 @@ fn keep_line(finding: &mut Finding, text: &[u8], line: u32) -> Result<(), AllocE
 }
 
 /// What is wrong with the row of a log.
-fn find_row(
-    alloc: Global,
-    refusal: &Refusal<'_>,
-    row: &RefusedRow,
-) -> Result<Finding, AllocError>
+fn find_row(alloc: Global, refusal: &Refusal<'_>, row: &RefusedRow) -> Result<Finding, AllocError>
     ensures found { IfOk result (FindsRow refusal.now.number (fields_told row.now)) }
     ensures within { IfOk result (λ finding. IsWithin finding) }
 {
@@ -148,11 +144,7 @@ fn find_row(
 }
 
 /// What is wrong with the text of a part.
-fn find_text(
-    alloc: Global,
-    refusal: &Refusal<'_>,
-    text: &[u8],
-) -> Result<Finding, AllocError>
+fn find_text(alloc: Global, refusal: &Refusal<'_>, text: &[u8]) -> Result<Finding, AllocError>
     ensures found { IfOk result (FindsIn refusal.now text.now) }
     ensures within { IfOk result (λ finding. IsWithin finding) }
 {

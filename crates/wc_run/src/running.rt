@@ -315,5 +315,14 @@ pub fn run_last<'a, R: ByteIn, W: ByteOut>(
         (R.failure_count reader.new) }
 {
     let mut told = RefusedRow::new(alloc);
-    run_telling(alloc, Some(number), plate, machine, next, reader, writer, &mut told)
+    run_telling(
+        alloc,
+        Some(number),
+        plate,
+        machine,
+        next,
+        reader,
+        writer,
+        &mut told,
+    )
 }
