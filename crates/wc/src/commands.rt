@@ -196,7 +196,13 @@ pub(crate) fn preview_words(
     let mut reader = kept_source(rt, program, &gathered);
     let mut next_reader = kept_source(rt, next, &gathered);
     let mut writer = Device::new(Sharing::new(&gathered));
-    let ending = preview_files(rt.alloc(), paths, &mut reader, &mut next_reader, &mut writer);
+    let ending = preview_files(
+        rt.alloc(),
+        paths,
+        &mut reader,
+        &mut next_reader,
+        &mut writer,
+    );
     let reading = kept_cause(&reader).or(kept_cause(&next_reader));
     finish(
         rt,

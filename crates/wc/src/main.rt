@@ -116,7 +116,11 @@ fn execute(rt: &HostRuntime, words: &[String], request: Request<'_>) -> u8
     let form = request.form;
     match request.wanted {
         Wanted::Job => run_job(rt, words, form),
-        Wanted::Check { program, next, paths } => match next {
+        Wanted::Check {
+            program,
+            next,
+            paths,
+        } => match next {
             Some(next) => preview_words(rt, words, form, program, next, paths),
             None => check_words(rt, words, form, program, paths),
         },

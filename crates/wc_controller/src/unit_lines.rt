@@ -60,11 +60,7 @@ fn lines_at(
 }
 
 /// The lines of all units, in the text's order. `Memory` is the only fault.
-pub fn text_of_units(
-    alloc: Global,
-    loaded: &Loaded<'_>,
-    paths: bool,
-) -> Result<Vec<u8>, RunFault>
+pub fn text_of_units(alloc: Global, loaded: &Loaded<'_>, paths: bool) -> Result<Vec<u8>, RunFault>
     ensures report { IfOk result
         (λ lines. IsUnitReport paths (text_view loaded.now.source) lines.items) }
     ensures memory { IsOkUnless result RunFault.Memory }

@@ -179,7 +179,14 @@ fn is_previewed(alloc: Global, old: &[u8], ending: Ending, output: &[u8]) -> boo
 
 #[test]
 fn a_change_is_looked_at(rt: HostRuntime) {
-    assert!(rt; is_previewed(rt.alloc(), PROGRAM, Ending::Done, b"unit P cost 2\npath 2 3\n"));
+    assert!(rt;
+        is_previewed(
+            rt.alloc(),
+            PROGRAM,
+            Ending::Done,
+            b"unit P cost 2\npath 2 3\n"
+        )
+    );
     let old = refused(Input::Program, 203, 1);
     assert!(rt; is_previewed(rt.alloc(), b"", old, b"refused 203 1\n"));
 }

@@ -105,5 +105,11 @@ fn is_told(alloc: Global, next: &[u8], lines: &[u8]) -> bool {
 #[test]
 fn what_a_change_keeps_is_told(rt: HostRuntime) {
     assert!(rt; is_told(rt.alloc(), SUMMING, b"kept t\nkept N\nfirst k DINT 7 new\n"));
-    assert!(rt; is_told(rt.alloc(), OTHER_TIMER, b"first u TON new\nkept N\nfirst k DINT 7 new\n"));
+    assert!(rt;
+        is_told(
+            rt.alloc(),
+            OTHER_TIMER,
+            b"first u TON new\nkept N\nfirst k DINT 7 new\n"
+        )
+    );
 }
