@@ -1,0 +1,54 @@
+ghost use types.Logic.{sem};
+ghost use Rattle.std.specs.Borrow.{full_share};
+ghost use Rattle.std.specs.Ptr.{lies_at};
+ghost use Rattle.wc_scale.specs.contracts.scale.Scale.{the_row};
+ghost use Rattle.std.specs.Prelude.{◌≡◌};
+ghost use Rattle.wc_scale.specs.Calls.{RefusesOpen, TakesOpen};
+ghost use Rattle.wc_scale.specs.Programs.{RefusesChange, RefusesLoad, TakesChange, TakesLoad};
+ghost use Rattle.wc_scale.specs.Standing.{IsClosed};
+
+use wc_scale::{Refusal, Scale};
+
+/// Opens the scale by the text of its plate.
+#[unsafe(no_mangle)]
+pub unsafe extern "C" fn narbeddo_open(scale: *mut u8, plate: &[u8]) -> Refusal
+    ghost before: { Scale }
+    requires* { sem 𝓛 (lies_at the_row full_share scale before) }
+    ensures* { ∃ₛ (λ (after : Scale). sem 𝓛 (lies_at the_row full_share scale after)
+        ∗ ⌜ (TakesOpen after plate.now result) × (RefusesOpen before after plate.now result) ⌝) }
+{
+    (&mut *(scale as *mut Scale)).open(plate)
+}
+
+/// Closes the scale, and gives back all memory that it took.
+#[unsafe(no_mangle)]
+pub unsafe extern "C" fn narbeddo_close(scale: *mut u8) -> u32
+    ghost before: { Scale }
+    requires* { sem 𝓛 (lies_at the_row full_share scale before) }
+    ensures* { ∃ₛ (λ (after : Scale). sem 𝓛 (lies_at the_row full_share scale after)
+        ∗ ⌜ (result ≡ 0) × (IsClosed after) ⌝) }
+{
+    (&mut *(scale as *mut Scale)).close()
+}
+
+/// Loads a program, which begins anew. Its text is not copied.
+#[unsafe(no_mangle)]
+pub unsafe extern "C" fn narbeddo_load(scale: *mut u8, text: &'static [u8]) -> Refusal
+    ghost before: { Scale }
+    requires* { sem 𝓛 (lies_at the_row full_share scale before) }
+    ensures* { ∃ₛ (λ (after : Scale). sem 𝓛 (lies_at the_row full_share scale after)
+        ∗ ⌜ (TakesLoad before after text.now result) × (RefusesLoad before after text.now result) ⌝) }
+{
+    (&mut *(scale as *mut Scale)).load(text)
+}
+
+/// Changes the program between two scans. Its text is not copied.
+#[unsafe(no_mangle)]
+pub unsafe extern "C" fn narbeddo_change(scale: *mut u8, text: &'static [u8]) -> Refusal
+    ghost before: { Scale }
+    requires* { sem 𝓛 (lies_at the_row full_share scale before) }
+    ensures* { ∃ₛ (λ (after : Scale). sem 𝓛 (lies_at the_row full_share scale after)
+        ∗ ⌜ (TakesChange before after text.now result) × (RefusesChange before after text.now result) ⌝) }
+{
+    (&mut *(scale as *mut Scale)).change(text)
+}

@@ -1,0 +1,24 @@
+ghost use Rattle.std.specs.Prelude.{◌≡◌};
+ghost use Rattle.wc_scale.specs.About.{RefusesText, TellsPath, TellsUnit};
+
+use std::alloc::Global;
+use wc_scale::{PathTold, UnitTold, about, path};
+
+/// What is told of a unit of a program's text, counted in text order from 0.
+#[unsafe(no_mangle)]
+pub extern "C" fn narbeddo_about(alloc: Global, text: &[u8], unit: u32) -> UnitTold
+    ensures told { TellsUnit text.now unit result }
+    ensures refused { RefusesText text.now result.text }
+{
+    about(alloc, text, unit)
+}
+
+/// The lines of a unit's worst path, put into the room.
+#[unsafe(no_mangle)]
+pub extern "C" fn narbeddo_path(alloc: Global, text: &[u8], unit: u32, room: &mut [u32]) -> PathTold
+    ensures told { TellsPath text.now unit room.new result }
+    ensures kept { ¬ (result.text.status ≡ 0) → room.new ≡ room.old }
+    ensures refused { RefusesText text.now result.text }
+{
+    path(alloc, text, unit, room)
+}

@@ -1,0 +1,29 @@
+ghost use types.Logic.{sem};
+ghost use Rattle.std.specs.Borrow.{full_share};
+ghost use Rattle.std.specs.Ptr.{lies_at};
+ghost use Rattle.wc_scale.specs.contracts.scale.Scale.{the_row};
+ghost use Rattle.std.specs.Prelude.{◌≡◌};
+ghost use Rattle.wc_scale.specs.Calls.{TellsReading};
+ghost use Rattle.wc_scale.specs.Standing.{IsClosed};
+
+use wc_scale::{Reading, Scale};
+
+/// What the indicator shows. The scale stays as it is.
+fn reading_of(scale: &mut Scale) -> Reading
+    ensures shows { TellsReading scale.old result }
+    ensures closed { IsClosed scale.old → result.status ≡ 3 }
+    ensures kept { scale.new ≡ scale.old }
+{
+    scale.reading()
+}
+
+/// What the indicator shows.
+#[unsafe(no_mangle)]
+pub unsafe extern "C" fn narbeddo_read(scale: *mut u8) -> Reading
+    ghost before: { Scale }
+    requires* { sem 𝓛 (lies_at the_row full_share scale before) }
+    ensures* { ∃ₛ (λ (after : Scale). sem 𝓛 (lies_at the_row full_share scale after)
+        ∗ ⌜ (TellsReading before result) × (IsClosed before → result.status ≡ 3) × (after ≡ before) ⌝) }
+{
+    reading_of(&mut *(scale as *mut Scale))
+}

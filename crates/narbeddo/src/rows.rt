@@ -1,0 +1,51 @@
+ghost use types.Logic.{sem};
+ghost use Rattle.std.specs.Borrow.{full_share};
+ghost use Rattle.std.specs.Ptr.{lies_at};
+ghost use Rattle.wc_scale.specs.contracts.scale.Scale.{the_row};
+ghost use Rattle.wc_scale.specs.Calls.{RefusesByte, RefusesInputs, RefusesSample, RefusesScan, TakesByte, TakesInputs, TakesSample, TakesScan};
+
+use wc_scale::{Answer, Scale, Scanned};
+
+/// Takes a sample.
+#[unsafe(no_mangle)]
+pub unsafe extern "C" fn narbeddo_sample(scale: *mut u8, counts: i32) -> u32
+    ghost before: { Scale }
+    requires* { sem 𝓛 (lies_at the_row full_share scale before) }
+    ensures* { ∃ₛ (λ (after : Scale). sem 𝓛 (lies_at the_row full_share scale after)
+        ∗ ⌜ (TakesSample before after counts result) × (RefusesSample before after counts result) ⌝) }
+{
+    (&mut *(scale as *mut Scale)).sample(counts)
+}
+
+/// Takes a byte on the line, and gives the answer to the request that it completes.
+#[unsafe(no_mangle)]
+pub unsafe extern "C" fn narbeddo_byte(scale: *mut u8, byte: u8) -> Answer
+    ghost before: { Scale }
+    requires* { sem 𝓛 (lies_at the_row full_share scale before) }
+    ensures* { ∃ₛ (λ (after : Scale). sem 𝓛 (lies_at the_row full_share scale after)
+        ∗ ⌜ (TakesByte before after byte result) × (RefusesByte before after result) ⌝) }
+{
+    (&mut *(scale as *mut Scale)).byte(byte)
+}
+
+/// Takes the inputs from now on.
+#[unsafe(no_mangle)]
+pub unsafe extern "C" fn narbeddo_inputs(scale: *mut u8, inputs: u16) -> u32
+    ghost before: { Scale }
+    requires* { sem 𝓛 (lies_at the_row full_share scale before) }
+    ensures* { ∃ₛ (λ (after : Scale). sem 𝓛 (lies_at the_row full_share scale after)
+        ∗ ⌜ (TakesInputs before after inputs result) × (RefusesInputs before after result) ⌝) }
+{
+    (&mut *(scale as *mut Scale)).inputs(inputs)
+}
+
+/// Scans the program once, at a moment in milliseconds.
+#[unsafe(no_mangle)]
+pub unsafe extern "C" fn narbeddo_scan(scale: *mut u8, moment: u64) -> Scanned
+    ghost before: { Scale }
+    requires* { sem 𝓛 (lies_at the_row full_share scale before) }
+    ensures* { ∃ₛ (λ (after : Scale). sem 𝓛 (lies_at the_row full_share scale after)
+        ∗ ⌜ (TakesScan before after moment result) × (RefusesScan before after moment result.status) ⌝) }
+{
+    (&mut *(scale as *mut Scale)).scan(moment)
+}

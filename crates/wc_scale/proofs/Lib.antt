@@ -1,0 +1,4 @@
+pub mod Answering
+pub mod Changes
+pub mod Refusing
+pub mod Scans

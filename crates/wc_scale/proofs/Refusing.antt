@@ -1,0 +1,53 @@
+-- What is told of a fault is the text's one refusal.
+use Rattle.std.proofs.Common.{◌≡◌, ◌≤◌, ℕ, Bool, false, not, List, Option, Some, None, is_some, sym, subst, arith, refl}
+use Rattle.wc_controller.specs.Loads.{IsRefusedLoad, IsTheOnlyRefusal}
+use Rattle.wc_model.specs.declared.fault.Fault.{Fault}
+use Rattle.wc_model.specs.declared.fault.Fault.TheVariants.{Memory, Refused}
+use Rattle.wc_scale.specs.Beginning.{IsRefusedAt}
+use Rattle.wc_scale.specs.Programs.{RefusesChange, RefusesLoad}
+use Rattle.wc_scale.specs.Standing.{HasNoProgram, IsClosed}
+use Rattle.wc_scale.specs.declared.scale.Scale.{Scale}
+use Rattle.wc_scale.specs.Refusals.{TellsFault}
+use Rattle.wc_scale.specs.declared.results.Refusal.{Refusal}
+
+-- of a program's text
+pub refused_at : (bytes : List ℕ) (fault : Fault) (told : Refusal) → IsRefusedLoad bytes fault → IsTheOnlyRefusal bytes fault → TellsFault fault told →
+    told.status ≡ 1 → IsRefusedAt bytes told.number told.place
+refused_at bytes (Refused number place) told refused only tells is =
+    let Refuses : ℕ → ℕ → Type 0 = λ n p. IsRefusedAt bytes n p in
+    subst (λ n. Refuses n told.place) (sym tells.1) (subst (λ p. Refuses number p) (sym tells.2)
+    (record { refused = refused; never = only.0; only = only.1 }))
+refused_at bytes Memory told refused only tells is = absurd (omega arith)
+
+-- a fault is told by status 1 or 2
+pub fault_status : (fault : Fault) (told : Refusal) → TellsFault fault told → (told.status ≤ 2) × ¬ (told.status ≡ 0)
+fault_status (Refused number place) told tells = (omega arith, λ none. absurd (omega arith))
+fault_status Memory told tells = (omega arith, λ none. absurd (omega arith))
+
+-- an indicator that is there is not none
+pub is_there : {X : Type 0} (kept : Option X) (none : Bool) → is_some kept ≡ not none → none ≡ false → ¬ (kept ≡ None)
+is_there None none said is = λ _. absurd (cc)
+is_there (Some x) none said is = λ other. absurd (cc)
+
+-- a program that is refused leaves the one that is loaded
+pub refuses_load : (old : Scale) (bytes : List ℕ) (fault : Fault) (told : Refusal) → ¬ (IsClosed old) → IsRefusedLoad bytes fault → IsTheOnlyRefusal bytes fault →
+    TellsFault fault told → RefusesLoad old old bytes told
+refuses_load old bytes fault told opened refused only tells =
+    record {
+      kept = λ other. refl;
+      closed = λ is. absurd (opened is);
+      says = refused_at bytes fault told refused only tells;
+      else = λ is. (fault_status fault told tells).0;
+    }
+
+-- and so at a change
+pub refuses_change : (old : Scale) (bytes : List ℕ) (fault : Fault) (told : Refusal) → ¬ (IsClosed old) → ¬ (HasNoProgram old) → IsRefusedLoad bytes fault →
+    IsTheOnlyRefusal bytes fault → TellsFault fault told → RefusesChange old old bytes told
+refuses_change old bytes fault told opened loaded refused only tells =
+    record {
+      kept = λ other. refl;
+      closed = λ is. absurd (opened is);
+      program = λ is none. absurd (loaded none);
+      says = refused_at bytes fault told refused only tells;
+      else = λ is has. (fault_status fault told tells).0;
+    }

@@ -1,0 +1,9 @@
+use Rattle.std.proofs.Common.{sym, subst}
+use Rattle.wc_scale.proofs.Refusing.{refused_at}
+use Rattle.wc_scale.specs.Refusals.{TellsFault}
+use Rattle.wc_scale.proofs.units.path.Goals as goal
+
+pub returns-in-Err-clause-refused : goal.returns-in-Err-clause-refused
+returns-in-Err-clause-refused c = λ is.
+    refused_at c.args.text.now c.in-Err.fault c.no_path.result.text c.in-Err.ensures.refused c.in-Err.ensures.only
+    (subst (λ told. TellsFault c.in-Err.fault told) (sym c.no_path.ensures.text) c.of_fault.ensures) is

@@ -1,0 +1,109 @@
+-- What each call with a row's work does to a scale and what it answers, for whatever plate and whatever has come the scale
+-- stands for. A call that answers any status but 0 changes nothing. (The profile's own.)
+use Rattle.std.specs.Prelude.{◌≡◌, ℕ, ◌<◌, ◌≤◌, List, [], ◌∷◌, ◌++◌, take, ℤ, ◌≤ℤ◌, Some}
+use Rattle.wc_model.specs.Instrument.Answers.{after_requests, answers_to}
+use Rattle.wc_model.specs.Instrument.Plates.{PlateData, greatest_sample, least_sample}
+use Rattle.wc_model.specs.Instrument.Requests.{requests_in}
+use Rattle.wc_model.specs.Instrument.WeighingHistories.{Sample}
+use Rattle.wc_model.specs.Language.Paths.{IsProgramBound}
+use Rattle.wc_model.specs.Run.ProcessImage.{image_with}
+use Rattle.wc_model.specs.Say.ProgramReport.{scans_of}
+use Rattle.wc_scale.specs.Opening.{GivesPlate, RefusesPlate}
+use Rattle.wc_scale.specs.Scanning.{IsToldOf}
+use Rattle.wc_scale.specs.Standing.{Came, HasNoProgram, IsClosed, IsKept, IsNotBehind, Running, Stands, nothing_yet}
+use Rattle.wc_scale.specs.declared.results.Answer.{Answer}
+use Rattle.wc_scale.specs.declared.results.Reading.{Reading}
+use Rattle.wc_scale.specs.declared.results.Refusal.{Refusal}
+use Rattle.wc_scale.specs.declared.results.Scanned.{Scanned}
+use Rattle.wc_scale.specs.declared.scale.Scale.{Scale}
+
+-- ---- opening
+-- the scale is opened by the plate that the text gives, and nothing has come to it
+pub record IsOpened (new : Scale) (text : List ℕ) : Type 0 where
+  pub plate : PlateData
+  pub given : GivesPlate text plate
+  pub stands : Stands new plate nothing_yet
+
+abbrev pub TakesOpen : Scale → List ℕ → Refusal → Type 0
+TakesOpen new text told = told.status ≡ 0 → IsOpened new text
+
+-- a scale that is open stays so, and a text that is refused opens none
+pub record RefusesOpen (old new : Scale) (text : List ℕ) (told : Refusal) : Type 0 where
+  pub kept : IsKept old new told.status
+  pub twice : ¬ (IsClosed old) → told.status ≡ 4
+  pub says : told.status ≡ 1 → RefusesPlate text told.number told.place
+  pub else : IsClosed old → told.status ≤ 2
+
+-- ---- a sample
+-- no farther than the sensor reaches
+abbrev pub IsSample : ℤ → Type 0
+IsSample counts = (least_sample ≤ℤ counts) × (counts ≤ℤ greatest_sample)
+
+-- what has come, and a sample
+abbrev pub with_sample : ℤ → Came → Came
+with_sample counts came = record came { history = Sample counts ∷ came.history }
+
+abbrev pub TakesSample : Scale → Scale → ℤ → ℕ → Type 0
+TakesSample old new counts status = IsSample counts → (plate : PlateData) (came : Came) → Stands old plate came → (status ≡ 0) × Stands new plate (with_sample counts came)
+
+-- a closed scale takes none, and an open one none out of range
+pub record RefusesSample (old new : Scale) (counts : ℤ) (status : ℕ) : Type 0 where
+  pub kept : IsKept old new status
+  pub closed : IsClosed old → status ≡ 3
+  pub range : ¬ (IsClosed old) → ¬ (IsSample counts) → status ≡ 6
+
+-- ---- inputs
+-- what has come, with these inputs from now on
+abbrev pub with_inputs : ℕ → Came → Came
+with_inputs inputs came = record came { inputs = inputs }
+
+abbrev pub TakesInputs : Scale → Scale → ℕ → ℕ → Type 0
+TakesInputs old new inputs status = (plate : PlateData) (came : Came) → Stands old plate came → (status ≡ 0) × Stands new plate (with_inputs inputs came)
+
+pub record RefusesInputs (old new : Scale) (status : ℕ) : Type 0 where
+  pub kept : IsKept old new status
+  pub closed : IsClosed old → status ≡ 3
+
+-- ---- a byte on the line
+-- what has come, and a byte, which acts on the request that it completes
+abbrev pub with_byte : ℕ → Came → Came
+with_byte byte came = record came { history = after_requests (requests_in came.bytes (byte ∷ [])) came.history; bytes = came.bytes ++ (byte ∷ []) }
+
+-- the byte is taken, and answered as the samples and the line's bytes so far say: the program has no part in it
+pub record IsAnswered (new : Scale) (plate : PlateData) (came : Came) (byte : ℕ) (answer : Answer) : Type 0 where
+  pub done : answer.status ≡ 0
+  pub bytes : take answer.length answer.bytes ≡ answers_to plate (requests_in came.bytes (byte ∷ [])) came.history
+  pub stands : Stands new plate (with_byte byte came)
+
+abbrev pub TakesByte : Scale → Scale → ℕ → Answer → Type 0
+TakesByte old new byte answer = (plate : PlateData) (came : Came) → Stands old plate came → IsAnswered new plate came byte answer
+
+pub record RefusesByte (old new : Scale) (answer : Answer) : Type 0 where
+  pub closed : IsClosed old → (answer.status ≡ 3) × (answer.length ≡ 0) × (new ≡ old)
+  pub short : answer.length ≤ 20
+
+-- ---- a scan
+-- the scan does what the text means, within its bound, from the inputs and the indicator as they are
+pub record IsScanned (new : Scale) (plate : PlateData) (came : Came) (running : Running) (ms : ℕ) (scanned : Scanned) : Type 0 where
+  pub told : IsToldOf scanned (scans_of running.text running.store (image_with plate came.inputs came.history) ms)
+  pub stands : Stands new plate (record came { program = Some (record { text = running.text; store = (scans_of running.text running.store (image_with plate came.inputs came.history) ms).after }) })
+  pub within : (n : ℕ) → IsProgramBound running.text n → scanned.steps ≤ n
+
+abbrev pub TakesScan : Scale → Scale → ℕ → Scanned → Type 0
+TakesScan old new ms scanned = scanned.status ≡ 0 →
+    (plate : PlateData) (came : Came) (running : Running) → came.program ≡ Some running → Stands old plate came → IsScanned new plate came running ms scanned
+
+-- a scan is done unless the scale is closed, has no program, or the moment is out of range or goes back
+pub record RefusesScan (old new : Scale) (ms : ℕ) (status : ℕ) : Type 0 where
+  pub kept : IsKept old new status
+  pub closed : IsClosed old → status ≡ 3
+  pub program : ¬ (IsClosed old) → HasNoProgram old → status ≡ 5
+  pub range : ¬ (IsClosed old) → ¬ (HasNoProgram old) → 1099511627775 < ms → status ≡ 7
+  pub back : ¬ (IsClosed old) → ¬ (HasNoProgram old) → ms ≤ 1099511627775 → ¬ (IsNotBehind old ms) → status ≡ 8
+  pub else : ¬ (IsClosed old) → ¬ (HasNoProgram old) → ms ≤ 1099511627775 → IsNotBehind old ms → status ≡ 0
+
+-- ---- what is shown
+-- the status and the weights of the process image
+abbrev pub TellsReading : Scale → Reading → Type 0
+TellsReading scale reading = (plate : PlateData) (came : Came) → Stands scale plate came →
+    (reading.status ≡ 0) × (reading.flags ≡ (image_with plate came.inputs came.history).status) × (reading.weights ≡ (image_with plate came.inputs came.history).weights)

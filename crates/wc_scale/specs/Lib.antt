@@ -1,0 +1,8 @@
+pub mod About
+pub mod Beginning
+pub mod Calls
+pub mod Opening
+pub mod Programs
+pub mod Refusals
+pub mod Scanning
+pub mod Standing

@@ -1,0 +1,64 @@
+-- What a call with a program's text does to a scale and what it answers. (The profile's own.)
+use Rattle.std.specs.Prelude.{◌≡◌, ℕ, ◌≤◌, ◌⊎◌, List, Some}
+use Rattle.wc_controller.specs.Loads.{IsNeverRefused}
+use Rattle.wc_cost.specs.LoadedTexts.{LoadedText}
+use Rattle.wc_model.specs.Instrument.Plates.{PlateData}
+use Rattle.wc_model.specs.Language.Carried.{carried}
+use Rattle.wc_model.specs.Language.Loading.{IsLoaded}
+use Rattle.wc_model.specs.Language.Tree.{Text}
+use Rattle.wc_model.specs.Language.Views.{text_view}
+use Rattle.wc_scale.specs.Beginning.{IsRefusedAt}
+use Rattle.wc_scale.specs.Standing.{Came, HasNoProgram, IsClosed, IsKept, IsNotBehind, Running, Stands, begun}
+use Rattle.wc_scale.specs.declared.results.Refusal.{Refusal}
+use Rattle.wc_scale.specs.declared.scale.Scale.{Scale}
+
+-- what has come, with this program
+abbrev pub with_program : Running → Came → Came
+with_program running came = record came { program = Some running }
+
+-- the bytes are loaded as a text, which begins anew
+pub record IsBegun (old new : Scale) (bytes : List ℕ) : Type 0 where
+  pub text : Text
+  pub loaded : IsLoaded bytes text
+  pub accepted : IsNeverRefused bytes
+  pub stands : (plate : PlateData) (came : Came) → Stands old plate came → Stands new plate (with_program (begun text) came)
+
+abbrev pub TakesLoad : Scale → Scale → List ℕ → Refusal → Type 0
+TakesLoad old new bytes told = told.status ≡ 0 → IsBegun old new bytes
+
+-- the program stays where the text is refused or there is no memory
+pub record RefusesLoad (old new : Scale) (bytes : List ℕ) (told : Refusal) : Type 0 where
+  pub kept : IsKept old new told.status
+  pub closed : IsClosed old → told.status ≡ 3
+  pub says : told.status ≡ 1 → IsRefusedAt bytes told.number told.place
+  pub else : ¬ (IsClosed old) → told.status ≤ 2
+
+-- the store of the new text is what is carried over to it, and the moment of the last scan stays
+pub record IsChangedTo (old new : Scale) (text : Text) : Type 0 where
+  pub stands : (plate : PlateData) (came : Came) (running : Running) → came.program ≡ Some running → Stands old plate came →
+      Stands new plate (with_program (record { text = text; store = carried running.text running.store text }) came)
+  pub last : (ms : ℕ) → IsNotBehind old ms → IsNotBehind new ms
+
+abbrev pub TakesChangeTo : Scale → Scale → LoadedText → ℕ → Type 0
+TakesChangeTo old new loaded status = status ≡ 0 → IsChangedTo old new (text_view loaded.source)
+
+pub record RefusesChangeTo (old new : Scale) (status : ℕ) : Type 0 where
+  pub kept : IsKept old new status
+  pub else : ¬ (HasNoProgram old) → (status ≡ 0) ⊎ (status ≡ 2)
+
+-- the bytes are loaded as a text, to which the program is changed
+pub record IsChanged (old new : Scale) (bytes : List ℕ) : Type 0 where
+  pub text : Text
+  pub loaded : IsLoaded bytes text
+  pub accepted : IsNeverRefused bytes
+  pub changed : IsChangedTo old new text
+
+abbrev pub TakesChange : Scale → Scale → List ℕ → Refusal → Type 0
+TakesChange old new bytes told = told.status ≡ 0 → IsChanged old new bytes
+
+pub record RefusesChange (old new : Scale) (bytes : List ℕ) (told : Refusal) : Type 0 where
+  pub kept : IsKept old new told.status
+  pub closed : IsClosed old → told.status ≡ 3
+  pub program : ¬ (IsClosed old) → HasNoProgram old → told.status ≡ 5
+  pub says : told.status ≡ 1 → IsRefusedAt bytes told.number told.place
+  pub else : ¬ (IsClosed old) → ¬ (HasNoProgram old) → told.status ≤ 2

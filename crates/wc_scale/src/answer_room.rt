@@ -1,0 +1,52 @@
+ghost use Rattle.std.specs.Prelude.{◌≡◌, ◌<◌, ◌≤◌, Some, length, take};
+
+use std::io;
+use wc_model::ByteOut;
+
+/// Room for one answer of the line. It takes no memory.
+#[derive(Drop)]
+pub(crate) struct AnswerRoom {
+    pub(crate) bytes: [u8; 20],
+    pub(crate) taken: usize,
+    pub(crate) failures: u64,
+    ghost whole: { length bytes ≡ 20 },
+    ghost within: { taken ≤ 20 },
+    // A write fails in full room alone.
+    ghost full: { 0 < failures → taken ≡ 20 },
+}
+
+impl AnswerRoom {
+    /// Room in which nothing stands.
+    pub(crate) fn new() -> AnswerRoom
+        ensures empty { result.taken ≡ 0 }
+        ensures works { result.failures ≡ 0 }
+    {
+        AnswerRoom {
+            bytes: [0; 20],
+            taken: 0,
+            failures: 0,
+        }
+    }
+}
+
+impl ByteOut for AnswerRoom {
+    ghost bytes_taken = { λ room. Some (take room.taken room.bytes) };
+
+    ghost failure_count = { λ room. room.failures };
+
+    fn write(&mut self, piece: &[u8]) -> io::Result<usize> {
+        let left = self.bytes.len() - self.taken;
+        let count = piece.len().min(left);
+        if count == 0 && !piece.is_empty() {
+            self.failures = self.failures.saturating_add(1);
+            return Ok(0);
+        }
+        self.bytes[self.taken..self.taken + count].copy_from_slice(&piece[..count]);
+        self.taken += count;
+        Ok(count)
+    }
+
+    fn failures(&self) -> u64 {
+        self.failures
+    }
+}

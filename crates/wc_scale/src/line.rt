@@ -1,0 +1,51 @@
+ghost use Rattle.std.specs.Prelude.{◌≡◌, replicate};
+ghost use Rattle.wc_scale.specs.Calls.{RefusesByte, TakesByte};
+
+use crate::answer_room::AnswerRoom;
+use crate::results::Answer;
+use crate::scale::Scale;
+use crate::statuses::{CLOSED, DONE, LINE_FAILED};
+
+/// No answer, for this reason.
+fn no_answer(status: u32) -> Answer
+    ensures { result ≡ record { status = status; length = 0; bytes = replicate 20 0 } }
+{
+    Answer {
+        status,
+        length: 0,
+        bytes: [0; 20],
+    }
+}
+
+/// The answer that stands in the room.
+fn answer_in(room: &AnswerRoom) -> Answer
+    ensures status { result.status ≡ 0 }
+    ensures length { result.length ≡ room.now.taken }
+    ensures bytes { result.bytes ≡ room.now.bytes }
+{
+    let bytes = room.bytes;
+    Answer {
+        status: DONE,
+        length: room.taken as u32,
+        bytes,
+    }
+}
+
+impl Scale {
+    /// Takes a byte on the line, and gives the answer to the request that it completes. It takes no memory.
+    pub fn byte(&mut self, byte: u8) -> Answer
+        ensures taken { TakesByte self.old self.new byte result }
+        ensures refused { RefusesByte self.old self.new result }
+    {
+        match &mut self.indicator {
+            Some(indicator) => {
+                let mut room = AnswerRoom::new();
+                match self.line.feed(&[byte], indicator, &mut room) {
+                    Ok(()) => answer_in(&room),
+                    Err(_) => no_answer(LINE_FAILED),
+                }
+            }
+            None => no_answer(CLOSED),
+        }
+    }
+}

@@ -1,0 +1,108 @@
+ghost use Rattle.std.specs.Prelude.{◌≡◌};
+ghost use Rattle.wc_scale.specs.Refusals.{TellsFault};
+
+use crate::statuses::{NO_MEMORY, REFUSED};
+use wc_model::Fault;
+
+/// What comes of a text: a status, and of a text that is refused the rule's number and the place.
+#[repr(C)]
+#[derive(Clone, Copy)]
+pub struct Refusal {
+    /// The status.
+    pub status: u32,
+    /// The number of the rule that the text breaks, 0 where it is not refused.
+    pub number: u32,
+    /// The line that breaks it, counted from 1; 0 where no line does.
+    pub place: u32,
+}
+
+/// What comes of a byte on the line: a status, and the answer to the request that it completes.
+#[repr(C)]
+#[derive(Clone, Copy)]
+pub struct Answer {
+    /// The status.
+    pub status: u32,
+    /// How many bytes the answer has, 0 where the byte completes no request.
+    pub length: u32,
+    /// Its bytes, and zeros behind them.
+    pub bytes: [u8; 20],
+}
+
+/// What comes of a scan: a status, how many steps it took, and the outputs that it leaves.
+#[repr(C)]
+#[derive(Clone, Copy)]
+pub struct Scanned {
+    /// The status.
+    pub status: u32,
+    /// How many steps the scan took.
+    pub steps: u32,
+    /// `%QX0.0` to `%QX0.15`; bit i is `%QX0.i`.
+    pub bits: u32,
+    /// `%QD0` to `%QD3`.
+    pub words: [i32; 4],
+}
+
+/// What the indicator shows: a status, six flags, and three weights in units of the last decimal.
+#[repr(C)]
+#[derive(Clone, Copy)]
+pub struct Reading {
+    /// The status.
+    pub status: u32,
+    /// Stable, over, under, centre of zero, tare active, valid, the lowest bit first.
+    pub flags: u32,
+    /// Gross, net and tare, each 0 where there is no indication.
+    pub weights: [i32; 3],
+}
+
+/// What is told of one unit of a program's text.
+#[repr(C)]
+#[derive(Clone, Copy)]
+pub struct UnitTold {
+    /// What comes of the text.
+    pub text: Refusal,
+    /// How many units the text has; the program is the last.
+    pub units: u32,
+    /// How many steps the unit takes at most.
+    pub bound: u32,
+    /// How many bytes the unit's name has.
+    pub length: u32,
+    /// Its name as it is spelled, and zeros behind it.
+    pub name: [u8; 32],
+}
+
+/// What is told of the worst path of a unit.
+#[repr(C)]
+#[derive(Clone, Copy)]
+pub struct PathTold {
+    /// What comes of the text.
+    pub text: Refusal,
+    /// How many lines the path has.
+    pub length: u32,
+}
+
+/// A text about which this status says all.
+pub(crate) fn only(status: u32) -> Refusal
+    ensures status { result.status ≡ status }
+    ensures number { result.number ≡ 0 }
+    ensures place { result.place ≡ 0 }
+{
+    Refusal {
+        status,
+        number: 0,
+        place: 0,
+    }
+}
+
+/// What a fault says of a text.
+pub(crate) fn of_fault(fault: Fault) -> Refusal
+    ensures { TellsFault fault result }
+{
+    match fault {
+        Fault::Refused { number, place } => Refusal {
+            status: REFUSED,
+            number: u32::from(number),
+            place,
+        },
+        Fault::Memory => only(NO_MEMORY),
+    }
+}

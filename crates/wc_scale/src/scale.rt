@@ -1,0 +1,74 @@
+ghost use Rattle.std.specs.Prelude.{◌≡◌};
+ghost use Rattle.wc_scale.specs.Standing.{IsClosed};
+ghost use Rattle.wc_scale.specs.Calls.{RefusesSample, TakesSample, RefusesInputs, TakesInputs};
+
+use crate::statuses::{CLOSED, COUNTS_OUT_OF_RANGE, DONE};
+use std::alloc::Global;
+use wc_indicator::Indicator;
+use wc_machine::Machine;
+use wc_sma::Line;
+use wc_store::SlotStore;
+
+/// A scale. It is closed while it has no indicator.
+#[derive(Drop)]
+pub struct Scale {
+    pub(crate) alloc: Global,
+    pub(crate) indicator: Option<Indicator>,
+    pub(crate) line: Line,
+    pub(crate) inputs: u16,
+    pub(crate) machine: Option<Machine<'static, SlotStore>>,
+}
+
+impl Scale {
+    /// A scale that is closed. It takes no memory; what the scale takes later is taken by this allocator.
+    pub fn new(alloc: Global) -> Scale
+        ensures { IsClosed result }
+    {
+        Scale {
+            alloc,
+            indicator: None,
+            line: Line::new(),
+            inputs: 0,
+            machine: None,
+        }
+    }
+
+    /// Closes the scale, and gives back all memory that it took.
+    pub fn close(&mut self) -> u32
+        ensures done { result ≡ 0 }
+        ensures closed { IsClosed self.new }
+    {
+        self.machine = None;
+        self.indicator = None;
+        DONE
+    }
+
+    /// Takes a sample of the sensor. It takes no memory.
+    pub fn sample(&mut self, counts: i32) -> u32
+        ensures taken { TakesSample self.old self.new counts result }
+        ensures refused { RefusesSample self.old self.new counts result }
+    {
+        match &mut self.indicator {
+            Some(indicator) => {
+                if counts < -8388608 || counts > 8388607 {
+                    return COUNTS_OUT_OF_RANGE;
+                }
+                indicator.sample(counts);
+                DONE
+            }
+            None => CLOSED,
+        }
+    }
+
+    /// Takes the inputs from now on. It takes no memory.
+    pub fn inputs(&mut self, inputs: u16) -> u32
+        ensures taken { TakesInputs self.old self.new inputs result }
+        ensures refused { RefusesInputs self.old self.new result }
+    {
+        if self.indicator.is_none() {
+            return CLOSED;
+        }
+        self.inputs = inputs;
+        DONE
+    }
+}

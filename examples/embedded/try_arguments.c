@@ -1,0 +1,216 @@
+/* Arguments that can't be taken, and memory that is refused: each call must say so and change nothing. It is built with the compiler's checks
+ * of addresses and of undefined behaviour. Each text stands in a block of just its size, so that a byte read behind it would be seen. */
+#include "narbeddo.h"
+
+#include <stdbool.h>
+#include <stdio.h>
+#include <stdlib.h>
+#include <string.h>
+
+static unsigned long asked, refuse_from, tried_count, failed_count, blocks;
+
+typedef struct tried {
+    bool ok;
+    void *at;
+} tried;
+
+tried rattle_alloc(size_t size, size_t align);
+tried rattle_realloc(void *at, size_t kept, size_t size, size_t align);
+void rattle_dealloc(void *at);
+
+static bool is_refused(void)
+{
+    asked++;
+    return refuse_from != 0 && asked >= refuse_from;
+}
+
+tried rattle_alloc(size_t size, size_t align)
+{
+    static char none;
+    tried answer = {false, &none};
+    if (!is_refused()) {
+        answer.at = malloc(size != 0 ? size : align);
+        answer.ok = answer.at != NULL;
+        blocks += answer.ok;
+    }
+    return answer;
+}
+
+tried rattle_realloc(void *at, size_t kept, size_t size, size_t align)
+{
+    static char none;
+    tried answer = {false, &none};
+    (void)kept;
+    if (!is_refused()) {
+        answer.at = realloc(at, size != 0 ? size : align);
+        answer.ok = answer.at != NULL;
+    }
+    return answer;
+}
+
+void rattle_dealloc(void *at)
+{
+    blocks--;
+    free(at);
+}
+
+static void is(const char *what, unsigned long found, unsigned long wanted)
+{
+    tried_count++;
+    if (found != wanted) {
+        failed_count++;
+        printf("%s: %lu and not %lu\n", what, found, wanted);
+    }
+}
+
+/* A text in a block of just its size. */
+static uint8_t *exact(const char *text)
+{
+    size_t length = strlen(text);
+    uint8_t *block = malloc(length != 0 ? length : 1);
+    if (block == NULL) {
+        exit(2);
+    }
+    memcpy(block, text, length);
+    return block;
+}
+
+static narbeddo_refusal open_by(narbeddo_scale *scale, const char *text)
+{
+    uint8_t *block = exact(text);
+    narbeddo_refusal told = narbeddo_open(scale, block, strlen(text));
+    free(block);
+    return told;
+}
+
+static const char good_plate[] = "unit = \"kg\"\ndecimals = 3\nmax = 15000\ne = 5\nzero_counts = 10000\nspan_counts = 600000\nwindow = 4\n";
+static const char counting[] = "FUNCTION_BLOCK Sum\nVAR_INPUT x : DINT; END_VAR\nVAR_OUTPUT y : DINT; END_VAR\nLD y\nADD x\nST y\nEND_FUNCTION_BLOCK\n"
+                               "PROGRAM P\nVAR a : Sum; t : TON; END_VAR\nCAL a(x := 1)\nCAL t(IN := TRUE, PT := T#1s)\nLD a.y\nST %QD0\nLD t.Q\nST %QX0.3\nEND_PROGRAM\n";
+static const char doubling[] = "PROGRAM P\nVAR t : TON; END_VAR\nCAL t(IN := TRUE, PT := T#1s)\nLD t.ET\nGT T#0s\nST %QX0.0\nEND_PROGRAM\n";
+
+/* All that a closed scale answers. */
+static void closed(narbeddo_scale *scale)
+{
+    static const uint8_t text[1] = {0};
+    is("sample of a closed scale", narbeddo_sample(scale, 0), NARBEDDO_CLOSED);
+    is("byte of a closed scale", narbeddo_byte(scale, 10).status, NARBEDDO_CLOSED);
+    is("inputs of a closed scale", narbeddo_inputs(scale, 1), NARBEDDO_CLOSED);
+    is("scan of a closed scale", narbeddo_scan(scale, 0).status, NARBEDDO_CLOSED);
+    is("reading of a closed scale", narbeddo_read(scale).status, NARBEDDO_CLOSED);
+    is("load into a closed scale", narbeddo_load(scale, text, 0).status, NARBEDDO_CLOSED);
+    is("change of a closed scale", narbeddo_change(scale, text, 0).status, NARBEDDO_CLOSED);
+}
+
+static void rows(narbeddo_scale *scale)
+{
+    static const char *ask = "\nW\r";
+    uint32_t length = 0;
+    narbeddo_answer answer;
+    is("counts below", narbeddo_sample(scale, -8388609), NARBEDDO_COUNTS_OUT_OF_RANGE);
+    is("counts above", narbeddo_sample(scale, 8388608), NARBEDDO_COUNTS_OUT_OF_RANGE);
+    is("least counts", narbeddo_sample(scale, INT32_MIN), NARBEDDO_COUNTS_OUT_OF_RANGE);
+    for (; *ask != '\0'; ask++) {
+        answer = narbeddo_byte(scale, (uint8_t)*ask);
+        length += answer.length;
+    }
+    is("no sample was taken", answer.bytes[1], 'I');
+    is("length of an answer", length, 20);
+    is("last byte of an answer", answer.bytes[19], '\r');
+    is("counts in range", narbeddo_sample(scale, -8388608), NARBEDDO_DONE);
+    is("counts in range", narbeddo_sample(scale, 8388607), NARBEDDO_DONE);
+    is("scan with no program", narbeddo_scan(scale, 5).status, NARBEDDO_NO_PROGRAM);
+    is("change with no program", narbeddo_change(scale, (const uint8_t *)counting, strlen(counting)).status, NARBEDDO_NO_PROGRAM);
+}
+
+static void moments(narbeddo_scale *scale)
+{
+    is("a moment", narbeddo_scan(scale, 7).words[0], 1);
+    is("the same moment", narbeddo_scan(scale, 7).words[0], 2);
+    is("a moment before", narbeddo_scan(scale, 6).status, NARBEDDO_MOMENT_BACK);
+    is("a moment too late", narbeddo_scan(scale, 1099511627776u).status, NARBEDDO_MOMENT_OUT_OF_RANGE);
+    is("the latest number", narbeddo_scan(scale, UINT64_MAX).status, NARBEDDO_MOMENT_OUT_OF_RANGE);
+    is("no scan was done by these", narbeddo_scan(scale, 8).words[0], 3);
+    is("what is shown", narbeddo_read(scale).flags & NARBEDDO_OVER, NARBEDDO_OVER);
+}
+
+static void texts(narbeddo_scale *scale)
+{
+    narbeddo_refusal told = narbeddo_load(scale, (const uint8_t *)"", 0);
+    uint32_t room[8] = {77, 77, 77, 77, 77, 77, 77, 77};
+    is("no text", told.status, NARBEDDO_REFUSED);
+    is("its number", told.number, 203);
+    told = narbeddo_change(scale, (const uint8_t *)"PROGRAM P\nLD 1\nST %QX0.0\nEND_PROGRAM\n", 37);
+    is("a text that breaks a rule", told.number, 402);
+    is("its line", told.place, 3);
+    is("the program stays", narbeddo_scan(scale, 9).words[0], 4);
+    is("no unit", narbeddo_about((const uint8_t *)counting, strlen(counting), 2).text.status, NARBEDDO_NO_UNIT);
+    is("units", narbeddo_about((const uint8_t *)counting, strlen(counting), 0).units, 2);
+    is("a name", narbeddo_about((const uint8_t *)counting, strlen(counting), 0).name[0], 'S');
+    is("a bound", narbeddo_about((const uint8_t *)counting, strlen(counting), 1).bound, 13);
+    is("a path in no room", narbeddo_path((const uint8_t *)counting, strlen(counting), 1, room, 5).text.status, NARBEDDO_NO_ROOM);
+    is("nothing was put there", room[0], 77);
+    is("a path", narbeddo_path((const uint8_t *)counting, strlen(counting), 1, room, 6).length, 6);
+    is("its first line", room[0], 10);
+    is("nothing behind it", room[6], 77);
+}
+
+/* Refuses memory from the nth request on, until there is enough. */
+static void want_of_memory(void)
+{
+    narbeddo_scale scale;
+    unsigned long n;
+    uint32_t status = NARBEDDO_NO_MEMORY;
+    narbeddo_make(&scale);
+    for (n = 1; status == NARBEDDO_NO_MEMORY; n++) {
+        asked = 0;
+        refuse_from = n;
+        status = open_by(&scale, good_plate).status;
+    }
+    is("opened in the end", status, NARBEDDO_DONE);
+    for (n = 1, status = NARBEDDO_NO_MEMORY; status == NARBEDDO_NO_MEMORY; n++) {
+        asked = 0;
+        refuse_from = n;
+        status = narbeddo_load(&scale, (const uint8_t *)counting, strlen(counting)).status;
+    }
+    is("loaded in the end", status, NARBEDDO_DONE);
+    is("a scan", narbeddo_scan(&scale, 3).words[0], 1);
+    for (n = 1, status = NARBEDDO_NO_MEMORY; status == NARBEDDO_NO_MEMORY; n++) {
+        asked = 0;
+        refuse_from = n;
+        status = narbeddo_change(&scale, (const uint8_t *)doubling, strlen(doubling)).status;
+        if (status == NARBEDDO_NO_MEMORY) {
+            is("the program stays", narbeddo_scan(&scale, 3).words[0], n + 1);
+        }
+    }
+    refuse_from = 0;
+    is("changed in the end", status, NARBEDDO_DONE);
+    is("the timer went on", narbeddo_scan(&scale, 4).bits, 1);
+    is("a moment before", narbeddo_scan(&scale, 2).status, NARBEDDO_MOMENT_BACK);
+    narbeddo_close(&scale);
+    is("blocks that were not given back", blocks, 0);
+}
+
+int main(void)
+{
+    narbeddo_scale scale;
+    is("room", narbeddo_size() <= sizeof scale, 1);
+    memset(&scale, 0xa5, sizeof scale);
+    narbeddo_make(&scale);
+    closed(&scale);
+    is("close a closed scale", narbeddo_close(&scale), NARBEDDO_DONE);
+    is("no plate", open_by(&scale, "").number, 502);
+    is("no TOML", open_by(&scale, "unit = ").number, 501);
+    closed(&scale);
+    is("a plate", open_by(&scale, good_plate).status, NARBEDDO_DONE);
+    is("open again", open_by(&scale, good_plate).status, NARBEDDO_ALREADY_OPEN);
+    rows(&scale);
+    is("a program", narbeddo_load(&scale, (const uint8_t *)counting, strlen(counting)).status, NARBEDDO_DONE);
+    moments(&scale);
+    texts(&scale);
+    is("close", narbeddo_close(&scale), NARBEDDO_DONE);
+    is("blocks that were not given back", blocks, 0);
+    closed(&scale);
+    want_of_memory();
+    printf("%lu passed, %lu failed\n", tried_count - failed_count, failed_count);
+    return failed_count != 0;
+}

@@ -1,0 +1,148 @@
+/* Narbeddo in a program of your own: a weighing indicator with its line, and the customer's program beside it.
+ *
+ *     narbeddo_scale scale;                              the room for one scale, wherever you like: static, on the stack, in a struct
+ *     narbeddo_make(&scale);                             once, before anything else; it is closed then
+ *     narbeddo_open(&scale, plate, plate_length);        the text of the plate (TOML)
+ *     narbeddo_load(&scale, text, text_length);          a program (Instruction List), or none at all
+ *
+ *     narbeddo_sample(&scale, counts);                   what the load cell gives, as it comes
+ *     narbeddo_byte(&scale, byte);                       what the line gives, byte by byte; the answer is to be sent
+ *     narbeddo_inputs(&scale, bits);                     the digital inputs from now on
+ *     narbeddo_scan(&scale, milliseconds);               one scan of the program: its steps and its outputs
+ *
+ *     narbeddo_close(&scale);                            gives all memory back
+ *
+ * docs/EMBEDDING.md says what is proved of these calls and what you owe them; examples/embedded/ has two whole programs. In short:
+ *
+ *   - Each call says by a status whether it was done. Where it was not, it has changed nothing.
+ *   - narbeddo_open, narbeddo_load, narbeddo_change, narbeddo_about and narbeddo_path ask malloc for memory; no other call does, and
+ *     none of those can fail on arguments in range.
+ *   - A scale stays on the thread that made it, and no call comes from a signal handler. There may be any number of scales.
+ *   - A pointer is never null, and leads to what its type says; a text of no bytes too has some address.
+ */
+#ifndef NARBEDDO_H
+#define NARBEDDO_H
+
+#include <stddef.h>
+#include <stdint.h>
+
+#ifdef __cplusplus
+extern "C" {
+#endif
+
+/* What a call says of itself. */
+#define NARBEDDO_DONE 0                /* it did what it is for */
+#define NARBEDDO_REFUSED 1             /* a text breaks a rule: number and place say which and where (docs/REFUSALS.md) */
+#define NARBEDDO_NO_MEMORY 2           /* malloc gave none */
+#define NARBEDDO_CLOSED 3              /* the scale was not opened, or was closed */
+#define NARBEDDO_ALREADY_OPEN 4        /* close it first */
+#define NARBEDDO_NO_PROGRAM 5          /* load one first */
+#define NARBEDDO_COUNTS_OUT_OF_RANGE 6 /* below -8388608 or above 8388607 */
+#define NARBEDDO_MOMENT_OUT_OF_RANGE 7 /* above 1099511627775, some 34 years of milliseconds */
+#define NARBEDDO_MOMENT_BACK 8         /* before the moment of the last scan; the same moment again is accepted */
+#define NARBEDDO_LINE_FAILED 9         /* never of a scale that was made and opened by the calls below: so it is proved */
+#define NARBEDDO_NO_UNIT 10            /* the text has no unit of that number */
+#define NARBEDDO_NO_ROOM 11            /* the room is too small, and nothing was put there */
+
+/* The room for a scale. Its contents are the library's. narbeddo_size() is at most its size: the library and this header belong together. */
+#define NARBEDDO_WORDS 48
+typedef struct narbeddo_scale {
+    uint64_t words[NARBEDDO_WORDS];
+} narbeddo_scale;
+
+/* What comes of a text: the status; where it is NARBEDDO_REFUSED, the number of the rule that is broken and the line (0 of a plate). */
+typedef struct narbeddo_refusal {
+    uint32_t status;
+    uint32_t number;
+    uint32_t place;
+} narbeddo_refusal;
+
+/* The answer of the line to one byte: most bytes have none (length 0). */
+typedef struct narbeddo_answer {
+    uint32_t status;
+    uint32_t length; /* at most 20 */
+    uint8_t bytes[20];
+} narbeddo_answer;
+
+/* One scan: how many steps it took, never more than narbeddo_about said, and all outputs. */
+typedef struct narbeddo_scanned {
+    uint32_t status;
+    uint32_t steps;
+    uint32_t bits;     /* bit i is %QX0.i, 0 to 15 */
+    int32_t words[4];  /* %QD0 to %QD3 */
+} narbeddo_scanned;
+
+/* What the indicator shows, for a display. Weights are in units of the plate's last decimal, and 0 where it is not valid. */
+typedef struct narbeddo_reading {
+    uint32_t status;
+    uint32_t flags;      /* NARBEDDO_STABLE and the others */
+    int32_t weights[3];  /* gross, net, tare */
+} narbeddo_reading;
+
+#define NARBEDDO_STABLE 1
+#define NARBEDDO_OVER 2
+#define NARBEDDO_UNDER 4
+#define NARBEDDO_CENTRE_OF_ZERO 8
+#define NARBEDDO_TARE_ACTIVE 16
+#define NARBEDDO_VALID 32
+
+/* Makes a closed scale of the room, whatever it holds: so never of a scale that is open. */
+void narbeddo_make(narbeddo_scale *scale);
+
+/* How many bytes a scale takes. */
+size_t narbeddo_size(void);
+
+/* Opens the scale by its plate: nothing has come to it then, the inputs are 0, and it has no program. */
+narbeddo_refusal narbeddo_open(narbeddo_scale *scale, const uint8_t *plate, size_t length);
+
+/* Closes the scale. It may be opened again. */
+uint32_t narbeddo_close(narbeddo_scale *scale);
+
+/* Loads a program, which begins anew; one that was loaded is let go, and stays where the text is refused.
+ * THE TEXT IS NOT COPIED: it must stay where it is, unchanged, until the scale is closed or has got another program. */
+narbeddo_refusal narbeddo_load(narbeddo_scale *scale, const uint8_t *text, size_t length);
+
+/* Changes the program between two scans: what both have by the same names and of the same kind keeps its value, all else begins anew. The old
+ * program stays where the text is refused. This text is not copied either; the old one may go once this call was done. */
+narbeddo_refusal narbeddo_change(narbeddo_scale *scale, const uint8_t *text, size_t length);
+
+/* Takes a sample: -8388608 to 8388607 counts. */
+uint32_t narbeddo_sample(narbeddo_scale *scale, int32_t counts);
+
+/* Takes a byte of the line, and gives the answer to the request that it completes. Send it before you give the next byte, or keep it. */
+narbeddo_answer narbeddo_byte(narbeddo_scale *scale, uint8_t byte);
+
+/* Takes the digital inputs: bit i is %IX0.i. */
+uint32_t narbeddo_inputs(narbeddo_scale *scale, uint16_t inputs);
+
+/* Scans the program once, at a moment in milliseconds that is not before the last scan's. The outputs of a scan that was not done are 0 here:
+ * keep the ones of the scan before, or go to your safe state. */
+narbeddo_scanned narbeddo_scan(narbeddo_scale *scale, uint64_t moment);
+
+/* What the indicator shows. */
+narbeddo_reading narbeddo_read(narbeddo_scale *scale);
+
+/* One unit of a program's text, which need not be loaded: units are counted in text order from 0, and the program is the last. */
+typedef struct narbeddo_unit {
+    narbeddo_refusal text; /* NARBEDDO_NO_UNIT where the text has no unit of this number */
+    uint32_t units;        /* how many units the text has */
+    uint32_t bound;        /* how many steps the unit takes at most */
+    uint32_t length;       /* how many bytes its name has */
+    uint8_t name[32];
+} narbeddo_unit;
+
+narbeddo_unit narbeddo_about(const uint8_t *text, size_t length, uint32_t unit);
+
+/* The lines of a unit's worst path, put into the room. NARBEDDO_NO_ROOM where they do not fit, with how many there are; 1024 are always enough. */
+typedef struct narbeddo_lines {
+    narbeddo_refusal text;
+    uint32_t length;
+} narbeddo_lines;
+
+narbeddo_lines narbeddo_path(const uint8_t *text, size_t length, uint32_t unit, uint32_t *room, size_t room_length);
+
+#ifdef __cplusplus
+}
+#endif
+
+#endif
