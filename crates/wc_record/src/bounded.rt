@@ -97,6 +97,11 @@ impl<'r, R: ByteIn> Bounded<'r, R> {
 }
 
 impl<R> Bounded<'_, R> {
+    /// Whether memory was refused for what a row's line is told from.
+    pub(crate) fn is_refused(&self) -> bool {
+        self.given.is_refused()
+    }
+
     /// Whether a line ends directly before that byte of the log, as far as that is known. A line feed in quotes that are open
     /// at the log's end ends no record.
     pub(crate) fn ends_line(&self, byte: u64) -> bool {

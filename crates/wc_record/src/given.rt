@@ -1,10 +1,14 @@
 use std::alloc::Global;
 
+/// Room for a piece: as many bytes as `csv` takes from its reader at once.
+const PIECE_ROOM: usize = 8192;
+
 /// What a log's reader gave: how many bytes, and the last of them.
 #[derive(Drop)]
 pub(crate) struct Given {
     total: u64,
     last: Vec<u8>,
+    refused: bool,
 }
 
 impl Given {
@@ -13,18 +17,25 @@ impl Given {
         Given {
             total: 0,
             last: Vec::new(alloc),
+            refused: false,
         }
     }
 
-    /// Keeps a piece in place of the one before. It takes memory once, as long as no piece is longer; where that is refused
-    /// none is kept.
+    /// Keeps a piece in place of the one before. It takes memory once, with the first piece.
     pub(crate) fn note(&mut self, piece: &[u8]) {
         if piece.is_empty() {
             return;
         }
         self.total = self.total.saturating_add(piece.len() as u64);
         self.last.clear();
-        let _kept = self.last.extend_from_slice(piece);
+        if self.last.reserve(PIECE_ROOM).is_err() || self.last.extend_from_slice(piece).is_err() {
+            self.refused = true;
+        }
+    }
+
+    /// Whether a piece could not be kept since memory was refused, so that lines can't be told.
+    pub(crate) fn is_refused(&self) -> bool {
+        self.refused
     }
 
     /// Whether a line feed stands directly before that place, counted from 0, as far as that is known.
