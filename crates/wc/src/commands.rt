@@ -65,11 +65,16 @@ fn cause_of(source: &Option<KeptSource<'_>>) -> Option<io::Error> {
     }
 }
 
+/// The bytes that were read of a file, where they were kept.
+fn bytes_of<'a>(source: &'a KeptSource<'_>) -> Option<&'a [u8]> {
+    source.get_ref().get_ref().bytes_read()
+}
+
 /// A file by its path, with the bytes that were read of it.
 fn read_of<'a>(path: &'a str, source: &'a KeptSource<'_>) -> ReadFile<'a> {
     ReadFile {
         path,
-        bytes: source.get_ref().get_ref().bytes_read(),
+        bytes: bytes_of(source),
     }
 }
 
@@ -163,14 +168,19 @@ pub(crate) fn check_words(
     let mut reader = kept_source(rt, program, &gathered);
     let mut writer = Device::new(Sharing::new(&gathered));
     let ending = check_file(rt.alloc(), paths, &mut reader, &mut writer);
+    let reading = kept_cause(&reader);
+    let bytes = bytes_of(&reader);
     finish(
         rt,
         form,
         ending,
-        kept_cause(&reader),
+        reading,
         &gathered,
         &Sources::Program {
-            program: read_of(program, &reader),
+            program: ReadFile {
+                path: program,
+                bytes,
+            },
             next: None,
         },
         &RefusedRow::new(rt.alloc()),
@@ -301,6 +311,7 @@ pub(crate) fn line_words(
         &mut row,
     );
     let reading = kept_cause(&plate_reader).or(cause(&log_reader));
+    let bytes = bytes_of(&plate_reader);
     finish(
         rt,
         form,
@@ -308,7 +319,7 @@ pub(crate) fn line_words(
         reading,
         &gathered,
         &Sources::Line {
-            plate: read_of(plate, &plate_reader),
+            plate: ReadFile { path: plate, bytes },
             log,
         },
         &row,

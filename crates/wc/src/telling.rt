@@ -132,7 +132,7 @@ fn evidence_of<'a>(
         Input::Log if row.line() == 0 => (Evidence::Nothing, 0),
         Input::Log => (
             Evidence::Row(row),
-            section.above.saturating_add(row.line() - 1),
+            section.above.saturating_add(row.line().saturating_sub(1)),
         ),
         _ => (Evidence::Text(section.text), section.above),
     }
