@@ -65,16 +65,11 @@ fn cause_of(source: &Option<KeptSource<'_>>) -> Option<io::Error> {
     }
 }
 
-/// The bytes that were read of a file, where they were kept.
-fn bytes_of<'a>(source: &'a KeptSource<'_>) -> Option<&'a [u8]> {
-    source.get_ref().get_ref().bytes_read()
-}
-
 /// A file by its path, with the bytes that were read of it.
 fn read_of<'a>(path: &'a str, source: &'a KeptSource<'_>) -> ReadFile<'a> {
     ReadFile {
         path,
-        bytes: bytes_of(source),
+        bytes: source.get_ref().get_ref().bytes_read(),
     }
 }
 
@@ -86,6 +81,22 @@ fn read_if_any<'a>(
     match (path, source) {
         (Some(path), Some(source)) => Some(read_of(path, source)),
         _ => None,
+    }
+}
+
+/// The file of a check with no other program. Like the next it stands apart, so that what is read has a lifetime of its own.
+fn program_alone<'a>(program: &'a str, reader: &'a KeptSource<'_>) -> Sources<'a> {
+    Sources::Program {
+        program: read_of(program, reader),
+        next: None,
+    }
+}
+
+/// The files of a log that is run with no program.
+fn plate_and_log<'a>(plate: &'a str, reader: &'a KeptSource<'_>, log: &'a str) -> Sources<'a> {
+    Sources::Line {
+        plate: read_of(plate, reader),
+        log,
     }
 }
 
@@ -168,21 +179,13 @@ pub(crate) fn check_words(
     let mut reader = kept_source(rt, program, &gathered);
     let mut writer = Device::new(Sharing::new(&gathered));
     let ending = check_file(rt.alloc(), paths, &mut reader, &mut writer);
-    let reading = kept_cause(&reader);
-    let bytes = bytes_of(&reader);
     finish(
         rt,
         form,
         ending,
-        reading,
+        kept_cause(&reader),
         &gathered,
-        &Sources::Program {
-            program: ReadFile {
-                path: program,
-                bytes,
-            },
-            next: None,
-        },
+        &program_alone(program, &reader),
         &RefusedRow::new(rt.alloc()),
     )
 }
@@ -311,17 +314,13 @@ pub(crate) fn line_words(
         &mut row,
     );
     let reading = kept_cause(&plate_reader).or(cause(&log_reader));
-    let bytes = bytes_of(&plate_reader);
     finish(
         rt,
         form,
         ending,
         reading,
         &gathered,
-        &Sources::Line {
-            plate: ReadFile { path: plate, bytes },
-            log,
-        },
+        &plate_and_log(plate, &plate_reader, log),
         &row,
     )
 }
