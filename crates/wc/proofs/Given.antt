@@ -8,7 +8,7 @@ use Rattle.clap.specs.Words.{ReadsOne, Text}
 use Rattle.clap.specs.ValueTests.{accepts}
 use Rattle.clap.specs.declared.builder.value_parser.ValueParser.TheVariants.{Unsigned}
 use Rattle.clap.proofs.ValueTestLemmas.{accepts-Accepts, Accepts-accepts}
-use Rattle.wc.specs.Asked.{number_of}
+use Rattle.wc.specs.Asked.{number_of, wide_number_of}
 
 -- a number, as u16 reads a text
 number_read : {E : Type 0} (G : List ℕ → Result ℕ E → Type 0) (t : Text) (r : Option ℕ) → ((x : Result ℕ E) → G t x → ParsesUnsigned 16 10 t x) → ReadsOne G t r → r ≡ number_of t
@@ -28,6 +28,25 @@ pub number_given : {E : Type 0} (G : List ℕ → Result ℕ E → Type 0) (o : 
     → (o ≡ None → r ≡ None) → ((t : List ℕ) → o ≡ Some t → ReadsOne G t r) → r ≡ option_and_then number_of o
 number_given G None r parses none value = none refl
 number_given G (Some t) r parses none value = number_read G t r (parses t) (value t refl)
+
+-- a number, as u64 reads a text
+wide_number_read : {E : Type 0} (G : List ℕ → Result ℕ E → Type 0) (t : Text) (r : Option ℕ) → ((x : Result ℕ E) → G t x → ParsesUnsigned 64 10 t x) → ReadsOne G t r → r ≡ wide_number_of t
+wide_number_read G t (Some n) parses h =
+    let p = parses (Ok n) h in
+    let passes : accepts false (Unsigned 0 18446744073709551615) t ≡ true = Accepts-accepts false (Unsigned 0 18446744073709551615) t (p.0.0, omega (arith, p.0.1), omega arith, omega (arith, p.0.1)) in
+    rw passes (ap Some p.1)
+wide_number_read G t None parses h = go (accepts false (Unsigned 0 18446744073709551615) t) refl
+  where
+    go : (b : Bool) → accepts false (Unsigned 0 18446744073709551615) t ≡ b → None ≡ wide_number_of t
+    go false e = rw e refl
+    go true e =
+        let a = accepts-Accepts false (Unsigned 0 18446744073709551615) t e in
+        absurd (parses (Err h.0) h.1 (a.0, omega (arith, a.3)))
+
+pub wide_number_given : {E : Type 0} (G : List ℕ → Result ℕ E → Type 0) (o : Option Text) (r : Option ℕ) → ((t : Text) (x : Result ℕ E) → G t x → ParsesUnsigned 64 10 t x)
+    → (o ≡ None → r ≡ None) → ((t : List ℕ) → o ≡ Some t → ReadsOne G t r) → r ≡ option_and_then wide_number_of o
+wide_number_given G None r parses none value = none refl
+wide_number_given G (Some t) r parses none value = wide_number_read G t r (parses t) (value t refl)
 
 differs : (t : Text) → t ≢ codes "true" → bytes_eq t (codes "true") ≡ false
 differs t other = go (bytes_eq t (codes "true")) refl

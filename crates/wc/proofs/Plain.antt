@@ -5,7 +5,7 @@ use Rattle.clap.specs.Lexer.{long_of, short_of}
 use Rattle.std.specs.Str.{bytes_eq}
 use Rattle.clap.proofs.OnLiterals.{clap_on_literals}
 use Rattle.wc_messages.specs.declared.form.Form.TheVariants.{Long}
-use Rattle.wc.specs.Asked.{Ask, IsPlain, asked, check, explain, job, line, run}
+use Rattle.wc.specs.Asked.{Ask, IsPlain, asked, check, explain, job, line, run, trace}
 
 -- the word is no option, no bundle of flags and not `--`
 abbrev pub IsValue : Text → Type 0
@@ -40,6 +40,11 @@ pub next_form : (name : Text) → Ask (name ∷ codes "run" ∷ codes "--plate" 
     (run (codes "a") (codes "b") (Some (codes "c")) (codes "d") None) Long
 unfolding clap_on_literals
 next_form name = (refl, refl, refl)
+
+pub trace_form : (name : Text) → Ask (name ∷ codes "trace" ∷ codes "--plate" ∷ codes "a" ∷ codes "--program" ∷ codes "b" ∷ codes "--log" ∷ codes "c" ∷ codes "--at" ∷ codes "650" ∷ [])
+    (trace (codes "a") (codes "b") None (codes "c") (Some 650) None None None) Long
+unfolding clap_on_literals
+trace_form name = (refl, refl, refl)
 
 pub line_form : (name p l : Text) → IsValue p → IsValue l → Ask (name ∷ codes "line" ∷ codes "--plate" ∷ p ∷ codes "--log" ∷ l ∷ []) (line p l) Long
 unfolding clap_on_literals

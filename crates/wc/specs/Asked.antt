@@ -37,6 +37,15 @@ abbrev pub number_of : Text → Option ℕ
 number_of text = if accepts false (Unsigned 0 65535) text
     then Some (digits_value 10 (without_leading_plus text)) else None
 
+-- the number of 64 bits that a text's digits spell
+abbrev pub wide_number_of : Text → Option ℕ
+wide_number_of text = if accepts false (Unsigned 0 18446744073709551615) text
+    then Some (digits_value 10 (without_leading_plus text)) else None
+
+-- the number of 64 bits that is given to an option
+abbrev pub wide_number_in : Text → List Row → Option ℕ
+wide_number_in option given = option_and_then wide_number_of (one_of option given)
+
 -- the number that is given to an option
 abbrev pub number_in : Text → List Row → Option ℕ
 number_in option given = option_and_then number_of (one_of option given)
@@ -50,6 +59,9 @@ pub data Asked : Type 0 where
   -- the files of a plate, a program, a next program where one is given, and a log, and how many scans
   -- are wanted
   run : Text → Text → Option Text → Text → Option ℕ → Asked
+  -- the files of a run whose scans are shown, in the same order, and which: the moment, the number of the
+  -- scan, the first moment and the last
+  trace : Text → Text → Option Text → Text → Option ℕ → Option ℕ → Option ℕ → Option ℕ → Asked
   explain : ℕ → Asked
   -- the files of a plate and a log
   line : Text → Text → Asked
@@ -64,10 +76,15 @@ asked_at word given =
     then run (file_in (codes "plate") given) (file_in (codes "program") given)
     (first_of (codes "next") given) (file_in (codes "log") given)
     (number_in (codes "last") given)
+    else (if bytes_eq word (codes "trace")
+    then trace (file_in (codes "plate") given) (file_in (codes "program") given)
+    (first_of (codes "next") given) (file_in (codes "log") given)
+    (wide_number_in (codes "at") given) (wide_number_in (codes "scan") given)
+    (wide_number_in (codes "from") given) (wide_number_in (codes "to") given)
     else (if bytes_eq word (codes "explain")
     then explain (unwrap_or (number_in (codes "number") given) 0)
     else (if bytes_eq word (codes "line")
-    then line (file_in (codes "plate") given) (file_in (codes "log") given) else job)))
+    then line (file_in (codes "plate") given) (file_in (codes "log") given) else job))))
 
 -- what is asked for by the word that was met: a job where none was
 abbrev pub asked_by : Option (Text × List Row) → Asked
@@ -84,6 +101,9 @@ view (wanted.Check program next paths) =
     check program.now (option_map (λ path. path.now) next) paths
 view (wanted.Run plate files last) =
     run plate.now files.program.now (option_map (λ next. next.now) files.next) files.log.now last
+view (wanted.Trace plate files chosen) =
+    trace plate.now files.program.now (option_map (λ next. next.now) files.next) files.log.now
+    chosen.at chosen.scan chosen.from chosen.to
 view (wanted.Explain number) = explain number
 view (wanted.Line plate log) = line plate.now log.now
 

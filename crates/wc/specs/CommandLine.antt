@@ -5,7 +5,7 @@ use Rattle.clap.specs.Words.{with_subcommand}
 use Rattle.clap.specs.declared.builder.command.Command.{Command}
 use Rattle.clap.specs.declared.builder.command.Command.TheViews.{out-Command}
 use Rattle.clap.specs.declared.builder.action.ArgAction.TheVariants.{SetTrue}
-use Rattle.clap.specs.declared.builder.value_parser.ValueParser.TheVariants.{Signed}
+use Rattle.clap.specs.declared.builder.value_parser.ValueParser.TheVariants.{Signed, Unsigned}
 
 -- a value that must be given, and is known by its place
 abbrev pub place : Text → Rule
@@ -31,6 +31,14 @@ number_option name least most = record (new_rule name) {
   parser = Some (Signed (pos least) (pos most));
 }
 
+-- `--NAME N`, where N is a number of 64 bits
+abbrev pub wide_number_option : Text → Rule
+wide_number_option name = record (new_rule name) {
+  long = Some name;
+  value_names = 1;
+  parser = Some (Unsigned 0 18446744073709551615);
+}
+
 -- `--NAME VALUE`, which may be given
 abbrev pub value_option : Text → Rule
 value_option name = record (new_rule name) { long = Some name; value_names = 1 }
@@ -51,6 +59,15 @@ run_word = with_rule (with_rule (with_rule (with_rule (with_rule (with_rule (new
     (file_option (codes "plate"))) (file_option (codes "program"))) (value_option (codes "next")))
     (file_option (codes "log"))) (number_option (codes "last") 1 1000)) message_option
 
+-- `trace --plate FILE --program FILE [--next FILE] --log FILE [--at MS] [--scan N] [--from MS] [--to MS]
+-- [--message FORM]`
+abbrev pub trace_word : App
+trace_word = with_rule (with_rule (with_rule (with_rule (with_rule (with_rule (with_rule (with_rule
+    (with_rule (new_app (codes "trace")) (file_option (codes "plate")))
+    (file_option (codes "program"))) (value_option (codes "next"))) (file_option (codes "log")))
+    (wide_number_option (codes "at"))) (wide_number_option (codes "scan")))
+    (wide_number_option (codes "from"))) (wide_number_option (codes "to"))) message_option
+
 -- `line --plate FILE --log FILE [--message FORM]`
 abbrev pub line_word : App
 line_word = with_rule (with_rule (with_rule (new_app (codes "line")) (file_option (codes "plate")))
@@ -67,9 +84,9 @@ program_name =
 
 -- `wc [--message FORM]` alone, or with one of the words behind it
 abbrev pub command_line : App
-command_line = with_subcommand (with_subcommand (with_subcommand (with_subcommand
-    (with_rule program_name message_option) check_word.top) run_word.top) line_word.top)
-    explain_word.top
+command_line = with_subcommand (with_subcommand (with_subcommand (with_subcommand (with_subcommand
+    (with_rule program_name message_option) check_word.top) run_word.top) trace_word.top)
+    line_word.top) explain_word.top
 
 -- the command takes what the table says
 abbrev pub Takes : App → Command → Type 0

@@ -1,5 +1,5 @@
 ghost use Rattle.std.specs.Prelude.{◌≡◌, ◌≤◌, IfSome, Some, None, option_map};
-ghost use Rattle.wc.specs.Asked.{asked, check, form_asked, job, line, run, texts_of};
+ghost use Rattle.wc.specs.Asked.{asked, check, form_asked, job, line, run, texts_of, trace};
 
 use crate::opening::Opening;
 use crate::output::{Emptying, Gathered, Sharing, shared_output};
@@ -8,11 +8,12 @@ use crate::words::ProgramFiles;
 use std::cell::RefCell;
 use std::io;
 use std::io::{IsTerminal, Stdin};
-use wc_controller::{Ending, RefusedRow, answer_job, check_file, line_files, run_files};
+use wc_controller::{Ending, RefusedRow, Unwatched, answer_job, check_file, line_files, run_files};
 use wc_devices::{Keeping, Noting};
 use wc_messages::Form;
 use wc_model::Device;
 use wc_preview::preview_files;
+use wc_trace::{Chosen, trace_files};
 
 /// A file that is read, and before each read the output is emptied.
 type Source<'a> = Device<Emptying<'a, Noting<Opening<'a>>>>;
@@ -260,6 +261,62 @@ pub(crate) fn run_words(
     let ending = run_files(
         rt.alloc(),
         last,
+        &mut Unwatched,
+        &mut plate_reader,
+        &mut program_reader,
+        &mut next_reader,
+        &mut log_reader,
+        &mut writer,
+        &mut row,
+    );
+    let reading = kept_cause(&plate_reader)
+        .or(kept_cause(&program_reader))
+        .or(cause_of(&next_reader))
+        .or(cause(&log_reader));
+    finish(
+        rt,
+        form,
+        ending,
+        reading,
+        &gathered,
+        &Sources::Files {
+            plate: read_of(plate, &plate_reader),
+            program: read_of(files.program, &program_reader),
+            next: read_if_any(files.next, &next_reader),
+            log: files.log,
+        },
+        &row,
+    )
+}
+
+/// Runs the log in a file with a program, and where one is given the next one, and shows the scans that are chosen: the exit
+/// status.
+pub(crate) fn trace_words(
+    rt: &HostRuntime,
+    _words: &[String],
+    form: Form,
+    chosen: Chosen,
+    plate: &str,
+    files: ProgramFiles<'_>,
+) -> u8
+    requires asked { asked (texts_of _words.now)
+        ≡ trace plate.now files.program.now (option_map (λ next. next.now) files.next)
+        files.log.now chosen.at chosen.scan chosen.from chosen.to }
+    requires form { form_asked (texts_of _words.now) ≡ Some form }
+{
+    let gathered = match shared_output(rt) {
+        Ok(gathered) => gathered,
+        Err(_) => return without_memory(rt),
+    };
+    let mut plate_reader = kept_source(rt, plate, &gathered);
+    let mut program_reader = kept_source(rt, files.program, &gathered);
+    let mut next_reader = kept_source_of(rt, files.next, &gathered);
+    let mut row = RefusedRow::new(rt.alloc());
+    let mut log_reader = source(rt, files.log, &gathered);
+    let mut writer = Device::new(Sharing::new(&gathered));
+    let ending = trace_files(
+        rt.alloc(),
+        chosen,
         &mut plate_reader,
         &mut program_reader,
         &mut next_reader,

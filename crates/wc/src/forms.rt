@@ -1,7 +1,7 @@
 ghost use Rattle.std.specs.Prelude.{◌≡◌, List, [], ◌∷◌, Some, None, true, false, codes};
 ghost use Rattle.clap.specs.Words.{Text};
 ghost use Rattle.wc_messages.specs.declared.form.Form.TheVariants.{Long};
-ghost use Rattle.wc.specs.Asked.{Ask, IsPlain, check, explain, job, line, asked, run};
+ghost use Rattle.wc.specs.Asked.{Ask, IsPlain, check, explain, job, line, asked, run, trace};
 
 /// What the plain forms of the words ask for, where each file is a word that does not begin with a hyphen.
 pub(crate) fn plain_forms()
@@ -23,6 +23,9 @@ pub(crate) fn plain_forms()
     ensures next { (name : Text) → Ask (name ∷ codes "run" ∷ codes "--plate" ∷ codes "a"
         ∷ codes "--program" ∷ codes "b" ∷ codes "--next" ∷ codes "c" ∷ codes "--log"
         ∷ codes "d" ∷ []) (run (codes "a") (codes "b") (Some (codes "c")) (codes "d") None) Long }
+    ensures trace { (name : Text) → Ask (name ∷ codes "trace" ∷ codes "--plate" ∷ codes "a"
+        ∷ codes "--program" ∷ codes "b" ∷ codes "--log" ∷ codes "c" ∷ codes "--at" ∷ codes "650"
+        ∷ []) (trace (codes "a") (codes "b") None (codes "c") (Some 650) None None None) Long }
     ensures line { (name plate log : Text) → IsPlain plate → IsPlain log
         → Ask (name ∷ codes "line" ∷ codes "--plate" ∷ plate ∷ codes "--log" ∷ log ∷ [])
         (line plate log) Long }

@@ -15,7 +15,7 @@ mod words;
 
 use clap::Error;
 use clap::error::ErrorKind;
-use commands::{check_words, line_words, preview_words, run_job, run_words};
+use commands::{check_words, line_words, preview_words, run_job, run_words, trace_words};
 use explaining::explain;
 use std::fs::File;
 use std::io::Write;
@@ -128,6 +128,11 @@ fn execute(rt: &HostRuntime, words: &[String], request: Request<'_>) -> u8
             Some(number) if number < 1 || number > 1000 => WRONG_WORDS,
             last => run_words(rt, words, form, last, plate, files),
         },
+        Wanted::Trace {
+            plate,
+            files,
+            chosen,
+        } => trace_words(rt, words, form, chosen, plate, files),
         Wanted::Explain { number } => show_page(rt, words, number),
         Wanted::Line { plate, log } => line_words(rt, words, form, plate, log),
     }

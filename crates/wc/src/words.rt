@@ -3,15 +3,16 @@ ghost use Rattle.std.specs.Option.{option_map_or};
 ghost use Rattle.clap.specs.Words.{FailsBy, found_of, subcommand_rows_of, rule_of, app_of, rows_of};
 ghost use Rattle.clap.specs.Words.{first_of};
 ghost use Rattle.wc.specs.Asked.{asked, asked_at, asked_by, fault_in, file_in, flag_in};
-ghost use Rattle.wc.specs.Asked.{form_asked, form_in, form_named, number_in, texts_of, view};
-ghost use Rattle.wc.specs.CommandLine.{Takes, command_line, check_word, run_word, line_word};
+ghost use Rattle.wc.specs.Asked.{form_asked, form_in, form_named, number_in, texts_of, view, wide_number_in};
+ghost use Rattle.wc.specs.CommandLine.{Takes, command_line, check_word, run_word, trace_word, line_word};
 ghost use Rattle.wc.specs.CommandLine.{explain_word, file_option, flag, message_option};
-ghost use Rattle.wc.specs.CommandLine.{number_option, place, value_option};
+ghost use Rattle.wc.specs.CommandLine.{number_option, place, value_option, wide_number_option};
 
 use clap::error::ErrorKind;
 use clap::{Arg, ArgAction, ArgMatches, Command, Error, value_parser};
 use std::alloc::{AllocError, Global};
 use wc_messages::Form;
+use wc_trace::Chosen;
 
 /// The product's version, the toolchain that its sources are for, and the digest of the legally relevant sources, which
 /// tools/legal_digest computes. Whether a build was proved is not known to the program.
@@ -27,6 +28,7 @@ const ABOUT: &str =
   ./wc check --next new.il old.il
   ./wc run --plate plate.toml --program program.il --log log.csv --last 10
   ./wc run --plate plate.toml --program old.il --next new.il --log log.csv
+  ./wc trace --plate plate.toml --program program.il --log log.csv --at 650
   ./wc line --plate plate.toml --log log.csv
   ./wc explain 403
   ./wc < job.txt
@@ -65,6 +67,12 @@ pub(crate) enum Wanted<'a> {
         plate: &'a str,
         files: ProgramFiles<'a>,
         last: Option<u16>,
+    },
+    /// A run of a log with a program, of which the scans that are chosen are shown item by item.
+    Trace {
+        plate: &'a str,
+        files: ProgramFiles<'a>,
+        chosen: Chosen,
     },
     /// The page of a refusal by its number.
     Explain {
@@ -216,6 +224,45 @@ fn run_command<'a>(alloc: Global) -> Result<Command<'a>, AllocError>
     Ok(command)
 }
 
+/// An option that chooses scans by a number.
+fn choosing_option<'a>(alloc: Global, name: &'a str, value: &'a str, help: &'a str) -> Arg<'a>
+    ensures rule { rule_of result ≡ wide_number_option name.entry.now }
+    ensures local { result.global ≡ false }
+{
+    Arg::new(alloc, name)
+        .long(name)
+        .value_name(value)
+        .value_parser(value_parser!(u64))
+        .help(help)
+}
+
+/// The word `trace`.
+fn trace_command<'a>(alloc: Global) -> Result<Command<'a>, AllocError>
+    ensures { IfOk result (Takes trace_word) }
+{
+    let program = file_option(alloc, "program", "The program text (Instruction List)");
+    let next = next_option(
+        alloc,
+        "The next program, which a row of kind P takes (Instruction List)",
+    );
+    let at = choosing_option(alloc, "at", "MS", "Show the scans at this moment");
+    let scan = choosing_option(alloc, "scan", "N", "Show the scan of this number, from 1");
+    let from = choosing_option(alloc, "from", "MS", "Show no scan before this moment");
+    let to = choosing_option(alloc, "to", "MS", "Show no scan behind this moment");
+    let command = Command::new(alloc, "trace")
+        .about("Run a log with a program, and show its scans line by line")
+        .arg(plate_option(alloc))?
+        .arg(program)?
+        .arg(next)?
+        .arg(log_option(alloc))?
+        .arg(at)?
+        .arg(scan)?
+        .arg(from)?
+        .arg(to)?
+        .arg(message_option(alloc))?;
+    Ok(command)
+}
+
 /// The word `line`.
 fn line_command<'a>(alloc: Global) -> Result<Command<'a>, AllocError>
     ensures { IfOk result (Takes line_word) }
@@ -253,6 +300,7 @@ fn command<'a>(alloc: Global) -> Result<Command<'a>, AllocError>
         .arg(message_option(alloc))?
         .subcommand(check_command(alloc)?)?
         .subcommand(run_command(alloc)?)?
+        .subcommand(trace_command(alloc)?)?
         .subcommand(line_command(alloc)?)?
         .subcommand(explain_command(alloc)?)?;
     Ok(command)
@@ -291,6 +339,42 @@ fn number(matches: &ArgMatches<'_>, name: &str) -> Option<u16>
     matches.get_one::<u16>(name)
 }
 
+/// The number of 64 bits behind an option, where it is given.
+fn wide_number(matches: &ArgMatches<'_>, name: &str) -> Option<u64>
+    ensures { result ≡ wide_number_in name.now (rows_of (found_of matches.now)) }
+{
+    matches.get_one::<u64>(name)
+}
+
+/// The files of a run.
+fn program_files<'a>(matches: &ArgMatches<'a>) -> ProgramFiles<'a>
+    ensures program { result.program.now ≡ file_in (codes "program") (rows_of (found_of matches.now)) }
+    ensures next { option_map (λ path. path.now) result.next
+        ≡ first_of (codes "next") (rows_of (found_of matches.now)) }
+    ensures log { result.log.now ≡ file_in (codes "log") (rows_of (found_of matches.now)) }
+{
+    ProgramFiles {
+        program: file(matches, "program"),
+        next: optional_file(matches, "next"),
+        log: file(matches, "log"),
+    }
+}
+
+/// Which scans are to be shown.
+fn chosen_scans(matches: &ArgMatches<'_>) -> Chosen
+    ensures at { result.at ≡ wide_number_in (codes "at") (rows_of (found_of matches.now)) }
+    ensures scan { result.scan ≡ wide_number_in (codes "scan") (rows_of (found_of matches.now)) }
+    ensures from { result.from ≡ wide_number_in (codes "from") (rows_of (found_of matches.now)) }
+    ensures to { result.to ≡ wide_number_in (codes "to") (rows_of (found_of matches.now)) }
+{
+    Chosen {
+        at: wide_number(matches, "at"),
+        scan: wide_number(matches, "scan"),
+        from: wide_number(matches, "from"),
+        to: wide_number(matches, "to"),
+    }
+}
+
 /// What a word asks for.
 fn wanted_by<'a>(word: &str, matches: &ArgMatches<'a>) -> Wanted<'a>
     ensures { view result ≡ asked_at word.now (rows_of (found_of matches.now)) }
@@ -303,12 +387,13 @@ fn wanted_by<'a>(word: &str, matches: &ArgMatches<'a>) -> Wanted<'a>
         },
         "run" => Wanted::Run {
             plate: file(matches, "plate"),
-            files: ProgramFiles {
-                program: file(matches, "program"),
-                next: optional_file(matches, "next"),
-                log: file(matches, "log"),
-            },
+            files: program_files(matches),
             last: number(matches, "last"),
+        },
+        "trace" => Wanted::Trace {
+            plate: file(matches, "plate"),
+            files: program_files(matches),
+            chosen: chosen_scans(matches),
         },
         "explain" => Wanted::Explain {
             number: number(matches, "number").unwrap_or(0),

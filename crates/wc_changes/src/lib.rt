@@ -7,4 +7,5 @@ mod lines;
 mod old;
 mod report;
 
+pub use lines::put_value;
 pub use report::changes;

@@ -40,8 +40,8 @@ fn put_number(
     }
 }
 
-/// Puts a value as a literal of the language.
-fn put_value(alloc: Global, out: &mut Vec<u8>, value: Value) -> Result<(), Fault>
+/// Puts a value as a literal of the language. `Memory` is the only fault.
+pub fn put_value(alloc: Global, out: &mut Vec<u8>, value: Value) -> Result<(), Fault>
     ensures value { OnOk result
         (out.new.items ≡ out.old.items ++ content_text (Plain value)) }
     ensures memory { IsOkUnless result Fault.Memory }

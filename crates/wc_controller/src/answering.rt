@@ -22,7 +22,7 @@ use wc_job::{Sections, sections};
 use wc_model::{ByteIn, ByteOut, Device};
 use wc_plate::{Plate, plate};
 use wc_record::RefusedRow;
-use wc_run::RunFault;
+use wc_run::{RunFault, Unwatched};
 
 /// What stopped a run of a log that lies in memory: to read it fails only for want of memory.
 fn stopped_in_memory(stopped: Stopped) -> Stopped
@@ -78,8 +78,28 @@ fn run_sections<'a, L: ByteIn, W: ByteOut>(
         }
     };
     match next {
-        Some(text) => run_with_next(alloc, None, plate, loaded, text, log, writer, told),
-        None => run_loaded(alloc, None, plate, loaded, None, log, writer, told),
+        Some(text) => run_with_next(
+            alloc,
+            None,
+            &mut Unwatched,
+            plate,
+            loaded,
+            text,
+            log,
+            writer,
+            told,
+        ),
+        None => run_loaded(
+            alloc,
+            None,
+            &mut Unwatched,
+            plate,
+            loaded,
+            None,
+            log,
+            writer,
+            told,
+        ),
     }
 }
 

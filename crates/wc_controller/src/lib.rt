@@ -26,4 +26,4 @@ pub use reading::{read_input, run_fault_of};
 pub use running::run_files;
 pub use unit_lines::text_of_units;
 pub use wc_record::RefusedRow;
-pub use wc_run::{RunFault, run, run_last};
+pub use wc_run::{RunFault, Scanner, Unwatched, run, run_last};

@@ -14,7 +14,7 @@ use crate::reading::read_plate;
 use std::alloc::Global;
 use wc_model::{ByteIn, ByteOut};
 use wc_record::RefusedRow;
-use wc_run::{RunFault, run_telling};
+use wc_run::{RunFault, Unwatched, run_telling};
 
 /// Reads a plate, and runs a log with no program.
 fn line_inputs<P: ByteIn, L: ByteIn, W: ByteOut>(
@@ -54,7 +54,17 @@ fn line_inputs<P: ByteIn, L: ByteIn, W: ByteOut>(
         Ok(plate) => plate,
         Err(stopped) => return Err(stopped),
     };
-    match run_telling(alloc, None, &plate, None, None, log, writer, told) {
+    match run_telling(
+        alloc,
+        None,
+        &mut Unwatched,
+        &plate,
+        None,
+        None,
+        log,
+        writer,
+        told,
+    ) {
         Ok(_) => Ok(()),
         Err(fault) => Err(Stopped {
             input: Input::Log,

@@ -24,13 +24,14 @@ use wc_machine::Machine;
 use wc_model::{ByteIn, ByteOut};
 use wc_plate::Plate;
 use wc_record::RefusedRow;
-use wc_run::{RunFault, run_telling};
+use wc_run::{RunFault, Scanner, run_telling};
 use wc_store::SlotStore;
 
 /// Runs a log with a machine before its first scan, and prints every scan or the last so many.
-fn run_machine<'a, L: ByteIn, W: ByteOut>(
+fn run_machine<'a, V: Scanner, L: ByteIn, W: ByteOut>(
     alloc: Global,
     last: Option<u16>,
+    scanner: &mut V,
     plate: &Plate,
     machine: Machine<'a, SlotStore>,
     next: Option<Loaded<'a>>,
@@ -63,7 +64,17 @@ fn run_machine<'a, L: ByteIn, W: ByteOut>(
     ensures failures { TellsWriteFaults (met result) (W.failure_count writer.old)
         (W.failure_count writer.new) }
 {
-    match run_telling(alloc, last, plate, Some(machine), next, log, writer, told) {
+    match run_telling(
+        alloc,
+        last,
+        scanner,
+        plate,
+        Some(machine),
+        next,
+        log,
+        writer,
+        told,
+    ) {
         Ok(_) => Ok(()),
         Err(fault) => Err(Stopped {
             input: Input::Log,
@@ -73,9 +84,10 @@ fn run_machine<'a, L: ByteIn, W: ByteOut>(
 }
 
 /// Runs a log with a program that is loaded, and the next one if there is one.
-pub(crate) fn run_loaded<'a, L: ByteIn, W: ByteOut>(
+pub(crate) fn run_loaded<'a, V: Scanner, L: ByteIn, W: ByteOut>(
     alloc: Global,
     last: Option<u16>,
+    scanner: &mut V,
     plate: &Plate,
     loaded: Loaded<'a>,
     next: Option<Loaded<'a>>,
@@ -107,7 +119,9 @@ pub(crate) fn run_loaded<'a, L: ByteIn, W: ByteOut>(
         (W.failure_count writer.new) }
 {
     match Machine::new(alloc, loaded) {
-        Ok(machine) => run_machine(alloc, last, plate, machine, next, log, writer, told),
+        Ok(machine) => run_machine(
+            alloc, last, scanner, plate, machine, next, log, writer, told,
+        ),
         Err(_) => Err(Stopped {
             input: Input::Log,
             fault: RunFault::Memory,
@@ -117,9 +131,10 @@ pub(crate) fn run_loaded<'a, L: ByteIn, W: ByteOut>(
 
 /// Loads the next program, and runs a log with a program that is loaded. The log is not read where
 /// the next program is refused.
-pub(crate) fn run_with_next<'a, L: ByteIn, W: ByteOut>(
+pub(crate) fn run_with_next<'a, V: Scanner, L: ByteIn, W: ByteOut>(
     alloc: Global,
     last: Option<u16>,
+    scanner: &mut V,
     plate: &Plate,
     loaded: Loaded<'a>,
     text: &'a [u8],
@@ -155,7 +170,20 @@ pub(crate) fn run_with_next<'a, L: ByteIn, W: ByteOut>(
         (W.failure_count writer.new) }
 {
     match load(alloc, text) {
-        Ok(next) => run_loaded(alloc, last, plate, loaded, Some(next), log, writer, told),
+        Ok(next) => {
+            scanner.know(text, &next);
+            run_loaded(
+                alloc,
+                last,
+                scanner,
+                plate,
+                loaded,
+                Some(next),
+                log,
+                writer,
+                told,
+            )
+        }
         Err(fault) => Err(Stopped {
             input: Input::Next,
             fault: run_fault_of(fault),

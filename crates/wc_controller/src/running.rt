@@ -19,12 +19,13 @@ use std::alloc::Global;
 use wc_model::{ByteIn, ByteOut};
 use wc_plate::Plate;
 use wc_record::RefusedRow;
-use wc_run::RunFault;
+use wc_run::{RunFault, Scanner};
 
 /// Reads and loads a program, and runs a log with it alone.
-fn run_alone<T: ByteIn, L: ByteIn, W: ByteOut>(
+fn run_alone<V: Scanner, T: ByteIn, L: ByteIn, W: ByteOut>(
     alloc: Global,
     last: Option<u16>,
+    scanner: &mut V,
     plate: &Plate,
     program: &mut T,
     log: &mut L,
@@ -66,7 +67,12 @@ fn run_alone<T: ByteIn, L: ByteIn, W: ByteOut>(
         Err(stopped) => return Err(stopped),
     };
     match load(alloc, &text) {
-        Ok(loaded) => run_loaded(alloc, last, plate, loaded, None, log, writer, told),
+        Ok(loaded) => {
+            scanner.know(&text, &loaded);
+            run_loaded(
+                alloc, last, scanner, plate, loaded, None, log, writer, told,
+            )
+        }
         Err(fault) => Err(Stopped {
             input: Input::Program,
             fault: run_fault_of(fault),
@@ -76,9 +82,10 @@ fn run_alone<T: ByteIn, L: ByteIn, W: ByteOut>(
 
 /// Reads and loads a program, then the next one, and runs a log with both. What follows a program
 /// that is refused is not read.
-fn run_both<T: ByteIn, N: ByteIn, L: ByteIn, W: ByteOut>(
+fn run_both<V: Scanner, T: ByteIn, N: ByteIn, L: ByteIn, W: ByteOut>(
     alloc: Global,
     last: Option<u16>,
+    scanner: &mut V,
     plate: &Plate,
     program: &mut T,
     next: &mut N,
@@ -137,16 +144,20 @@ fn run_both<T: ByteIn, N: ByteIn, L: ByteIn, W: ByteOut>(
             });
         }
     };
+    scanner.know(&text, &loaded);
     match read_input(alloc, Input::Next, next) {
-        Ok(other) => run_with_next(alloc, last, plate, loaded, &other, log, writer, told),
+        Ok(other) => run_with_next(
+            alloc, last, scanner, plate, loaded, &other, log, writer, told,
+        ),
         Err(stopped) => Err(stopped),
     }
 }
 
 /// Reads and loads a program and the next one, if there is one, and runs a log with them.
-fn run_program<T: ByteIn, N: ByteIn, L: ByteIn, W: ByteOut>(
+fn run_program<V: Scanner, T: ByteIn, N: ByteIn, L: ByteIn, W: ByteOut>(
     alloc: Global,
     last: Option<u16>,
+    scanner: &mut V,
     plate: &Plate,
     program: &mut T,
     next: &mut Option<N>,
@@ -194,15 +205,18 @@ fn run_program<T: ByteIn, N: ByteIn, L: ByteIn, W: ByteOut>(
         (W.failure_count writer.new) }
 {
     match next {
-        Some(reader) => run_both(alloc, last, plate, program, reader, log, writer, told),
-        None => run_alone(alloc, last, plate, program, log, writer, told),
+        Some(reader) => run_both(
+            alloc, last, scanner, plate, program, reader, log, writer, told,
+        ),
+        None => run_alone(alloc, last, scanner, plate, program, log, writer, told),
     }
 }
 
 /// Reads a plate, a program and the next one, if there is one, and runs a log.
-fn run_inputs<P: ByteIn, T: ByteIn, N: ByteIn, L: ByteIn, W: ByteOut>(
+fn run_inputs<V: Scanner, P: ByteIn, T: ByteIn, N: ByteIn, L: ByteIn, W: ByteOut>(
     alloc: Global,
     last: Option<u16>,
+    scanner: &mut V,
     plate: &mut P,
     program: &mut T,
     next: &mut Option<N>,
@@ -258,7 +272,9 @@ fn run_inputs<P: ByteIn, T: ByteIn, N: ByteIn, L: ByteIn, W: ByteOut>(
         (W.failure_count writer.new) }
 {
     match read_plate(alloc, plate) {
-        Ok(plate) => run_program(alloc, last, &plate, program, next, log, writer, told),
+        Ok(plate) => run_program(
+            alloc, last, scanner, &plate, program, next, log, writer, told,
+        ),
         Err(stopped) => Err(stopped),
     }
 }
@@ -272,9 +288,10 @@ fn run_inputs<P: ByteIn, T: ByteIn, N: ByteIn, L: ByteIn, W: ByteOut>(
 /// names the input whose reader failed in this call, or the log where as much was read as may be; a
 /// write fault comes where the writer failed in this call and only there. At such a fault, and for
 /// want of memory, a front of the output is written, or nothing.
-pub fn run_files<P: ByteIn, T: ByteIn, N: ByteIn, L: ByteIn, W: ByteOut>(
+pub fn run_files<V: Scanner, P: ByteIn, T: ByteIn, N: ByteIn, L: ByteIn, W: ByteOut>(
     alloc: Global,
     last: Option<u16>,
+    scanner: &mut V,
     plate: &mut P,
     program: &mut T,
     next: &mut Option<N>,
@@ -331,6 +348,8 @@ pub fn run_files<P: ByteIn, T: ByteIn, N: ByteIn, L: ByteIn, W: ByteOut>(
     ensures taken_next { TakesAtMost (longest_job + 1) (known_of N.bytes_left next.old)
         (known_of N.bytes_left next.new) }
 {
-    let answer = run_inputs(alloc, last, plate, program, next, log, writer, told);
+    let answer = run_inputs(
+        alloc, last, scanner, plate, program, next, log, writer, told,
+    );
     end(alloc, answer, writer)
 }

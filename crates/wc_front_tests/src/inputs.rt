@@ -1,6 +1,6 @@
 //! What the words of the program answer to their inputs: how they end, and what is read.
 use std::alloc::Global;
-use wc_controller::{Ending, Input, RefusedRow, check_file, line_files, run_files};
+use wc_controller::{Ending, Input, RefusedRow, Unwatched, check_file, line_files, run_files};
 use wc_model::{ByteIn, Device, FuseIn};
 use wc_preview::preview_files;
 
@@ -12,7 +12,7 @@ pub(crate) const PLATE: &[u8] =
 pub(crate) const PROGRAM: &[u8] = b"PROGRAM P\nLD %IX0.0\nST %QX0.0\nEND_PROGRAM\n";
 
 /// Two scans, and a request for the weight before the first sample.
-const LOG: &[u8] = b"ms,kind,data\n0,I,0001\n0,S,\n1,L,0a570d\n2,S,\n";
+pub(crate) const LOG: &[u8] = b"ms,kind,data\n0,I,0001\n0,S,\n1,L,0a570d\n2,S,\n";
 
 /// What the line answers to it.
 const ANSWER: &[u8] = b"L 1 0a4931474d202d2d2d2d2d2d2d2d2d2d6b67200d\n";
@@ -32,6 +32,7 @@ pub(crate) fn run_of<T: ByteIn, L: ByteIn>(
     run_files(
         alloc,
         last,
+        &mut Unwatched,
         &mut plate,
         program,
         &mut next,
@@ -144,6 +145,7 @@ fn changes_so(alloc: Global, next: &[u8], ending: Ending, output: &[u8]) -> bool
     let found = run_files(
         alloc,
         None,
+        &mut Unwatched,
         &mut plate,
         &mut program,
         &mut next,

@@ -8,3 +8,5 @@ mod inputs;
 mod jobs;
 #[cfg(test)]
 mod runs;
+#[cfg(test)]
+mod traces;

@@ -1,7 +1,7 @@
 //! Runs of files over devices that fail: of all scans, and of the last.
 use crate::inputs::{PLATE, PROGRAM, run_of};
 use std::alloc::{AllocError, Global};
-use wc_controller::{Ending, Input, RefusedRow, run_files};
+use wc_controller::{Ending, Input, RefusedRow, Unwatched, run_files};
 use wc_model::{Device, FuseIn, FuseOut};
 
 /// A request over two rows, with a scan between.
@@ -46,6 +46,7 @@ fn is_cut(alloc: Global) -> Result<bool, AllocError> {
     let ending = run_files(
         alloc,
         Some(1),
+        &mut Unwatched,
         &mut plate,
         &mut program,
         &mut next,

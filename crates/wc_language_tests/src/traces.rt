@@ -23,7 +23,10 @@ fn first_scan(alloc: Global, text: &[u8]) -> Option<Vec<SeenLine>> {
         return None;
     };
     match Machine::<SlotStore>::new(alloc, loaded) {
-        Ok(mut machine) => machine.trace(alloc, 0, &image).ok(),
+        Ok(mut machine) => {
+            let (_steps, lines) = machine.trace(alloc, 0, &image);
+            lines.ok()
+        }
         Err(_) => None,
     }
 }

@@ -1,5 +1,5 @@
 ghost use Rattle.std.specs.Prelude.{◌≡◌, ◌≤◌, ◌<◌, ℕ, IfErr, IfOk, IsOkUnless};
-ghost use Rattle.wc_machine.specs.Machines.{text_of, Leaves, LeavesStore, StandsFor};
+ghost use Rattle.wc_machine.specs.Machines.{text_of, Leaves, StandsFor};
 ghost use Rattle.wc_machine.specs.Seeing.{IsSeen};
 ghost use Rattle.wc_model.specs.Language.Carried.{carried};
 ghost use Rattle.wc_model.specs.Language.Paths.{IsProgramBound};
@@ -124,20 +124,26 @@ impl<'a, S: Store> Machine<'a, S> {
         Steps(steps)
     }
 
-    /// One scan as `scan` does it, and what was seen of each item that it counts, in the order of execution: which flat line, at
-    /// which line of the text and how many calls deep, what it wrote, and the result behind it. Where memory is refused for what
-    /// was seen the scan is done all the same, and `Memory` is the answer.
-    pub fn trace(&mut self, alloc: Global, now: u64, image: &Image) -> Result<Vec<SeenLine>, Fault>
+    /// One scan as `scan` does it, with its steps, and what was seen of each item that it counts, in the order of execution:
+    /// which flat line, at which line of the text and how many calls deep, what it wrote, and the result behind it. Where memory
+    /// is refused for what was seen the scan is done all the same, and `Memory` stands in place of the lines.
+    pub fn trace(
+        &mut self,
+        alloc: Global,
+        now: u64,
+        image: &Image,
+    ) -> (Steps, Result<Vec<SeenLine>, Fault>)
         requires not_before { self.old.last ≤ now }
         requires in_range { now ≤ 1099511627775 }
         // So each bit of the status has a place that the program can read. The proof does without.
         requires status { image.now.status < 64 }
         ensures seen { (text : Text) (store : Contents) → StandsFor self.old text store
-            → IfOk result (λ lines. IsSeen text store image.now now lines.items) }
+            → IfOk result.1 (λ lines. IsSeen text store image.now now lines.items) }
         ensures means { (text : Text) (store : Contents) → StandsFor self.old text store
-            → LeavesStore self.new text (scan_of text store image.now now) }
+            → Leaves self.new text result.0.0 (scan_of text store image.now now) }
         ensures last { self.new.last ≡ now }
-        ensures memory { IsOkUnless result Fault.Memory }
+        ensures within { (n : ℕ) → IsProgramBound (text_of self.old) n → result.0.0 ≤ n }
+        ensures memory { IsOkUnless result.1 Fault.Memory }
     {
         let store = &mut self.store;
         copy_image(store, image);
@@ -148,9 +154,9 @@ impl<'a, S: Store> Machine<'a, S> {
             now,
             depth: 0,
         };
-        let _steps = run_seen(&self.loaded, store, &mut sight, program, instance);
+        let steps = run_seen(&self.loaded, store, &mut sight, program, instance);
         self.last = instance.now;
-        sight.into_lines()
+        (Steps(steps), sight.into_lines())
     }
 
     /// What the last scan left at the outputs.

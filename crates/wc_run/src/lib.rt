@@ -11,7 +11,9 @@ mod room;
 mod row_output;
 mod running;
 mod scale;
+mod scanner;
 mod scans;
 
 pub use fault::RunFault;
 pub use running::{run, run_last, run_telling};
+pub use scanner::{Scanner, Unwatched};

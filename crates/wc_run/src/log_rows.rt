@@ -20,14 +20,16 @@ use crate::fault::RunFault;
 use crate::printing::put;
 use crate::room::Room;
 use crate::scale::Scale;
+use crate::scanner::Scanner;
 use std::alloc::Global;
 use wc_model::{ByteIn, ByteOut};
 use wc_record::{LogFault, Recorder, RefusedRow, Row, Rows};
 
 /// Does a row, with the bytes that are lent with it, and puts what is printed of it.
 #[inline(always)]
-fn run_row<W: ByteOut>(
+fn run_row<V: Scanner, W: ByteOut>(
     alloc: Global,
+    scanner: &mut V,
     room: &mut Room,
     scale: &mut Scale<'_>,
     row: Row,
@@ -50,7 +52,7 @@ fn run_row<W: ByteOut>(
     ensures steady { ¬ IsErrOf result RunFault.Write
         → W.failure_count writer.new ≡ W.failure_count writer.old }
 {
-    match scale.take(alloc, room, row, bytes) {
+    match scale.take(alloc, scanner, room, row, bytes) {
         Ok(output) => put(output, &mut room.text, recorder, writer),
         Err(fault) => Err(fault),
     }
@@ -68,8 +70,9 @@ fn answer_to(fault: LogFault) -> RunFault
 }
 
 /// Runs the rows that are left: how many there were.
-fn run_rows<R: ByteIn, W: ByteOut>(
+fn run_rows<V: Scanner, R: ByteIn, W: ByteOut>(
     alloc: Global,
+    scanner: &mut V,
     room: &mut Room,
     scale: &mut Scale<'_>,
     rows: &mut Rows<'_, R>,
@@ -96,6 +99,7 @@ fn run_rows<R: ByteIn, W: ByteOut>(
             Ok(given) => match given {
                 Some(row) => match run_row(
                     alloc,
+                    scanner,
                     room,
                     scale,
                     row,
@@ -114,8 +118,9 @@ fn run_rows<R: ByteIn, W: ByteOut>(
 }
 
 /// Runs the log that the reader has to give, and tells its refused row, if it has one.
-pub(crate) fn run_log<R: ByteIn, W: ByteOut>(
+pub(crate) fn run_log<V: Scanner, R: ByteIn, W: ByteOut>(
     alloc: Global,
+    scanner: &mut V,
     scale: &mut Scale<'_>,
     recorder: &mut Option<Recorder>,
     reader: &mut R,
@@ -137,7 +142,9 @@ pub(crate) fn run_log<R: ByteIn, W: ByteOut>(
 {
     let mut room = Room::new(alloc);
     let mut rows = Rows::new(alloc, reader);
-    let answer = run_rows(alloc, &mut room, scale, &mut rows, recorder, writer);
+    let answer = run_rows(
+        alloc, scanner, &mut room, scale, &mut rows, recorder, writer,
+    );
     rows.tell(alloc, told);
     drop(rows);
     answer

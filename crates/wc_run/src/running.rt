@@ -17,6 +17,7 @@ use crate::fault::RunFault;
 use crate::log_rows::run_log;
 use crate::printing::write_last;
 use crate::scale::Scale;
+use crate::scanner::{Scanner, Unwatched};
 use std::alloc::Global;
 use wc_cost::Loaded;
 use wc_machine::Machine;
@@ -40,8 +41,9 @@ fn is_cut_short(answer: &Result<u32, RunFault>) -> bool
 
 /// Runs a log. Where its reader failed, that is told, also if every row was read all the same: the
 /// library that reads records does not promise to tell each failure.
-fn run_told<R: ByteIn, W: ByteOut>(
+fn run_told<V: Scanner, R: ByteIn, W: ByteOut>(
     alloc: Global,
+    scanner: &mut V,
     scale: &mut Scale<'_>,
     recorder: &mut Option<Recorder>,
     reader: &mut R,
@@ -64,7 +66,7 @@ fn run_told<R: ByteIn, W: ByteOut>(
         (R.failure_count reader.new) }
 {
     let before = reader.failures();
-    let answer = run_log(alloc, scale, recorder, reader, writer, told);
+    let answer = run_log(alloc, scanner, scale, recorder, reader, writer, told);
     if is_cut_short(&answer) {
         return answer;
     }
@@ -76,8 +78,9 @@ fn run_told<R: ByteIn, W: ByteOut>(
 
 /// Runs a log, and behind its rows writes the lines of the scans that are kept, unless a device
 /// failed or memory was refused.
-fn run_to_end<R: ByteIn, W: ByteOut>(
+fn run_to_end<V: Scanner, R: ByteIn, W: ByteOut>(
     alloc: Global,
+    scanner: &mut V,
     scale: &mut Scale<'_>,
     recorder: &mut Option<Recorder>,
     reader: &mut R,
@@ -99,7 +102,7 @@ fn run_to_end<R: ByteIn, W: ByteOut>(
     ensures reader { HasNotFailed result (R.failure_count reader.old)
         (R.failure_count reader.new) }
 {
-    let answer = run_told(alloc, scale, recorder, reader, writer, told);
+    let answer = run_told(alloc, scanner, scale, recorder, reader, writer, told);
     if is_cut_short(&answer) {
         return answer;
     }
@@ -126,9 +129,10 @@ fn recorder_of(alloc: Global, number: Option<u16>) -> Result<Option<Recorder>, R
 
 /// Runs the log that the reader has to give with a scale to which no row has come, and a recorder
 /// of the last so many scans where they are asked for.
-fn run_recorded<'a, R: ByteIn, W: ByteOut>(
+fn run_recorded<'a, V: Scanner, R: ByteIn, W: ByteOut>(
     alloc: Global,
     number: Option<u16>,
+    scanner: &mut V,
     plate: &Plate,
     machine: Option<Machine<'a, SlotStore>>,
     next: Option<Loaded<'a>>,
@@ -156,7 +160,15 @@ fn run_recorded<'a, R: ByteIn, W: ByteOut>(
         Err(fault) => return Err(fault),
     };
     match Scale::new(alloc, plate, machine, next) {
-        Ok(mut scale) => run_to_end(alloc, &mut scale, &mut recorder, reader, writer, told),
+        Ok(mut scale) => run_to_end(
+            alloc,
+            scanner,
+            &mut scale,
+            &mut recorder,
+            reader,
+            writer,
+            told,
+        ),
         Err(fault) => Err(fault),
     }
 }
@@ -183,11 +195,12 @@ fn judged<R: ByteIn>(fault: RunFault, reader: &R, failures: u64, spent: u64) -> 
     }
 }
 
-/// Runs a log as `run` does, or as `run_last` where the last so many scans are asked for, and tells
-/// the refused row, if there is one: the record of the log that has its number.
-pub fn run_telling<'a, R: ByteIn, W: ByteOut>(
+/// Runs a log as `run` does, or as `run_last` where the last so many scans are asked for, whoever does
+/// its scans, and tells the refused row, if there is one: the record of the log that has its number.
+pub fn run_telling<'a, V: Scanner, R: ByteIn, W: ByteOut>(
     alloc: Global,
     number: Option<u16>,
+    scanner: &mut V,
     plate: &Plate,
     machine: Option<Machine<'a, SlotStore>>,
     next: Option<Loaded<'a>>,
@@ -218,7 +231,9 @@ pub fn run_telling<'a, R: ByteIn, W: ByteOut>(
 {
     let failures = reader.failures();
     let spent = reader.spent();
-    match run_recorded(alloc, number, plate, machine, next, reader, writer, told) {
+    match run_recorded(
+        alloc, number, scanner, plate, machine, next, reader, writer, told,
+    ) {
         Ok(count) => Ok(count),
         Err(fault) => Err(judged(fault, reader, failures, spent)),
     }
@@ -269,7 +284,17 @@ pub fn run<'a, R: ByteIn, W: ByteOut>(
         (R.failure_count reader.new) }
 {
     let mut told = RefusedRow::new(alloc);
-    run_telling(alloc, None, plate, machine, next, reader, writer, &mut told)
+    run_telling(
+        alloc,
+        None,
+        &mut Unwatched,
+        plate,
+        machine,
+        next,
+        reader,
+        writer,
+        &mut told,
+    )
 }
 
 /// Runs a log as `run` does, but of its scans prints the last `number` alone, 1 to 1000, in order,
@@ -318,6 +343,7 @@ pub fn run_last<'a, R: ByteIn, W: ByteOut>(
     run_telling(
         alloc,
         Some(number),
+        &mut Unwatched,
         plate,
         machine,
         next,

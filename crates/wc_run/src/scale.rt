@@ -14,7 +14,7 @@ use crate::changing::changed;
 use crate::fault::RunFault;
 use crate::room::Room;
 use crate::row_output::RowOutput;
-use crate::scans::scan_record;
+use crate::scanner::Scanner;
 use std::alloc::Global;
 use wc_cost::Loaded;
 use wc_indicator::Indicator;
@@ -64,9 +64,10 @@ impl<'a> Scale<'a> {
     /// Does a row, with the bytes that are lent with it, and gives what is to be printed of it; a
     /// line stands in the room then.
     #[inline(always)]
-    pub(crate) fn take(
+    pub(crate) fn take<V: Scanner>(
         &mut self,
         alloc: Global,
+        scanner: &mut V,
         room: &mut Room,
         row: Row,
         bytes: &[u8],
@@ -99,9 +100,12 @@ impl<'a> Scale<'a> {
                 self.take_inputs(inputs);
                 Ok(RowOutput::Nothing)
             }
-            RowKind::Scan => Ok(self.take_scan(row.ms)),
+            RowKind::Scan => Ok(self.take_scan(scanner, row.ms)),
             RowKind::Change => match self.take_change(alloc, row.number) {
-                Ok(()) => Ok(RowOutput::Nothing),
+                Ok(()) => {
+                    scanner.change();
+                    Ok(RowOutput::Nothing)
+                }
                 Err(fault) => Err(fault),
             },
         }
@@ -145,9 +149,9 @@ impl<'a> Scale<'a> {
         self.inputs = inputs;
     }
 
-    /// Does a scan where there is a machine, and gives its record. It takes no memory.
+    /// Has a scan done where there is a machine, and gives its record.
     #[inline(always)]
-    fn take_scan(&mut self, ms: u64) -> RowOutput
+    fn take_scan<V: Scanner>(&mut self, scanner: &mut V, ms: u64) -> RowOutput
         requires early { ms < 2 ^ 40 }
         requires in_order { IsNotBehind self.old ms }
         ensures stands { TakesRow self.old self.new ms Scan }
@@ -157,7 +161,7 @@ impl<'a> Scale<'a> {
         match &mut self.machine {
             Some(machine) => {
                 let image = image(&self.indicator, self.inputs);
-                RowOutput::Scan(scan_record(ms, &image, machine))
+                RowOutput::Scan(scanner.scan(ms, &image, machine))
             }
             None => RowOutput::Nothing,
         }

@@ -1,4 +1,4 @@
-use Rattle.wc.proofs.Plain.{check_form, explain_form, job_form, last_form, line_form, next_form, paths_form, plain, preview_form, run_form}
+use Rattle.wc.proofs.Plain.{check_form, explain_form, job_form, last_form, line_form, next_form, paths_form, plain, preview_form, run_form, trace_form}
 use Rattle.wc.proofs.forms.plain_forms.Goals as goal
 
 pub returns : goal.returns
@@ -10,6 +10,7 @@ returns c = record {
   run = λ name p q l h i j. run_form name p q l (plain p h) (plain q i) (plain l j);
   last = last_form;
   next = next_form;
+  trace = trace_form;
   line = λ name p l h j. line_form name p l (plain p h) (plain l j);
   explain = explain_form;
 }

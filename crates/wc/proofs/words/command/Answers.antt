@@ -19,5 +19,6 @@ returns c =
     let with_form = one_option _ _ _ _ _ c.in_ok-arg.ensures c.message_option.ensures.rule c.message_option.ensures.local zero in
     let one = one_word _ _ _ _ _ c.in_ok-subcommand.ensures c.in_ok-check_command.ensures with_form in
     let two = one_word _ _ _ _ _ c.in_ok-subcommand-2.ensures c.in_ok-run_command.ensures one in
-    let three = one_word _ _ _ _ _ c.in_ok-subcommand-3.ensures c.in_ok-line_command.ensures two in
-    (one_word _ _ _ _ _ c.in_ok-command.ensures c.in_ok-explain_command.ensures three).0
+    let three = one_word _ _ _ _ _ c.in_ok-subcommand-3.ensures c.in_ok-trace_command.ensures two in
+    let four = one_word _ _ _ _ _ c.in_ok-subcommand-4.ensures c.in_ok-line_command.ensures three in
+    (one_word _ _ _ _ _ c.in_ok-command.ensures c.in_ok-explain_command.ensures four).0

@@ -3,9 +3,10 @@ use Rattle.std.proofs.Common.{◌≡◌, ◌+◌, ◌-◌, ◌≤◌, ◌++◌, 
 use Rattle.wc_flat.specs.Contents.{frame_of_text, AreContents}
 use Rattle.wc_machine.proofs.FirstPlaces.{AreFirst, first_places}
 use Rattle.wc_machine.proofs.Scanning.{has_a_unit, machine_runs, later, short_run, ran_is}
-use Rattle.wc_machine.proofs.SeenScans.{leaves_store, scan_is_seen}
+use Rattle.wc_machine.proofs.SeenScans.{scan_is_seen}
 use Rattle.wc_machine.proofs.machine.Machine.trace.Goals as goal
-use Rattle.wc_machine.specs.Machines.{MachineState, LeavesStore, machine_view, text_of}
+use Rattle.wc_machine.specs.Machines.{MachineState, Leaves, machine_view, text_of}
+use Rattle.wc_model.specs.Language.Paths.{IsProgramBound}
 use Rattle.wc_model.specs.Language.Scans.{initial_of, scan_of}
 use Rattle.wc_model.specs.Language.Views.{text_view}
 use Rattle.wc_soundness.specs.Typing.{SameSlots}
@@ -64,8 +65,18 @@ returns-clause-means g c = λ text store stands.
     (g.S.Store.slot_kinds c.copy_image.new.store) (g.S.Store.numbers c.copy_image.new.store) c.copy_image.ensures.kinds c.copy_image.ensures.numbers store slots contents in
     let both = ran_is _ run.ran (g.S.Store.numbers c.run_seen-steps.new.store) c.run_seen-steps.result run.is c.run_seen-steps.ensures.ran in
     let after = machine_view c.self.inside.loaded (g.S.Store.numbers c.run_seen-steps.new.store) c.args.now in
-    subst (λ t. LeavesStore after t (scan_of t store c.args.image.now c.args.now)) (sym same)
-    (leaves_store after here run.ran.steps (scan_of here store c.args.image.now c.args.now) (run.leaves after refl (sym both.0)))
+    subst (λ t. Leaves after t c.run_seen-steps.result (scan_of t store c.args.image.now c.args.now)) (sym same)
+    (subst (λ n. Leaves after here n (scan_of here store c.args.image.now c.args.now)) both.1 (run.leaves after refl (sym both.0)))
+
+pub returns-clause-within : goal.returns-clause-within
+returns-clause-within g c = λ n longest.
+    let inv = c.self.invariant in
+    let bounded : IsProgramBound (text_view c.self.inside.loaded.source) n = subst (λ t. IsProgramBound t n) (ap (λ (m : MachineState). text_of m) (sym c.self.view_is)) longest in
+    let run = machine_runs c.self.inside.loaded (g.S.Store.slot_kinds c.self.inside.store) (g.S.Store.numbers c.self.inside.store) c.self.inside.last c.self.inside.bound c.self.invariant c.args.image.now c.args.now (c.units-program.result - 1) n
+    (omega (arith, c.units-program.ensures.count, has_a_unit c.self.invariant.sound.read.0 (text_view c.self.inside.loaded.source) c.self.invariant.sound.read.1)) bounded
+    (g.S.Store.slot_kinds c.copy_image.new.store) (g.S.Store.numbers c.copy_image.new.store) c.copy_image.ensures.kinds c.copy_image.ensures.numbers inv.held.0 inv.held.1 inv.held.2 in
+    let both = ran_is _ run.ran (g.S.Store.numbers c.run_seen-steps.new.store) c.run_seen-steps.result run.is c.run_seen-steps.ensures.ran in
+    omega (arith, run.within, both.1)
 
 pub returns-clause-seen : goal.returns-clause-seen
 returns-clause-seen g c = λ text store stands.

@@ -1,0 +1,44 @@
+ghost use Rattle.std.specs.Prelude.{◌≡◌, ◌<◌, ◌≤◌, ◌^◌};
+ghost use Rattle.wc_run.specs.Taking.{RecordsScan, TakesScan};
+
+use crate::scans::scan_record;
+use wc_cost::Loaded;
+use wc_machine::Machine;
+use wc_model::Image;
+use wc_record::Record;
+use wc_store::SlotStore;
+
+/// Who does the scans of a run. `Unwatched` does them alone; another may show what is seen of them. Whoever does them, a scan
+/// is the one that the text means.
+pub trait Scanner {
+    /// Does one scan of an image at a moment, and gives its record.
+    fn scan(&mut self, ms: u64, image: &Image, machine: &mut Machine<'_, SlotStore>) -> Record
+        requires not_before { machine.old.last ≤ ms }
+        requires early { ms < 2 ^ 40 }
+        requires status { image.now.status < 64 }
+        ensures stands { TakesScan machine.old machine.new ms image.now }
+        ensures records { RecordsScan machine.old ms image.now result }
+        ensures last { machine.new.last ≡ ms };
+
+    /// Is shown a program that is loaded, before the first row: the first program, then the next, if there is one.
+    fn know(&mut self, text: &[u8], loaded: &Loaded<'_>);
+
+    /// Is told of a change to the next program.
+    fn change(&mut self);
+}
+
+/// Does the scans of a run, and shows nothing of them.
+#[derive(Clone, Copy)]
+pub struct Unwatched;
+
+impl Scanner for Unwatched {
+    #[inline(always)]
+    fn scan(&mut self, ms: u64, image: &Image, machine: &mut Machine<'_, SlotStore>) -> Record {
+        scan_record(ms, image, machine)
+    }
+
+    fn know(&mut self, _text: &[u8], _loaded: &Loaded<'_>) {}
+
+    #[inline(always)]
+    fn change(&mut self) {}
+}

@@ -1,0 +1,153 @@
+use crate::values::put;
+use std::alloc::Global;
+use wc_model::{Argument, Direction, Fault, Instr, Kind, Line, Operand, Source, Value};
+
+/// What a line of the text names, beside its flat lines: of a load the kind of its literal, of a store its target, of a call
+/// its instance, and behind that note one for each item of its list, the inputs first.
+#[derive(Clone, Copy)]
+pub(crate) struct Note {
+    /// The line of the text, counted from 1.
+    pub(crate) line: u32,
+    /// The kind of a literal that is loaded.
+    pub(crate) kind: Option<Kind>,
+    /// Where the name stands among the names: a variable, an instance, or a field behind its instance and a dot.
+    pub(crate) start: usize,
+    /// Where it ends.
+    pub(crate) end: usize,
+}
+
+/// The notes of a text, in text order, and the names that they speak of, one behind the other.
+#[derive(Drop)]
+pub(crate) struct Notes {
+    pub(crate) notes: Vec<Note>,
+    pub(crate) names: Vec<u8>,
+}
+
+impl Notes {
+    /// Adds a note of a name, with a field of it where that is not empty. `Memory` is the only fault.
+    fn add(
+        &mut self,
+        line: u32,
+        kind: Option<Kind>,
+        name: &[u8],
+        field: &[u8],
+    ) -> Result<(), Fault> {
+        let start = self.names.len();
+        put(&mut self.names, name)?;
+        if !field.is_empty() {
+            put(&mut self.names, b".")?;
+            put(&mut self.names, field)?;
+        }
+        let note = Note {
+            line,
+            kind,
+            start,
+            end: self.names.len(),
+        };
+        match self.notes.push(note) {
+            Ok(()) => Ok(()),
+            Err(_) => Err(Fault::Memory),
+        }
+    }
+}
+
+/// The kind of a literal.
+fn kind_of(value: Value) -> Kind {
+    match value {
+        Value::Bool(_) => Kind::Bool,
+        Value::Dint(_) => Kind::Dint,
+        Value::Time(_) => Kind::Time,
+    }
+}
+
+/// Notes what an operand names.
+fn note_operand(notes: &mut Notes, line: u32, operand: &Operand<'_>) -> Result<(), Fault> {
+    match *operand {
+        Operand::Literal(value) => notes.add(line, Some(kind_of(value)), b"", b""),
+        Operand::Address(word) => notes.add(line, None, word.text, b""),
+        Operand::Name(name) => notes.add(line, None, name, b""),
+        Operand::Field { instance, field } => notes.add(line, None, instance, field),
+    }
+}
+
+/// Notes the items of a call's list that have one direction, in written order.
+fn note_items(
+    notes: &mut Notes,
+    line: u32,
+    instance: &[u8],
+    direction: Direction,
+    arguments: &[Argument<'_>],
+) -> Result<(), Fault> {
+    for argument in arguments {
+        if argument.direction != direction {
+            continue;
+        }
+        match direction {
+            Direction::Into => notes.add(line, None, instance, argument.name)?,
+            Direction::OutOf => note_operand(notes, line, &argument.value)?,
+        }
+    }
+    Ok(())
+}
+
+/// Notes a call: its instance, its inputs, its outputs.
+fn note_call(
+    notes: &mut Notes,
+    line: u32,
+    instance: &[u8],
+    arguments: &[Argument<'_>],
+) -> Result<(), Fault> {
+    notes.add(line, None, instance, b"")?;
+    note_items(notes, line, instance, Direction::Into, arguments)?;
+    note_items(notes, line, instance, Direction::OutOf, arguments)
+}
+
+/// Notes an instruction, and those in its parenthesis.
+#[cycle(noting)]
+fn note_instruction(notes: &mut Notes, instr: &Instr<'_>) -> Result<(), Fault> {
+    match instr {
+        Instr::Load { operand, line, .. } => note_operand(notes, *line, operand),
+        Instr::Store { target, line, .. } => note_operand(notes, *line, target),
+        Instr::Defer {
+            operand,
+            inside,
+            line,
+            ..
+        } => {
+            if let Some(operand) = operand {
+                note_operand(notes, *line, operand)?;
+            }
+            note_lines(notes, inside)
+        }
+        Instr::Call {
+            instance,
+            arguments,
+            line,
+            ..
+        } => note_call(notes, *line, instance, arguments),
+        _ => Ok(()),
+    }
+}
+
+/// Notes lines in text order.
+#[cycle(noting)]
+fn note_lines(notes: &mut Notes, lines: &[Line<'_>]) -> Result<(), Fault> {
+    for line in lines {
+        if let Some(instr) = &line.instr {
+            note_instruction(notes, instr)?;
+        }
+    }
+    Ok(())
+}
+
+/// The notes of a text. `Memory` is the only fault.
+pub(crate) fn notes_of(alloc: Global, source: &Source<'_>) -> Result<Notes, Fault> {
+    let mut notes = Notes {
+        notes: Vec::new(alloc),
+        names: Vec::new(alloc),
+    };
+    for unit in &source.units {
+        note_lines(&mut notes, &unit.body)?;
+    }
+    Ok(notes)
+}

@@ -1,0 +1,203 @@
+use crate::legend::Legend;
+use crate::levels::{Levels, Said};
+use crate::values::{put, put_number, value_of};
+use std::alloc::Global;
+use wc_changes::put_value;
+use wc_machine::SeenLine;
+use wc_model::{Code, Fault, Kind};
+
+/// The column at which the result of a row begins, and that of what it writes, each counted from its first.
+const RESULT: usize = 44;
+const WRITTEN: usize = 58;
+
+/// How many bytes of a line are shown at most.
+const LONGEST: usize = 72;
+
+/// Puts spaces up to a column of the row that starts there, and two at least.
+fn put_gap(text: &mut Vec<u8>, start: usize, column: usize) -> Result<(), Fault> {
+    let there = text.len().saturating_sub(start);
+    let count = column.saturating_sub(there).max(2);
+    for _space in 0..count {
+        put(text, b" ")?;
+    }
+    Ok(())
+}
+
+/// A byte as it is shown: what a terminal would act on is not.
+fn shown(byte: u8) -> u8 {
+    match byte {
+        b'\t' => b' ',
+        0..32 | 127 => b'?',
+        _ => byte,
+    }
+}
+
+/// Whether a byte is blank.
+fn is_blank(byte: u8) -> bool {
+    byte == b' ' || byte == b'\t' || byte == b'\r'
+}
+
+/// A line without the blanks at its ends.
+fn trimmed(line: &[u8]) -> &[u8] {
+    let before = line.iter().take_while(|byte| is_blank(**byte)).count();
+    let behind = line.iter().rev().take_while(|byte| is_blank(**byte)).count();
+    let end = line.len().saturating_sub(behind);
+    match line.get(before..end) {
+        Some(rest) => rest,
+        None => b"",
+    }
+}
+
+/// Puts a line of the text, or the first part of one that is long.
+fn put_line(text: &mut Vec<u8>, line: &[u8]) -> Result<(), Fault> {
+    let line = trimmed(line);
+    for byte in line.iter().take(LONGEST) {
+        put(text, &[shown(*byte)])?;
+    }
+    if line.len() > LONGEST {
+        return put(text, b"..");
+    }
+    Ok(())
+}
+
+/// Puts a number, with spaces before it up to six columns.
+fn put_aligned(alloc: Global, text: &mut Vec<u8>, number: u32) -> Result<(), Fault> {
+    let mut spaces = 100_000_u32;
+    while spaces > 1 && number < spaces {
+        put(text, b" ")?;
+        spaces /= 10;
+    }
+    put_number(alloc, text, u64::from(number))
+}
+
+/// Whether a flat line is a line of the body itself, and no part of a call.
+fn is_body_line(line: &Code) -> bool {
+    match line {
+        Code::ArgumentNumber { .. } | Code::ArgumentPlace { .. } => false,
+        Code::Standard { .. } | Code::Body { .. } => false,
+        _ => true,
+    }
+}
+
+/// Puts the number of the line and its text, or room for them beside a part of a call; deeper calls stand further right.
+fn put_place(
+    alloc: Global,
+    text: &mut Vec<u8>,
+    legend: &Legend,
+    seen: &SeenLine,
+) -> Result<(), Fault> {
+    if is_body_line(&seen.line) {
+        put_aligned(alloc, text, seen.source)?;
+    } else {
+        put(text, b"      ")?;
+    }
+    for _call in 0..seen.depth.min(8) {
+        put(text, b"  ")?;
+    }
+    put(text, b"  ")?;
+    if is_body_line(&seen.line) {
+        return put_line(text, legend.line(seen.source));
+    }
+    Ok(())
+}
+
+/// Puts a number as a literal of its kind, or in digits where none is known.
+fn put_literal(
+    alloc: Global,
+    text: &mut Vec<u8>,
+    kind: Option<Kind>,
+    number: i32,
+) -> Result<(), Fault> {
+    let kind = match kind {
+        Some(kind) => kind,
+        None => Kind::Dint,
+    };
+    put_value(alloc, text, value_of(kind, number))
+}
+
+/// Puts what a row writes: a place and its value, or that a standard block is called.
+fn put_written(
+    alloc: Global,
+    text: &mut Vec<u8>,
+    legend: &Legend,
+    seen: &SeenLine,
+    said: &Said,
+) -> Result<(), Fault> {
+    if let Some(note) = &said.note {
+        put(text, legend.name(note))?;
+    }
+    match seen.written {
+        Some(number) => {
+            put(text, b" := ")?;
+            put_literal(alloc, text, said.written, number)
+        }
+        None => put(text, b"()"),
+    }
+}
+
+/// Whether a row says what it writes.
+fn has_written(seen: &SeenLine) -> bool {
+    match seen.line {
+        Code::Standard { .. } => true,
+        _ => seen.written.is_some(),
+    }
+}
+
+/// Puts the row of an item.
+fn put_row(
+    alloc: Global,
+    text: &mut Vec<u8>,
+    legend: &Legend,
+    seen: &SeenLine,
+    said: &Said,
+) -> Result<(), Fault> {
+    let start = text.len();
+    put_place(alloc, text, legend, seen)?;
+    if let (Some(number), true) = (seen.result, is_body_line(&seen.line)) {
+        put_gap(text, start, RESULT)?;
+        put_literal(alloc, text, said.result, number)?;
+    }
+    if has_written(seen) {
+        put_gap(text, start, WRITTEN)?;
+        put_written(alloc, text, legend, seen, said)?;
+    }
+    put(text, b"\n")
+}
+
+/// Puts the heading of a scan: its number among those of the run, and its moment.
+fn put_heading(alloc: Global, text: &mut Vec<u8>, number: u32, ms: u64) -> Result<(), Fault> {
+    put(text, b"scan ")?;
+    put_number(alloc, text, u64::from(number))?;
+    put(text, b" at ")?;
+    put_number(alloc, text, ms)?;
+    put(text, b" ms\n")
+}
+
+/// Puts how many steps a scan took, and how many one takes at most.
+fn put_steps(alloc: Global, text: &mut Vec<u8>, steps: usize, bound: u32) -> Result<(), Fault> {
+    put(text, b"steps ")?;
+    put_number(alloc, text, steps as u64)?;
+    put(text, b" of at most ")?;
+    put_number(alloc, text, u64::from(bound))?;
+    put(text, b"\n")
+}
+
+/// Puts the rows of a scan behind a text: a heading, a row for each item that was seen of it, in the order of execution, and
+/// how many there were. `Memory` is the only fault; a front of the rows may stand behind the text then.
+pub(crate) fn put_scan(
+    alloc: Global,
+    text: &mut Vec<u8>,
+    legend: &Legend,
+    number: u32,
+    ms: u64,
+    bound: u32,
+    lines: &[SeenLine],
+) -> Result<(), Fault> {
+    put_heading(alloc, text, number, ms)?;
+    let mut levels = Levels::new(alloc);
+    for seen in lines {
+        let said = levels.follow(alloc, legend, seen)?;
+        put_row(alloc, text, legend, seen, &said)?;
+    }
+    put_steps(alloc, text, lines.len(), bound)
+}

@@ -1,0 +1,107 @@
+ghost use Rattle.std.specs.Prelude.{◌≡◌, ◌+◌, IfSome, is_some};
+ghost use Rattle.wc_controller.specs.Blames.{Blames, RefusesLog, RefusesProgram};
+ghost use Rattle.wc_controller.specs.Endings.{IsAt, RefusesPlate, TellsReadEndings};
+ghost use Rattle.wc_controller.specs.TakenLogs.{count_of, known_of, log_beside};
+ghost use Rattle.wc_job.specs.Reads.{TakesAtMost};
+ghost use Rattle.wc_model.specs.Run.JobSections.{longest_job};
+ghost use Rattle.wc_record.specs.Left.{HasCause};
+ghost use Rattle.wc_record.specs.Told.{fields_told};
+ghost use Rattle.wc_trace.specs.Ended.{IsEndedBy};
+
+use crate::chosen::Chosen;
+use crate::unwritten::Unwritten;
+use crate::watch::{Watch, WatchFault};
+use std::alloc::Global;
+use wc_controller::{Ending, Input, RefusedRow, run_files};
+use wc_model::{ByteIn, ByteOut, write_whole};
+use wc_report::refused_line;
+
+/// Writes the line of a refusal, and ends with it.
+fn end_refused<W: ByteOut>(alloc: Global, ending: Ending, writer: &mut W) -> Ending
+    ensures { IsEndedBy ending result }
+{
+    let Ending::Refused { number, place, .. } = ending else {
+        return ending;
+    };
+    let line = match refused_line(alloc, number, place) {
+        Ok(line) => line,
+        Err(_) => return Ending::NoMemory,
+    };
+    match write_whole(writer, &line) {
+        Ok(()) => ending,
+        Err(_) => Ending::WriteFault,
+    }
+}
+
+/// How a run ends whose scans could be shown, or could not.
+fn end_watched(ending: Ending, fault: Option<WatchFault>) -> Ending
+    ensures { IsEndedBy ending result }
+{
+    match fault {
+        Some(WatchFault::Write) => Ending::WriteFault,
+        Some(WatchFault::Memory) => Ending::NoMemory,
+        None => ending,
+    }
+}
+
+/// Runs a log with a program as `run_files` does, and in place of its report writes what is seen of the scans that are chosen:
+/// a heading, a row for each item that the scan executes, in order, and its steps. What is refused is told as there, behind
+/// the scans before. A write fault and want of memory end what is shown, and are told when the log is run; the scans
+/// themselves need none.
+pub fn trace_files<P: ByteIn, T: ByteIn, N: ByteIn, L: ByteIn, W: ByteOut>(
+    alloc: Global,
+    chosen: Chosen,
+    plate: &mut P,
+    program: &mut T,
+    next: &mut Option<N>,
+    log: &mut L,
+    writer: &mut W,
+    told: &mut RefusedRow,
+) -> Ending
+    // The input that a refusal names is the one that breaks the rule.
+    ensures blames_plate { Blames Input.Plate RefusesPlate (P.bytes_left plate.old) result }
+    ensures blames_program { Blames Input.Program RefusesProgram
+        (T.bytes_left program.old) result }
+    ensures blames_next { Blames Input.Next RefusesProgram (known_of N.bytes_left next.old)
+        result }
+    ensures blames_log { Blames Input.Log
+        (RefusesLog (log_beside (is_some next.old)) (fields_told told.new))
+        (L.bytes_left log.old) result }
+    // A run has no job: what it names is one of its inputs.
+    ensures own { ¬ IsAt Input.Job result }
+    ensures unread { IsAt Input.Next result
+        → L.spent_count log.new ≡ L.spent_count log.old }
+    ensures unread_behind_program { IsAt Input.Program result
+        → (count_of N.spent_count next.new ≡ count_of N.spent_count next.old)
+        × (L.spent_count log.new ≡ L.spent_count log.old) }
+    ensures unread_behind_plate { IsAt Input.Plate result
+        → (T.spent_count program.new ≡ T.spent_count program.old)
+        × (count_of N.spent_count next.new ≡ count_of N.spent_count next.old)
+        × (L.spent_count log.new ≡ L.spent_count log.old) }
+    ensures log { result ≡ Ending.ReadFault Input.Log
+        → HasCause (L.failure_count log.old) (L.failure_count log.new)
+        (L.spent_count log.old) (L.spent_count log.new) }
+    // It reads no further than the byte that makes a plate or a program too long.
+    ensures taken_plate { TakesAtMost (longest_job + 1) (P.bytes_left plate.old)
+        (P.bytes_left plate.new) }
+    ensures taken_program { TakesAtMost (longest_job + 1) (T.bytes_left program.old)
+        (T.bytes_left program.new) }
+    ensures taken_next { TakesAtMost (longest_job + 1) (known_of N.bytes_left next.old)
+        (known_of N.bytes_left next.new) }
+{
+    let mut watch = Watch::new(alloc, chosen, writer);
+    let ending = run_files(
+        alloc,
+        None,
+        &mut watch,
+        plate,
+        program,
+        next,
+        log,
+        &mut Unwritten,
+        told,
+    );
+    let fault = watch.fault();
+    drop(watch);
+    end_refused(alloc, end_watched(ending, fault), writer)
+}

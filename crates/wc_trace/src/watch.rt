@@ -1,0 +1,121 @@
+use crate::chosen::Chosen;
+use crate::legend::Legend;
+use crate::rows::put_scan;
+use std::alloc::Global;
+use wc_controller::{Scanner, Unwatched};
+use wc_cost::Loaded;
+use wc_machine::{Machine, SeenLine};
+use wc_model::{ByteOut, Fault, Image, write_whole};
+use wc_record::Record;
+use wc_store::SlotStore;
+
+/// Why scans are no longer shown.
+#[derive(Clone, Copy, PartialEq, Eq)]
+pub(crate) enum WatchFault {
+    /// The writer failed, or took nothing.
+    Write,
+    /// Memory was refused.
+    Memory,
+}
+
+/// Does the scans of a run, and writes the rows of those that are chosen.
+#[derive(Drop)]
+pub(crate) struct Watch<'w, W> {
+    alloc: Global,
+    chosen: Chosen,
+    writer: &'w mut W,
+    legend: Option<Legend>,
+    next: Option<Legend>,
+    scans: u32,
+    text: Vec<u8>,
+    fault: Option<WatchFault>,
+}
+
+impl<'w, W: ByteOut> Watch<'w, W> {
+    /// Before the first scan.
+    pub(crate) fn new(alloc: Global, chosen: Chosen, writer: &'w mut W) -> Watch<'w, W> {
+        Watch {
+            alloc,
+            chosen,
+            writer,
+            legend: None,
+            next: None,
+            scans: 0,
+            text: Vec::new(alloc),
+            fault: None,
+        }
+    }
+
+    /// Why scans are no longer shown, where they are not.
+    pub(crate) fn fault(&self) -> Option<WatchFault> {
+        self.fault
+    }
+
+    /// Makes the rows of a scan.
+    fn make_rows(&mut self, ms: u64, bound: u32, lines: &[SeenLine]) -> Result<(), Fault> {
+        self.text.clear();
+        match &self.legend {
+            Some(legend) => put_scan(
+                self.alloc,
+                &mut self.text,
+                legend,
+                self.scans,
+                ms,
+                bound,
+                lines,
+            ),
+            None => Ok(()),
+        }
+    }
+
+    /// Shows a scan.
+    fn show(&mut self, ms: u64, bound: u32, lines: Result<Vec<SeenLine>, Fault>) {
+        let Ok(lines) = lines else {
+            self.fault = Some(WatchFault::Memory);
+            return;
+        };
+        if self.make_rows(ms, bound, &lines).is_err() {
+            self.fault = Some(WatchFault::Memory);
+            return;
+        }
+        if write_whole(self.writer, &self.text).is_err() {
+            self.fault = Some(WatchFault::Write);
+        }
+    }
+}
+
+impl<W: ByteOut> Scanner for Watch<'_, W> {
+    fn scan(&mut self, ms: u64, image: &Image, machine: &mut Machine<'_, SlotStore>) -> Record {
+        self.scans = self.scans.saturating_add(1);
+        if self.fault.is_some() || !self.chosen.has(self.scans, ms) {
+            return Unwatched.scan(ms, image, machine);
+        }
+        let (steps, lines) = machine.trace(self.alloc, ms, image);
+        let outputs = machine.outputs();
+        self.show(ms, machine.bound(), lines);
+        Record {
+            ms,
+            steps: steps.0,
+            outputs,
+        }
+    }
+
+    fn know(&mut self, text: &[u8], loaded: &Loaded<'_>) {
+        let legend = match Legend::new(self.alloc, text, loaded) {
+            Ok(legend) => legend,
+            Err(_) => {
+                self.fault = Some(WatchFault::Memory);
+                return;
+            }
+        };
+        if self.legend.is_none() {
+            self.legend = Some(legend);
+        } else {
+            self.next = Some(legend);
+        }
+    }
+
+    fn change(&mut self) {
+        self.legend = self.next.take();
+    }
+}
