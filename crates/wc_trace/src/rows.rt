@@ -62,10 +62,10 @@ fn put_line(text: &mut Vec<u8>, line: &[u8]) -> Result<(), Fault> {
 
 /// Puts a number, with spaces before it up to six columns.
 fn put_aligned(alloc: Global, text: &mut Vec<u8>, number: u32) -> Result<(), Fault> {
-    let mut spaces = 100_000_u32;
-    while spaces > 1 && number < spaces {
-        put(text, b" ")?;
-        spaces /= 10;
+    for least in [100_000, 10_000, 1_000, 100, 10] {
+        if number < least {
+            put(text, b" ")?;
+        }
     }
     put_number(alloc, text, u64::from(number))
 }
