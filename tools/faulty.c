@@ -7,8 +7,8 @@
  *   WRITE_ROOM=N       standard output takes N bytes in all, and then each write fails
  *   WRITE_PIECE=N      a write to standard output takes at most N bytes
  *   INTERRUPTED=N      each Nth read or write is interrupted first
- *   COUNTS=FILE        at the end the number of calls that asked for memory is written there, and 1 where one of the two
- *                      calls behind the refused one asked again, for no more, else 0
+ *   COUNTS=FILE        at the end the number of calls that asked for memory is written there, and 1 where the call behind the
+ *                      refused one asked again, for no more, else 0
  */
 #define _GNU_SOURCE
 #include <dlfcn.h>
@@ -60,8 +60,8 @@ __attribute__((destructor)) static void end(void)
 static int is_refused(size_t size)
 {
     growths += 1;
-    if (refused > 0 && (growths == refused + 1 || growths == refused + 2))
-        asked_again |= size <= refused_size;
+    if (refused > 0 && growths == refused + 1)
+        asked_again = size <= refused_size;
     if (growths != refused)
         return 0;
     refused_size = size;

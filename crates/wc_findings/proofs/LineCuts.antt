@@ -1,16 +1,36 @@
 -- A text cut in lines, one after another.
 use Rattle.std.proofs.Common.{◌≡◌, ◌≤◌, ◌<◌, ◌+◌, ◌-◌, ◌==◌, ltb, ℕ, zero, suc, Bool, true, false, cond, not, min, List, [], ◌∷◌, length, drop, take, get_or, zero-add, add-zero, Some, None, if◌then◌else◌, refl, sym, ap, ◌∙◌, arith}
-use Rattle.std.proofs.lemmas.Bool.{ltb-false, ltb-true, ne_eqb}
+use Rattle.std.proofs.lemmas.Bool.{false_from_ne_true, ltb-false, ltb-true, ne_eqb}
 use Rattle.std.proofs.lemmas.List.{drop-drop}
 use Rattle.std.proofs.lemmas.List.Splits.{slice_split_first}
+use Rattle.std.proofs.lemmas.List.Sums.{position_or_len_is}
 use Rattle.std.proofs.lemmas.Option.{slice_get-map}
 use Rattle.std.specs.List.{after_first, before_first, onto_first, position_or_len}
 use Rattle.std.specs.Prelude.{option_map, slice_get}
+use Rattle.memchr.specs.Find.{IsFirstByte, is_byte}
 use Rattle.wc_findings.specs.Lines.{HasBelow, IsOneLine, cut_lines, line_of_number, lines_of, without_return}
 
 -- an LF
 abbrev pub is_end : ℕ → Bool
 is_end byte = byte == 10
+
+-- an LF that stands in front is the first
+pub feed_in_front : (text : List ℕ) → 0 < length text → is_end (get_or text 0 0) ≡ true → 0 ≡ position_or_len is_end text
+feed_in_front text some end = sym (position_or_len_is is_end text 0 0 (omega arith) (λ k before. absurd (omega (arith, before))) (λ within. end))
+
+-- the LF that a search finds is the first
+pub feed_found : (text : List ℕ) (place : ℕ) → IsFirstByte (is_byte 10) text (Some place) → place ≡ position_or_len is_end text
+feed_found text place found =
+    sym (position_or_len_is is_end text place 0 (omega (arith, found.0.high))
+    (λ k before. false_from_ne_true (is_end (get_or text k 0)) (found.0.before k (omega arith) before))
+    (λ within. found.1))
+
+-- where a search finds none, none stands
+pub no_feed_found : (text : List ℕ) → IsFirstByte (is_byte 10) text None → length text ≡ position_or_len is_end text
+no_feed_found text none =
+    sym (position_or_len_is is_end text (length text) 0 (omega arith)
+    (λ k before. false_from_ne_true (is_end (get_or text k 0)) (none k (omega arith) before))
+    (λ within. absurd (omega (arith, within))))
 
 -- where no LF stands, the text is one line
 pub one_line : (text : List ℕ) → length text ≤ position_or_len is_end text → cut_lines text ≡ text ∷ []

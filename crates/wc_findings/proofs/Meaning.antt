@@ -1,5 +1,5 @@
 -- What is meant on a line.
-use Rattle.std.proofs.Common.{◌≡◌, ◌<◌, ◌≤◌, refl, ℕ, zero, suc, List, [], ◌∷◌, Option, Some, None, IfSome, Result, Ok, Err, IfOk, drop, length, map, min, slice_get, take, sym, ap, subst, ◌∙◌, arith}
+use Rattle.std.proofs.Common.{◌≡◌, ◌<◌, ◌≤◌, refl, ℕ, List, Option, Some, None, IfSome, drop, length, min, take, sym, ap, subst, ◌∙◌}
 use Rattle.std.proofs.lemmas.List.{drop_min, length-take, take_min}
 use Rattle.wc_findings.specs.Meant.{HasLaterSpot, HasStop, IsKept, IsLaterPiece, IsMeantBy, IsStop, IsStoppedBy, MeansPiece, MeansStop, StandsAt}
 use Rattle.wc_findings.specs.Showing.{line_of_part, read_as}

@@ -1,11 +1,11 @@
 -- A row as it is shown.
 use Rattle.std.proofs.Common.{◌≡◌, ◌∙◌, ◌+◌, ℕ, zero, suc, List, [], ◌∷◌, ◌++◌, ◌<◌, Option, Some, None, IfSome, length, min, take, refl, ap, sym, subst, arith}
-use Rattle.std.proofs.lemmas.List.{append_assoc, append-nil}
+use Rattle.std.proofs.lemmas.List.{append_assoc, append-nil, take_min}
 use Rattle.std.specs.Prelude.{flat_map, unwrap_or}
 use Rattle.csv.specs.Records.{field_at}
 use Rattle.wc_findings.specs.Finds.{IsCutTo}
 use Rattle.wc_findings.specs.Meant.{IsKept}
-use Rattle.wc_findings.specs.Rows.{MeansField, behind_comma, cut_field, glued, shown_field, shown_row}
+use Rattle.wc_findings.specs.Rows.{MeansField, behind_comma, cut_field, glued, joined, shown_field, shown_row}
 use Rattle.wc_findings.specs.declared.finding.Finding.{Finding}
 use Rattle.wc_findings.specs.declared.finding.Spot.{Spot}
 use Rattle.wc_model.specs.Run.Log.{Record}
@@ -22,7 +22,7 @@ later_field (f ∷ fs) (suc k) field e = ap (λ rest. behind_comma f ++ rest) (l
 
 -- one field more
 pub one_field_more : (fields : Record) (k : ℕ) (field : List ℕ) → field_at fields k ≡ Some field
-    → shown_row (take (suc k) fields) ≡ shown_row (take k fields) ++ glued k (cut_field field)
+    → joined (take (suc k) fields) ≡ joined (take k fields) ++ glued k (cut_field field)
 unfolding field_at
 one_field_more [] k field e = absurd (cc)
 one_field_more (f ∷ fs) zero field e =
@@ -38,10 +38,16 @@ field_there (f ∷ fs) zero few = refl
 field_there (f ∷ fs) (suc k) few = field_there fs k (omega (arith, few))
 
 -- so the row grows by it
-pub row_grows : (fields : Record) (k : ℕ) → k < length fields → shown_row (take (k + 1) fields) ≡ shown_row (take k fields) ++ glued k (shown_field fields k)
+pub row_grows : (fields : Record) (k : ℕ) → k < length fields → joined (take (k + 1) fields) ≡ joined (take k fields) ++ glued k (shown_field fields k)
 row_grows fields k few =
     let next : k + 1 ≡ suc k = omega arith in
     rw next (one_field_more fields k (unwrap_or (field_at fields k) []) (field_there fields k few))
+
+-- as many fields as are shown
+pub row_shown : (fields : Record) (count : ℕ) → count ≡ min (length fields) 128 → joined (take count fields) ≡ shown_row fields
+row_shown fields count e =
+    let turned : count ≡ min 128 (length fields) = omega (arith, e) in
+    ap (λ n. joined (take n fields)) turned ∙ ap joined (take_min 128 fields)
 
 -- a field behind others has a comma
 pub glued_behind : (k : ℕ) (field : List ℕ) → 0 < k → glued k field ≡ 44 ∷ field

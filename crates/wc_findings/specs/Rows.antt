@@ -1,5 +1,5 @@
 -- A row of a log as a message shows it, and the field that its refusal means. The profile's own.
-use Rattle.std.specs.Prelude.{◌≡◌, ◌≤◌, ℕ, zero, suc, ◌+◌, ◌==◌, ◌||◌, List, [], ◌∷◌, ◌++◌, Option, Some, None, IfSome, flat_map, length, min, take, unwrap_or, if◌then◌else◌}
+use Rattle.std.specs.Prelude.{◌≤◌, ℕ, zero, suc, ◌+◌, ◌==◌, ◌||◌, List, [], ◌∷◌, ◌++◌, Option, Some, None, IfSome, flat_map, length, take, unwrap_or, if◌then◌else◌}
 use Rattle.csv.specs.Records.{field_at}
 use Rattle.wc_findings.specs.declared.finding.Spot.{Spot}
 use Rattle.wc_model.specs.Run.Log.{Record}
@@ -21,10 +21,14 @@ abbrev pub glued : ℕ → List ℕ → List ℕ
 glued zero field = field
 glued (suc before) field = 44 ∷ field
 
--- the fields with commas between
+-- fields with commas between
+abbrev pub joined : Record → List ℕ
+joined [] = []
+joined (first ∷ rest) = cut_field first ++ flat_map behind_comma rest
+
+-- a row as it is shown: its fields, up to 128, with commas between. A message shows fewer bytes than so many commas
 abbrev pub shown_row : Record → List ℕ
-shown_row [] = []
-shown_row (first ∷ rest) = cut_field first ++ flat_map behind_comma rest
+shown_row fields = joined (take 128 fields)
 
 -- where a field starts among those that are shown
 abbrev pub field_start : Record → ℕ → ℕ

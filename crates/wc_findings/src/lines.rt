@@ -3,6 +3,8 @@ ghost use Rattle.std.specs.List.{before_first, position_or_len};
 ghost use Rattle.wc_findings.specs.Meant.{StandsAt};
 ghost use Rattle.wc_findings.specs.Lines.{HasBelow, IsOneLine, column_at, cut_lines, line_of_number, without_return};
 
+use memchr::{memchr, memchr_iter};
+
 /// What stands behind so many bytes.
 pub(crate) fn behind(text: &[u8], start: usize) -> &[u8]
     ensures { result.now ≡ drop (min start (length text.now)) text.now }
@@ -31,7 +33,14 @@ pub(crate) fn line_length(text: &[u8]) -> usize
     ensures first { result ≡ position_or_len (λ byte. byte == 10) text.now }
     ensures within { result ≤ length text.now }
 {
-    text.iter().take_while(|byte| **byte != b'\n').count()
+    // An empty line is met here, since a search costs more.
+    if !text.is_empty() && text[0] == b'\n' {
+        return 0;
+    }
+    match memchr(b'\n', text) {
+        Some(place) => place,
+        None => text.len(),
+    }
 }
 
 /// A line without the CR at its end.
@@ -86,10 +95,7 @@ pub(crate) fn line_at(text: &[u8], number: u32) -> Option<&[u8]>
 
 /// The number of the line on which a place stands, counted from 1.
 pub(crate) fn line_of(text: &[u8], place: usize) -> u32 {
-    let feeds = front(text, place)
-        .iter()
-        .filter(|byte| **byte == b'\n')
-        .count();
+    let feeds = memchr_iter(b'\n', front(text, place)).count();
     feeds.saturating_add(1).min(1048577) as u32
 }
 

@@ -1,5 +1,6 @@
 use crate::finding::Finding;
 use crate::lines::{behind, column_at, line_length, line_of, piece};
+use memchr::{memchr, memmem};
 use std::alloc::{AllocError, Global};
 use toml::de::Error;
 use wc_plate::{BrokenRule, allows_interval, plate_of};
@@ -7,13 +8,20 @@ use wc_plate::{BrokenRule, allows_interval, plate_of};
 /// The scale intervals that some plate may have.
 const INTERVALS: [i64; 6] = [1, 2, 5, 10, 20, 50];
 
-/// The line of a text that gives a value to a key, counted from 1, and where the value starts in it.
+/// The line of a text that gives a value to a key, counted from 0, and where the key and its value start in it.
 #[derive(Clone, Copy)]
 struct KeyLine {
-    number: u32,
+    number: usize,
     key: usize,
     value: usize,
     length: usize,
+}
+
+impl KeyLine {
+    /// The line, counted from 1.
+    fn line(&self) -> u32 {
+        self.number.saturating_add(1).min(u32::MAX as usize) as u32
+    }
 }
 
 /// How many spaces and tabs stand in front.
@@ -30,11 +38,15 @@ fn value_length(text: &[u8]) -> usize {
         .count()
 }
 
-/// Where that key is given its value, if the line of that number does so.
-fn key_on(line: &[u8], number: u32, name: &str) -> Option<KeyLine> {
+/// How many line feeds stand in front.
+fn feeds(text: &[u8]) -> usize {
+    text.iter().take_while(|byte| **byte == b'\n').count()
+}
+
+/// Where that key is given its value, if the first line, which has that number, does so.
+fn key_on(line: &[u8], number: usize, name: &str) -> Option<KeyLine> {
     let key = blanks(line);
-    let word = behind(line, key);
-    if !word.starts_with(name.as_bytes()) {
+    if !behind(line, key).starts_with(name.as_bytes()) {
         return None;
     }
     let end = key.saturating_add(name.len());
@@ -54,16 +66,7 @@ fn key_on(line: &[u8], number: u32, name: &str) -> Option<KeyLine> {
 
 /// Whether a text in the plate could run over lines: three quotes of a kind stand in a row.
 fn has_long_texts(text: &[u8]) -> bool {
-    let (mut last, mut earlier) = (b' ', b' ');
-    for byte in text {
-        let is_third = *byte == last && last == earlier;
-        if is_third && (*byte == b'"' || *byte == b'\'') {
-            return true;
-        }
-        earlier = last;
-        last = *byte;
-    }
-    false
+    memmem::find(text, b"\"\"\"").is_some() || memmem::find(text, b"'''").is_some()
 }
 
 /// Searches the text for the one line that gives a value to that key: once through it, line by line. Nothing is found where
@@ -73,15 +76,21 @@ fn search_key(text: &[u8], name: &str) -> Option<KeyLine> {
         return None;
     }
     let mut found = None;
-    let mut number = 1_u32;
-    for line in text.split(|byte| *byte == b'\n') {
-        if let Some(here) = key_on(line, number, name) {
+    let (mut start, mut number) = (0_usize, 0_usize);
+    for _line in 0..text.len() {
+        let above = feeds(behind(text, start));
+        start = start.saturating_add(above);
+        number = number.saturating_add(above);
+        if let Some(here) = key_on(behind(text, start), number, name) {
             if found.is_some() {
                 return None;
             }
             found = Some(here);
         }
-        number = number.saturating_add(1);
+        match memchr(b'\n', behind(text, start)) {
+            Some(length) => start = start.saturating_add(length),
+            None => return found,
+        }
     }
     found
 }
@@ -89,7 +98,7 @@ fn search_key(text: &[u8], name: &str) -> Option<KeyLine> {
 /// Points to the value of a key, where one line gives it.
 fn point_to_value(finding: &mut Finding, text: &[u8], name: &str) {
     if let Some(found) = search_key(text, name) {
-        finding.line = found.number;
+        finding.line = found.line();
         finding.point(found.value, found.length);
     }
 }
@@ -97,7 +106,7 @@ fn point_to_value(finding: &mut Finding, text: &[u8], name: &str) {
 /// Points to a key itself.
 fn point_to_key(finding: &mut Finding, text: &[u8], name: &str) {
     if let Some(found) = search_key(text, name) {
-        finding.line = found.number;
+        finding.line = found.line();
         finding.point(found.key, name.len());
     }
 }

@@ -11,6 +11,9 @@ use wc_record::RefusedRow;
 /// How many bytes of a field are shown at most.
 const LONGEST_FIELD: usize = 16384;
 
+/// How many fields of a row are shown at most: a message shows fewer bytes of a line than so many commas.
+const MOST_FIELDS: usize = 128;
+
 /// A field of a row as it is shown: an empty one behind the last.
 fn shown_field(row: &RefusedRow, place: usize) -> &[u8]
     ensures field { result.now ≡ rows.shown_field (fields_told row.now) place }
@@ -46,12 +49,12 @@ fn add_field(text: &mut Vec<u8>, row: &RefusedRow, place: usize) -> Result<(), A
     text.extend_from_slice(shown_field(row, place))
 }
 
-/// The row as it is shown: its fields, with commas between.
+/// The row as it is shown: its fields, up to 128, with commas between.
 pub(crate) fn shown_row(alloc: Global, row: &RefusedRow) -> Result<Vec<u8>, AllocError>
     ensures { IfOk result (λ text. text.items ≡ rows.shown_row (fields_told row.now)) }
 {
     let mut text = Vec::new(alloc);
-    for place in 0..row.len() {
+    for place in 0..row.len().min(MOST_FIELDS) {
         add_field(&mut text, row, place)?;
     }
     Ok(text)

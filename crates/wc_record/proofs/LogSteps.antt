@@ -14,7 +14,7 @@ use Rattle.wc_record.specs.Cutting.{cut_from}
 use Rattle.wc_record.specs.Places.{log_start}
 use Rattle.wc_record.specs.Left.{Answer, HasLeft, IsLeft, Takes, end_behind, log_behind, moment_or_zero}
 use Rattle.wc_record.specs.Steps.{GivesRecord}
-use Rattle.wc_record.specs.Told.{IsAmong, Reads, ReadsTo, all_records, record_at, records_read}
+use Rattle.wc_record.specs.Told.{Reads, ReadsTo, all_records, record_at, records_read}
 use Rattle.wc_record.specs.Reading.{records_of}
 use Rattle.wc_record.specs.Source.{SourceHas}
 use Rattle.wc_record.specs.declared.log.LogEnd.{LogEnd}

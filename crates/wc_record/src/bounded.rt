@@ -9,7 +9,6 @@ ghost use Rattle.wc_record.specs.Reading.{lent, lent_bytes};
 
 use crate::given::Given;
 use crate::place::Place;
-use std::alloc::Global;
 use std::io;
 use std::io::Read;
 use wc_model::ByteIn;
@@ -56,7 +55,7 @@ pub(crate) struct Bounded<'r, R> {
 
 impl<'r, R: ByteIn> Bounded<'r, R> {
     /// The reader of a log, of which nothing is read yet.
-    pub(crate) fn new(alloc: Global, reader: &'r mut R, start: u64) -> Bounded<'r, R>
+    pub(crate) fn new(reader: &'r mut R, start: u64) -> Bounded<'r, R>
         ensures bytes { lent_bytes R.bytes_left result
             ≡ option_map (cut_from log_start) (R.bytes_left reader.old) }
         ensures lent { lent result ≡ reader.old }
@@ -66,7 +65,7 @@ impl<'r, R: ByteIn> Bounded<'r, R> {
             reader,
             start,
             place: Place::new(),
-            given: Given::new(alloc),
+            given: Given::new(),
         }
     }
 
@@ -97,13 +96,8 @@ impl<'r, R: ByteIn> Bounded<'r, R> {
 }
 
 impl<R> Bounded<'_, R> {
-    /// Whether memory was refused for what a row's line is told from.
-    pub(crate) fn is_refused(&self) -> bool {
-        self.given.is_refused()
-    }
-
-    /// Whether a line ends directly before that byte of the log, as far as that is known. A line feed in quotes that are open
-    /// at the log's end ends no record.
+    /// Whether the row that ends directly before that byte of the log ends with a line feed. One in quotes that are open at the
+    /// log's end ends no row.
     pub(crate) fn ends_line(&self, byte: u64) -> bool {
         self.given.ends_line(byte) && !(self.place.is_in_quotes() && self.given.is_end(byte))
     }

@@ -1,48 +1,67 @@
-use std::alloc::Global;
+use memchr::memchr_iter;
 
-/// Room for a piece: as many bytes as `csv` takes from its reader at once.
-const PIECE_ROOM: usize = 8192;
+/// As many words of 64 bits as the 8192 bytes have that `csv` takes from its reader at once.
+const PIECE_WORDS: usize = 128;
 
-/// What a log's reader gave: how many bytes, and the last of them.
+/// What a log's reader gave: how many bytes, and of the last piece its length, its last byte and a bit for each CR. It takes
+/// no memory that could be refused.
 #[derive(Drop)]
 pub(crate) struct Given {
     total: u64,
-    last: Vec<u8>,
-    refused: bool,
+    length: usize,
+    last: u8,
+    returns: [u64; PIECE_WORDS],
 }
 
 impl Given {
     /// Nothing yet.
-    pub(crate) fn new(alloc: Global) -> Given {
+    pub(crate) fn new() -> Given {
         Given {
             total: 0,
-            last: Vec::new(alloc),
-            refused: false,
+            length: 0,
+            last: 0,
+            returns: [0; PIECE_WORDS],
         }
     }
 
-    /// Keeps a piece in place of the one before. It takes memory once, with the first piece.
+    /// Marks the CR at that place of the piece.
+    fn mark(&mut self, place: usize) {
+        if let Some(word) = self.returns.get_mut(place / 64) {
+            *word |= 1 << (place % 64);
+        }
+    }
+
+    /// Notes a piece in place of the one before.
     pub(crate) fn note(&mut self, piece: &[u8]) {
-        if piece.is_empty() {
+        let Some(last) = piece.last() else {
             return;
-        }
+        };
         self.total = self.total.saturating_add(piece.len() as u64);
-        self.last.clear();
-        if self.last.reserve(PIECE_ROOM).is_err() || self.last.extend_from_slice(piece).is_err() {
-            self.refused = true;
+        self.length = piece.len();
+        self.last = *last;
+        self.returns = [0; PIECE_WORDS];
+        for place in memchr_iter(b'\r', piece) {
+            self.mark(place);
         }
     }
 
-    /// Whether a piece could not be kept since memory was refused, so that lines can't be told.
-    pub(crate) fn is_refused(&self) -> bool {
-        self.refused
+    /// Whether a CR stands at that place of the last piece.
+    fn is_return(&self, place: usize) -> bool {
+        match self.returns.get(place / 64) {
+            Some(word) => *word >> (place % 64) & 1 == 1,
+            None => false,
+        }
     }
 
-    /// Whether a line feed stands directly before that place, counted from 0, as far as that is known.
+    /// Whether the row that ends directly before that place, counted from 0, ends with a line feed. One that ends before the
+    /// last byte does so, unless it ends with a CR.
     pub(crate) fn ends_line(&self, place: u64) -> bool {
+        if self.is_end(place) {
+            return self.last == b'\n';
+        }
         let behind = self.total.saturating_sub(place) as usize;
-        match self.last.len().checked_sub(behind.saturating_add(1)) {
-            Some(before) => self.last.get(before) == Some(&b'\n'),
+        match self.length.checked_sub(behind.saturating_add(1)) {
+            Some(before) => !self.is_return(before),
             None => false,
         }
     }

@@ -84,7 +84,7 @@ impl<'r, R: ByteIn> Rows<'r, R> {
     {
         let start = reader.spent();
         Rows {
-            source: Source::new(alloc, Bounded::new(alloc, reader, start)),
+            source: Source::new(alloc, Bounded::new(reader, start)),
             row: ByteRecord::new(alloc),
             room: Vec::new(alloc),
             start,

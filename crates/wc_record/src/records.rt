@@ -47,11 +47,7 @@ impl<'r, R: ByteIn> Records<'r, R> {
             (fields_of row.new)) }
     {
         match self.csv.read_byte_record(row) {
-            Ok(found) => {
-                if !self.csv.get_ref().is_refused() {
-                    return Ok(found);
-                }
-            }
+            Ok(found) => return Ok(found),
             Err(_) => {}
         }
         Err(Unread)

@@ -1,4 +1,4 @@
-use Rattle.std.proofs.Common.{◌≡◌, ◌∙◌, IfSome, ap, subst}
+use Rattle.std.proofs.Common.{◌∙◌, IfSome, ap, subst}
 use Rattle.wc_findings.proofs.Meaning.{meant_kept, stopped_kept}
 use Rattle.wc_findings.specs.Meant.{IsKept}
 use Rattle.wc_findings.specs.Showing.{known_line}
