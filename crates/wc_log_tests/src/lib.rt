@@ -3,6 +3,8 @@
 #![tactic(auto)]
 
 #[cfg(test)]
+mod decoded;
+#[cfg(test)]
 mod lines;
 #[cfg(test)]
 mod logs;

@@ -1,0 +1,12 @@
+mod AnswerFields
+mod ByteLists
+mod CutLines
+mod Digits
+mod Framed
+mod Pieces
+mod RowTexts
+mod Several
+mod Standings
+mod Takings
+mod ToldRows
+mod WrittenDigits

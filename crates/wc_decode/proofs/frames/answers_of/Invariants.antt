@@ -1,0 +1,11 @@
+use Rattle.std.proofs.Common.{◌≡◌, ◌++◌, length}
+use Rattle.wc_decode.specs.AnswerBytes.{bytes_of_answers}
+use Rattle.wc_decode.proofs.Several.{LeavesRest}
+use Rattle.wc_decode.proofs.frames.answers_of.Given as goal
+
+-- the answers so far are those in front of the rest, and there are no others
+abbrev pub invariant-loop-rest : goal.invariant-loop-rest
+invariant-loop-rest l = LeavesRest l.fn.bytes l.answers.items l.rest
+
+abbrev pub decreases-loop-rest : goal.decreases-loop-rest
+decreases-loop-rest l = length l.rest

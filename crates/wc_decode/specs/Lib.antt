@@ -1,0 +1,10 @@
+pub mod AnswerBytes
+pub mod AnswerTexts
+pub mod Decoding
+pub mod Entries
+pub mod Fields
+pub mod Forms
+pub mod Found
+pub mod Lines
+pub mod Running
+pub mod Standing

@@ -1,0 +1,52 @@
+ghost use Rattle.std.specs.Prelude.{◌≡◌, ◌↔◌, ℕ, IfOk, IsOkUnless, IsTrue, option_map, slice_index};
+ghost use Rattle.wc_decode.specs.Entries.{entry_told, refusal_told};
+ghost use Rattle.wc_decode.specs.Lines.{InRange, IsToldBy, TellsRefusal, told_text};
+
+use crate::entry::{Entry, RefusalRow};
+use crate::fields::{cut_field, short_number, small_number};
+use crate::same::is_same;
+use std::alloc::Global;
+use wc_model::Fault;
+use wc_report::refused_line;
+
+/// The refusal of a line, if it is one.
+fn refusal_in(line: &[u8]) -> RefusalRow
+    ensures range { InRange (refusal_told result) }
+    ensures refusal { (number place : ℕ) → InRange (TellsRefusal number place)
+        → line.now ≡ told_text (TellsRefusal number place)
+        → refusal_told result ≡ TellsRefusal number place }
+{
+    let (_mark, rest) = cut_field(line);
+    let (number, rest) = cut_field(rest);
+    let (place, _end) = cut_field(rest);
+    RefusalRow {
+        number: short_number(number),
+        place: small_number(place),
+    }
+}
+
+/// Whether this is the line of the refusal.
+fn is_line_of(alloc: Global, row: &RefusalRow, line: &[u8]) -> Result<bool, Fault>
+    ensures same { IfOk result
+        (λ same. IsTrue same ↔ (told_text (refusal_told row.now) ≡ line.now)) }
+    ensures memory { IsOkUnless result Fault.Memory }
+{
+    match refused_line(alloc, row.number, row.place) {
+        Ok(text) => Ok(is_same(&text, line)),
+        Err(fault) => Err(fault),
+    }
+}
+
+/// The refusal that a line with an r in front tells.
+pub(crate) fn refusal_entry(alloc: Global, line: &[u8]) -> Result<Option<Entry>, Fault>
+    requires { slice_index line.now 0 ≡ 114 }
+    ensures told { IfOk result (λ found. IsToldBy (option_map entry_told found) line.now) }
+    ensures memory { IsOkUnless result Fault.Memory }
+{
+    let row = refusal_in(line);
+    match is_line_of(alloc, &row, line) {
+        Ok(true) => Ok(Some(Entry::Refusal(row))),
+        Ok(false) => Ok(None),
+        Err(fault) => Err(fault),
+    }
+}
