@@ -5,7 +5,7 @@ use Rattle.clap.specs.Lexer.{long_of, short_of}
 use Rattle.std.specs.Str.{bytes_eq}
 use Rattle.clap.proofs.OnLiterals.{clap_on_literals}
 use Rattle.wc_messages.specs.declared.form.Form.TheVariants.{Long}
-use Rattle.wc.specs.Asked.{Ask, IsPlain, asked, check, explain, job, line, run, trace}
+use Rattle.wc.specs.Asked.{Ask, IsPlain, asked, check, decode, explain, job, line, run, trace}
 
 -- the word is no option, no bundle of flags and not `--`
 abbrev pub IsValue : Text → Type 0
@@ -49,6 +49,14 @@ trace_form name = (refl, refl, refl)
 pub line_form : (name p l : Text) → IsValue p → IsValue l → Ask (name ∷ codes "line" ∷ codes "--plate" ∷ p ∷ codes "--log" ∷ l ∷ []) (line p l) Long
 unfolding clap_on_literals
 line_form name p l u w = (rw (u.0, u.1, u.2, w.0, w.1, w.2) refl, rw (u.0, u.1, u.2, w.0, w.1, w.2) refl, rw (u.0, u.1, u.2, w.0, w.1, w.2) refl)
+
+pub decode_form : (name : Text) → Ask (name ∷ codes "decode" ∷ []) (decode false) Long
+unfolding clap_on_literals
+decode_form name = (refl, refl, refl)
+
+pub table_form : (name : Text) → Ask (name ∷ codes "decode" ∷ codes "--csv" ∷ []) (decode true) Long
+unfolding clap_on_literals
+table_form name = (refl, refl, refl)
 
 pub explain_form : (name : Text) → Ask (name ∷ codes "explain" ∷ codes "403" ∷ []) (explain 403) Long
 unfolding clap_on_literals

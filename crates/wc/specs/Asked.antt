@@ -62,6 +62,8 @@ pub data Asked : Type 0 where
   -- the files of a run whose scans are shown, in the same order, and which: the moment, the number of the
   -- scan, the first moment and the last
   trace : Text → Text → Option Text → Text → Option ℕ → Option ℕ → Option ℕ → Option ℕ → Asked
+  -- a report from standard input, and whether a table is wanted
+  decode : Bool → Asked
   explain : ℕ → Asked
   -- the files of a plate and a log
   line : Text → Text → Asked
@@ -81,10 +83,11 @@ asked_at word given =
     (first_of (codes "next") given) (file_in (codes "log") given)
     (wide_number_in (codes "at") given) (wide_number_in (codes "scan") given)
     (wide_number_in (codes "from") given) (wide_number_in (codes "to") given)
+    else (if bytes_eq word (codes "decode") then decode (flag_in (codes "csv") given)
     else (if bytes_eq word (codes "explain")
     then explain (unwrap_or (number_in (codes "number") given) 0)
     else (if bytes_eq word (codes "line")
-    then line (file_in (codes "plate") given) (file_in (codes "log") given) else job))))
+    then line (file_in (codes "plate") given) (file_in (codes "log") given) else job)))))
 
 -- what is asked for by the word that was met: a job where none was
 abbrev pub asked_by : Option (Text × List Row) → Asked
@@ -104,6 +107,7 @@ view (wanted.Run plate files last) =
 view (wanted.Trace plate files chosen) =
     trace plate.now files.program.now (option_map (λ next. next.now) files.next) files.log.now
     chosen.at chosen.scan chosen.from chosen.to
+view (wanted.Decode table) = decode table
 view (wanted.Explain number) = explain number
 view (wanted.Line plate log) = line plate.now log.now
 

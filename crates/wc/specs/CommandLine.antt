@@ -73,6 +73,10 @@ abbrev pub line_word : App
 line_word = with_rule (with_rule (with_rule (new_app (codes "line")) (file_option (codes "plate")))
     (file_option (codes "log"))) message_option
 
+-- `decode [--csv]`
+abbrev pub decode_word : App
+decode_word = with_rule (new_app (codes "decode")) (flag (codes "csv"))
+
 -- `explain NUMBER`
 abbrev pub explain_word : App
 explain_word = with_rule (new_app (codes "explain")) (number_place (codes "number"))
@@ -85,8 +89,8 @@ program_name =
 -- `wc [--message FORM]` alone, or with one of the words behind it
 abbrev pub command_line : App
 command_line = with_subcommand (with_subcommand (with_subcommand (with_subcommand (with_subcommand
-    (with_rule program_name message_option) check_word.top) run_word.top) trace_word.top)
-    line_word.top) explain_word.top
+    (with_subcommand (with_rule program_name message_option) check_word.top) run_word.top)
+    trace_word.top) line_word.top) decode_word.top) explain_word.top
 
 -- the command takes what the table says
 abbrev pub Takes : App → Command → Type 0

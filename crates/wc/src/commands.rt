@@ -1,5 +1,5 @@
 ghost use Rattle.std.specs.Prelude.{◌≡◌, ◌≤◌, IfSome, Some, None, option_map};
-ghost use Rattle.wc.specs.Asked.{asked, check, form_asked, job, line, run, texts_of, trace};
+ghost use Rattle.wc.specs.Asked.{asked, check, decode, form_asked, job, line, run, texts_of, trace};
 
 use crate::opening::Opening;
 use crate::output::{Emptying, Gathered, Sharing, shared_output};
@@ -8,7 +8,8 @@ use crate::words::ProgramFiles;
 use std::cell::RefCell;
 use std::io;
 use std::io::{IsTerminal, Stdin};
-use wc_controller::{Ending, RefusedRow, Unwatched, answer_job, check_file, line_files, run_files};
+use wc_controller::{Ending, Input, RefusedRow, Unwatched, answer_job, check_file, line_files, run_files};
+use wc_decode::{DecodeFault, DecodeForm, decode as decode_report};
 use wc_devices::{Keeping, Noting};
 use wc_messages::Form;
 use wc_model::Device;
@@ -341,6 +342,48 @@ pub(crate) fn trace_words(
             log: files.log,
         },
         &row,
+    )
+}
+
+/// How a command ends that decodes a report.
+fn ending_of(answer: Result<(), DecodeFault>) -> Ending {
+    match answer {
+        Ok(()) => Ending::Done,
+        Err(fault) => match fault {
+            DecodeFault::Read => Ending::ReadFault { input: Input::Job },
+            DecodeFault::Write => Ending::WriteFault,
+            DecodeFault::Memory => Ending::NoMemory,
+        },
+    }
+}
+
+/// Writes a report from standard input for people, or as a table: the exit status.
+pub(crate) fn decode_words(rt: &HostRuntime, _words: &[String], form: Form, table: bool) -> u8
+    requires asked { asked (texts_of _words.now) ≡ decode table }
+    requires form { form_asked (texts_of _words.now) ≡ Some form }
+{
+    let gathered = match shared_output(rt) {
+        Ok(gathered) => gathered,
+        Err(_) => return without_memory(rt),
+    };
+    let input: Noting<Stdin> = Noting::new(rt.stdin());
+    let mut reader = Device::new(Emptying::new(&gathered, input));
+    let mut writer = Device::new(Sharing::new(&gathered));
+    let decoding = if table {
+        DecodeForm::Table
+    } else {
+        DecodeForm::Text
+    };
+    let answer = decode_report(rt.alloc(), &mut reader, &mut writer, decoding);
+    let reading = reader.get_ref().get_ref().cause();
+    finish(
+        rt,
+        form,
+        ending_of(answer),
+        reading,
+        &gathered,
+        &Sources::Job { bytes: None },
+        &RefusedRow::new(rt.alloc()),
     )
 }
 

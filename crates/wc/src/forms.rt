@@ -1,7 +1,7 @@
 ghost use Rattle.std.specs.Prelude.{◌≡◌, List, [], ◌∷◌, Some, None, true, false, codes};
 ghost use Rattle.clap.specs.Words.{Text};
 ghost use Rattle.wc_messages.specs.declared.form.Form.TheVariants.{Long};
-ghost use Rattle.wc.specs.Asked.{Ask, IsPlain, check, explain, job, line, asked, run, trace};
+ghost use Rattle.wc.specs.Asked.{Ask, IsPlain, check, decode, explain, job, line, asked, run, trace};
 
 /// What the plain forms of the words ask for, where each file is a word that does not begin with a hyphen.
 pub(crate) fn plain_forms()
@@ -29,6 +29,9 @@ pub(crate) fn plain_forms()
     ensures line { (name plate log : Text) → IsPlain plate → IsPlain log
         → Ask (name ∷ codes "line" ∷ codes "--plate" ∷ plate ∷ codes "--log" ∷ log ∷ [])
         (line plate log) Long }
+    ensures decode { (name : Text) → Ask (name ∷ codes "decode" ∷ []) (decode false) Long }
+    ensures table { (name : Text)
+        → Ask (name ∷ codes "decode" ∷ codes "--csv" ∷ []) (decode true) Long }
     ensures explain { (name : Text)
         → Ask (name ∷ codes "explain" ∷ codes "403" ∷ []) (explain 403) Long }
 {}

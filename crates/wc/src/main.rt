@@ -15,7 +15,7 @@ mod words;
 
 use clap::Error;
 use clap::error::ErrorKind;
-use commands::{check_words, line_words, preview_words, run_job, run_words, trace_words};
+use commands::{check_words, decode_words, line_words, preview_words, run_job, run_words, trace_words};
 use explaining::explain;
 use std::fs::File;
 use std::io::Write;
@@ -133,6 +133,7 @@ fn execute(rt: &HostRuntime, words: &[String], request: Request<'_>) -> u8
             files,
             chosen,
         } => trace_words(rt, words, form, chosen, plate, files),
+        Wanted::Decode { table } => decode_words(rt, words, form, table),
         Wanted::Explain { number } => show_page(rt, words, number),
         Wanted::Line { plate, log } => line_words(rt, words, form, plate, log),
     }

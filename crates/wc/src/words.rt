@@ -5,6 +5,7 @@ ghost use Rattle.clap.specs.Words.{first_of};
 ghost use Rattle.wc.specs.Asked.{asked, asked_at, asked_by, fault_in, file_in, flag_in};
 ghost use Rattle.wc.specs.Asked.{form_asked, form_in, form_named, number_in, texts_of, view, wide_number_in};
 ghost use Rattle.wc.specs.CommandLine.{Takes, command_line, check_word, run_word, trace_word, line_word};
+ghost use Rattle.wc.specs.CommandLine.{decode_word};
 ghost use Rattle.wc.specs.CommandLine.{explain_word, file_option, flag, message_option};
 ghost use Rattle.wc.specs.CommandLine.{number_option, place, value_option, wide_number_option};
 
@@ -30,6 +31,7 @@ const ABOUT: &str =
   ./wc run --plate plate.toml --program old.il --next new.il --log log.csv
   ./wc trace --plate plate.toml --program program.il --log log.csv --at 650
   ./wc line --plate plate.toml --log log.csv
+  ./wc run --plate plate.toml --program program.il --log log.csv | ./wc decode
   ./wc explain 403
   ./wc < job.txt
 
@@ -73,6 +75,10 @@ pub(crate) enum Wanted<'a> {
         plate: &'a str,
         files: ProgramFiles<'a>,
         chosen: Chosen,
+    },
+    /// A report from standard input for people, or as a table.
+    Decode {
+        table: bool,
     },
     /// The page of a refusal by its number.
     Explain {
@@ -275,6 +281,20 @@ fn line_command<'a>(alloc: Global) -> Result<Command<'a>, AllocError>
     Ok(command)
 }
 
+/// The word `decode`.
+fn decode_command<'a>(alloc: Global) -> Result<Command<'a>, AllocError>
+    ensures { IfOk result (Takes decode_word) }
+{
+    let csv = Arg::new(alloc, "csv")
+        .long("csv")
+        .action(ArgAction::SetTrue)
+        .help("Write a table for a spreadsheet (CSV)");
+    let command = Command::new(alloc, "decode")
+        .about("Write a report, as a run prints it, from standard input for people")
+        .arg(csv)?;
+    Ok(command)
+}
+
 /// The word `explain`.
 fn explain_command<'a>(alloc: Global) -> Result<Command<'a>, AllocError>
     ensures { IfOk result (Takes explain_word) }
@@ -302,6 +322,7 @@ fn command<'a>(alloc: Global) -> Result<Command<'a>, AllocError>
         .subcommand(run_command(alloc)?)?
         .subcommand(trace_command(alloc)?)?
         .subcommand(line_command(alloc)?)?
+        .subcommand(decode_command(alloc)?)?
         .subcommand(explain_command(alloc)?)?;
     Ok(command)
 }
@@ -394,6 +415,9 @@ fn wanted_by<'a>(word: &str, matches: &ArgMatches<'a>) -> Wanted<'a>
             plate: file(matches, "plate"),
             files: program_files(matches),
             chosen: chosen_scans(matches),
+        },
+        "decode" => Wanted::Decode {
+            table: is_given(matches, "csv"),
         },
         "explain" => Wanted::Explain {
             number: number(matches, "number").unwrap_or(0),

@@ -1,4 +1,4 @@
-use Rattle.wc.proofs.Plain.{check_form, explain_form, job_form, last_form, line_form, next_form, paths_form, plain, preview_form, run_form, trace_form}
+use Rattle.wc.proofs.Plain.{check_form, decode_form, explain_form, job_form, last_form, line_form, next_form, paths_form, plain, preview_form, run_form, table_form, trace_form}
 use Rattle.wc.proofs.forms.plain_forms.Goals as goal
 
 pub returns : goal.returns
@@ -12,5 +12,7 @@ returns c = record {
   next = next_form;
   trace = trace_form;
   line = λ name p l h j. line_form name p l (plain p h) (plain l j);
+  decode = decode_form;
+  table = table_form;
   explain = explain_form;
 }
