@@ -8,7 +8,9 @@ use crate::words::ProgramFiles;
 use std::cell::RefCell;
 use std::io;
 use std::io::{IsTerminal, Stdin};
-use wc_controller::{Ending, Input, RefusedRow, Unwatched, answer_job, check_file, line_files, run_files};
+use wc_controller::{
+    Ending, Input, RefusedRow, Unwatched, answer_job, check_file, line_files, run_files,
+};
 use wc_decode::{DecodeFault, DecodeForm, decode as decode_report};
 use wc_devices::{Keeping, Noting};
 use wc_messages::Form;

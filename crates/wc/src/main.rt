@@ -15,7 +15,9 @@ mod words;
 
 use clap::Error;
 use clap::error::ErrorKind;
-use commands::{check_words, decode_words, line_words, preview_words, run_job, run_words, trace_words};
+use commands::{
+    check_words, decode_words, line_words, preview_words, run_job, run_words, trace_words,
+};
 use explaining::explain;
 use std::fs::File;
 use std::io::Write;

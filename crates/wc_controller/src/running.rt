@@ -69,9 +69,7 @@ fn run_alone<V: Scanner, T: ByteIn, L: ByteIn, W: ByteOut>(
     match load(alloc, &text) {
         Ok(loaded) => {
             scanner.know(&text, &loaded);
-            run_loaded(
-                alloc, last, scanner, plate, loaded, None, log, writer, told,
-            )
+            run_loaded(alloc, last, scanner, plate, loaded, None, log, writer, told)
         }
         Err(fault) => Err(Stopped {
             input: Input::Program,

@@ -54,7 +54,10 @@ impl Legend {
     /// The bytes of a line of the text, counted from 1, without its end.
     pub(crate) fn line(&self, number: u32) -> &[u8] {
         let number = number as usize;
-        match (self.starts.get(number.saturating_sub(1)), self.starts.get(number)) {
+        match (
+            self.starts.get(number.saturating_sub(1)),
+            self.starts.get(number),
+        ) {
             (Some(start), Some(next)) => match self.text.get(*start..next.saturating_sub(1)) {
                 Some(line) => line,
                 None => b"",

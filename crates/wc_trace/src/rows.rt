@@ -8,6 +8,7 @@ use wc_model::{Code, Fault, Kind};
 
 /// The column at which the result of a row begins, and that of what it writes, each counted from its first.
 const RESULT: usize = 44;
+
 const WRITTEN: usize = 58;
 
 /// How many bytes of a line are shown at most.
@@ -40,7 +41,11 @@ fn is_blank(byte: u8) -> bool {
 /// A line without the blanks at its ends.
 fn trimmed(line: &[u8]) -> &[u8] {
     let before = line.iter().take_while(|byte| is_blank(**byte)).count();
-    let behind = line.iter().rev().take_while(|byte| is_blank(**byte)).count();
+    let behind = line
+        .iter()
+        .rev()
+        .take_while(|byte| is_blank(**byte))
+        .count();
     let end = line.len().saturating_sub(behind);
     match line.get(before..end) {
         Some(rest) => rest,
