@@ -3,12 +3,21 @@ use Rattle.std.proofs.Common.{◌≡◌, ◌∙◌, true, List, [], ◌∷◌, O
 use Rattle.std.specs.Option.{option_map_or, option_or}
 use Rattle.clap.specs.Words.{App, HasKind, Kinds, Row, Text, fault_of, first_of, is_simple, is_simple_and_free, matches_of, subcommand_of}
 use Rattle.clap.specs.Kinds.{or_else}
+use Rattle.clap.specs.Matches.{subcommand_name_of}
+use Rattle.clap.specs.Simple.{subcommand_rows, subcommand_rows_of}
+use Rattle.clap.specs.Values.{kind_of}
 use Rattle.clap.specs.declared.error.Error.{Error}
+use Rattle.clap.specs.declared.parser.matches.ArgMatches.{ArgMatches}
+use Rattle.clap.specs.declared.parser.matches.ArgMatches.TheViews.{out-ArgMatches, out-SubCommand}
+use Rattle.clap.specs.declared.parser.matches.SubCommand.{SubCommand}
+use Rattle.std.specs.Prelude.{Box}
+use Rattle.std.specs.Box.{box_value}
+use Rattle.clap.specs.declared.error.kind.ErrorKind.TheVariants as kind
 use Rattle.clap.proofs.OnLiterals.{clap_on_literals}
 use Rattle.wc_messages.specs.declared.form.Form.{Form}
 use Rattle.wc_messages.specs.declared.form.Form.TheVariants.{Long}
 use Rattle.wc.specs.CommandLine.{command_line}
-use Rattle.wc.specs.Asked.{fault_in, form_asked, form_in, form_named}
+use Rattle.wc.specs.Asked.{Asked, asked, asked_at, asked_by, fault_in, form_asked, form_in, form_named}
 
 -- a form behind the word that was met, else before it
 pub behind_word : (met : Option (Text × List Row)) (rows before : List Row) (v : Option Text) → Some rows ≡ option_map (λ p. p.1) met → v ≡ first_of (codes "message") rows
@@ -16,6 +25,17 @@ pub behind_word : (met : Option (Text × List Row)) (rows before : List Row) (v 
 behind_word None rows before v met given = cc
 behind_word (Some p) rows before v met given =
     ap (λ (o : Option Text). option_or o (first_of (codes "message") before)) (given ∙ ap (first_of (codes "message")) (ap (λ (o : Option (List Row)). unwrap_or o rows) met))
+
+-- what the word that was met asks for
+asked_behind : {Z : Type 0} (sub : Option (Box SubCommand Z)) (word : Text) (rows : List Row) → Some word ≡ option_map (λ b. (out-SubCommand (box_value b)).name.now) sub
+    → Some rows ≡ option_map (λ p. p.1) (subcommand_rows sub) → asked_at word rows ≡ asked_by (subcommand_rows sub)
+asked_behind None word rows name given = cc
+asked_behind (Some b) word rows name given =
+    ap₂ (λ (w : Text) (r : List Row). asked_at w r) (ap (λ (o : Option Text). unwrap_or o word) name) (ap (λ (o : Option (List Row)). unwrap_or o rows) given)
+
+pub asked_of_word : (m : ArgMatches) (word : Text) (rows : List Row) → Some word ≡ subcommand_name_of m → Some rows ≡ option_map (λ p. p.1) (subcommand_rows_of m)
+    → asked_at word rows ≡ asked_by (subcommand_rows_of m)
+asked_of_word m word rows name given = asked_behind (out-ArgMatches m).subcommand word rows name given
 
 -- where no word was met
 pub no_word : (met : Option (Text × List Row)) (before : List Row) → None ≡ option_map (λ p. p.1) met → first_of (codes "message") before ≡ form_in met before
@@ -50,6 +70,25 @@ pub form_is : (a : App) (words : List Text) (met : Option (Text × List Row)) (r
 form_is a words met rows text form line matches given read =
     let both = subst (λ (b : App). (rows ≡ matches_of b words) × (met ≡ subcommand_of b words)) line (matches (ap is_simple line ∙ is_plainly_simple)) in
     sym (read ∙ ap (λ (o : Option Text). option_map_or form_named o (Some Long)) (given ∙ ap₂ form_in both.1 both.0))
+
+-- what was read of the words is what they ask for
+pub asked_is : (a : App) (words : List Text) (met : Option (Text × List Row)) (rows : List Row) (this : Asked) → a ≡ command_line
+    → (is_simple a ≡ true → (rows ≡ matches_of a words) × (met ≡ subcommand_of a words)) → this ≡ asked_by met → this ≡ asked words
+asked_is a words met rows this line matches given =
+    let both = subst (λ (b : App). (rows ≡ matches_of b words) × (met ≡ subcommand_of b words)) line (matches (ap is_simple line ∙ is_plainly_simple)) in
+    given ∙ ap (λ (m : Option (Text × List Row)). asked_by m) both.1
+
+-- what was read is no form
+pub no_form_is : (a : App) (words : List Text) (met : Option (Text × List Row)) (rows : List Row) (text : Option Text) → a ≡ command_line
+    → (is_simple a ≡ true → (rows ≡ matches_of a words) × (met ≡ subcommand_of a words)) → text ≡ form_in met rows
+    → None ≡ option_map_or form_named text (Some Long) → form_asked words ≡ None
+no_form_is a words met rows text line matches given read =
+    let both = subst (λ (b : App). (rows ≡ matches_of b words) × (met ≡ subcommand_of b words)) line (matches (ap is_simple line ∙ is_plainly_simple)) in
+    sym (read ∙ ap (λ (o : Option Text). option_map_or form_named o (Some Long)) (given ∙ ap₂ form_in both.1 both.0))
+
+-- words that are parsed, with no form that there is, are refused
+pub refused_form : (words : List Text) (e : Error) → fault_of command_line words ≡ [] → form_asked words ≡ None → kind_of e ≡ kind.InvalidValue → HasKind (fault_in words) e
+refused_form words e none asked is = rw (none, asked) (inr (inl is))
 
 -- words that are parsed, with a form that there is, are not refused
 pub not_refused : (words : List Text) (form : Form) → fault_of command_line words ≡ [] → form_asked words ≡ Some form → fault_in words ≡ []

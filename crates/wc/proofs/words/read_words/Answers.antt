@@ -1,6 +1,17 @@
 use Rattle.wc.specs.Asked.{texts_of}
-use Rattle.wc.proofs.FormWords.{form_is, not_refused, parsed, refused_by}
+use Rattle.wc.proofs.FormWords.{asked_is, form_is, no_form_is, not_refused, parsed, refused_by, refused_form}
 use Rattle.wc.proofs.words.read_words.Goals as goal
+
+pub returns-in-Some-clause-asked : goal.returns-in-Some-clause-asked
+returns-in-Some-clause-asked c = asked_is _ (texts_of c.args.words.now) _ _ _ c.in_ok-command.ensures c.in-Ok.ensures.ok.2 c.chosen.ensures.asked
+
+pub returns-in-Some-clause-form : goal.returns-in-Some-clause-form
+returns-in-Some-clause-form c =
+    form_is _ (texts_of c.args.words.now) _ _ _ c.in-Some.form c.in_ok-command.ensures c.in-Ok.ensures.ok.2 c.chosen.ensures.form c.in-Some.ensures
+
+pub returns-clause-refused : goal.returns-clause-refused
+returns-clause-refused c = refused_form (texts_of c.args.words.now) c.in_ok-error-in-None.field-0 (parsed _ (texts_of c.args.words.now) c.in_ok-command.ensures c.in-Ok.ensures.kinds)
+    (no_form_is _ (texts_of c.args.words.now) _ _ _ c.in_ok-command.ensures c.in-Ok.ensures.ok.2 c.chosen.ensures.form c.in-None.ensures) c.in_ok-error-in-None.ensures.kind
 
 pub returns-in-Err-clause-refused : goal.returns-in-Err-clause-refused
 returns-in-Err-clause-refused c = refused_by _ (texts_of c.args.words.now) c.in-Err.error c.in_ok-command.ensures c.in-Err.ensures.kinds
