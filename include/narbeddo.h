@@ -127,7 +127,7 @@ typedef struct narbeddo_unit {
     narbeddo_refusal text; /* NARBEDDO_NO_UNIT where the text has no unit of this number */
     uint32_t units;        /* how many units the text has */
     uint32_t bound;        /* how many steps the unit takes at most */
-    uint32_t length;       /* how many bytes its name has */
+    uint32_t length;       /* how many bytes of its name are told: all, or the first 32 */
     uint8_t name[32];
 } narbeddo_unit;
 

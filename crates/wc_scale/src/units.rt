@@ -1,6 +1,6 @@
 ghost use Rattle.std.specs.Prelude.{◌≡◌, ◌<◌, ◌≤◌, ◌⊎◌, length, min, replicate, take};
 ghost use Rattle.wc_model.specs.Language.Views.{text_view};
-ghost use Rattle.wc_scale.specs.About.{IsPathTold, IsUnitTold, RefusesText, TellsPath, TellsUnit};
+ghost use Rattle.wc_scale.specs.About.{HasNoUnit, IsPathStatus, IsPathTold, IsTooLong, IsUnitStatus, IsUnitTold, RefusesText, TellsNoRoom, TellsNoUnit, TellsPath, TellsUnit};
 
 use crate::results::{PathTold, Refusal, UnitTold, of_fault, only};
 use crate::statuses::{DONE, NO_MEMORY, NO_ROOM, NO_UNIT};
@@ -34,6 +34,7 @@ fn name_room(name: &[u8]) -> [u8; 32]
 /// What is told of a unit of a loaded text.
 fn unit_told(loaded: &Loaded<'_>, unit: u32) -> UnitTold
     ensures told { result.text.status ≡ 0 → IsUnitTold (text_view loaded.now.source) unit result }
+    ensures no_unit { result.text.status ≡ 10 → HasNoUnit (text_view loaded.now.source) unit }
     ensures status { (result.text.status ≡ 0) ⊎ (result.text.status ≡ 10) }
 {
     let units = loaded.units();
@@ -56,6 +57,8 @@ fn unit_told(loaded: &Loaded<'_>, unit: u32) -> UnitTold
 /// text is let go again.
 pub fn about(alloc: Global, text: &[u8], unit: u32) -> UnitTold
     ensures told { TellsUnit text.now unit result }
+    ensures no_unit { TellsNoUnit text.now unit result.text }
+    ensures status { IsUnitStatus result.text.status }
     ensures refused { RefusesText text.now result.text }
 {
     match load(alloc, text) {
@@ -77,7 +80,11 @@ fn path_told(alloc: Global, loaded: &Loaded<'_>, unit: u32, room: &mut [u32]) ->
     ensures told { result.text.status ≡ 0
         → IsPathTold (text_view loaded.now.source) unit room.new result }
     ensures kept { ¬ (result.text.status ≡ 0) → room.new ≡ room.old }
+    ensures no_unit { result.text.status ≡ 10 → HasNoUnit (text_view loaded.now.source) unit }
+    ensures no_room { result.text.status ≡ 11
+        → IsTooLong (text_view loaded.now.source) unit room.old result }
     ensures status { ¬ (result.text.status ≡ 1) }
+    ensures statuses { IsPathStatus result.text.status }
 {
     let at = unit as usize;
     if at >= loaded.units() {
@@ -100,6 +107,9 @@ fn path_told(alloc: Global, loaded: &Loaded<'_>, unit: u32, room: &mut [u32]) ->
 pub fn path(alloc: Global, text: &[u8], unit: u32, room: &mut [u32]) -> PathTold
     ensures told { TellsPath text.now unit room.new result }
     ensures kept { ¬ (result.text.status ≡ 0) → room.new ≡ room.old }
+    ensures no_unit { TellsNoUnit text.now unit result.text }
+    ensures no_room { TellsNoRoom text.now unit room.old result }
+    ensures status { IsPathStatus result.text.status }
     ensures refused { RefusesText text.now result.text }
 {
     match load(alloc, text) {
