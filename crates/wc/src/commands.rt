@@ -410,6 +410,7 @@ pub(crate) fn line_words(
     let mut row = RefusedRow::new(rt.alloc());
     let ending = line_files(
         rt.alloc(),
+        &mut Unwatched,
         &mut plate_reader,
         &mut log_reader,
         &mut writer,

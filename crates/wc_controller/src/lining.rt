@@ -14,11 +14,12 @@ use crate::reading::read_plate;
 use std::alloc::Global;
 use wc_model::{ByteIn, ByteOut};
 use wc_record::RefusedRow;
-use wc_run::{RunFault, Unwatched, run_telling};
+use wc_run::{RunFault, Scanner, run_telling};
 
 /// Reads a plate, and runs a log with no program.
-fn line_inputs<P: ByteIn, L: ByteIn, W: ByteOut>(
+fn line_inputs<V: Scanner, P: ByteIn, L: ByteIn, W: ByteOut>(
     alloc: Global,
+    scanner: &mut V,
     plate: &mut P,
     log: &mut L,
     writer: &mut W,
@@ -57,7 +58,7 @@ fn line_inputs<P: ByteIn, L: ByteIn, W: ByteOut>(
     match run_telling(
         alloc,
         None,
-        &mut Unwatched,
+        scanner,
         &plate,
         None,
         None,
@@ -74,10 +75,11 @@ fn line_inputs<P: ByteIn, L: ByteIn, W: ByteOut>(
 }
 
 /// Runs a log with no program, so that the answers of the line alone are written: the plate is read
-/// and judged first, and the log is not read where it is refused. All else is as `run_files` has
-/// it.
-pub fn line_files<P: ByteIn, L: ByteIn, W: ByteOut>(
+/// and judged first, and the log is not read where it is refused. Who would do scans is shown the
+/// rows. All else is as `run_files` has it.
+pub fn line_files<V: Scanner, P: ByteIn, L: ByteIn, W: ByteOut>(
     alloc: Global,
+    scanner: &mut V,
     plate: &mut P,
     log: &mut L,
     writer: &mut W,
@@ -111,6 +113,6 @@ pub fn line_files<P: ByteIn, L: ByteIn, W: ByteOut>(
     ensures taken { TakesAtMost (longest_job + 1) (P.bytes_left plate.old)
         (P.bytes_left plate.new) }
 {
-    let answer = line_inputs(alloc, plate, log, writer, told);
+    let answer = line_inputs(alloc, scanner, plate, log, writer, told);
     end(alloc, answer, writer)
 }

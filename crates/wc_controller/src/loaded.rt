@@ -15,7 +15,7 @@ ghost use Rattle.wc_record.specs.Told.{fields_told};
 ghost use Rattle.wc_record.specs.Reading.{records_of};
 ghost use Rattle.wc_run.specs.Logics.{text_of_next};
 
-use crate::input::{Input, Stopped};
+use crate::input::{Input, Stopped, unbegun};
 use crate::loading::load;
 use crate::reading::run_fault_of;
 use std::alloc::Global;
@@ -171,7 +171,9 @@ pub(crate) fn run_with_next<'a, V: Scanner, L: ByteIn, W: ByteOut>(
 {
     match load(alloc, text) {
         Ok(next) => {
-            scanner.know(text, &next);
+            if !scanner.know(text, &next) {
+                return Err(unbegun(Input::Next));
+            }
             run_loaded(
                 alloc,
                 last,

@@ -11,7 +11,7 @@ ghost use Rattle.wc_record.specs.Told.{fields_told};
 ghost use Rattle.wc_record.specs.Reading.{records_of};
 
 use crate::ending::{Ending, end};
-use crate::input::{Input, Stopped};
+use crate::input::{Input, Stopped, unbegun};
 use crate::loaded::{run_loaded, run_with_next};
 use crate::loading::load;
 use crate::reading::{read_input, read_plate, run_fault_of};
@@ -68,7 +68,9 @@ fn run_alone<V: Scanner, T: ByteIn, L: ByteIn, W: ByteOut>(
     };
     match load(alloc, &text) {
         Ok(loaded) => {
-            scanner.know(&text, &loaded);
+            if !scanner.know(&text, &loaded) {
+                return Err(unbegun(Input::Program));
+            }
             run_loaded(alloc, last, scanner, plate, loaded, None, log, writer, told)
         }
         Err(fault) => Err(Stopped {
@@ -142,7 +144,9 @@ fn run_both<V: Scanner, T: ByteIn, N: ByteIn, L: ByteIn, W: ByteOut>(
             });
         }
     };
-    scanner.know(&text, &loaded);
+    if !scanner.know(&text, &loaded) {
+        return Err(unbegun(Input::Program));
+    }
     match read_input(alloc, Input::Next, next) {
         Ok(other) => run_with_next(
             alloc, last, scanner, plate, loaded, &other, log, writer, told,

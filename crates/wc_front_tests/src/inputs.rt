@@ -104,6 +104,7 @@ fn is_line(alloc: Global) -> bool {
     let mut writer = Device::new(&mut out);
     let ending = line_files(
         alloc,
+        &mut Unwatched,
         &mut Device::new(PLATE),
         &mut Device::new(LOG),
         &mut writer,

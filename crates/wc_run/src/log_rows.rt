@@ -53,7 +53,10 @@ fn run_row<V: Scanner, W: ByteOut>(
         → W.failure_count writer.new ≡ W.failure_count writer.old }
 {
     match scale.take(alloc, scanner, room, row, bytes) {
-        Ok(output) => put(output, &mut room.text, recorder, writer),
+        Ok(output) => {
+            scale.show(scanner, room, row, bytes);
+            put(output, &mut room.text, recorder, writer)
+        }
         Err(fault) => Err(fault),
     }
 }

@@ -111,6 +111,15 @@ impl<'a> Scale<'a> {
         }
     }
 
+    /// Shows who does the scans a row that was done, with the answers to it that stand in the room.
+    #[inline(always)]
+    pub(crate) fn show<V: Scanner>(&self, scanner: &mut V, room: &Room, row: Row, bytes: &[u8]) {
+        match row.kind {
+            RowKind::Bytes => scanner.see(row, bytes, &self.indicator, &room.answers.bytes),
+            _ => scanner.see(row, bytes, &self.indicator, b""),
+        }
+    }
+
     /// Takes a sample. Nothing is printed of it.
     #[inline(always)]
     fn take_sample(&mut self, counts: i32)

@@ -4,12 +4,13 @@ ghost use Rattle.wc_run.specs.Taking.{RecordsScan, TakesScan};
 use crate::scans::scan_record;
 use wc_cost::Loaded;
 use wc_machine::Machine;
+use wc_indicator::Indicator;
 use wc_model::Image;
-use wc_record::Record;
+use wc_record::{Record, Row};
 use wc_store::SlotStore;
 
-/// Who does the scans of a run. `Unwatched` does them alone; another may show what is seen of them. Whoever does them, a scan
-/// is the one that the text means.
+/// Who does the scans of a run. `Unwatched` does them alone; another may show what is seen of them, and of the rows. Whoever
+/// does them, a scan is the one that the text means.
 pub trait Scanner {
     /// Does one scan of an image at a moment, and gives its record.
     fn scan(&mut self, ms: u64, image: &Image, machine: &mut Machine<'_, SlotStore>) -> Record
@@ -20,11 +21,15 @@ pub trait Scanner {
         ensures records { RecordsScan machine.old ms image.now result }
         ensures last { machine.new.last ≡ ms };
 
-    /// Is shown a program that is loaded, before the first row: the first program, then the next, if there is one.
-    fn know(&mut self, text: &[u8], loaded: &Loaded<'_>);
+    /// Is shown a program that is loaded, before the first row: the first program, then the next, if there is one. Where the
+    /// answer is `false` the run does not begin: it ends as for want of memory, and no row is read.
+    fn know(&mut self, text: &[u8], loaded: &Loaded<'_>) -> bool;
 
     /// Is told of a change to the next program.
     fn change(&mut self);
+
+    /// Is shown a row that was done, with its line bytes, the indicator behind it and what the line answered to it.
+    fn see(&mut self, row: Row, bytes: &[u8], indicator: &Indicator, answers: &[u8]);
 }
 
 /// Does the scans of a run, and shows nothing of them.
@@ -37,8 +42,13 @@ impl Scanner for Unwatched {
         scan_record(ms, image, machine)
     }
 
-    fn know(&mut self, _text: &[u8], _loaded: &Loaded<'_>) {}
+    fn know(&mut self, _text: &[u8], _loaded: &Loaded<'_>) -> bool {
+        true
+    }
 
     #[inline(always)]
     fn change(&mut self) {}
+
+    #[inline(always)]
+    fn see(&mut self, _row: Row, _bytes: &[u8], _indicator: &Indicator, _answers: &[u8]) {}
 }

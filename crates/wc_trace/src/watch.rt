@@ -4,9 +4,10 @@ use crate::rows::put_scan;
 use std::alloc::Global;
 use wc_controller::{Scanner, Unwatched};
 use wc_cost::Loaded;
+use wc_indicator::Indicator;
 use wc_machine::{Machine, SeenLine};
 use wc_model::{ByteOut, Fault, Image, write_whole};
-use wc_record::Record;
+use wc_record::{Record, Row};
 use wc_store::SlotStore;
 
 /// Why scans are no longer shown.
@@ -100,22 +101,22 @@ impl<W: ByteOut> Scanner for Watch<'_, W> {
         }
     }
 
-    fn know(&mut self, text: &[u8], loaded: &Loaded<'_>) {
+    fn know(&mut self, text: &[u8], loaded: &Loaded<'_>) -> bool {
         let legend = match Legend::new(self.alloc, text, loaded) {
             Ok(legend) => legend,
-            Err(_) => {
-                self.fault = Some(WatchFault::Memory);
-                return;
-            }
+            Err(_) => return false,
         };
         if self.legend.is_none() {
             self.legend = Some(legend);
         } else {
             self.next = Some(legend);
         }
+        true
     }
 
     fn change(&mut self) {
         self.legend = self.next.take();
     }
+
+    fn see(&mut self, _row: Row, _bytes: &[u8], _indicator: &Indicator, _answers: &[u8]) {}
 }
