@@ -10,8 +10,8 @@ use Rattle.wc_model.specs.Run.Log.{log_of}
 use Rattle.wc_model.specs.Say.Job.{AnswersProgram, loads_program}
 use Rattle.wc_record.specs.Reading.{records_of}
 
-pub returns-in-Ok-clause-writes : goal.returns-in-Ok-clause-writes
-returns-in-Ok-clause-writes g c =
+pub returns-else-not-know-clause-writes : goal.returns-else-not-know-clause-writes
+returns-else-not-know-clause-writes g c =
     let taken = g.W.ByteOut.bytes_taken in
     let text = text_view c.args.loaded.source in
     on_known (g.L.ByteIn.bytes_left c.args.log.now) _ _
