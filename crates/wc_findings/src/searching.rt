@@ -179,6 +179,8 @@ fn find_name(
     }
     finding.help = Some("name a variable, or a field behind its instance, as `t.ET`, with commas between");
     finding.point(start, length);
+    finding.line = 1;
+    finding.shown.clear();
     finding.shown.extend_from_slice(list)?;
     keep_spot(&mut finding);
     Ok(finding)

@@ -1,4 +1,4 @@
-ghost use Rattle.std.specs.Prelude.{◌≡◌, ◌≤◌, ◌+◌, ◌×◌, length, IfErr, IfOk, IfSome, is_some};
+ghost use Rattle.std.specs.Prelude.{◌≡◌, ◌≤◌, ◌+◌, length, IfErr, IfOk, IfSome, is_some};
 ghost use Rattle.wc_controller.specs.Blames.{Blames, RefusesLog, RefusesProgram};
 ghost use Rattle.wc_controller.specs.Endings.{EndsAs, IsAt, RefusesPlate, TellsReadEndings};
 ghost use Rattle.wc_controller.specs.Files.{AnswersRun};
@@ -15,7 +15,7 @@ use crate::watcher::{WatchFault, Watcher};
 use crate::weaving::Weaving;
 use std::alloc::Global;
 use std::cell::RefCell;
-use wc_controller::{Ending, RefusedRow, run_files};
+use wc_controller::{Ending, Input, RefusedRow, run_files};
 use wc_model::{ByteIn, ByteOut, write_whole};
 use wc_report::refused_line;
 

@@ -1,4 +1,4 @@
-ghost use Rattle.std.specs.Prelude.{◌≡◌, ◌≤◌, take, length, [], ◌↔◌};
+ghost use Rattle.std.specs.Prelude.{◌≡◌, ℕ, take, []};
 
 use crate::lines::Lines;
 use std::cell::RefCell;
