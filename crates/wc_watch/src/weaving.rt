@@ -1,4 +1,7 @@
-ghost use Rattle.std.specs.Prelude.{◌≡◌, ℕ, take, []};
+ghost use Rattle.std.specs.Prelude.{◌≡◌, ◌≤◌, ◌<◌, length};
+ghost use Rattle.std.specs.Io.{WritesAtMost};
+ghost use Rattle.std.specs.Io.KnownBytes.{WriteAppends};
+ghost use Rattle.wc_model.specs.Run.Devices.{failures_after_write};
 
 use crate::lines::Lines;
 use std::cell::RefCell;
@@ -27,14 +30,28 @@ enum LinePlace {
     Other,
 }
 
-/// The front of a piece up to the end of its first line.
-fn first_line(piece: &[u8]) -> &[u8]
-    ensures { (n : ℕ) × (result.now ≡ take n piece.now) × (result.now ≡ [] → piece.now ≡ []) }
+/// How many bytes a piece has up to the end of its first line.
+fn line_end(piece: &[u8]) -> usize
+    ensures within { result ≤ length piece.now }
+    ensures some { 0 < length piece.now → 0 < result }
 {
     match piece.iter().position(|byte| *byte == b'\n') {
-        Some(end) => &piece[..end + 1],
-        None => piece,
+        Some(end) => end + 1,
+        None => piece.len(),
     }
+}
+
+/// Writes the front of a piece that ends there.
+fn write_front<W: ByteOut>(writer: &mut W, piece: &[u8], end: usize) -> io::Result<usize>
+    requires within { end ≤ length piece.now }
+    requires some { 0 < length piece.now → 0 < end }
+    ensures bound { WritesAtMost result piece.now }
+    ensures bytes { WriteAppends (W.bytes_taken writer.old)
+        (W.bytes_taken writer.new) result piece.now }
+    ensures failures { W.failure_count writer.new
+        ≡ failures_after_write (W.failure_count writer.old) result piece.now }
+{
+    writer.write(&piece[..end])
 }
 
 /// Where bytes of one line end that begin there.
@@ -104,10 +121,9 @@ impl<W: ByteOut, B: ByteOut> ByteOut for Weaving<'_, W, B> {
     ghost failure_count = { λ weaving. W.failure_count weaving.writer.now };
 
     fn write(&mut self, piece: &[u8]) -> io::Result<usize> {
-        let line = first_line(piece);
-        let result = self.writer.write(line);
+        let result = write_front(self.writer, piece, line_end(piece));
         if let Ok(count) = &result {
-            self.follow(&line[..*count]);
+            self.follow(&piece[..*count]);
         }
         result
     }
