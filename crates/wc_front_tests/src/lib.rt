@@ -10,3 +10,5 @@ mod jobs;
 mod runs;
 #[cfg(test)]
 mod traces;
+#[cfg(test)]
+mod watches;
