@@ -1,0 +1,153 @@
+ghost use Rattle.std.specs.Prelude.{◌≡◌, ◌+◌, is_some};
+ghost use Rattle.wc_controller.specs.Blames.{Blames, RefusesLog, RefusesProgram};
+ghost use Rattle.wc_controller.specs.Endings.{IsAt, RefusesPlate};
+ghost use Rattle.wc_controller.specs.TakenLogs.{count_of, known_of};
+ghost use Rattle.wc_job.specs.Reads.{TakesAtMost};
+ghost use Rattle.wc_model.specs.Run.JobSections.{longest_job};
+ghost use Rattle.wc_picture.specs.Drawn.{IsDrawnAs};
+ghost use Rattle.wc_picture.specs.Logs.{log_with};
+ghost use Rattle.wc_record.specs.Left.{HasCause};
+ghost use Rattle.wc_record.specs.Told.{fields_told};
+
+use crate::picture::Picture;
+use crate::unwritten::Unwritten;
+use std::alloc::Global;
+use wc_controller::{Ending, Input, RefusedRow, line_files, run_files};
+use wc_model::{ByteIn, ByteOut, write_whole};
+use wc_report::refused_line;
+
+/// Writes the line of a refusal, and ends with it.
+fn end_refused<W: ByteOut>(alloc: Global, ending: Ending, writer: &mut W) -> Ending
+    ensures { IsDrawnAs ending result }
+{
+    let Ending::Refused { number, place, .. } = ending else {
+        return ending;
+    };
+    let line = match refused_line(alloc, number, place) {
+        Ok(line) => line,
+        Err(_) => return Ending::NoMemory,
+    };
+    match write_whole(writer, &line) {
+        Ok(()) => ending,
+        Err(_) => Ending::WriteFault,
+    }
+}
+
+/// Whether there is a picture: all rows were done, or those before a row that is refused.
+fn is_drawn(ending: Ending) -> bool {
+    match ending {
+        Ending::Done => true,
+        Ending::Refused { input, .. } => input == Input::Log,
+        _ => false,
+    }
+}
+
+/// Writes the picture of a run that ended so, and behind it the line of a refusal.
+fn end_drawn<W: ByteOut>(
+    alloc: Global,
+    picture: &Picture,
+    ending: Ending,
+    writer: &mut W,
+) -> Ending
+    ensures { IsDrawnAs ending result }
+{
+    if !is_drawn(ending) {
+        return end_refused(alloc, ending, writer);
+    }
+    let text = match picture.draw(alloc) {
+        Ok(text) => text,
+        Err(_) => return Ending::NoMemory,
+    };
+    match write_whole(writer, &text) {
+        Ok(()) => end_refused(alloc, ending, writer),
+        Err(_) => Ending::WriteFault,
+    }
+}
+
+/// Runs a log with a program, or with none, and shows a picture nothing but its rows.
+fn run_shown<P: ByteIn, T: ByteIn, L: ByteIn>(
+    alloc: Global,
+    picture: &mut Picture,
+    plate: &mut P,
+    program: &mut Option<T>,
+    log: &mut L,
+    told: &mut RefusedRow,
+) -> Ending
+    ensures blames_plate { Blames Input.Plate RefusesPlate (P.bytes_left plate.old) result }
+    ensures blames_program { Blames Input.Program RefusesProgram
+        (known_of T.bytes_left program.old) result }
+    ensures blames_log { Blames Input.Log
+        (RefusesLog (log_with (is_some program.old)) (fields_told told.new))
+        (L.bytes_left log.old) result }
+    ensures own { ¬ IsAt Input.Job result }
+    ensures unread_behind_program { IsAt Input.Program result
+        → L.spent_count log.new ≡ L.spent_count log.old }
+    ensures unread_behind_plate { IsAt Input.Plate result
+        → (count_of T.spent_count program.new ≡ count_of T.spent_count program.old)
+        × (L.spent_count log.new ≡ L.spent_count log.old) }
+    ensures log { result ≡ Ending.ReadFault Input.Log
+        → HasCause (L.failure_count log.old) (L.failure_count log.new)
+        (L.spent_count log.old) (L.spent_count log.new) }
+    ensures taken_plate { TakesAtMost (longest_job + 1) (P.bytes_left plate.old)
+        (P.bytes_left plate.new) }
+    ensures taken_program { TakesAtMost (longest_job + 1) (known_of T.bytes_left program.old)
+        (known_of T.bytes_left program.new) }
+{
+    match program {
+        Some(reader) => {
+            let mut next: Option<T> = None;
+            run_files(
+                alloc,
+                None,
+                picture,
+                plate,
+                reader,
+                &mut next,
+                log,
+                &mut Unwritten,
+                told,
+            )
+        }
+        None => line_files(alloc, picture, plate, log, &mut Unwritten, told),
+    }
+}
+
+/// Runs a log with a program as `run_files` does, or with none as `line_files`, and in place of its report writes a picture of
+/// it: an SVG whose size does not grow with the log. What is refused is told as there: of a row behind the picture of the rows
+/// before it, else alone. A write fault and want of memory of the picture are told when the log is run; what is kept of it has
+/// its room made at the first row.
+pub fn show_files<P: ByteIn, T: ByteIn, L: ByteIn, W: ByteOut>(
+    alloc: Global,
+    plate: &mut P,
+    program: &mut Option<T>,
+    log: &mut L,
+    writer: &mut W,
+    told: &mut RefusedRow,
+) -> Ending
+    // The input that a refusal names is the one that breaks the rule.
+    ensures blames_plate { Blames Input.Plate RefusesPlate (P.bytes_left plate.old) result }
+    ensures blames_program { Blames Input.Program RefusesProgram
+        (known_of T.bytes_left program.old) result }
+    ensures blames_log { Blames Input.Log
+        (RefusesLog (log_with (is_some program.old)) (fields_told told.new))
+        (L.bytes_left log.old) result }
+    // It has no job: what it names is one of its inputs.
+    ensures own { ¬ IsAt Input.Job result }
+    ensures unread_behind_program { IsAt Input.Program result
+        → L.spent_count log.new ≡ L.spent_count log.old }
+    ensures unread_behind_plate { IsAt Input.Plate result
+        → (count_of T.spent_count program.new ≡ count_of T.spent_count program.old)
+        × (L.spent_count log.new ≡ L.spent_count log.old) }
+    ensures log { result ≡ Ending.ReadFault Input.Log
+        → HasCause (L.failure_count log.old) (L.failure_count log.new)
+        (L.spent_count log.old) (L.spent_count log.new) }
+    // It reads no further than the byte that makes a plate or a program too long.
+    ensures taken_plate { TakesAtMost (longest_job + 1) (P.bytes_left plate.old)
+        (P.bytes_left plate.new) }
+    ensures taken_program { TakesAtMost (longest_job + 1) (known_of T.bytes_left program.old)
+        (known_of T.bytes_left program.new) }
+{
+    let mut picture = Picture::new(alloc);
+    let ending = run_shown(alloc, &mut picture, plate, program, log, told);
+    end_drawn(alloc, &picture, ending, writer)
+}
