@@ -58,7 +58,7 @@ fn end_drawn<W: ByteOut>(
         Ok(text) => text,
         Err(_) => return Ending::NoMemory,
     };
-    match write_whole(writer, &text) {
+    match write_whole(writer, text.as_bytes()) {
         Ok(()) => end_refused(alloc, ending, writer),
         Err(_) => Ending::WriteFault,
     }
