@@ -20,7 +20,7 @@ pub enum Level {
 
 impl Bits {
     /// Of one value.
-    pub fn at(value: u16) -> Bits {
+    pub(crate) fn at(value: u16) -> Bits {
         Bits {
             high: value,
             low: value ^ u16::MAX,
@@ -29,7 +29,7 @@ impl Bits {
     }
 
     /// Of these values and then others.
-    pub fn joined(self, later: Bits) -> Bits {
+    pub(crate) fn joined(self, later: Bits) -> Bits {
         Bits {
             high: self.high | later.high,
             low: self.low | later.low,
@@ -48,7 +48,7 @@ impl Bits {
 }
 
 /// Whether the bit of that number is 1.
-pub fn is_set(value: u16, number: u32) -> bool {
+fn is_set(value: u16, number: u32) -> bool {
     match value.checked_shr(number) {
         Some(rest) => rest % 2 == 1,
         None => false,

@@ -10,7 +10,7 @@ pub struct Column {
 
 impl Column {
     /// In which this held, and nothing happened.
-    pub fn holding(state: State) -> Column {
+    pub(crate) fn holding(state: State) -> Column {
         Column {
             state,
             events: Events::none(),

@@ -1,3 +1,5 @@
+ghost use Rattle.std.specs.Prelude.{◌≡◌, max};
+
 /// A request of the line that was answered.
 #[derive(Clone, Copy)]
 pub struct Request {
@@ -46,7 +48,9 @@ impl Events {
     }
 
     /// These and later ones.
-    pub fn joined(&self, later: &Events) -> Events {
+    pub fn joined(&self, later: &Events) -> Events
+        ensures steps { result.steps ≡ max self.now.steps later.now.steps }
+    {
         let last = if later.last.is_some() {
             later.last
         } else {
@@ -67,13 +71,15 @@ impl Events {
     }
 
     /// One more scan of so many steps.
-    pub fn scan(&mut self, steps: u32) {
+    pub fn scan(&mut self, steps: u32)
+        ensures steps { self.new.steps ≡ max self.old.steps steps }
+    {
         self.scans = self.scans.saturating_add(1);
         self.steps = self.steps.max(steps);
     }
 
     /// One more request; the answer's status tells whether its command was refused.
-    pub fn request(&mut self, request: Request) {
+    pub(crate) fn request(&mut self, request: Request) {
         self.requests = self.requests.saturating_add(1);
         let status = match request.answer {
             Some(answer) => answer[1],

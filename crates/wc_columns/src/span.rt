@@ -1,3 +1,6 @@
+ghost use Rattle.std.specs.Prelude.{◌≡◌, ◌<ℤ◌, None, Some, true, false};
+ghost use Rattle.std.specs.Int.{int_max, int_min};
+
 /// The least, the greatest and the last of some numbers.
 #[derive(Clone, Copy, PartialEq, Eq)]
 pub struct Span {
@@ -8,7 +11,11 @@ pub struct Span {
 
 impl Span {
     /// Of one number.
-    pub fn at(number: i32) -> Span {
+    pub(crate) fn at(number: i32) -> Span
+        ensures least { result.least ≡ number }
+        ensures greatest { result.greatest ≡ number }
+        ensures last { result.last ≡ number }
+    {
         Span {
             least: number,
             greatest: number,
@@ -17,7 +24,11 @@ impl Span {
     }
 
     /// Of these numbers and then others.
-    pub fn joined(self, later: Span) -> Span {
+    pub(crate) fn joined(self, later: Span) -> Span
+        ensures least { result.least ≡ int_min self.least later.least }
+        ensures greatest { result.greatest ≡ int_max self.greatest later.greatest }
+        ensures last { result.last ≡ later.last }
+    {
         Span {
             least: self.least.min(later.least),
             greatest: self.greatest.max(later.greatest),
@@ -26,13 +37,19 @@ impl Span {
     }
 
     /// Whether the numbers differ.
-    pub fn varies(self) -> bool {
+    pub fn varies(self) -> bool
+        ensures varies { result ≡ true → self.least <ℤ self.greatest }
+        ensures stays { result ≡ false → ¬ (self.least <ℤ self.greatest) }
+    {
         self.least < self.greatest
     }
 }
 
 /// Of some numbers and then others, where there may be none of either.
-pub fn join(earlier: Option<Span>, later: Option<Span>) -> Option<Span> {
+pub fn join(earlier: Option<Span>, later: Option<Span>) -> Option<Span>
+    ensures first { earlier ≡ None → result ≡ later }
+    ensures second { later ≡ None → result ≡ earlier }
+{
     match (earlier, later) {
         (Some(earlier), Some(later)) => Some(earlier.joined(later)),
         (Some(span), None) => Some(span),

@@ -72,7 +72,7 @@ impl State {
     }
 
     /// What held over these moments and later ones.
-    pub fn joined(&self, later: &State) -> State {
+    pub(crate) fn joined(&self, later: &State) -> State {
         State {
             gross: join(self.gross, later.gross),
             net: join(self.net, later.net),

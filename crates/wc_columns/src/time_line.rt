@@ -1,3 +1,5 @@
+ghost use Rattle.std.specs.Prelude.{◌≤◌, ◌<◌, length, vec_len};
+
 use crate::columns::Column;
 use crate::state::State;
 use std::alloc::{AllocError, Global};
@@ -16,6 +18,7 @@ pub struct TimeLine {
     power: u32,
     /// What holds since the last row.
     held: Option<State>,
+    ghost few: { vec_len columns ≤ 720 },
 }
 
 impl TimeLine {
@@ -31,7 +34,9 @@ impl TimeLine {
     }
 
     /// The columns, first to last.
-    pub fn columns(&self) -> &[Column] {
+    pub fn columns(&self) -> &[Column]
+        ensures few { length result.now ≤ 720 }
+    {
         &self.columns
     }
 
@@ -57,7 +62,9 @@ impl TimeLine {
     }
 
     /// The number of the column of a moment.
-    fn index(&self, ms: u64) -> usize {
+    fn index(&self, ms: u64) -> usize
+        ensures { result < 720 }
+    {
         self.columns_before(ms).min(COLUMNS as u64 - 1) as usize
     }
 
@@ -73,13 +80,19 @@ impl TimeLine {
         }
     }
 
+    /// Puts a column in place of the one of that number.
+    fn put(&mut self, index: usize, column: Column) {
+        if index < self.columns.len() {
+            self.columns[index] = column;
+        }
+    }
+
     /// Makes one column of two, for all of them.
     fn halve(&mut self) {
         let half = self.columns.len().div_ceil(2);
         for index in 0..half {
-            let pair = self.pair(index.saturating_mul(2));
-            if let (Some(pair), Some(column)) = (pair, self.columns.get_mut(index)) {
-                *column = pair;
+            if let Some(pair) = self.pair(index.saturating_mul(2)) {
+                self.put(index, pair);
             }
         }
         self.columns.truncate(half);
@@ -99,7 +112,9 @@ impl TimeLine {
     /// Goes on to the column of that number, in which, as before it, still holds what held.
     fn go_on(&mut self, index: usize, held: State) -> Result<(), AllocError> {
         for _column in self.columns.len()..index.saturating_add(1) {
-            self.columns.push(Column::holding(held))?;
+            if self.columns.len() < COLUMNS {
+                self.columns.push(Column::holding(held))?;
+            }
         }
         Ok(())
     }
@@ -116,8 +131,8 @@ impl TimeLine {
             None => row.state,
         };
         self.go_on(index, held)?;
-        if let Some(column) = self.columns.get_mut(index) {
-            *column = column.joined(&row);
+        if let Some(column) = self.columns.get(index).copied() {
+            self.put(index, column.joined(&row));
         }
         self.held = Some(row.state);
         Ok(())

@@ -42,11 +42,14 @@ impl Curve {
 
 /// Puts a stroke up or down over all that a column has met, to where it ends.
 fn put_span(out: &mut String, range: &Range, span: Span) -> Result<(), AllocError> {
+    let least = Tenths(range.y(span.least));
+    let greatest = Tenths(range.y(span.greatest));
     let last = Tenths(range.y(span.last));
-    if span.varies() {
-        let least = Tenths(range.y(span.least));
-        let greatest = Tenths(range.y(span.greatest));
-        write!(out, "V{least}V{greatest}")?;
+    if span.least < span.last {
+        write!(out, "V{least}")?;
+    }
+    if span.last < span.greatest {
+        write!(out, "V{greatest}")?;
     }
     write!(out, "V{last}")
 }

@@ -22,12 +22,13 @@ fn put_head(out: &mut String, bottom: u64) -> Result<(), AllocError> {
     write!(out, "<path class=\"paper\" d=\"M0 0H1000V{height}H0Z\"/>\n")
 }
 
-/// Puts the heading: how many rows, and what is in them.
+/// Puts the heading: how many rows, what is in them, and which row was refused for which rule.
 fn put_heading(
     out: &mut String,
     view: &View<'_>,
     rows: u32,
     all: &Column,
+    refusal: Option<(u16, u32)>,
 ) -> Result<(), AllocError> {
     let (scans, requests) = (all.events.scans, all.events.requests);
     let (start, width) = (Moment(view.start), Moment(view.width));
@@ -37,8 +38,21 @@ fn put_heading(
     )?;
     write!(
         out,
-        "<text class=\"small\" x=\"130\" y=\"42\">a column is {width}; point at one to read it</text>\n"
-    )
+        "<text class=\"small\" x=\"130\" y=\"42\">a column is {width}; point at one to read it"
+    )?;
+    if let Some((number, row)) = refusal {
+        write!(out, "; row {row} is refused ({number})")?;
+    }
+    out.push_str("</text>\n")
+}
+
+/// Puts which curve is which, at the right of the heading.
+fn put_legend(out: &mut String, all: &Column) -> Result<(), AllocError> {
+    out.push_str("<path class=\"curve\" d=\"M858 22H886\"/>\n<text x=\"892\" y=\"26\">gross</text>\n")?;
+    if all.state.net.is_some() {
+        out.push_str("<path class=\"curve net\" d=\"M858 38H886\"/>\n<text x=\"892\" y=\"42\">net</text>\n")?;
+    }
+    Ok(())
 }
 
 /// Puts a curve over weights, of that look.
@@ -81,11 +95,13 @@ fn put_rows(
     view: &View<'_>,
     rows: u32,
     all: &Column,
+    refusal: Option<(u16, u32)>,
 ) -> Result<(), AllocError> {
     let lanes = lanes_of(alloc, all)?;
     let bottom = bottom_of(&lanes);
     put_head(out, bottom)?;
-    put_heading(out, view, rows, all)?;
+    put_heading(out, view, rows, all, refusal)?;
+    put_legend(out, all)?;
     put_bands(out, view, all)?;
     put_axes(out, view, bottom)?;
     put_weights(out, view, "gross", Curve::Gross)?;
@@ -96,10 +112,15 @@ fn put_rows(
 }
 
 /// The text of a picture. It is bounded, since there are never more than so many columns and lanes.
-pub(crate) fn draw(alloc: Global, view: &View<'_>, rows: u32) -> Result<String, AllocError> {
+pub(crate) fn draw(
+    alloc: Global,
+    view: &View<'_>,
+    rows: u32,
+    refusal: Option<(u16, u32)>,
+) -> Result<String, AllocError> {
     let mut out = String::new(alloc);
     match whole(view) {
-        Some(all) => put_rows(alloc, &mut out, view, rows, &all)?,
+        Some(all) => put_rows(alloc, &mut out, view, rows, &all, refusal)?,
         None => {
             let bottom = bottom_of(&[]);
             put_head(&mut out, bottom)?;

@@ -72,8 +72,12 @@ impl Picture {
         }
     }
 
-    /// The text of the picture.
-    pub(crate) fn draw(&self, alloc: Global) -> Result<String, AllocError> {
+    /// The text of the picture, with the number and the row of a refusal.
+    pub(crate) fn draw(
+        &self,
+        alloc: Global,
+        refusal: Option<(u16, u32)>,
+    ) -> Result<String, AllocError> {
         if self.has_no_room {
             return Err(AllocError);
         }
@@ -82,7 +86,7 @@ impl Picture {
             None => (&[] as &[Column], 0, 1),
         };
         let view = View::new(columns, start, width, Scale::of(self.plate), self.bound);
-        draw(alloc, &view, self.rows)
+        draw(alloc, &view, self.rows, refusal)
     }
 }
 

@@ -21,7 +21,8 @@ fn put_request(
         return Ok(());
     };
     let (x, base) = (Tenths(x), Tenths(top.saturating_add(height)));
-    let middle = Tenths(top.saturating_add(height / 2));
+    let middle = top.saturating_add(height / 2);
+    let (middle, foot) = (Tenths(middle.saturating_add(20)), Tenths(middle));
     out.push_str("<g class=\"request\"><title>")?;
     if events.requests > 1 {
         let requests = events.requests;
@@ -31,7 +32,7 @@ fn put_request(
     write!(out, "{decoded}</title><path d=\"M{x} {base}V{middle}\"/>")?;
     if has_room {
         let letter = char::from(request.letter);
-        write!(out, "<text x=\"{x}\" y=\"{middle}\">{letter}</text>")?;
+        write!(out, "<text x=\"{x}\" y=\"{foot}\">{letter}</text>")?;
     }
     out.push_str("</g>\n")
 }

@@ -1,11 +1,10 @@
 /// The looks of a picture: it takes the reader's light or dark paper, and tells nothing by colour alone.
 pub(crate) const STYLE: &str = "<style>
-svg{color:#1a1a1a;--paper:#fff;font:11px sans-serif}
-@media (prefers-color-scheme:dark){svg{color:#e6e6e6;--paper:#16181b}}
-.paper{fill:#fff;fill:var(--paper)}
+svg{color:#1a1a1a;font:11px sans-serif}
 text{fill:currentColor}
 path{fill:none;stroke:currentColor;pointer-events:none}
-.paper{stroke:none}
+.paper{fill:#fff;stroke:none}
+@media (prefers-color-scheme:dark){svg{color:#e6e6e6}.paper{fill:#16181b}}
 rect{fill:none;pointer-events:all}
 .heading{font-size:14px}
 .small{opacity:.7}
