@@ -7,6 +7,8 @@ mod inputs;
 #[cfg(test)]
 mod jobs;
 #[cfg(test)]
+mod pictures;
+#[cfg(test)]
 mod runs;
 #[cfg(test)]
 mod traces;

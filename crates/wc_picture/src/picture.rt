@@ -1,36 +1,102 @@
+use crate::drawing::draw;
+use crate::view::{Scale, View};
 use std::alloc::{AllocError, Global};
+use wc_columns::{Column, Events, State, TimeLine, Tracker};
 use wc_controller::{Scanner, Unwatched};
 use wc_cost::Loaded;
 use wc_indicator::Indicator;
 use wc_machine::Machine;
-use wc_model::Image;
-use wc_record::{Record, Row};
+use wc_model::{Image, Outputs};
+use wc_plate::Plate;
+use wc_record::{Record, Row, RowKind};
 use wc_store::SlotStore;
 
-/// What is kept of a run for its picture.
+/// What is kept of a run for its picture. Its room is made at the first row.
 #[derive(Drop)]
 pub(crate) struct Picture {
     alloc: Global,
+    line: Option<TimeLine>,
+    plate: Option<Plate>,
+    inputs: u16,
+    outputs: Outputs,
+    /// The steps of the scan of this row.
+    steps: u32,
+    /// The greatest bound of its programs, in steps.
+    bound: u32,
+    tracker: Tracker,
+    rows: u32,
+    has_no_room: bool,
 }
 
 impl Picture {
     /// Before the first row.
     pub(crate) fn new(alloc: Global) -> Picture {
-        Picture { alloc }
+        Picture {
+            alloc,
+            line: None,
+            plate: None,
+            inputs: 0,
+            outputs: Outputs {
+                bits: 0,
+                words: [0; 4],
+            },
+            steps: 0,
+            bound: 0,
+            tracker: Tracker::new(),
+            rows: 0,
+            has_no_room: false,
+        }
     }
 
-    /// The text of the picture.
-    pub(crate) fn draw(&self, alloc: Global) -> Result<Vec<u8>, AllocError> {
-        Vec::from_slice(
-            alloc,
-            b"<svg xmlns=\"http://www.w3.org/2000/svg\" viewBox=\"0 0 1000 100\"/>\n",
-        )
+    /// What happened at a row.
+    fn events(&mut self, row: Row, bytes: &[u8], answers: &[u8]) -> Events {
+        let mut events = Events::none();
+        match row.kind {
+            RowKind::Bytes => return self.tracker.follow(row.ms, bytes, answers),
+            RowKind::Inputs(inputs) => self.inputs = inputs,
+            RowKind::Scan => events.scan(self.steps),
+            RowKind::Change => events.changes = 1,
+            RowKind::Counts(_) => {}
+        }
+        events
+    }
+
+    /// Keeps a row.
+    fn keep(&mut self, ms: u64, row: Column) -> Result<(), AllocError> {
+        if self.line.is_none() {
+            self.line = Some(TimeLine::new(self.alloc)?);
+        }
+        match &mut self.line {
+            Some(line) => line.take(ms, row),
+            None => Ok(()),
+        }
+    }
+
+    /// The text of the picture, with the number and the row of a refusal.
+    pub(crate) fn draw(
+        &self,
+        alloc: Global,
+        refusal: Option<(u16, u32)>,
+    ) -> Result<String, AllocError> {
+        if self.has_no_room {
+            return Err(AllocError);
+        }
+        let (columns, start, width) = match &self.line {
+            Some(line) => (line.columns(), line.start(), line.width()),
+            None => (&[] as &[Column], 0, 1),
+        };
+        let view = View::new(columns, start, width, Scale::of(self.plate), self.bound);
+        draw(alloc, &view, self.rows, refusal)
     }
 }
 
 impl Scanner for Picture {
     fn scan(&mut self, ms: u64, image: &Image, machine: &mut Machine<'_, SlotStore>) -> Record {
-        Unwatched.scan(ms, image, machine)
+        let record = Unwatched.scan(ms, image, machine);
+        self.outputs = record.outputs;
+        self.steps = record.steps;
+        self.bound = self.bound.max(machine.bound());
+        record
     }
 
     fn know(&mut self, _text: &[u8], _loaded: &Loaded<'_>) -> bool {
@@ -39,5 +105,15 @@ impl Scanner for Picture {
 
     fn change(&mut self) {}
 
-    fn see(&mut self, _row: Row, _bytes: &[u8], _indicator: &Indicator, _answers: &[u8]) {}
+    fn see(&mut self, row: Row, bytes: &[u8], indicator: &Indicator, answers: &[u8]) {
+        self.rows = self.rows.saturating_add(1);
+        if self.plate.is_none() {
+            self.plate = Some(*indicator.plate());
+        }
+        let events = self.events(row, bytes, answers);
+        let state = State::at(indicator, self.inputs, &self.outputs);
+        if self.keep(row.ms, Column { state, events }).is_err() {
+            self.has_no_room = true;
+        }
+    }
 }

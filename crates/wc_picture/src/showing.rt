@@ -13,7 +13,7 @@ use crate::picture::Picture;
 use crate::unwritten::Unwritten;
 use std::alloc::Global;
 use wc_controller::{Ending, Input, RefusedRow, line_files, run_files};
-use wc_model::{ByteIn, ByteOut, write_whole};
+use wc_model::{ByteIn, ByteOut, Device, write_whole};
 use wc_report::refused_line;
 
 /// Writes the line of a refusal, and ends with it.
@@ -42,23 +42,26 @@ fn is_drawn(ending: Ending) -> bool {
     }
 }
 
+/// The number and the row of a refusal.
+fn refusal_of(ending: Ending) -> Option<(u16, u32)> {
+    match ending {
+        Ending::Refused { number, place, .. } => Some((number, place)),
+        _ => None,
+    }
+}
+
 /// Writes the picture of a run that ended so, and behind it the line of a refusal.
-fn end_drawn<W: ByteOut>(
-    alloc: Global,
-    picture: &Picture,
-    ending: Ending,
-    writer: &mut W,
-) -> Ending
+fn end_drawn<W: ByteOut>(alloc: Global, picture: &Picture, ending: Ending, writer: &mut W) -> Ending
     ensures { IsDrawnAs ending result }
 {
     if !is_drawn(ending) {
         return end_refused(alloc, ending, writer);
     }
-    let text = match picture.draw(alloc) {
+    let text = match picture.draw(alloc, refusal_of(ending)) {
         Ok(text) => text,
         Err(_) => return Ending::NoMemory,
     };
-    match write_whole(writer, &text) {
+    match write_whole(writer, text.as_bytes()) {
         Ok(()) => end_refused(alloc, ending, writer),
         Err(_) => Ending::WriteFault,
     }
@@ -95,7 +98,7 @@ fn run_shown<P: ByteIn, T: ByteIn, L: ByteIn>(
 {
     match program {
         Some(reader) => {
-            let mut next: Option<T> = None;
+            let mut next: Option<Device<&[u8]>> = None;
             run_files(
                 alloc,
                 None,

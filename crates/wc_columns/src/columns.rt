@@ -1,0 +1,27 @@
+use crate::events::Events;
+use crate::state::State;
+
+/// What is kept of the time of a column.
+#[derive(Clone, Copy)]
+pub struct Column {
+    pub state: State,
+    pub events: Events,
+}
+
+impl Column {
+    /// In which this held, and nothing happened.
+    pub(crate) fn holding(state: State) -> Column {
+        Column {
+            state,
+            events: Events::none(),
+        }
+    }
+
+    /// Of this time and the time behind it.
+    pub fn joined(&self, later: &Column) -> Column {
+        Column {
+            state: self.state.joined(&later.state),
+            events: self.events.joined(&later.events),
+        }
+    }
+}

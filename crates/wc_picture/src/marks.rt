@@ -1,0 +1,104 @@
+use crate::numbers::{Moment, Tenths};
+use crate::view::{HEIGHT, TOP, View};
+use std::alloc::AllocError;
+use std::fmt;
+use std::fmt::Write;
+use wc_columns::Events;
+
+/// The letters of what was done to zero, tare and program in some time; a cross behind one says that it was refused.
+#[derive(Clone, Copy)]
+struct Letters(Events);
+
+impl fmt::Display for Letters {
+    fn fmt<W: fmt::Write>(&self, f: &mut fmt::Formatter<W>) -> fmt::Result {
+        for (count, letter) in [
+            (self.0.zeros, "Z"),
+            (self.0.zeros_refused, "Z×"),
+            (self.0.tares, "T"),
+            (self.0.tares_refused, "T×"),
+            (self.0.clears, "C"),
+            (self.0.changes, "P"),
+        ] {
+            if count != 0 {
+                write!(f, "{letter}")?;
+            }
+        }
+        Ok(())
+    }
+}
+
+/// The same in words, each with a comma before it.
+#[derive(Clone, Copy)]
+struct Words(Events);
+
+impl fmt::Display for Words {
+    fn fmt<W: fmt::Write>(&self, f: &mut fmt::Formatter<W>) -> fmt::Result {
+        for (count, words) in [
+            (self.0.zeros, "zero set"),
+            (self.0.zeros_refused, "zero refused"),
+            (self.0.tares, "tare set"),
+            (self.0.tares_refused, "tare refused"),
+            (self.0.clears, "tare cleared"),
+            (self.0.changes, "program changed"),
+        ] {
+            if count == 1 {
+                write!(f, ", {words}")?;
+            } else if count != 0 {
+                write!(f, ", {words} {count} times")?;
+            }
+        }
+        Ok(())
+    }
+}
+
+/// Whether something was done.
+fn is_marked(events: &Events) -> bool {
+    events.zeros != 0
+        || events.zeros_refused != 0
+        || events.tares != 0
+        || events.tares_refused != 0
+        || events.clears != 0
+        || events.changes != 0
+}
+
+/// Whether all of it was refused.
+fn is_refused(events: &Events) -> bool {
+    events.zeros == 0 && events.tares == 0 && events.clears == 0 && events.changes == 0
+}
+
+/// Puts the mark of a column over the height of the curves, with its letters at a height above.
+fn put_mark(
+    out: &mut String,
+    view: &View<'_>,
+    index: usize,
+    events: &Events,
+    y: u64,
+) -> Result<(), AllocError> {
+    let (letters, words) = (Letters(*events), Words(*events));
+    let (moment, x, y) = (Moment(view.moment(index)), Tenths(view.x(index)), Tenths(y));
+    let (top, base) = (Tenths(TOP - 20), Tenths(TOP + HEIGHT));
+    let look = if is_refused(events) {
+        "refused"
+    } else {
+        "mark"
+    };
+    write!(out, "<g class=\"{look}\"><title>{moment}{words}</title>")?;
+    write!(out, "<path d=\"M{x} {base}V{top}\"/>")?;
+    write!(out, "<text x=\"{x}\" y=\"{y}\">{letters}</text></g>\n")
+}
+
+/// Puts the marks of zero, tare and program; letters that stand close go up by a line.
+pub(crate) fn put_marks(out: &mut String, view: &View<'_>) -> Result<(), AllocError> {
+    let mut free = 0_u64;
+    let mut is_raised = false;
+    for (index, column) in view.columns.iter().enumerate() {
+        if is_marked(&column.events) {
+            let x = view.x(index);
+            is_raised = x < free && !is_raised;
+            let y = if is_raised { TOP - 150 } else { TOP - 40 };
+            put_mark(out, view, index, &column.events, y)?;
+            free = x.saturating_add(200);
+        }
+    }
+    Ok(())
+}

@@ -1,0 +1,148 @@
+use wc_columns::{Column, Span, join};
+use wc_plate::Plate;
+
+/// Where the curves begin at the left, and how wide and high they are, in tenths.
+pub(crate) const LEFT: u64 = 1300;
+
+pub(crate) const WIDTH: u64 = 7200;
+
+pub(crate) const TOP: u64 = 720;
+
+pub(crate) const HEIGHT: u64 = 2400;
+
+/// What a plate says of weights; where no row came, nothing is known of it.
+#[derive(Clone, Copy)]
+pub(crate) struct Scale {
+    pub(crate) max: i64,
+    pub(crate) decimals: u32,
+    pub(crate) unit: &'static str,
+}
+
+impl Scale {
+    /// The scale of a plate.
+    pub(crate) fn of(plate: Option<Plate>) -> Scale {
+        let Some(plate) = plate else {
+            return Scale {
+                max: 1,
+                decimals: 0,
+                unit: "",
+            };
+        };
+        let unit = match plate.unit()[0] {
+            b'k' => "kg",
+            b't' => "t",
+            _ => "g",
+        };
+        Scale {
+            max: i64::from(plate.max()),
+            decimals: plate.decimals().unsigned_abs(),
+            unit,
+        }
+    }
+}
+
+/// What is drawn, and where.
+#[derive(Clone, Copy)]
+pub(crate) struct View<'p> {
+    pub(crate) columns: &'p [Column],
+    /// The first moment in milliseconds, and how many a column has.
+    pub(crate) start: u64,
+    pub(crate) width: u64,
+    pub(crate) scale: Scale,
+    /// The bound in steps.
+    pub(crate) bound: u32,
+    /// The weights at the lower and the upper edge.
+    low: i64,
+    high: i64,
+}
+
+/// The weights of some columns.
+fn weights(columns: &[Column]) -> Option<Span> {
+    let mut all = None;
+    for column in columns {
+        all = join(all, join(column.state.gross, column.state.net));
+    }
+    all
+}
+
+/// The part of a length that so much of a whole is.
+pub(crate) fn part(length: u64, some: u64, whole: u64) -> u64 {
+    match length.saturating_mul(some).checked_div(whole) {
+        Some(part) => part,
+        None => 0,
+    }
+}
+
+impl<'p> View<'p> {
+    /// A view with room for all weights, zero and Max, and a little more.
+    pub(crate) fn new(
+        columns: &'p [Column],
+        start: u64,
+        width: u64,
+        scale: Scale,
+        bound: u32,
+    ) -> View<'p> {
+        let (least, greatest) = match weights(columns) {
+            Some(span) => (i64::from(span.least), i64::from(span.greatest)),
+            None => (0, 0),
+        };
+        let low = least.min(0);
+        let high = greatest.max(scale.max);
+        let room = high.saturating_sub(low) / 20;
+        View {
+            columns,
+            start,
+            width,
+            scale,
+            bound,
+            low: low.saturating_sub(room),
+            high: high.saturating_add(room).saturating_add(1),
+        }
+    }
+
+    /// How many milliseconds are drawn.
+    pub(crate) fn time(&self) -> u64 {
+        (self.columns.len() as u64)
+            .max(1)
+            .saturating_mul(self.width)
+    }
+
+    /// The moment at which a column begins.
+    pub(crate) fn moment(&self, index: usize) -> u64 {
+        let passed = (index as u64).saturating_mul(self.width);
+        self.start.saturating_add(passed)
+    }
+
+    /// Where a column begins, in tenths.
+    pub(crate) fn x(&self, index: usize) -> u64 {
+        let count = (self.columns.len() as u64).max(1);
+        part(WIDTH, index as u64, count).saturating_add(LEFT)
+    }
+
+    /// Where a moment stands, in tenths.
+    pub(crate) fn x_at(&self, ms: u64) -> u64 {
+        let passed = ms.saturating_sub(self.start);
+        part(WIDTH, passed, self.time()).saturating_add(LEFT)
+    }
+
+    /// The weights at the lower and the upper edge.
+    pub(crate) fn edges(&self) -> (i64, i64) {
+        (self.low, self.high)
+    }
+
+    /// Where a weight stands, in tenths.
+    pub(crate) fn y(&self, weight: i64) -> u64 {
+        height_at(TOP, HEIGHT, self.low, self.high, weight)
+    }
+}
+
+/// How far above one number another is, 0 where it is not.
+fn above(high: i64, low: i64) -> u64 {
+    if low < high { high.abs_diff(low) } else { 0 }
+}
+
+/// Where a number stands between two at the edges of a height below a top, in tenths.
+pub(crate) fn height_at(top: u64, height: u64, low: i64, high: i64, number: i64) -> u64 {
+    let below = above(high, number.max(low));
+    part(height, below, above(high, low)).saturating_add(top)
+}
