@@ -69,6 +69,9 @@ impl fmt::Display for Decoded {
             "stable"
         };
         let status = status_text(answer[1]);
-        write!(f, "{moment}: {letter} → {digits} {unit} {mode}, {motion}{status}")
+        write!(
+            f,
+            "{moment}: {letter} → {digits} {unit} {mode}, {motion}{status}"
+        )
     }
 }

@@ -4,12 +4,7 @@ use std::alloc::AllocError;
 use std::fmt::Write;
 
 /// Puts a line across the curves, of that look, at a weight.
-fn put_line(
-    out: &mut String,
-    view: &View<'_>,
-    look: &str,
-    weight: i64,
-) -> Result<(), AllocError> {
+fn put_line(out: &mut String, view: &View<'_>, look: &str, weight: i64) -> Result<(), AllocError> {
     let (left, right) = (Tenths(LEFT), Tenths(LEFT + WIDTH));
     let y = Tenths(view.y(weight));
     write!(out, "<path class=\"{look}\" d=\"M{left} {y}H{right}\"/>\n")
@@ -21,7 +16,10 @@ fn put_weight(out: &mut String, view: &View<'_>, units: i64) -> Result<(), Alloc
     let weight = Weight { units, decimals };
     let y = Tenths(view.y(units).saturating_add(40));
     put_line(out, view, "grid", units)?;
-    write!(out, "<text class=\"name\" x=\"122\" y=\"{y}\">{weight}</text>\n")
+    write!(
+        out,
+        "<text class=\"name\" x=\"122\" y=\"{y}\">{weight}</text>\n"
+    )
 }
 
 /// Puts the round weights.
@@ -58,17 +56,15 @@ fn put_limits(out: &mut String, view: &View<'_>) -> Result<(), AllocError> {
 }
 
 /// Puts a line at a round moment down to the bottom, and the moment below it.
-fn put_moment(
-    out: &mut String,
-    view: &View<'_>,
-    ms: u64,
-    bottom: u64,
-) -> Result<(), AllocError> {
+fn put_moment(out: &mut String, view: &View<'_>, ms: u64, bottom: u64) -> Result<(), AllocError> {
     let moment = Moment(ms);
     let (x, top) = (Tenths(view.x_at(ms)), Tenths(TOP));
     let (base, y) = (Tenths(bottom), Tenths(bottom.saturating_add(140)));
     write!(out, "<path class=\"grid\" d=\"M{x} {base}V{top}\"/>\n")?;
-    write!(out, "<text class=\"time\" x=\"{x}\" y=\"{y}\">{moment}</text>\n")
+    write!(
+        out,
+        "<text class=\"time\" x=\"{x}\" y=\"{y}\">{moment}</text>\n"
+    )
 }
 
 /// Puts the round moments.
@@ -89,11 +85,7 @@ fn put_moments(out: &mut String, view: &View<'_>, bottom: u64) -> Result<(), All
 }
 
 /// Puts the axes of weight and time, zero and Max.
-pub(crate) fn put_axes(
-    out: &mut String,
-    view: &View<'_>,
-    bottom: u64,
-) -> Result<(), AllocError> {
+pub(crate) fn put_axes(out: &mut String, view: &View<'_>, bottom: u64) -> Result<(), AllocError> {
     out.push_str("<g id=\"axes\">\n")?;
     put_weights(out, view)?;
     if !view.columns.is_empty() {

@@ -25,7 +25,13 @@ pub(crate) struct Range {
 impl Range {
     /// Where a number stands, in tenths.
     fn y(&self, number: i32) -> u64 {
-        height_at(self.top, self.height, self.low, self.high, i64::from(number))
+        height_at(
+            self.top,
+            self.height,
+            self.low,
+            self.high,
+            i64::from(number),
+        )
     }
 }
 

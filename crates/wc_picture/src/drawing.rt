@@ -48,9 +48,13 @@ fn put_heading(
 
 /// Puts which curve is which, at the right of the heading.
 fn put_legend(out: &mut String, all: &Column) -> Result<(), AllocError> {
-    out.push_str("<path class=\"curve\" d=\"M858 22H886\"/>\n<text x=\"892\" y=\"26\">gross</text>\n")?;
+    out.push_str(
+        "<path class=\"curve\" d=\"M858 22H886\"/>\n<text x=\"892\" y=\"26\">gross</text>\n",
+    )?;
     if all.state.net.is_some() {
-        out.push_str("<path class=\"curve net\" d=\"M858 38H886\"/>\n<text x=\"892\" y=\"42\">net</text>\n")?;
+        out.push_str(
+            "<path class=\"curve net\" d=\"M858 38H886\"/>\n<text x=\"892\" y=\"42\">net</text>\n",
+        )?;
     }
     Ok(())
 }

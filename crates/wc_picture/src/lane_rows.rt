@@ -122,16 +122,14 @@ fn put_bars(out: &mut String, view: &View<'_>, top: u64, height: u64) -> Result<
 }
 
 /// Puts the lane of the scans.
-fn put_scans(
-    out: &mut String,
-    view: &View<'_>,
-    all: &Column,
-    top: u64,
-) -> Result<(), AllocError> {
+fn put_scans(out: &mut String, view: &View<'_>, all: &Column, top: u64) -> Result<(), AllocError> {
     out.push_str("<path class=\"full\" d=\"")?;
     put_bars(out, view, top, Lane::Scans.height())?;
     let (left, right, y) = (Tenths(LEFT), Tenths(LEFT + WIDTH), Tenths(top));
-    write!(out, "\"/>\n<path class=\"bound\" d=\"M{left} {y}H{right}\"/>\n")?;
+    write!(
+        out,
+        "\"/>\n<path class=\"bound\" d=\"M{left} {y}H{right}\"/>\n"
+    )?;
     put_beside(out, top)?;
     let (steps, bound) = (all.events.steps, view.bound);
     write!(out, "{steps} of {bound}</text>\n")
@@ -142,7 +140,10 @@ fn put_name(out: &mut String, lane: Lane, top: u64) -> Result<(), AllocError> {
     let bottom = top.saturating_add(lane.height());
     let middle = Tenths(top.saturating_add(lane.height() / 2).saturating_add(40));
     let (left, right, base) = (Tenths(LEFT), Tenths(LEFT + WIDTH), Tenths(bottom));
-    write!(out, "<text class=\"name\" x=\"122\" y=\"{middle}\">{lane}</text>\n")?;
+    write!(
+        out,
+        "<text class=\"name\" x=\"122\" y=\"{middle}\">{lane}</text>\n"
+    )?;
     write!(out, "<path class=\"grid\" d=\"M{left} {base}H{right}\"/>\n")
 }
 

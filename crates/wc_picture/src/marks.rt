@@ -77,7 +77,11 @@ fn put_mark(
     let (letters, words) = (Letters(*events), Words(*events));
     let (moment, x, y) = (Moment(view.moment(index)), Tenths(view.x(index)), Tenths(y));
     let (top, base) = (Tenths(TOP - 20), Tenths(TOP + HEIGHT));
-    let look = if is_refused(events) { "refused" } else { "mark" };
+    let look = if is_refused(events) {
+        "refused"
+    } else {
+        "mark"
+    };
     write!(out, "<g class=\"{look}\"><title>{moment}{words}</title>")?;
     write!(out, "<path d=\"M{x} {base}V{top}\"/>")?;
     write!(out, "<text x=\"{x}\" y=\"{y}\">{letters}</text></g>\n")

@@ -71,7 +71,10 @@ fn put_reading(
     let (left, right) = (view.x(first), view.x(next));
     let (x, width) = (Tenths(left), Tenths(right.saturating_sub(left)));
     let (y, height) = (Tenths(TOP), Tenths(bottom.saturating_sub(TOP)));
-    write!(out, "<rect x=\"{x}\" y=\"{y}\" width=\"{width}\" height=\"{height}\"><title>")?;
+    write!(
+        out,
+        "<rect x=\"{x}\" y=\"{y}\" width=\"{width}\" height=\"{height}\"><title>"
+    )?;
     let (from, to) = (Moment(view.moment(first)), Moment(view.moment(next)));
     write!(out, "{from} to {to}")?;
     put_weight(out, &view.scale, "gross", column.state.gross)?;

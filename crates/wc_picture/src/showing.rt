@@ -51,12 +51,7 @@ fn refusal_of(ending: Ending) -> Option<(u16, u32)> {
 }
 
 /// Writes the picture of a run that ended so, and behind it the line of a refusal.
-fn end_drawn<W: ByteOut>(
-    alloc: Global,
-    picture: &Picture,
-    ending: Ending,
-    writer: &mut W,
-) -> Ending
+fn end_drawn<W: ByteOut>(alloc: Global, picture: &Picture, ending: Ending, writer: &mut W) -> Ending
     ensures { IsDrawnAs ending result }
 {
     if !is_drawn(ending) {

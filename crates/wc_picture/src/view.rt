@@ -102,7 +102,9 @@ impl<'p> View<'p> {
 
     /// How many milliseconds are drawn.
     pub(crate) fn time(&self) -> u64 {
-        (self.columns.len() as u64).max(1).saturating_mul(self.width)
+        (self.columns.len() as u64)
+            .max(1)
+            .saturating_mul(self.width)
     }
 
     /// The moment at which a column begins.

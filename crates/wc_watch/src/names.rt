@@ -29,7 +29,10 @@ pub(crate) fn name_at(list: &[u8], index: usize) -> UnknownName
 {
     let mut start = 0_usize;
     let mut length = 0_usize;
-    for name in list.split(|byte| *byte == b',').take(index.saturating_add(1)) {
+    for name in list
+        .split(|byte| *byte == b',')
+        .take(index.saturating_add(1))
+    {
         start = start.saturating_add(length);
         length = name.len().saturating_add(1);
     }

