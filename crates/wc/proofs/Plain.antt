@@ -5,7 +5,7 @@ use Rattle.clap.specs.Lexer.{long_of, short_of}
 use Rattle.std.specs.Str.{bytes_eq}
 use Rattle.clap.proofs.OnLiterals.{clap_on_literals}
 use Rattle.wc_messages.specs.declared.form.Form.TheVariants.{Long}
-use Rattle.wc.specs.Asked.{Ask, IsPlain, asked, check, decode, explain, job, line, run, trace}
+use Rattle.wc.specs.Asked.{Ask, IsPlain, asked, check, decode, explain, job, line, run, show, trace}
 
 -- the word is no option, no bundle of flags and not `--`
 abbrev pub IsValue : Text → Type 0
@@ -32,12 +32,12 @@ unfolding clap_on_literals
 preview_form name = (refl, refl, refl)
 
 pub run_form : (name p q l : Text) → IsValue p → IsValue q → IsValue l
-    → asked (name ∷ codes "run" ∷ codes "--plate" ∷ p ∷ codes "--program" ∷ q ∷ codes "--log" ∷ l ∷ []) ≡ run p q None l None
+    → asked (name ∷ codes "run" ∷ codes "--plate" ∷ p ∷ codes "--program" ∷ q ∷ codes "--log" ∷ l ∷ []) ≡ run p q None l None None
 unfolding clap_on_literals
 run_form name p q l u v w = rw (u.0, u.1, u.2) (rw (v.0, v.1, v.2) (rw (w.0, w.1, w.2) refl))
 
 pub next_form : (name : Text) → Ask (name ∷ codes "run" ∷ codes "--plate" ∷ codes "a" ∷ codes "--program" ∷ codes "b" ∷ codes "--next" ∷ codes "c" ∷ codes "--log" ∷ codes "d" ∷ [])
-    (run (codes "a") (codes "b") (Some (codes "c")) (codes "d") None) Long
+    (run (codes "a") (codes "b") (Some (codes "c")) (codes "d") None None) Long
 unfolding clap_on_literals
 next_form name = (refl, refl, refl)
 
@@ -45,6 +45,20 @@ pub trace_form : (name : Text) → Ask (name ∷ codes "trace" ∷ codes "--plat
     (trace (codes "a") (codes "b") None (codes "c") (Some 650) None None None) Long
 unfolding clap_on_literals
 trace_form name = (refl, refl, refl)
+
+pub watch_form : (name : Text) → asked (name ∷ codes "run" ∷ codes "--plate" ∷ codes "a" ∷ codes "--program" ∷ codes "b" ∷ codes "--log" ∷ codes "c" ∷ codes "--watch" ∷ codes "d,t.ET" ∷ [])
+    ≡ run (codes "a") (codes "b") None (codes "c") None (Some (codes "d,t.ET"))
+unfolding clap_on_literals
+watch_form name = refl
+
+pub show_form : (name : Text) → Ask (name ∷ codes "show" ∷ codes "--plate" ∷ codes "a" ∷ codes "--log" ∷ codes "b" ∷ []) (show (codes "a") None (codes "b")) Long
+unfolding clap_on_literals
+show_form name = (refl, refl, refl)
+
+pub drawn_form : (name : Text) → Ask (name ∷ codes "show" ∷ codes "--plate" ∷ codes "a" ∷ codes "--program" ∷ codes "b" ∷ codes "--log" ∷ codes "c" ∷ [])
+    (show (codes "a") (Some (codes "b")) (codes "c")) Long
+unfolding clap_on_literals
+drawn_form name = (refl, refl, refl)
 
 pub line_form : (name p l : Text) → IsValue p → IsValue l → Ask (name ∷ codes "line" ∷ codes "--plate" ∷ p ∷ codes "--log" ∷ l ∷ []) (line p l) Long
 unfolding clap_on_literals
@@ -63,6 +77,6 @@ unfolding clap_on_literals
 explain_form name = (refl, refl, refl)
 
 pub last_form : (name : Text) → Ask (name ∷ codes "run" ∷ codes "--last" ∷ codes "10" ∷ codes "--log" ∷ codes "a" ∷ codes "--program" ∷ codes "b" ∷ codes "--plate=c" ∷ [])
-    (run (codes "c") (codes "b") None (codes "a") (Some 10)) Long
+    (run (codes "c") (codes "b") None (codes "a") (Some 10) None) Long
 unfolding clap_on_literals
 last_form name = (refl, refl, refl)

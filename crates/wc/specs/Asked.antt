@@ -56,12 +56,14 @@ pub data Asked : Type 0 where
   -- a program's file, that of one that may take its place where it is given, and whether paths are
   -- wanted
   check : Text → Option Text → Bool → Asked
-  -- the files of a plate, a program, a next program where one is given, and a log, and how many scans
-  -- are wanted
-  run : Text → Text → Option Text → Text → Option ℕ → Asked
+  -- the files of a plate, a program, a next program where one is given, and a log, how many scans
+  -- are wanted, and the names of the variables that are watched
+  run : Text → Text → Option Text → Text → Option ℕ → Option Text → Asked
   -- the files of a run whose scans are shown, in the same order, and which: the moment, the number of the
   -- scan, the first moment and the last
   trace : Text → Text → Option Text → Text → Option ℕ → Option ℕ → Option ℕ → Option ℕ → Asked
+  -- the files of a plate, a program where one is given, and a log, of whose run a picture is wanted
+  show : Text → Option Text → Text → Asked
   -- a report from standard input, and whether a table is wanted
   decode : Bool → Asked
   explain : ℕ → Asked
@@ -77,17 +79,20 @@ asked_at word given =
     else (if bytes_eq word (codes "run")
     then run (file_in (codes "plate") given) (file_in (codes "program") given)
     (first_of (codes "next") given) (file_in (codes "log") given)
-    (number_in (codes "last") given)
+    (number_in (codes "last") given) (first_of (codes "watch") given)
     else (if bytes_eq word (codes "trace")
     then trace (file_in (codes "plate") given) (file_in (codes "program") given)
     (first_of (codes "next") given) (file_in (codes "log") given)
     (wide_number_in (codes "at") given) (wide_number_in (codes "scan") given)
     (wide_number_in (codes "from") given) (wide_number_in (codes "to") given)
+    else (if bytes_eq word (codes "show")
+    then show (file_in (codes "plate") given) (first_of (codes "program") given)
+    (file_in (codes "log") given)
     else (if bytes_eq word (codes "decode") then decode (flag_in (codes "csv") given)
     else (if bytes_eq word (codes "explain")
     then explain (unwrap_or (number_in (codes "number") given) 0)
     else (if bytes_eq word (codes "line")
-    then line (file_in (codes "plate") given) (file_in (codes "log") given) else job)))))
+    then line (file_in (codes "plate") given) (file_in (codes "log") given) else job))))))
 
 -- what is asked for by the word that was met: a job where none was
 abbrev pub asked_by : Option (Text × List Row) → Asked
@@ -102,11 +107,14 @@ abbrev pub view : Wanted → Asked
 view wanted.Job = job
 view (wanted.Check program next paths) =
     check program.now (option_map (λ path. path.now) next) paths
-view (wanted.Run plate files last) =
+view (wanted.Run plate files last watch) =
     run plate.now files.program.now (option_map (λ next. next.now) files.next) files.log.now last
+    (option_map (λ names. names.now) watch)
 view (wanted.Trace plate files chosen) =
     trace plate.now files.program.now (option_map (λ next. next.now) files.next) files.log.now
     chosen.at chosen.scan chosen.from chosen.to
+view (wanted.Show plate program log) =
+    show plate.now (option_map (λ path. path.now) program) log.now
 view (wanted.Decode table) = decode table
 view (wanted.Explain number) = explain number
 view (wanted.Line plate log) = line plate.now log.now

@@ -52,12 +52,13 @@ abbrev pub check_word : App
 check_word = with_rule (with_rule (with_rule (with_rule (new_app (codes "check"))
     (place (codes "program"))) (value_option (codes "next"))) (flag (codes "path"))) message_option
 
--- `run --plate FILE --program FILE [--next FILE] --log FILE [--last N] [--message FORM]`, N from 1 to
--- 1000
+-- `run --plate FILE --program FILE [--next FILE] --log FILE [--last N] [--watch NAMES]
+-- [--message FORM]`, N from 1 to 1000
 abbrev pub run_word : App
-run_word = with_rule (with_rule (with_rule (with_rule (with_rule (with_rule (new_app (codes "run"))
-    (file_option (codes "plate"))) (file_option (codes "program"))) (value_option (codes "next")))
-    (file_option (codes "log"))) (number_option (codes "last") 1 1000)) message_option
+run_word = with_rule (with_rule (with_rule (with_rule (with_rule (with_rule (with_rule
+    (new_app (codes "run")) (file_option (codes "plate"))) (file_option (codes "program")))
+    (value_option (codes "next"))) (file_option (codes "log")))
+    (number_option (codes "last") 1 1000)) (value_option (codes "watch"))) message_option
 
 -- `trace --plate FILE --program FILE [--next FILE] --log FILE [--at MS] [--scan N] [--from MS] [--to MS]
 -- [--message FORM]`
@@ -67,6 +68,12 @@ trace_word = with_rule (with_rule (with_rule (with_rule (with_rule (with_rule (w
     (file_option (codes "program"))) (value_option (codes "next"))) (file_option (codes "log")))
     (wide_number_option (codes "at"))) (wide_number_option (codes "scan")))
     (wide_number_option (codes "from"))) (wide_number_option (codes "to"))) message_option
+
+-- `show --plate FILE [--program FILE] --log FILE [--message FORM]`
+abbrev pub show_word : App
+show_word = with_rule (with_rule (with_rule (with_rule (new_app (codes "show"))
+    (file_option (codes "plate"))) (value_option (codes "program"))) (file_option (codes "log")))
+    message_option
 
 -- `line --plate FILE --log FILE [--message FORM]`
 abbrev pub line_word : App
@@ -89,8 +96,8 @@ program_name =
 -- `wc [--message FORM]` alone, or with one of the words behind it
 abbrev pub command_line : App
 command_line = with_subcommand (with_subcommand (with_subcommand (with_subcommand (with_subcommand
-    (with_subcommand (with_rule program_name message_option) check_word.top) run_word.top)
-    trace_word.top) line_word.top) decode_word.top) explain_word.top
+    (with_subcommand (with_subcommand (with_rule program_name message_option) check_word.top)
+    run_word.top) trace_word.top) show_word.top) line_word.top) decode_word.top) explain_word.top
 
 -- the command takes what the table says
 abbrev pub Takes : App → Command → Type 0

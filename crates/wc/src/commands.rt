@@ -1,5 +1,5 @@
 ghost use Rattle.std.specs.Prelude.{◌≡◌, ◌≤◌, IfSome, Some, None, option_map};
-ghost use Rattle.wc.specs.Asked.{asked, check, decode, form_asked, job, line, run, texts_of, trace};
+ghost use Rattle.wc.specs.Asked.{asked, check, decode, form_asked, job, line, run, show, texts_of, trace};
 
 use crate::opening::Opening;
 use crate::output::{Emptying, Gathered, Sharing, shared_output};
@@ -15,8 +15,10 @@ use wc_decode::{DecodeFault, DecodeForm, decode as decode_report};
 use wc_devices::{Keeping, Noting};
 use wc_messages::Form;
 use wc_model::Device;
+use wc_picture::show_files;
 use wc_preview::preview_files;
 use wc_trace::{Chosen, trace_files};
+use wc_watch::{UnknownName, watch_files};
 
 /// A file that is read, and before each read the output is emptied.
 type Source<'a> = Device<Emptying<'a, Noting<Opening<'a>>>>;
@@ -101,6 +103,25 @@ fn plate_and_log<'a>(plate: &'a str, reader: &'a KeptSource<'_>, log: &'a str) -
     Sources::Line {
         plate: read_of(plate, reader),
         log,
+    }
+}
+
+/// The files of a log that is run with a program, where one is given.
+fn shown_sources<'a>(
+    plate: &'a str,
+    plate_reader: &'a KeptSource<'_>,
+    program: Option<&'a str>,
+    program_reader: &'a Option<KeptSource<'_>>,
+    log: &'a str,
+) -> Sources<'a> {
+    match read_if_any(program, program_reader) {
+        Some(program) => Sources::Files {
+            plate: read_of(plate, plate_reader),
+            program,
+            next: None,
+            log,
+        },
+        None => plate_and_log(plate, plate_reader, log),
     }
 }
 
@@ -247,7 +268,7 @@ pub(crate) fn run_words(
 ) -> u8
     requires asked { asked (texts_of _words.now)
         ≡ run plate.now files.program.now (option_map (λ next. next.now) files.next)
-        files.log.now last }
+        files.log.now last None }
     requires form { form_asked (texts_of _words.now) ≡ Some form }
     requires so_many { IfSome last (λ n. (1 ≤ n) × (n ≤ 1000)) }
 {
@@ -290,6 +311,93 @@ pub(crate) fn run_words(
         },
         &row,
     )
+}
+
+/// Runs the log in a file with a program as `run_words` does, and prints the values of variables behind each scan: the exit
+/// status.
+pub(crate) fn watch_words(
+    rt: &HostRuntime,
+    _words: &[String],
+    form: Form,
+    last: Option<u16>,
+    watch: &str,
+    plate: &str,
+    files: ProgramFiles<'_>,
+) -> u8
+    requires asked { asked (texts_of _words.now)
+        ≡ run plate.now files.program.now (option_map (λ next. next.now) files.next)
+        files.log.now last (Some watch.now) }
+    requires form { form_asked (texts_of _words.now) ≡ Some form }
+    requires so_many { IfSome last (λ n. (1 ≤ n) × (n ≤ 1000)) }
+{
+    let gathered = match shared_output(rt) {
+        Ok(gathered) => gathered,
+        Err(_) => return without_memory(rt),
+    };
+    let mut plate_reader = kept_source(rt, plate, &gathered);
+    let mut program_reader = kept_source(rt, files.program, &gathered);
+    let mut next_reader = kept_source_of(rt, files.next, &gathered);
+    let mut row = RefusedRow::new(rt.alloc());
+    let mut log_reader = source(rt, files.log, &gathered);
+    let mut writer = Device::new(Sharing::new(&gathered));
+    // What stands beside the report goes to the same output, so that it stands behind its line.
+    let mut beside = Device::new(Sharing::new(&gathered));
+    let answer = watch_files(
+        rt.alloc(),
+        watch.as_bytes(),
+        last,
+        &mut plate_reader,
+        &mut program_reader,
+        &mut next_reader,
+        &mut log_reader,
+        &mut writer,
+        &mut beside,
+        &mut row,
+    );
+    let ending = match answer {
+        Ok(ending) => ending,
+        Err(unknown) => return refuse_name(rt, form, &gathered, watch, unknown, &row),
+    };
+    let reading = kept_cause(&plate_reader)
+        .or(kept_cause(&program_reader))
+        .or(cause_of(&next_reader))
+        .or(cause(&log_reader));
+    finish(
+        rt,
+        form,
+        ending,
+        reading,
+        &gathered,
+        &Sources::Files {
+            plate: read_of(plate, &plate_reader),
+            program: read_of(files.program, &program_reader),
+            next: read_if_any(files.next, &next_reader),
+            log: files.log,
+        },
+        &row,
+    )
+}
+
+/// Tells that a name is unknown which is to be watched: the exit status.
+fn refuse_name(
+    rt: &HostRuntime,
+    form: Form,
+    gathered: &RefCell<Gathered>,
+    list: &str,
+    unknown: UnknownName,
+    row: &RefusedRow,
+) -> u8 {
+    let ending = Ending::Refused {
+        input: Input::Program,
+        number: 401,
+        place: 0,
+    };
+    let names = Sources::Names {
+        option: "--watch",
+        list,
+        unknown,
+    };
+    finish(rt, form, ending, None, gathered, &names, row)
 }
 
 /// Runs the log in a file with a program, and where one is given the next one, and shows the scans that are chosen: the exit
@@ -343,6 +451,50 @@ pub(crate) fn trace_words(
             next: read_if_any(files.next, &next_reader),
             log: files.log,
         },
+        &row,
+    )
+}
+
+/// Runs the log in a file, with a program where one is given, and writes a picture of it: the exit status.
+pub(crate) fn show_words(
+    rt: &HostRuntime,
+    _words: &[String],
+    form: Form,
+    plate: &str,
+    program: Option<&str>,
+    log: &str,
+) -> u8
+    requires asked { asked (texts_of _words.now)
+        ≡ show plate.now (option_map (λ path. path.now) program) log.now }
+    requires form { form_asked (texts_of _words.now) ≡ Some form }
+{
+    let gathered = match shared_output(rt) {
+        Ok(gathered) => gathered,
+        Err(_) => return without_memory(rt),
+    };
+    let mut plate_reader = kept_source(rt, plate, &gathered);
+    let mut program_reader = kept_source_of(rt, program, &gathered);
+    let mut row = RefusedRow::new(rt.alloc());
+    let mut log_reader = source(rt, log, &gathered);
+    let mut writer = Device::new(Sharing::new(&gathered));
+    let ending = show_files(
+        rt.alloc(),
+        &mut plate_reader,
+        &mut program_reader,
+        &mut log_reader,
+        &mut writer,
+        &mut row,
+    );
+    let reading = kept_cause(&plate_reader)
+        .or(cause_of(&program_reader))
+        .or(cause(&log_reader));
+    finish(
+        rt,
+        form,
+        ending,
+        reading,
+        &gathered,
+        &shown_sources(plate, &plate_reader, program, &program_reader, log),
         &row,
     )
 }

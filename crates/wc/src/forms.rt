@@ -1,7 +1,7 @@
 ghost use Rattle.std.specs.Prelude.{◌≡◌, List, [], ◌∷◌, Some, None, true, false, codes};
 ghost use Rattle.clap.specs.Words.{Text};
 ghost use Rattle.wc_messages.specs.declared.form.Form.TheVariants.{Long};
-ghost use Rattle.wc.specs.Asked.{Ask, IsPlain, check, decode, explain, job, line, asked, run, trace};
+ghost use Rattle.wc.specs.Asked.{Ask, IsPlain, check, decode, explain, job, line, asked, run, show, trace};
 
 /// What the plain forms of the words ask for, where each file is a word that does not begin with a hyphen.
 pub(crate) fn plain_forms()
@@ -16,16 +16,26 @@ pub(crate) fn plain_forms()
         (check (codes "a") (Some (codes "b")) false) Long }
     ensures run { (name plate program log : Text) → IsPlain plate → IsPlain program → IsPlain log
         → asked (name ∷ codes "run" ∷ codes "--plate" ∷ plate ∷ codes "--program" ∷ program
-        ∷ codes "--log" ∷ log ∷ []) ≡ run plate program None log None }
+        ∷ codes "--log" ∷ log ∷ []) ≡ run plate program None log None None }
     ensures last { (name : Text) → Ask (name ∷ codes "run" ∷ codes "--last" ∷ codes "10"
         ∷ codes "--log" ∷ codes "a" ∷ codes "--program" ∷ codes "b" ∷ codes "--plate=c" ∷ [])
-        (run (codes "c") (codes "b") None (codes "a") (Some 10)) Long }
+        (run (codes "c") (codes "b") None (codes "a") (Some 10) None) Long }
     ensures next { (name : Text) → Ask (name ∷ codes "run" ∷ codes "--plate" ∷ codes "a"
         ∷ codes "--program" ∷ codes "b" ∷ codes "--next" ∷ codes "c" ∷ codes "--log"
-        ∷ codes "d" ∷ []) (run (codes "a") (codes "b") (Some (codes "c")) (codes "d") None) Long }
+        ∷ codes "d" ∷ []) (run (codes "a") (codes "b") (Some (codes "c")) (codes "d") None None)
+        Long }
+    ensures watch { (name : Text) → asked (name ∷ codes "run" ∷ codes "--plate" ∷ codes "a"
+        ∷ codes "--program" ∷ codes "b" ∷ codes "--log" ∷ codes "c" ∷ codes "--watch"
+        ∷ codes "d,t.ET" ∷ [])
+        ≡ run (codes "a") (codes "b") None (codes "c") None (Some (codes "d,t.ET")) }
     ensures trace { (name : Text) → Ask (name ∷ codes "trace" ∷ codes "--plate" ∷ codes "a"
         ∷ codes "--program" ∷ codes "b" ∷ codes "--log" ∷ codes "c" ∷ codes "--at" ∷ codes "650"
         ∷ []) (trace (codes "a") (codes "b") None (codes "c") (Some 650) None None None) Long }
+    ensures show { (name : Text) → Ask (name ∷ codes "show" ∷ codes "--plate" ∷ codes "a"
+        ∷ codes "--log" ∷ codes "b" ∷ []) (show (codes "a") None (codes "b")) Long }
+    ensures drawn { (name : Text) → Ask (name ∷ codes "show" ∷ codes "--plate" ∷ codes "a"
+        ∷ codes "--program" ∷ codes "b" ∷ codes "--log" ∷ codes "c" ∷ [])
+        (show (codes "a") (Some (codes "b")) (codes "c")) Long }
     ensures line { (name plate log : Text) → IsPlain plate → IsPlain log
         → Ask (name ∷ codes "line" ∷ codes "--plate" ∷ plate ∷ codes "--log" ∷ log ∷ [])
         (line plate log) Long }

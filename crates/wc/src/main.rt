@@ -16,7 +16,8 @@ mod words;
 use clap::Error;
 use clap::error::ErrorKind;
 use commands::{
-    check_words, decode_words, line_words, preview_words, run_job, run_words, trace_words,
+    check_words, decode_words, line_words, preview_words, run_job, run_words, show_words,
+    trace_words, watch_words,
 };
 use explaining::explain;
 use std::fs::File;
@@ -126,15 +127,28 @@ fn execute(rt: &HostRuntime, words: &[String], request: Request<'_>) -> u8
             Some(next) => preview_words(rt, words, form, program, next, paths),
             None => check_words(rt, words, form, program, paths),
         },
-        Wanted::Run { plate, files, last } => match last {
+        Wanted::Run {
+            plate,
+            files,
+            last,
+            watch,
+        } => match last {
             Some(number) if number < 1 || number > 1000 => WRONG_WORDS,
-            last => run_words(rt, words, form, last, plate, files),
+            last => match watch {
+                Some(names) => watch_words(rt, words, form, last, names, plate, files),
+                None => run_words(rt, words, form, last, plate, files),
+            },
         },
         Wanted::Trace {
             plate,
             files,
             chosen,
         } => trace_words(rt, words, form, chosen, plate, files),
+        Wanted::Show {
+            plate,
+            program,
+            log,
+        } => show_words(rt, words, form, plate, program, log),
         Wanted::Decode { table } => decode_words(rt, words, form, table),
         Wanted::Explain { number } => show_page(rt, words, number),
         Wanted::Line { plate, log } => line_words(rt, words, form, plate, log),

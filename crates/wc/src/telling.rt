@@ -2,6 +2,7 @@ use std::io;
 use std::io::Write;
 use wc_controller::{Ending, Input, RefusedRow};
 use wc_messages::{Evidence, Form, Part, Refusal, Section, explained, section_of, shown};
+use wc_watch::UnknownName;
 
 /// How a command ended, and what the system said of a read and of a write that failed.
 #[derive(Clone, Copy)]
@@ -39,6 +40,12 @@ pub(crate) enum Sources<'a> {
         plate: ReadFile<'a>,
         log: &'a str,
     },
+    /// An option's list of names, of which one is unknown.
+    Names {
+        option: &'a str,
+        list: &'a str,
+        unknown: UnknownName,
+    },
 }
 
 /// A log by its path, of which no bytes are kept.
@@ -73,6 +80,10 @@ impl<'a> Sources<'a> {
                 Input::Plate => Some(*plate),
                 _ => Some(log_file(log)),
             },
+            Sources::Names { option, list, .. } => Some(ReadFile {
+                path: option,
+                bytes: Some(list.as_bytes()),
+            }),
         }
     }
 
@@ -127,6 +138,14 @@ fn evidence_of<'a>(
     let Some(section) = sources.text(input) else {
         return (Evidence::Nothing, 0);
     };
+    if let Sources::Names { unknown, .. } = sources {
+        let names = Evidence::Names {
+            list: section.text,
+            start: unknown.start,
+            length: unknown.length,
+        };
+        return (names, 0);
+    }
     match input {
         Input::Job => (Evidence::Nothing, 0),
         Input::Log if row.line() == 0 => (Evidence::Nothing, 0),

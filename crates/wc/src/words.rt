@@ -4,7 +4,7 @@ ghost use Rattle.clap.specs.Words.{FailsBy, found_of, subcommand_rows_of, rule_o
 ghost use Rattle.clap.specs.Words.{first_of};
 ghost use Rattle.wc.specs.Asked.{asked, asked_at, asked_by, fault_in, file_in, flag_in};
 ghost use Rattle.wc.specs.Asked.{form_asked, form_in, form_named, number_in, texts_of, view, wide_number_in};
-ghost use Rattle.wc.specs.CommandLine.{Takes, command_line, check_word, run_word, trace_word, line_word};
+ghost use Rattle.wc.specs.CommandLine.{Takes, command_line, check_word, run_word, show_word, trace_word, line_word};
 ghost use Rattle.wc.specs.CommandLine.{decode_word};
 ghost use Rattle.wc.specs.CommandLine.{explain_word, file_option, flag, message_option};
 ghost use Rattle.wc.specs.CommandLine.{number_option, place, value_option, wide_number_option};
@@ -18,7 +18,7 @@ use wc_trace::Chosen;
 /// The product's version, the toolchain that its sources are for, and the digest of the legally relevant sources, which
 /// tools/legal_digest computes. Whether a build was proved is not known to the program.
 const VERSION: &str = "0.1.0 (Narbeddo)
-toolchain rattle-kit-13f logic dac8208d650f15bf
+toolchain rattle-kit-13b logic dac8208d650f15bf
 legal part sha256 ac4569f38600ca5cdb9287b9eac02efa6781e80314ff0a5153a9750f43727773";
 
 /// What the program does, with an example of each word.
@@ -29,7 +29,9 @@ const ABOUT: &str =
   ./wc check --next new.il old.il
   ./wc run --plate plate.toml --program program.il --log log.csv --last 10
   ./wc run --plate plate.toml --program old.il --next new.il --log log.csv
+  ./wc run --plate plate.toml --program program.il --log log.csv --watch filling,t.ET
   ./wc trace --plate plate.toml --program program.il --log log.csv --at 650
+  ./wc show --plate plate.toml --program program.il --log log.csv > run.svg
   ./wc line --plate plate.toml --log log.csv
   ./wc run --plate plate.toml --program program.il --log log.csv | ./wc decode
   ./wc explain 403
@@ -64,17 +66,25 @@ pub(crate) enum Wanted<'a> {
         next: Option<&'a str>,
         paths: bool,
     },
-    /// A run of a log with a program, which prints every scan or the last so many.
+    /// A run of a log with a program, which prints every scan or the last so many, and beside each the values of variables, where
+    /// their names are given.
     Run {
         plate: &'a str,
         files: ProgramFiles<'a>,
         last: Option<u16>,
+        watch: Option<&'a str>,
     },
     /// A run of a log with a program, of which the scans that are chosen are shown item by item.
     Trace {
         plate: &'a str,
         files: ProgramFiles<'a>,
         chosen: Chosen,
+    },
+    /// A picture of a run of a log, with a program or with none.
+    Show {
+        plate: &'a str,
+        program: Option<&'a str>,
+        log: &'a str,
     },
     /// A report from standard input for people, or as a table.
     Decode {
@@ -170,6 +180,17 @@ fn next_option<'a>(alloc: Global, help: &'a str) -> Arg<'a>
         .help(help)
 }
 
+/// An option that may be given, and has a value.
+fn value_option<'a>(alloc: Global, name: &'a str, value: &'a str, help: &'a str) -> Arg<'a>
+    ensures rule { rule_of result ≡ value_option name.entry.now }
+    ensures local { result.global ≡ false }
+{
+    Arg::new(alloc, name)
+        .long(name)
+        .value_name(value)
+        .help(help)
+}
+
 /// The option that chooses in which form a refusal is told.
 fn message_option<'a>(alloc: Global) -> Arg<'a>
     ensures rule { rule_of result ≡ message_option }
@@ -219,6 +240,12 @@ fn run_command<'a>(alloc: Global) -> Result<Command<'a>, AllocError>
         alloc,
         "The next program, which a row of kind P takes (Instruction List)",
     );
+    let watch = value_option(
+        alloc,
+        "watch",
+        "NAME,..",
+        "Print the values of these variables behind each scan, as filling,t.ET",
+    );
     let command = Command::new(alloc, "run")
         .about("Run a log with a program: print each scan, and each answer of the line")
         .arg(plate_option(alloc))?
@@ -226,6 +253,7 @@ fn run_command<'a>(alloc: Global) -> Result<Command<'a>, AllocError>
         .arg(next)?
         .arg(log_option(alloc))?
         .arg(last_option(alloc))?
+        .arg(watch)?
         .arg(message_option(alloc))?;
     Ok(command)
 }
@@ -265,6 +293,25 @@ fn trace_command<'a>(alloc: Global) -> Result<Command<'a>, AllocError>
         .arg(scan)?
         .arg(from)?
         .arg(to)?
+        .arg(message_option(alloc))?;
+    Ok(command)
+}
+
+/// The word `show`.
+fn show_command<'a>(alloc: Global) -> Result<Command<'a>, AllocError>
+    ensures { IfOk result (Takes show_word) }
+{
+    let program = value_option(
+        alloc,
+        "program",
+        "FILE",
+        "The program text (Instruction List); where none is given the log is run with none",
+    );
+    let command = Command::new(alloc, "show")
+        .about("Run a log, and write a picture of it (SVG)")
+        .arg(plate_option(alloc))?
+        .arg(program)?
+        .arg(log_option(alloc))?
         .arg(message_option(alloc))?;
     Ok(command)
 }
@@ -321,6 +368,7 @@ fn command<'a>(alloc: Global) -> Result<Command<'a>, AllocError>
         .subcommand(check_command(alloc)?)?
         .subcommand(run_command(alloc)?)?
         .subcommand(trace_command(alloc)?)?
+        .subcommand(show_command(alloc)?)?
         .subcommand(line_command(alloc)?)?
         .subcommand(decode_command(alloc)?)?
         .subcommand(explain_command(alloc)?)?;
@@ -337,7 +385,7 @@ fn file<'a>(matches: &ArgMatches<'a>, name: &str) -> &'a str
     }
 }
 
-/// The file behind an option that may be there.
+/// The file behind an option that may be there, or another text.
 fn optional_file<'a>(matches: &ArgMatches<'a>, name: &str) -> Option<&'a str>
     ensures { option_map (λ path. path.now) result
         ≡ first_of name.now (rows_of (found_of matches.now)) }
@@ -410,11 +458,17 @@ fn wanted_by<'a>(word: &str, matches: &ArgMatches<'a>) -> Wanted<'a>
             plate: file(matches, "plate"),
             files: program_files(matches),
             last: number(matches, "last"),
+            watch: optional_file(matches, "watch"),
         },
         "trace" => Wanted::Trace {
             plate: file(matches, "plate"),
             files: program_files(matches),
             chosen: chosen_scans(matches),
+        },
+        "show" => Wanted::Show {
+            plate: file(matches, "plate"),
+            program: optional_file(matches, "program"),
+            log: file(matches, "log"),
         },
         "decode" => Wanted::Decode {
             table: is_given(matches, "csv"),

@@ -6,7 +6,7 @@ use Rattle.wc_findings.specs.Showing.{IsLineOf, ShowsLine}
 use Rattle.wc_findings.specs.declared.finding.Finding.{Finding}
 use Rattle.wc_findings.specs.declared.finding.Spot.{Spot}
 use Rattle.wc_findings.specs.declared.refusal.Evidence.{Evidence}
-use Rattle.wc_findings.specs.declared.refusal.Evidence.TheVariants.{Nothing, Text, Row}
+use Rattle.wc_findings.specs.declared.refusal.Evidence.TheVariants.{Nothing, Text, Row, Names}
 use Rattle.wc_findings.specs.declared.refusal.Refusal.{Refusal}
 use Rattle.wc_model.specs.Run.Log.{Record}
 use Rattle.wc_record.specs.Told.{fields_told}
@@ -33,6 +33,11 @@ pub record FindsRow (number : ℕ) (fields : Record) (finding : Finding) : Type 
   pub shows : finding.shown.items ≡ shown_row fields
   pub meant : IfSome finding.spot (λ spot. (found : Spot) × MeansField number fields found × IsCutTo finding.shown.items found spot)
 
+-- what is found in the list of names at hand: the list
+pub record FindsName (list : List ℕ) (finding : Finding) : Type 0 where
+  pub line : finding.line ≡ 1
+  pub shows : finding.shown.items ≡ list
+
 -- nothing is found where nothing is at hand
 pub record FindsNothing (finding : Finding) : Type 0 where
   pub line : finding.line ≡ 0
@@ -44,6 +49,7 @@ abbrev pub FindsBy : Refusal → Evidence → Finding → Type 0
 FindsBy refusal Nothing finding = FindsNothing finding
 FindsBy refusal (Text text) finding = FindsIn refusal text.now finding
 FindsBy refusal (Row row) finding = FindsRow refusal.number (fields_told row.now) finding
+FindsBy refusal (Names list start length) finding = FindsName list.now finding
 
 pub record Finds (refusal : Refusal) (finding : Finding) : Type 0 where
   pub found : FindsBy refusal refusal.evidence finding

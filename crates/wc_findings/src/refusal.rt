@@ -24,6 +24,15 @@ pub enum Evidence<'a> {
     Text(&'a [u8]),
     /// The row of the log.
     Row(&'a RefusedRow),
+    /// A list of names on one line, of which no program has the one that stands there.
+    Names {
+        /// The list.
+        list: &'a [u8],
+        /// The first byte of the name, counted from 0.
+        start: usize,
+        /// How many bytes it has.
+        length: usize,
+    },
 }
 
 /// A refusal, and what is at hand to explain it.

@@ -1,5 +1,5 @@
 ghost use Rattle.std.specs.Prelude.{◌≡◌, ◌≤◌, ◌<◌, IfOk, IfSome, None, Some, [], length};
-ghost use Rattle.wc_findings.specs.Finds.{Finds, FindsIn, FindsRow, IsWithin};
+ghost use Rattle.wc_findings.specs.Finds.{Finds, FindsIn, FindsName, FindsRow, IsWithin};
 ghost use Rattle.wc_findings.specs.Meant.{HasLaterSpot, HasStop, IsKept};
 ghost use Rattle.wc_record.specs.Told.{fields_told};
 ghost use Rattle.wc_findings.specs.Showing.{ShowsLine, known_line, line_of_part, read_as};
@@ -155,6 +155,34 @@ fn find_text(alloc: Global, refusal: &Refusal<'_>, text: &[u8]) -> Result<Findin
     Ok(finding)
 }
 
+/// Says of the name at the front of a list that no program has it; nothing of one that is empty.
+fn tell_name(finding: &mut Finding, list: &[u8], length: usize) -> Result<(), AllocError> {
+    match list.split_at_checked(length) {
+        Some((name, _)) if !name.is_empty() => finding.tell(name, "is no variable of the program"),
+        _ => Ok(()),
+    }
+}
+
+/// What is wrong with a list of names: no program has the one that stands there.
+fn find_name(alloc: Global, list: &[u8], start: usize, length: usize) -> Result<Finding, AllocError>
+    ensures found { IfOk result (FindsName list.now) }
+    ensures within { IfOk result (λ finding. IsWithin finding) }
+{
+    let mut finding = Finding::new(alloc, 1);
+    if let Some((_, rest)) = list.split_at_checked(start) {
+        tell_name(&mut finding, rest, length)?;
+    }
+    finding.help = Some(
+        "name a variable, or a field behind its instance, as `t.ET`, with commas between",
+    );
+    finding.point(start, length);
+    finding.line = 1;
+    finding.shown.clear();
+    finding.shown.extend_from_slice(list)?;
+    keep_spot(&mut finding);
+    Ok(finding)
+}
+
 /// What exactly is wrong, as far as what is at hand tells it; nothing where nothing is. What is
 /// meant stands in the line that is shown, or at its end. The error is want of memory.
 pub fn find(alloc: Global, refusal: &Refusal<'_>) -> Result<Finding, AllocError>
@@ -163,6 +191,11 @@ pub fn find(alloc: Global, refusal: &Refusal<'_>) -> Result<Finding, AllocError>
     match refusal.evidence {
         Evidence::Text(text) => find_text(alloc, refusal, text),
         Evidence::Row(row) => find_row(alloc, refusal, row),
+        Evidence::Names {
+            list,
+            start,
+            length,
+        } => find_name(alloc, list, start, length),
         Evidence::Nothing => Ok(Finding::new(alloc, 0)),
     }
 }

@@ -12,3 +12,5 @@ mod pictures;
 mod runs;
 #[cfg(test)]
 mod traces;
+#[cfg(test)]
+mod watches;

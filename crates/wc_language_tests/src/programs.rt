@@ -4,7 +4,7 @@ ghost use Rattle.std.specs.Prelude.{◌≡◌};
 use crate::texts::loaded;
 use std::alloc::Global;
 use wc_machine::Machine;
-use wc_model::{Image, Outputs, Steps};
+use wc_model::{Image, Outputs, Place, Steps};
 use wc_store::{NamedStore, SlotStore, Store};
 
 /// The inputs, and a scale that shows nothing.
@@ -131,7 +131,10 @@ fn sees(machine: &mut Machine<'_, SlotStore>) -> bool {
     let steps = machine.scan(7, &seen);
     let outputs = machine.outputs();
     let right = outputs.bits == 3 && outputs.words == [5000, -5, 2147483647, 0];
-    right && steps == Steps(10) && machine.last() == 7
+    // The second output bit, the second word, and a place behind the last.
+    let bit = machine.number(Place(26)) == Some(1) && machine.number(Place(27)) == Some(0);
+    let word = machine.number(Place(42)) == Some(-5) && machine.number(Place(45)).is_none();
+    bit && word && right && steps == Steps(10) && machine.last() == 7
 }
 
 /// The same of the program's text.

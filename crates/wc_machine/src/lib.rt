@@ -15,6 +15,7 @@ mod operators;
 mod outputs;
 mod places;
 mod r_trig;
+mod reading;
 mod results;
 mod rs;
 mod seen;

@@ -1,10 +1,12 @@
-ghost use Rattle.std.specs.Prelude.{◌≡◌, ◌≤◌, ◌<◌, ℕ, IfErr, IfOk, IsOkUnless};
+ghost use Rattle.std.specs.Prelude.{◌≡◌, ◌≤◌, ◌<◌, ℕ, Some, IfErr, IfOk, IsOkUnless};
+ghost use Rattle.wc_flat.specs.Contents.{frame_of_text, number_in};
 ghost use Rattle.wc_machine.specs.Machines.{text_of, Leaves, StandsFor};
 ghost use Rattle.wc_machine.specs.Seeing.{IsSeen};
 ghost use Rattle.wc_model.specs.Language.Carried.{carried};
+ghost use Rattle.wc_model.specs.Language.Frames.{place_number};
 ghost use Rattle.wc_model.specs.Language.Paths.{IsProgramBound};
 ghost use Rattle.wc_model.specs.Language.Scans.{initial_of, outputs_of, scan_of};
-ghost use Rattle.wc_model.specs.Language.Store.{Store as Contents};
+ghost use Rattle.wc_model.specs.Language.Store.{Location, Store as Contents};
 ghost use Rattle.wc_model.specs.Language.Tree.{Text};
 ghost use Rattle.wc_model.specs.Language.Views.{text_view};
 
@@ -13,12 +15,13 @@ use crate::carry::carried_over;
 use crate::first::first_store;
 use crate::image::copy_image;
 use crate::outputs::outputs;
+use crate::reading::number_at;
 use crate::seen::{SeenLine, Sight};
 use crate::tracing::{Instance, run_seen};
 use std::alloc::Global;
 use std::marker::Model;
 use wc_cost::Loaded;
-use wc_model::{Fault, Image, Outputs, Steps};
+use wc_model::{Fault, Image, Outputs, Place, Steps};
 use wc_store::Store;
 
 /// A machine: a loaded text that is run scan by scan over a store of plain numbers.
@@ -165,6 +168,17 @@ impl<'a, S: Store> Machine<'a, S> {
             → result ≡ outputs_of store }
     {
         outputs(&self.store)
+    }
+
+    /// The number of what stands at a place of the program's frame: 0 or 1, a DINT, or milliseconds. There is none where the
+    /// frame has no such place.
+    pub fn number(&self, place: Place) -> Option<i64>
+        ensures { (text : Text) (store : Contents) (location : Location)
+            → StandsFor self.now text store
+            → place_number (frame_of_text text) location ≡ Some place.0
+            → result ≡ number_in store location }
+    {
+        number_at(&self.store, place)
     }
 
     /// The moment of the last scan in milliseconds, 0 before the first.

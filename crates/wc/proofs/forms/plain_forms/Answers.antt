@@ -1,4 +1,4 @@
-use Rattle.wc.proofs.Plain.{check_form, decode_form, explain_form, job_form, last_form, line_form, next_form, paths_form, plain, preview_form, run_form, table_form, trace_form}
+use Rattle.wc.proofs.Plain.{check_form, decode_form, drawn_form, explain_form, job_form, last_form, line_form, next_form, paths_form, plain, preview_form, run_form, show_form, table_form, trace_form, watch_form}
 use Rattle.wc.proofs.forms.plain_forms.Goals as goal
 
 pub returns : goal.returns
@@ -10,7 +10,10 @@ returns c = record {
   run = λ name p q l h i j. run_form name p q l (plain p h) (plain q i) (plain l j);
   last = last_form;
   next = next_form;
+  watch = watch_form;
   trace = trace_form;
+  show = show_form;
+  drawn = drawn_form;
   line = λ name p l h j. line_form name p l (plain p h) (plain l j);
   decode = decode_form;
   table = table_form;

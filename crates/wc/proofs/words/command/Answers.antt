@@ -20,6 +20,7 @@ returns c =
     let one = one_word _ _ _ _ _ c.in_ok-subcommand.ensures c.in_ok-check_command.ensures with_form in
     let two = one_word _ _ _ _ _ c.in_ok-subcommand-2.ensures c.in_ok-run_command.ensures one in
     let three = one_word _ _ _ _ _ c.in_ok-subcommand-3.ensures c.in_ok-trace_command.ensures two in
-    let four = one_word _ _ _ _ _ c.in_ok-subcommand-4.ensures c.in_ok-line_command.ensures three in
-    let five = one_word _ _ _ _ _ c.in_ok-subcommand-5.ensures c.in_ok-decode_command.ensures four in
-    (one_word _ _ _ _ _ c.in_ok-command.ensures c.in_ok-explain_command.ensures five).0
+    let four = one_word _ _ _ _ _ c.in_ok-subcommand-4.ensures c.in_ok-show_command.ensures three in
+    let five = one_word _ _ _ _ _ c.in_ok-subcommand-5.ensures c.in_ok-line_command.ensures four in
+    let six = one_word _ _ _ _ _ c.in_ok-subcommand-6.ensures c.in_ok-decode_command.ensures five in
+    (one_word _ _ _ _ _ c.in_ok-command.ensures c.in_ok-explain_command.ensures six).0

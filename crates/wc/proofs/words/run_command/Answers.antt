@@ -15,4 +15,5 @@ returns c =
     let three = one_option _ _ _ _ _ c.in_ok-arg-3.ensures c.next_option-next.ensures.rule c.next_option-next.ensures.local two in
     let four = one_option _ _ _ _ _ c.in_ok-arg-4.ensures c.log_option.ensures.rule c.log_option.ensures.local three in
     let five = one_option _ _ _ _ _ c.in_ok-arg-5.ensures c.last_option.ensures.rule c.last_option.ensures.local four in
-    one_option _ _ _ _ _ c.in_ok-command.ensures c.message_option.ensures.rule c.message_option.ensures.local five
+    let six = one_option _ _ _ _ _ c.in_ok-arg-6.ensures c.value_option-watch.ensures.rule c.value_option-watch.ensures.local five in
+    one_option _ _ _ _ _ c.in_ok-command.ensures c.message_option.ensures.rule c.message_option.ensures.local six

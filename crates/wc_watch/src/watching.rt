@@ -1,0 +1,210 @@
+ghost use Rattle.std.specs.Prelude.{◌≡◌, ◌≤◌, ◌+◌, length, IfErr, IfOk, IfSome, is_some};
+ghost use Rattle.wc_controller.specs.Blames.{Blames, RefusesLog, RefusesProgram};
+ghost use Rattle.wc_controller.specs.Endings.{IsAt, RefusesPlate};
+ghost use Rattle.wc_controller.specs.TakenLogs.{count_of, known_of, log_beside};
+ghost use Rattle.wc_job.specs.Reads.{TakesAtMost};
+ghost use Rattle.wc_model.specs.Run.JobSections.{longest_job};
+ghost use Rattle.wc_record.specs.Left.{HasCause};
+ghost use Rattle.wc_record.specs.Told.{fields_told};
+ghost use Rattle.wc_watch.specs.Ended.{IsEndedBy, IsFaulty};
+
+use crate::lines::Lines;
+use crate::names::{UnknownName, name_at};
+use crate::watcher::{WatchFault, Watcher};
+use crate::weaving::Weaving;
+use std::alloc::Global;
+use std::cell::RefCell;
+use wc_controller::{Ending, Input, RefusedRow, run_files};
+use wc_model::{ByteIn, ByteOut, write_whole};
+use wc_report::refused_line;
+
+/// How many lines wait at most, where so many of the last scans are shown, or each at once.
+fn lines_kept(last: Option<u16>) -> usize {
+    match last {
+        Some(last) => usize::from(last),
+        None => 1,
+    }
+}
+
+/// Runs a log, and writes the lines that the watcher makes behind those of their scans: how it ended, and whether each of them
+/// was written.
+fn run_woven<P: ByteIn, T: ByteIn, N: ByteIn, L: ByteIn, W: ByteOut, B: ByteOut>(
+    alloc: Global,
+    last: Option<u16>,
+    watcher: &mut Watcher<'_>,
+    lines: &RefCell<Lines>,
+    plate: &mut P,
+    program: &mut T,
+    next: &mut Option<N>,
+    log: &mut L,
+    writer: &mut W,
+    beside: &mut B,
+    told: &mut RefusedRow,
+) -> (Ending, bool)
+    requires few { IfSome last (λ n. (1 ≤ n) × (n ≤ 1000)) }
+    ensures blames_plate { Blames Input.Plate RefusesPlate (P.bytes_left plate.old) result.0 }
+    ensures blames_program { Blames Input.Program RefusesProgram
+        (T.bytes_left program.old) result.0 }
+    ensures blames_next { Blames Input.Next RefusesProgram (known_of N.bytes_left next.old)
+        result.0 }
+    ensures blames_log { Blames Input.Log
+        (RefusesLog (log_beside (is_some next.old)) (fields_told told.new))
+        (L.bytes_left log.old) result.0 }
+    ensures own { ¬ IsAt Input.Job result.0 }
+    ensures unread { IsAt Input.Next result.0
+        → L.spent_count log.new ≡ L.spent_count log.old }
+    ensures unread_behind_program { IsAt Input.Program result.0
+        → (count_of N.spent_count next.new ≡ count_of N.spent_count next.old)
+        × (L.spent_count log.new ≡ L.spent_count log.old) }
+    ensures unread_behind_plate { IsAt Input.Plate result.0
+        → (T.spent_count program.new ≡ T.spent_count program.old)
+        × (count_of N.spent_count next.new ≡ count_of N.spent_count next.old)
+        × (L.spent_count log.new ≡ L.spent_count log.old) }
+    ensures log { result.0 ≡ Ending.ReadFault Input.Log
+        → HasCause (L.failure_count log.old) (L.failure_count log.new)
+        (L.spent_count log.old) (L.spent_count log.new) }
+    ensures taken_plate { TakesAtMost (longest_job + 1) (P.bytes_left plate.old)
+        (P.bytes_left plate.new) }
+    ensures taken_program { TakesAtMost (longest_job + 1) (T.bytes_left program.old)
+        (T.bytes_left program.new) }
+    ensures taken_next { TakesAtMost (longest_job + 1) (known_of N.bytes_left next.old)
+        (known_of N.bytes_left next.new) }
+{
+    let mut weaving = Weaving::new(writer, beside, lines);
+    let ending = run_files(
+        alloc,
+        last,
+        watcher,
+        plate,
+        program,
+        next,
+        log,
+        &mut weaving,
+        told,
+    );
+    let has_failed = weaving.has_failed();
+    drop(weaving);
+    (ending, has_failed)
+}
+
+/// How a run ends whose variables are watched.
+fn end_watched(ending: Ending, fault: Option<WatchFault>, has_failed: bool) -> Ending
+    ensures { IsEndedBy ending result }
+{
+    if has_failed {
+        return Ending::WriteFault;
+    }
+    match fault {
+        Some(_) => Ending::NoMemory,
+        None => ending,
+    }
+}
+
+/// Writes the line of the refusal of a name.
+fn refuse<W: ByteOut>(
+    alloc: Global,
+    name: UnknownName,
+    writer: &mut W,
+) -> Result<Ending, UnknownName>
+    ensures faulty { IfOk result IsFaulty }
+    ensures name { IfErr result (λ unknown. unknown ≡ name) }
+{
+    let line = match refused_line(alloc, 401, 0) {
+        Ok(line) => line,
+        Err(_) => return Ok(Ending::NoMemory),
+    };
+    match write_whole(writer, &line) {
+        Ok(()) => Err(name),
+        Err(_) => Ok(Ending::WriteFault),
+    }
+}
+
+/// The number of the name that is unknown, where a run did not begin for that.
+fn unknown(fault: Option<WatchFault>) -> Option<usize> {
+    match fault {
+        Some(WatchFault::Unknown(index)) => Some(index),
+        _ => None,
+    }
+}
+
+/// Runs a log with a program as `run_files` does, and watches variables: for each scan's line of the report it writes a line
+/// beside it, at once or, with the last scans alone, behind theirs. It begins with `V` and the moment, and has each name with
+/// `=` and the value behind the scan, as the language writes it; the names are as they are spelled in the list, which has commas
+/// between them. A name is an address, or leads from the program through instances to a variable, with a dot behind each
+/// instance. Where a change of the program is possible a name may be that of a variable of the first or of the next program; a
+/// line has the names of the program that runs.
+///
+/// Who wants one text lends a writer and one beside it that share a device. A name that no program has is refused before the
+/// first row, and the line of the refusal is written. A write fault beside the report, and want of memory for its lines, are
+/// told when the log is run. No clause says what the lines have: `Machine::number` says which number stands at a place, and
+/// `Loaded::place` at which place a variable does.
+pub fn watch_files<P: ByteIn, T: ByteIn, N: ByteIn, L: ByteIn, W: ByteOut, B: ByteOut>(
+    alloc: Global,
+    names: &[u8],
+    last: Option<u16>,
+    plate: &mut P,
+    program: &mut T,
+    next: &mut Option<N>,
+    log: &mut L,
+    writer: &mut W,
+    beside: &mut B,
+    told: &mut RefusedRow,
+) -> Result<Ending, UnknownName>
+    requires few { IfSome last (λ n. (1 ≤ n) × (n ≤ 1000)) }
+    // A name is refused before the log is read.
+    ensures unknown { IfErr result (λ name. (name.start + name.length ≤ length names.now)
+        × (L.spent_count log.new ≡ L.spent_count log.old)) }
+    // The input that a refusal names is the one that breaks the rule.
+    ensures blames_plate { IfOk result (λ ending. Blames Input.Plate RefusesPlate (P.bytes_left plate.old) ending) }
+    ensures blames_program { IfOk result (λ ending. Blames Input.Program RefusesProgram
+        (T.bytes_left program.old) ending) }
+    ensures blames_next { IfOk result (λ ending. Blames Input.Next RefusesProgram (known_of N.bytes_left next.old)
+        ending) }
+    ensures blames_log { IfOk result (λ ending. Blames Input.Log
+        (RefusesLog (log_beside (is_some next.old)) (fields_told told.new))
+        (L.bytes_left log.old) ending) }
+    // A run has no job: what it names is one of its inputs.
+    ensures own { IfOk result (λ ending. ¬ IsAt Input.Job ending) }
+    ensures unread { IfOk result (λ ending. IsAt Input.Next ending
+        → L.spent_count log.new ≡ L.spent_count log.old) }
+    ensures unread_behind_program { IfOk result (λ ending. IsAt Input.Program ending
+        → (count_of N.spent_count next.new ≡ count_of N.spent_count next.old)
+        × (L.spent_count log.new ≡ L.spent_count log.old)) }
+    ensures unread_behind_plate { IfOk result (λ ending. IsAt Input.Plate ending
+        → (T.spent_count program.new ≡ T.spent_count program.old)
+        × (count_of N.spent_count next.new ≡ count_of N.spent_count next.old)
+        × (L.spent_count log.new ≡ L.spent_count log.old)) }
+    ensures log { IfOk result (λ ending. ending ≡ Ending.ReadFault Input.Log
+        → HasCause (L.failure_count log.old) (L.failure_count log.new)
+        (L.spent_count log.old) (L.spent_count log.new)) }
+    // It reads no further than the byte that makes a plate or a program too long.
+    ensures taken_plate { TakesAtMost (longest_job + 1) (P.bytes_left plate.old)
+        (P.bytes_left plate.new) }
+    ensures taken_program { TakesAtMost (longest_job + 1) (T.bytes_left program.old)
+        (T.bytes_left program.new) }
+    ensures taken_next { TakesAtMost (longest_job + 1) (known_of N.bytes_left next.old)
+        (known_of N.bytes_left next.new) }
+{
+    let lines = RefCell::new(Lines::new(alloc));
+    let mut watcher = Watcher::new(alloc, names, &lines, lines_kept(last), next.is_some());
+    let before = log.spent();
+    let (ending, has_failed) = run_woven(
+        alloc,
+        last,
+        &mut watcher,
+        &lines,
+        plate,
+        program,
+        next,
+        log,
+        writer,
+        beside,
+        told,
+    );
+    let fault = watcher.fault();
+    drop(watcher);
+    match unknown(fault) {
+        Some(index) if log.spent() == before => refuse(alloc, name_at(names, index), writer),
+        _ => Ok(end_watched(ending, fault, has_failed)),
+    }
+}
