@@ -24,8 +24,8 @@ fn mode_text(mode: u8) -> &'static str {
     }
 }
 
-/// The unit by the first letter of its field.
-fn unit_text(letter: u8) -> &'static str {
+/// The unit whose first letter it is.
+pub(crate) fn unit_text(letter: u8) -> &'static str {
     match letter {
         b'k' => "kg",
         b't' => "t",

@@ -26,10 +26,7 @@ fn put_weight(out: &mut String, view: &View<'_>, units: i64) -> Result<(), Alloc
 fn put_weights(out: &mut String, view: &View<'_>) -> Result<(), AllocError> {
     let (low, high) = view.edges();
     let step = round_step(high.abs_diff(low), 7).min(1 << 40) as i64;
-    let first = match low.checked_div(step) {
-        Some(count) => count.saturating_mul(step),
-        None => 0,
-    };
+    let first = low.checked_div(step).unwrap_or(0).saturating_mul(step);
     for count in 0..12 {
         let weight = step.saturating_mul(count).saturating_add(first);
         if weight <= high {
@@ -83,10 +80,11 @@ fn put_moment(
 /// Puts the round moments.
 fn put_moments(out: &mut String, view: &View<'_>, bottom: u64) -> Result<(), AllocError> {
     let step = time_step(view.time(), 6);
-    let first = match view.start.checked_div(step) {
-        Some(count) => count.saturating_mul(step),
-        None => 0,
-    };
+    let first = view
+        .start
+        .checked_div(step)
+        .unwrap_or(0)
+        .saturating_mul(step);
     let end = view.start.saturating_add(view.time());
     for count in 0..12 {
         let ms = step.saturating_mul(count).saturating_add(first);

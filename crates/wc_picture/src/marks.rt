@@ -61,43 +61,47 @@ fn is_marked(events: &Events) -> bool {
         || events.changes != 0
 }
 
-/// Whether all of it was refused.
-fn is_refused(events: &Events) -> bool {
-    events.zeros == 0 && events.tares == 0 && events.clears == 0 && events.changes == 0
-}
-
 /// Puts the mark of a column over the height of the curves, with its letters at a height above.
 fn put_mark(
     out: &mut String,
     view: &View<'_>,
     index: usize,
     events: &Events,
-    y: u64,
+    y: Option<u64>,
 ) -> Result<(), AllocError> {
     let (letters, words) = (Letters(*events), Words(*events));
-    let (moment, x, y) = (Moment(view.moment(index)), Tenths(view.x(index)), Tenths(y));
+    let (moment, x) = (Moment(view.moment(index)), Tenths(view.x(index)));
     let (top, base) = (Tenths(TOP), Tenths(TOP + HEIGHT));
-    let look = if is_refused(events) {
-        "refused"
-    } else {
-        "mark"
+    let look = match (events.zeros, events.tares, events.clears, events.changes) {
+        (0, 0, 0, 0) => "refused",
+        _ => "mark",
     };
     write!(out, "<g class=\"{look}\"><title>{moment}{words}</title>")?;
     write!(out, "<path d=\"M{x} {base}V{top}\"/>")?;
-    write!(out, "<text x=\"{x}\" y=\"{y}\">{letters}</text></g>\n")
+    if let Some(y) = y {
+        let y = Tenths(y);
+        write!(out, "<text x=\"{x}\" y=\"{y}\">{letters}</text>")?;
+    }
+    out.push_str("</g>\n")
 }
 
-/// Puts the marks of zero, tare and program; letters that stand close go up by a line.
+/// Puts the marks of zero, tare and program; letters that stand close go up by a line, or have no room.
 pub(crate) fn put_marks(out: &mut String, view: &View<'_>) -> Result<(), AllocError> {
-    let mut free = 0_u64;
-    let mut is_raised = false;
+    let (mut low, mut high) = (0_u64, 0_u64);
     for (index, column) in view.columns.iter().enumerate() {
         if is_marked(&column.events) {
             let x = view.x(index);
-            is_raised = x < free && !is_raised;
-            let y = if is_raised { TOP - 170 } else { TOP - 50 };
+            let next = x.saturating_add(200);
+            let y = if low <= x {
+                low = next;
+                Some(TOP - 50)
+            } else if high <= x {
+                high = next;
+                Some(TOP - 170)
+            } else {
+                None
+            };
             put_mark(out, view, index, &column.events, y)?;
-            free = x.saturating_add(200);
         }
     }
     Ok(())

@@ -21,7 +21,7 @@ pub(crate) struct Picture {
     outputs: Outputs,
     /// The steps of the last scan; none where no program does any.
     steps: Option<u32>,
-    /// The greatest bound of its programs, in steps.
+    /// The bound of its program, in steps.
     bound: u32,
     tracker: Tracker,
     rows: u32,
@@ -99,7 +99,7 @@ impl Scanner for Picture {
         let record = Unwatched.scan(ms, image, machine);
         self.outputs = record.outputs;
         self.steps = Some(record.steps);
-        self.bound = self.bound.max(machine.bound());
+        self.bound = machine.bound();
         record
     }
 

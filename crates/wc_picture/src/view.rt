@@ -1,3 +1,4 @@
+use crate::answers::unit_text;
 use wc_columns::{Column, Span, join};
 use wc_plate::Plate;
 
@@ -28,15 +29,10 @@ impl Scale {
                 unit: "",
             };
         };
-        let unit = match plate.unit()[0] {
-            b'k' => "kg",
-            b't' => "t",
-            _ => "g",
-        };
         Scale {
             max: i64::from(plate.max()),
             decimals: plate.decimals().unsigned_abs(),
-            unit,
+            unit: unit_text(plate.unit()[0]),
         }
     }
 }
