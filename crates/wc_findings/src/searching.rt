@@ -164,12 +164,7 @@ fn tell_name(finding: &mut Finding, list: &[u8], length: usize) -> Result<(), Al
 }
 
 /// What is wrong with a list of names: no program has the one that stands there.
-fn find_name(
-    alloc: Global,
-    list: &[u8],
-    start: usize,
-    length: usize,
-) -> Result<Finding, AllocError>
+fn find_name(alloc: Global, list: &[u8], start: usize, length: usize) -> Result<Finding, AllocError>
     ensures found { IfOk result (FindsName list.now) }
     ensures within { IfOk result (λ finding. IsWithin finding) }
 {
@@ -177,7 +172,9 @@ fn find_name(
     if let Some((_, rest)) = list.split_at_checked(start) {
         tell_name(&mut finding, rest, length)?;
     }
-    finding.help = Some("name a variable, or a field behind its instance, as `t.ET`, with commas between");
+    finding.help = Some(
+        "name a variable, or a field behind its instance, as `t.ET`, with commas between",
+    );
     finding.point(start, length);
     finding.line = 1;
     finding.shown.clear();

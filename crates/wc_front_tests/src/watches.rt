@@ -6,7 +6,8 @@ use wc_model::{Device, FuseIn};
 use wc_watch::{UnknownName, watch_files};
 
 /// It counts scans.
-const COUNTING: &[u8] = b"PROGRAM P\nVAR n : DINT; t : TON; END_VAR\nLD n\nADD 1\nST n\nCAL t(IN := TRUE, PT := T#1ms)\nEND_PROGRAM\n";
+const COUNTING: &[u8] =
+    b"PROGRAM P\nVAR n : DINT; t : TON; END_VAR\nLD n\nADD 1\nST n\nCAL t(IN := TRUE, PT := T#1ms)\nEND_PROGRAM\n";
 
 /// How a run of the program ends whose variables are watched.
 fn watched(
@@ -17,7 +18,11 @@ fn watched(
     lines: &mut Vec<u8>,
 ) -> Result<Ending, UnknownName> {
     let mut next: Option<FuseIn<'_>> = None;
-    let last = if last < 1 || last > 1000 { None } else { Some(last) };
+    let last = if last < 1 || last > 1000 {
+        None
+    } else {
+        Some(last)
+    };
     watch_files(
         alloc,
         names,
@@ -41,9 +46,18 @@ fn shows(alloc: Global, last: u16, wanted: &[u8]) -> bool {
 
 #[test]
 fn variables_are_shown_behind_each_scan(rt: HostRuntime) {
-    assert!(rt; shows(rt.alloc(), 0, b"V 0 N=1 t.et=T#0ms %IX0.0=TRUE\nV 2 N=2 t.et=T#1ms %IX0.0=TRUE\n"));
+    assert!(rt;
+        shows(
+            rt.alloc(),
+            0,
+            b"V 0 N=1 t.et=T#0ms %IX0.0=TRUE\nV 2 N=2 t.et=T#1ms %IX0.0=TRUE\n"
+        )
+    );
     assert!(rt; shows(rt.alloc(), 1, b"V 2 N=2 t.et=T#1ms %IX0.0=TRUE\n"));
 }
+
+/// How the refusal of a name is told.
+const REFUSED: &[u8] = b"refused 401 0\n";
 
 /// What a timer keeps for itself is refused by its place in the list.
 fn is_refused(alloc: Global) -> bool {
@@ -53,7 +67,7 @@ fn is_refused(alloc: Global) -> bool {
         start: 2,
         length: 5,
     };
-    found == Err(unknown) && report.as_slice() == b"refused 401 0\n" && lines.is_empty()
+    found == Err(unknown) && report.as_slice() == REFUSED && lines.is_empty()
 }
 
 #[test]
