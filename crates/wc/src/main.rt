@@ -16,8 +16,8 @@ mod words;
 use clap::Error;
 use clap::error::ErrorKind;
 use commands::{
-    check_words, decode_words, line_words, preview_words, run_job, run_words, show_words, trace_words,
-    watch_words,
+    check_words, decode_words, line_words, preview_words, run_job, run_words, show_words,
+    trace_words, watch_words,
 };
 use explaining::explain;
 use std::fs::File;

@@ -5,6 +5,7 @@
 mod bits;
 mod columns;
 mod events;
+mod lanes;
 mod requests;
 mod span;
 mod state;
@@ -13,6 +14,7 @@ mod time_line;
 pub use bits::{Bits, Level};
 pub use columns::Column;
 pub use events::{Events, Request};
+pub use lanes::{Lane, lanes_of, whole};
 pub use requests::Tracker;
 pub use span::{Span, join};
 pub use state::State;

@@ -55,17 +55,7 @@ fn line_inputs<V: Scanner, P: ByteIn, L: ByteIn, W: ByteOut>(
         Ok(plate) => plate,
         Err(stopped) => return Err(stopped),
     };
-    match run_telling(
-        alloc,
-        None,
-        scanner,
-        &plate,
-        None,
-        None,
-        log,
-        writer,
-        told,
-    ) {
+    match run_telling(alloc, None, scanner, &plate, None, None, log, writer, told) {
         Ok(_) => Ok(()),
         Err(fault) => Err(Stopped {
             input: Input::Log,

@@ -1,4 +1,4 @@
-use crate::numbers::{Moment, Tenths, Weight, round_step, time_step};
+use crate::numbers::{Tenths, Tick, Weight, round_step, time_step};
 use crate::view::{HEIGHT, LEFT, TOP, View, WIDTH};
 use std::alloc::AllocError;
 use std::fmt::Write;
@@ -45,19 +45,32 @@ fn put_limits(out: &mut String, view: &View<'_>) -> Result<(), AllocError> {
     if view.scale.unit.is_empty() {
         return Ok(());
     }
-    put_line(out, view, "max", view.scale.max)?;
+    let is_seen = view.scale.max <= view.edges().1;
+    if is_seen {
+        put_line(out, view, "max", view.scale.max)?;
+    }
     let y = Tenths(view.y(view.scale.max).saturating_add(40));
+    let above = if is_seen { "" } else { ", above" };
     let unit = view.scale.unit;
     let max = Weight {
         units: view.scale.max,
         decimals: view.scale.decimals,
     };
-    write!(out, "<text x=\"858\" y=\"{y}\">Max {max} {unit}</text>\n")
+    write!(
+        out,
+        "<text x=\"858\" y=\"{y}\">Max {max} {unit}{above}</text>\n"
+    )
 }
 
 /// Puts a line at a round moment down to the bottom, and the moment below it.
-fn put_moment(out: &mut String, view: &View<'_>, ms: u64, bottom: u64) -> Result<(), AllocError> {
-    let moment = Moment(ms);
+fn put_moment(
+    out: &mut String,
+    view: &View<'_>,
+    ms: u64,
+    step: u64,
+    bottom: u64,
+) -> Result<(), AllocError> {
+    let moment = Tick { ms, step };
     let (x, top) = (Tenths(view.x_at(ms)), Tenths(TOP));
     let (base, y) = (Tenths(bottom), Tenths(bottom.saturating_add(140)));
     write!(out, "<path class=\"grid\" d=\"M{x} {base}V{top}\"/>\n")?;
@@ -69,7 +82,7 @@ fn put_moment(out: &mut String, view: &View<'_>, ms: u64, bottom: u64) -> Result
 
 /// Puts the round moments.
 fn put_moments(out: &mut String, view: &View<'_>, bottom: u64) -> Result<(), AllocError> {
-    let step = time_step(view.time(), 8);
+    let step = time_step(view.time(), 6);
     let first = match view.start.checked_div(step) {
         Some(count) => count.saturating_mul(step),
         None => 0,
@@ -78,7 +91,7 @@ fn put_moments(out: &mut String, view: &View<'_>, bottom: u64) -> Result<(), All
     for count in 0..12 {
         let ms = step.saturating_mul(count).saturating_add(first);
         if view.start <= ms && ms <= end {
-            put_moment(out, view, ms, bottom)?;
+            put_moment(out, view, ms, step, bottom)?;
         }
     }
     Ok(())

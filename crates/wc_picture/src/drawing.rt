@@ -1,7 +1,6 @@
 use crate::axes::put_axes;
 use crate::curves::{Curve, Range, put_curve};
 use crate::lane_rows::{bottom_of, put_lanes, put_levels};
-use crate::lanes::{Lane, lanes_of, whole};
 use crate::marks::put_marks;
 use crate::numbers::Moment;
 use crate::readings::put_readings;
@@ -9,7 +8,7 @@ use crate::style::STYLE;
 use crate::view::{HEIGHT, TOP, View};
 use std::alloc::{AllocError, Global};
 use std::fmt::Write;
-use wc_columns::Column;
+use wc_columns::{Column, Lane, lanes_of, whole};
 
 /// Puts what stands before all that is drawn.
 fn put_head(out: &mut String, bottom: u64) -> Result<(), AllocError> {
@@ -32,9 +31,10 @@ fn put_heading(
 ) -> Result<(), AllocError> {
     let (scans, requests) = (all.events.scans, all.events.requests);
     let (start, width) = (Moment(view.start), Moment(view.width));
+    let noun = if requests == 1 { "request" } else { "requests" };
     write!(
         out,
-        "<text class=\"heading\" x=\"130\" y=\"26\">{rows} rows from {start} on: {scans} scans, {requests} requests</text>\n"
+        "<text class=\"heading\" x=\"130\" y=\"26\">{rows} rows from {start} on: {scans} scans, {requests} {noun}</text>\n"
     )?;
     write!(
         out,
@@ -123,7 +123,7 @@ pub(crate) fn draw(
     refusal: Option<(u16, u32)>,
 ) -> Result<String, AllocError> {
     let mut out = String::new(alloc);
-    match whole(view) {
+    match whole(view.columns) {
         Some(all) => put_rows(alloc, &mut out, view, rows, &all, refusal)?,
         None => {
             let bottom = bottom_of(&[]);

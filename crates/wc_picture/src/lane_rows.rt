@@ -1,11 +1,10 @@
 use crate::curves::{Curve, Range, put_curve};
-use crate::lanes::Lane;
 use crate::numbers::Tenths;
 use crate::request_marks::put_requests;
 use crate::view::{HEIGHT, LEFT, TOP, View, WIDTH, part};
 use std::alloc::AllocError;
 use std::fmt::Write;
-use wc_columns::{Column, Level};
+use wc_columns::{Column, Lane, Level};
 
 /// The room between two lanes, in tenths.
 const GAP: u64 = 60;
@@ -13,11 +12,20 @@ const GAP: u64 = 60;
 /// Where the first lane begins, in tenths.
 const FIRST: u64 = TOP + HEIGHT + 120;
 
+/// The height of a lane in tenths, without the gap below it.
+fn height(lane: Lane) -> u64 {
+    match lane {
+        Lane::Word(_) | Lane::Scans => 400,
+        Lane::Requests => 240,
+        _ => 120,
+    }
+}
+
 /// Where the lanes end, in tenths.
 pub(crate) fn bottom_of(lanes: &[Lane]) -> u64 {
     let mut bottom = FIRST;
     for lane in lanes {
-        bottom = bottom.saturating_add(lane.height()).saturating_add(GAP);
+        bottom = bottom.saturating_add(height(*lane)).saturating_add(GAP);
     }
     bottom
 }
@@ -69,7 +77,7 @@ fn look(lane: Lane) -> &'static str {
 fn put_flat(out: &mut String, view: &View<'_>, lane: Lane, top: u64) -> Result<(), AllocError> {
     let look = look(lane);
     write!(out, "<path class=\"{look}\" d=\"")?;
-    put_levels(out, view, lane, top, lane.height())?;
+    put_levels(out, view, lane, top, height(lane))?;
     out.push_str("\"/>\n")
 }
 
@@ -93,7 +101,7 @@ fn put_word(
     let (least, greatest) = (span.least, span.greatest);
     let range = Range {
         top,
-        height: Lane::Word(number).height(),
+        height: height(Lane::Word(number)),
         low: i64::from(least),
         high: i64::from(greatest),
     };
@@ -124,7 +132,7 @@ fn put_bars(out: &mut String, view: &View<'_>, top: u64, height: u64) -> Result<
 /// Puts the lane of the scans.
 fn put_scans(out: &mut String, view: &View<'_>, all: &Column, top: u64) -> Result<(), AllocError> {
     out.push_str("<path class=\"full\" d=\"")?;
-    put_bars(out, view, top, Lane::Scans.height())?;
+    put_bars(out, view, top, height(Lane::Scans))?;
     let (left, right, y) = (Tenths(LEFT), Tenths(LEFT + WIDTH), Tenths(top));
     write!(
         out,
@@ -137,8 +145,8 @@ fn put_scans(out: &mut String, view: &View<'_>, all: &Column, top: u64) -> Resul
 
 /// Puts a lane's name, and the line on which it stands.
 fn put_name(out: &mut String, lane: Lane, top: u64) -> Result<(), AllocError> {
-    let bottom = top.saturating_add(lane.height());
-    let middle = Tenths(top.saturating_add(lane.height() / 2).saturating_add(40));
+    let bottom = top.saturating_add(height(lane));
+    let middle = Tenths(top.saturating_add(height(lane) / 2).saturating_add(40));
     let (left, right, base) = (Tenths(LEFT), Tenths(LEFT + WIDTH), Tenths(bottom));
     write!(
         out,
@@ -157,7 +165,7 @@ fn put_lane(
 ) -> Result<(), AllocError> {
     put_name(out, lane, top)?;
     match lane {
-        Lane::Requests => put_requests(out, view, top, lane.height()),
+        Lane::Requests => put_requests(out, view, top, height(lane)),
         Lane::Word(number) => put_word(out, view, all, number, top),
         Lane::Scans => put_scans(out, view, all, top),
         _ => put_flat(out, view, lane, top),
@@ -176,7 +184,7 @@ pub(crate) fn put_lanes(
         write!(out, "<g id=\"{lane}\">\n")?;
         put_lane(out, view, all, *lane, top)?;
         out.push_str("</g>\n")?;
-        top = top.saturating_add(lane.height()).saturating_add(GAP);
+        top = top.saturating_add(height(*lane)).saturating_add(GAP);
     }
     Ok(())
 }

@@ -6,7 +6,6 @@ mod axes;
 mod curves;
 mod drawing;
 mod lane_rows;
-mod lanes;
 mod marks;
 mod numbers;
 mod picture;

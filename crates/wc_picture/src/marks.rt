@@ -76,7 +76,7 @@ fn put_mark(
 ) -> Result<(), AllocError> {
     let (letters, words) = (Letters(*events), Words(*events));
     let (moment, x, y) = (Moment(view.moment(index)), Tenths(view.x(index)), Tenths(y));
-    let (top, base) = (Tenths(TOP - 20), Tenths(TOP + HEIGHT));
+    let (top, base) = (Tenths(TOP), Tenths(TOP + HEIGHT));
     let look = if is_refused(events) {
         "refused"
     } else {
@@ -95,7 +95,7 @@ pub(crate) fn put_marks(out: &mut String, view: &View<'_>) -> Result<(), AllocEr
         if is_marked(&column.events) {
             let x = view.x(index);
             is_raised = x < free && !is_raised;
-            let y = if is_raised { TOP - 150 } else { TOP - 40 };
+            let y = if is_raised { TOP - 170 } else { TOP - 50 };
             put_mark(out, view, index, &column.events, y)?;
             free = x.saturating_add(200);
         }

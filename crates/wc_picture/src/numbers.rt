@@ -55,6 +55,26 @@ impl fmt::Display for Moment {
     }
 }
 
+/// A moment on an axis, in the unit of the axis's steps.
+#[derive(Clone, Copy)]
+pub(crate) struct Tick {
+    pub(crate) ms: u64,
+    pub(crate) step: u64,
+}
+
+impl fmt::Display for Tick {
+    fn fmt<W: fmt::Write>(&self, f: &mut fmt::Formatter<W>) -> fmt::Result {
+        let ms = self.ms;
+        let (seconds, minutes, hours) = (ms / 1000, ms / 60_000, ms / 3_600_000);
+        match self.step {
+            0..1000 => write!(f, "{ms} ms"),
+            1000..60_000 => write!(f, "{seconds} s"),
+            60_000..3_600_000 => write!(f, "{minutes} min"),
+            _ => write!(f, "{hours} h"),
+        }
+    }
+}
+
 /// The least of 1, 2, 5, 10, 20 and so on of which at most so many are a range.
 pub(crate) fn round_step(range: u64, most: u64) -> u64 {
     let mut power = 1_u64;

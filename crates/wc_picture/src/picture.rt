@@ -19,8 +19,8 @@ pub(crate) struct Picture {
     plate: Option<Plate>,
     inputs: u16,
     outputs: Outputs,
-    /// The steps of the scan of this row.
-    steps: u32,
+    /// The steps of the last scan; none where no program does any.
+    steps: Option<u32>,
     /// The greatest bound of its programs, in steps.
     bound: u32,
     tracker: Tracker,
@@ -40,7 +40,7 @@ impl Picture {
                 bits: 0,
                 words: [0; 4],
             },
-            steps: 0,
+            steps: None,
             bound: 0,
             tracker: Tracker::new(),
             rows: 0,
@@ -54,7 +54,11 @@ impl Picture {
         match row.kind {
             RowKind::Bytes => return self.tracker.follow(row.ms, bytes, answers),
             RowKind::Inputs(inputs) => self.inputs = inputs,
-            RowKind::Scan => events.scan(self.steps),
+            RowKind::Scan => {
+                if let Some(steps) = self.steps {
+                    events.scan(steps);
+                }
+            }
             RowKind::Change => events.changes = 1,
             RowKind::Counts(_) => {}
         }
@@ -94,7 +98,7 @@ impl Scanner for Picture {
     fn scan(&mut self, ms: u64, image: &Image, machine: &mut Machine<'_, SlotStore>) -> Record {
         let record = Unwatched.scan(ms, image, machine);
         self.outputs = record.outputs;
-        self.steps = record.steps;
+        self.steps = Some(record.steps);
         self.bound = self.bound.max(machine.bound());
         record
     }

@@ -22,7 +22,7 @@ fn put_request(
     };
     let (x, base) = (Tenths(x), Tenths(top.saturating_add(height)));
     let middle = top.saturating_add(height / 2);
-    let (middle, foot) = (Tenths(middle.saturating_add(20)), Tenths(middle));
+    let (middle, foot) = (Tenths(middle.saturating_add(45)), Tenths(middle));
     out.push_str("<g class=\"request\"><title>")?;
     if events.requests > 1 {
         let requests = events.requests;

@@ -56,6 +56,15 @@ pub(crate) struct View<'p> {
     high: i64,
 }
 
+/// The upper edge for weights up to one: Max or more, and less where they are all below a third of it.
+fn upper_edge(greatest: i64, max: i64) -> i64 {
+    if greatest.saturating_mul(3) < max && max < greatest.saturating_mul(100) {
+        greatest
+    } else {
+        greatest.max(max)
+    }
+}
+
 /// The weights of some columns.
 fn weights(columns: &[Column]) -> Option<Span> {
     let mut all = None;
@@ -67,14 +76,11 @@ fn weights(columns: &[Column]) -> Option<Span> {
 
 /// The part of a length that so much of a whole is.
 pub(crate) fn part(length: u64, some: u64, whole: u64) -> u64 {
-    match length.saturating_mul(some).checked_div(whole) {
-        Some(part) => part,
-        None => 0,
-    }
+    length.saturating_mul(some).checked_div(whole).unwrap_or(0)
 }
 
 impl<'p> View<'p> {
-    /// A view with room for all weights, zero and Max, and a little more.
+    /// A view with room for all weights and zero, for Max where it is not far above, and a little more.
     pub(crate) fn new(
         columns: &'p [Column],
         start: u64,
@@ -87,7 +93,7 @@ impl<'p> View<'p> {
             None => (0, 0),
         };
         let low = least.min(0);
-        let high = greatest.max(scale.max);
+        let high = upper_edge(greatest, scale.max);
         let room = high.saturating_sub(low) / 20;
         View {
             columns,

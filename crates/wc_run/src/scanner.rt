@@ -3,8 +3,8 @@ ghost use Rattle.wc_run.specs.Taking.{RecordsScan, TakesScan};
 
 use crate::scans::scan_record;
 use wc_cost::Loaded;
-use wc_machine::Machine;
 use wc_indicator::Indicator;
+use wc_machine::Machine;
 use wc_model::Image;
 use wc_record::{Record, Row};
 use wc_store::SlotStore;

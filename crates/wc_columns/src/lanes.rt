@@ -1,11 +1,11 @@
-use crate::view::View;
+use crate::bits::Level;
+use crate::columns::Column;
 use std::alloc::{AllocError, Global};
 use std::fmt;
-use wc_columns::{Column, Level};
 
-/// A row of the picture below the curves.
+/// What is shown of columns beside their weights, and its name.
 #[derive(Clone, Copy)]
-pub(crate) enum Lane {
+pub enum Lane {
     Motion,
     Over,
     Under,
@@ -42,17 +42,8 @@ fn level_of(is_so: bool) -> Level {
 }
 
 impl Lane {
-    /// Its height in tenths, without the gap below it.
-    pub(crate) fn height(self) -> u64 {
-        match self {
-            Lane::Word(_) | Lane::Scans => 400,
-            Lane::Requests => 240,
-            _ => 120,
-        }
-    }
-
     /// How it stands in a column, where it has two values.
-    pub(crate) fn level(self, column: &Column) -> Level {
+    pub fn level(self, column: &Column) -> Level {
         match self {
             Lane::Motion => level_of(column.state.motion),
             Lane::Over => level_of(column.state.over),
@@ -83,9 +74,9 @@ impl Lane {
 }
 
 /// All columns as one.
-pub(crate) fn whole(view: &View<'_>) -> Option<Column> {
+pub fn whole(columns: &[Column]) -> Option<Column> {
     let mut all: Option<Column> = None;
-    for column in view.columns {
+    for column in columns {
         all = match all {
             Some(all) => Some(all.joined(column)),
             None => Some(*column),
@@ -103,7 +94,7 @@ fn add(lanes: &mut Vec<Lane>, all: &Column, lane: Lane) -> Result<(), AllocError
 }
 
 /// The lanes in which something is to be seen, from above.
-pub(crate) fn lanes_of(alloc: Global, all: &Column) -> Result<Vec<Lane>, AllocError> {
+pub fn lanes_of(alloc: Global, all: &Column) -> Result<Vec<Lane>, AllocError> {
     let mut lanes = Vec::new(alloc);
     for lane in [Lane::Motion, Lane::Over, Lane::Under, Lane::Invalid] {
         add(&mut lanes, all, lane)?;
