@@ -56,6 +56,9 @@ fn variables_are_shown_behind_each_scan(rt: HostRuntime) {
     assert!(rt; shows(rt.alloc(), 1, b"V 2 N=2 t.et=T#1ms %IX0.0=TRUE\n"));
 }
 
+/// How the refusal of a name is told.
+const REFUSED: &[u8] = b"refused 401 0\n";
+
 /// What a timer keeps for itself is refused by its place in the list.
 fn is_refused(alloc: Global) -> bool {
     let (mut report, mut lines) = (Vec::new(alloc), Vec::new(alloc));
@@ -64,7 +67,7 @@ fn is_refused(alloc: Global) -> bool {
         start: 2,
         length: 5,
     };
-    found == Err(unknown) && report.as_slice() == b"refused 401 0\n" && lines.is_empty()
+    found == Err(unknown) && report.as_slice() == REFUSED && lines.is_empty()
 }
 
 #[test]
