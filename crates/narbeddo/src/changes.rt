@@ -5,7 +5,7 @@ ghost use Rattle.wc_scale.specs.contracts.scale.Scale.{the_row};
 ghost use Rattle.std.specs.Prelude.{◌≡◌};
 ghost use Rattle.wc_scale.specs.Calls.{RefusesOpen, TakesOpen};
 ghost use Rattle.wc_scale.specs.Programs.{RefusesChange, RefusesLoad, TakesChange, TakesLoad};
-ghost use Rattle.wc_scale.specs.Standing.{IsClosed};
+ghost use Rattle.wc_scale.specs.Standing.{IsEmptied};
 
 use wc_scale::{Refusal, Scale};
 
@@ -26,7 +26,7 @@ pub unsafe extern "C" fn narbeddo_close(scale: *mut u8) -> u32
     ghost before: { Scale }
     requires* { sem 𝓛 (lies_at the_row full_share scale before) }
     ensures* { ∃ₛ (λ (after : Scale). sem 𝓛 (lies_at the_row full_share scale after)
-        ∗ ⌜ (result ≡ 0) × (IsClosed after) ⌝) }
+        ∗ ⌜ (result ≡ 0) × (IsEmptied after) ⌝) }
 {
     (&mut *(scale as *mut Scale)).close()
 }

@@ -65,3 +65,7 @@ IsNotBehind scale ms = IfSome scale.machine (λ machine. machine.last ≤ ms)
 -- a call of this status changes nothing unless it is done
 abbrev pub IsKept : Scale → Scale → ℕ → Type 0
 IsKept old new status = ¬ (status ≡ 0) → new ≡ old
+
+-- nothing is kept: the scale has no plate and no program
+abbrev pub IsEmptied : Scale → Type 0
+IsEmptied scale = IsClosed scale × HasNoProgram scale

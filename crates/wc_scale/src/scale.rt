@@ -1,5 +1,5 @@
 ghost use Rattle.std.specs.Prelude.{◌≡◌};
-ghost use Rattle.wc_scale.specs.Standing.{IsClosed};
+ghost use Rattle.wc_scale.specs.Standing.{IsClosed, IsEmptied};
 ghost use Rattle.wc_scale.specs.Calls.{RefusesSample, TakesSample, RefusesInputs, TakesInputs};
 
 use crate::statuses::{CLOSED, COUNTS_OUT_OF_RANGE, DONE};
@@ -36,7 +36,7 @@ impl Scale {
     /// Closes the scale, and gives back all memory that it took.
     pub fn close(&mut self) -> u32
         ensures done { result ≡ 0 }
-        ensures closed { IsClosed self.new }
+        ensures closed { IsEmptied self.new }
     {
         self.machine = None;
         self.indicator = None;

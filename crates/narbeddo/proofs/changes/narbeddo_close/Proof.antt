@@ -1,7 +1,7 @@
 -- The scale at the pointer is lent to one call of `close`.
 use Rattle.narbeddo.proofs.Steps.{◌≡◌, ℕ, [], ◌∷◌, ◌++◌, refl, w32, proved, full_share, id⊢, sep, GName, ftrue, flft, flent, named, vptr, fact, tables, sem, Body, lft_new, lft_end, ‵, raw, ◌⊛◌, some, later, prop, ◌$◌, ◌∵◌, !, qed, done, move, keep, drop, use1, use2, use3, split, join, fsplit, pick, show, await, regoal, suffices, frame, group, enter, of_opd, addr, stop, no_more, and_then, returns, alloc_all, pass_all, free_all, look_at, get, through, sets, lands_as, u32, yes, Is, shows, lends_ref, ref_back, mem, uint_Lawful, Ptr, RawPtr, block_ptr, lies_at, in_a_block, rawptr_vals, rawptr_Tells, MutRef, plain, nothing, heard, peeks, calls_at, lasts, on_entry, triple_of, Stays, walk_of, says, stay_dropped, Goes-dropped, ends_at, framed, WpFn}
 use Rattle.wc_scale.specs.contracts.scale.Scale.{the_row as R}
-use Rattle.wc_scale.specs.Standing.{IsClosed}
+use Rattle.wc_scale.specs.Standing.{IsEmptied}
 use Rattle.narbeddo.specs.contracts.changes.narbeddo_close as f
 use Rattle.narbeddo.proofs.changes.narbeddo_close.Statement.{statement}
 use Rattle.narbeddo.proofs.changes.narbeddo_close.Code as code
@@ -34,7 +34,7 @@ narbeddo_close_spec 𝓤 𝓛 𝓜 𝓡 wired =
     calls_at ! (framed 𝓤 𝓛.H 𝓜 (tables 𝓤 𝓛.H 𝓜 𝓡 𝓡.env)) G (met 𝓤 𝓛 𝓜 𝓡 (code.calls-wc_scale::scale::Scale::close 𝓡.env wired)) z
     (and_then ! (get ! refl) (no_more !)) (λ v.
     use1 𝓛 (later (some (λ (r : ℕ). ((‵ (flft (α ∷ []) full_share) ⊛ ‵ ftrue) ⊛ ‵ (u32.own_val r (v ∷ []))) ⊛
-    some (λ (ws : (R.Denot × Unit {0})). ‵ (lasts g.ended z.0.0 z.0.3 ws) ⊛ (raw (fact 𝓤 (r ≡ 0)) ⊛ raw (fact 𝓤 (IsClosed ws.0))))))) (id⊢ 𝓤 _) $
+    some (λ (ws : (R.Denot × Unit {0})). ‵ (lasts g.ended z.0.0 z.0.3 ws) ⊛ (raw (fact 𝓤 (r ≡ 0)) ⊛ raw (fact 𝓤 (IsEmptied ws.0))))))) (id⊢ 𝓤 _) $
     await ! tt $ pick ! (λ r. split ! $ split ! $ split ! $ lft_end ! tt $
     -- [α is over; the other tokens; the result; its facts; what the lender keeps]
     move ! (2 ∷ []) $ peeks ! u32 (Is u32) (shows 𝓛 u32) r (v ∷ []) (λ is. lands_as ! refl refl ((uint_Lawful 𝓛 w32).typed r _ is).0 $
@@ -44,4 +44,4 @@ narbeddo_close_spec 𝓤 𝓛 𝓜 𝓡 wired =
     returns ! (look_at ! 0 refl) $ free_all ! refl $ keep ! (3 ∷ 0 ∷ []) $
     suffices ! _ (ends_at 𝓛 f.ended stayed c (y (block_ptr b o)) v r (tt, tt) (tt, tt)) $
     nothing ! $ nothing ! $ join ! $ nothing ! $ group ! 3 $ frame ! $
-    show ! (λ (k : R.Denot). sep 𝓤 (sem 𝓛 (lies_at R full_share (block_ptr b o) k)) (fact 𝓤 ((r ≡ 0) × (IsClosed k)))) ws.0 $ says ! (f0, f1) $ done !)))))))))))
+    show ! (λ (k : R.Denot). sep 𝓤 (sem 𝓛 (lies_at R full_share (block_ptr b o) k)) (fact 𝓤 ((r ≡ 0) × (IsEmptied k)))) ws.0 $ says ! (f0, f1) $ done !)))))))))))
