@@ -61,7 +61,8 @@ fn spaces_before(weight: &[u8]) -> usize
 
 /// Puts the words for a weight behind a text.
 fn put_reading(text: &mut Vec<u8>, reading: &Reading) -> Result<(), Fault>
-    ensures words { OnOk result (text.new.items ≡ text.old.items ++ answer_text (Weight reading.now)) }
+    ensures words { OnOk result (text.new.items
+        ≡ text.old.items ++ answer_text (Weight reading.now)) }
     ensures memory { IsOkUnless result Fault.Memory }
 {
     let (_spaces, weight) = reading.weight.split_at(spaces_before(&reading.weight));

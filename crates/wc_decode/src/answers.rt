@@ -70,7 +70,8 @@ fn is_line_of(alloc: Global, row: &ByteRow, line: &[u8]) -> Result<bool, Fault>
 
 /// The answers of a row, if its bytes are answers.
 fn entry_of(alloc: Global, row: &ByteRow) -> Result<Option<Entry>, Fault>
-    ensures told { IfOk result (λ found. AreToldBy row.now.ms (option_map entry_told found) row.now.bytes.items) }
+    ensures told { IfOk result (λ found. AreToldBy row.now.ms (option_map entry_told found)
+        row.now.bytes.items) }
     ensures memory { IsOkUnless result Fault.Memory }
 {
     match answers_of(alloc, &row.bytes) {

@@ -76,7 +76,8 @@ fn push_byte(line: &mut Vec<u8>, byte: u8) -> Result<(), Fault>
 fn end_line(alloc: Global, decoder: &mut Decoder, text: &mut Vec<u8>) -> Result<(), Fault>
     requires { decoder.old.is_long ≡ false }
     ensures form { decoder.new.form ≡ decoder.old.form }
-    ensures takes { TakesBytes decoder.old decoder.new (10 ∷ []) result text.old.items text.new.items }
+    ensures takes { TakesBytes decoder.old decoder.new (10 ∷ []) result text.old.items
+        text.new.items }
     ensures memory { IsOkUnless result Fault.Memory }
 {
     if let Err(fault) = push_byte(&mut decoder.line, b'\n') {
@@ -95,7 +96,8 @@ fn begin_long(decoder: &mut Decoder, byte: u8, text: &mut Vec<u8>) -> Result<(),
     requires full { length decoder.old.line.items ≡ longest_line }
     requires inside { ¬ (byte ≡ 10) }
     ensures form { decoder.new.form ≡ decoder.old.form }
-    ensures takes { TakesBytes decoder.old decoder.new (byte ∷ []) result text.old.items text.new.items }
+    ensures takes { TakesBytes decoder.old decoder.new (byte ∷ []) result text.old.items
+        text.new.items }
     ensures memory { IsOkUnless result Fault.Memory }
 {
     if let Err(fault) = put_opening(text, decoder.form) {
@@ -116,7 +118,8 @@ fn begin_long(decoder: &mut Decoder, byte: u8, text: &mut Vec<u8>) -> Result<(),
 fn take_of_long(decoder: &mut Decoder, byte: u8, text: &mut Vec<u8>) -> Result<(), Fault>
     requires { decoder.old.is_long ≡ true }
     ensures form { decoder.new.form ≡ decoder.old.form }
-    ensures takes { TakesBytes decoder.old decoder.new (byte ∷ []) result text.old.items text.new.items }
+    ensures takes { TakesBytes decoder.old decoder.new (byte ∷ []) result text.old.items
+        text.new.items }
     ensures memory { IsOkUnless result Fault.Memory }
 {
     if byte == b'\n' {
@@ -134,7 +137,8 @@ fn take_byte(
     text: &mut Vec<u8>,
 ) -> Result<(), Fault>
     ensures form { decoder.new.form ≡ decoder.old.form }
-    ensures takes { TakesBytes decoder.old decoder.new (byte ∷ []) result text.old.items text.new.items }
+    ensures takes { TakesBytes decoder.old decoder.new (byte ∷ []) result text.old.items
+        text.new.items }
     ensures memory { IsOkUnless result Fault.Memory }
 {
     if decoder.is_long {
@@ -157,7 +161,8 @@ pub(crate) fn take_bytes(
     text: &mut Vec<u8>,
 ) -> Result<(), Fault>
     ensures form { decoder.new.form ≡ decoder.old.form }
-    ensures takes { TakesBytes decoder.old decoder.new bytes.now result text.old.items text.new.items }
+    ensures takes { TakesBytes decoder.old decoder.new bytes.now result text.old.items
+        text.new.items }
     ensures memory { IsOkUnless result Fault.Memory }
 {
     for byte in bytes {

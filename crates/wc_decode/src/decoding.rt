@@ -52,7 +52,8 @@ fn first_bytes(bytes: &[u8], count: usize) -> &[u8]
 
 /// Writes a text.
 fn write_text<W: ByteOut>(output: &mut W, text: &[u8]) -> Result<(), DecodeFault>
-    ensures text { WritesText (W.bytes_taken output.old) (W.bytes_taken output.new) result text.now }
+    ensures text { WritesText (W.bytes_taken output.old) (W.bytes_taken output.new) result
+        text.now }
     ensures steady { IfOk result (λ done. W.failure_count output.new ≡ W.failure_count output.old) }
     ensures fault { IfErr result (λ fault. fault ≡ DecodeFault.Write) }
     ensures cause { IfErr result

@@ -13,7 +13,8 @@ use wc_model::Fault;
 
 /// Puts the moment, the steps and the bits of a scan behind a text.
 fn put_scan_front(text: &mut Vec<u8>, row: &ScanRow) -> Result<(), Fault>
-    ensures line { OnOk result (text.new.items ≡ text.old.items ++ scan_front row.now.ms row.now.steps.0 row.now.outputs) }
+    ensures line { OnOk result (text.new.items
+        ≡ text.old.items ++ scan_front row.now.ms row.now.steps.0 row.now.outputs) }
     ensures memory { IsOkUnless result Fault.Memory }
 {
     put_bytes(text, b"S ")?;
@@ -26,7 +27,8 @@ fn put_scan_front(text: &mut Vec<u8>, row: &ScanRow) -> Result<(), Fault>
 
 /// Puts the line of a scan for people behind a text.
 fn put_scan_line(text: &mut Vec<u8>, row: &ScanRow) -> Result<(), Fault>
-    ensures line { OnOk result (text.new.items ≡ text.old.items ++ scan_form Text row.now.ms row.now.steps.0 row.now.outputs) }
+    ensures line { OnOk result (text.new.items
+        ≡ text.old.items ++ scan_form Text row.now.ms row.now.steps.0 row.now.outputs) }
     ensures memory { IsOkUnless result Fault.Memory }
 {
     put_scan_front(text, row)?;
@@ -36,7 +38,8 @@ fn put_scan_line(text: &mut Vec<u8>, row: &ScanRow) -> Result<(), Fault>
 
 /// Puts the row of a scan behind a text.
 fn put_scan_row(text: &mut Vec<u8>, row: &ScanRow) -> Result<(), Fault>
-    ensures row { OnOk result (text.new.items ≡ text.old.items ++ scan_form Table row.now.ms row.now.steps.0 row.now.outputs) }
+    ensures row { OnOk result (text.new.items
+        ≡ text.old.items ++ scan_form Table row.now.ms row.now.steps.0 row.now.outputs) }
     ensures memory { IsOkUnless result Fault.Memory }
 {
     put_number(text, row.ms)?;
@@ -77,7 +80,8 @@ fn put_one_answer(
     ms: u64,
     answer: &Answer,
 ) -> Result<(), Fault>
-    ensures answer { OnOk result (text.new.items ≡ text.old.items ++ answer_form form ms answer.now) }
+    ensures answer { OnOk result (text.new.items
+        ≡ text.old.items ++ answer_form form ms answer.now) }
     ensures memory { IsOkUnless result Fault.Memory }
 {
     match form {
@@ -93,7 +97,8 @@ fn put_answers(
     ms: u64,
     answers: &[Answer],
 ) -> Result<(), Fault>
-    ensures answers { OnOk result (text.new.items ≡ text.old.items ++ answer_forms form ms answers.now) }
+    ensures answers { OnOk result (text.new.items
+        ≡ text.old.items ++ answer_forms form ms answers.now) }
     ensures memory { IsOkUnless result Fault.Memory }
 {
     for answer in answers {
@@ -106,7 +111,8 @@ fn put_answers(
 
 /// Puts a refusal behind a text.
 fn put_refusal(text: &mut Vec<u8>, form: DecodeForm, row: &RefusalRow) -> Result<(), Fault>
-    ensures refusal { OnOk result (text.new.items ≡ text.old.items ++ refusal_form form row.now.number row.now.place) }
+    ensures refusal { OnOk result (text.new.items
+        ≡ text.old.items ++ refusal_form form row.now.number row.now.place) }
     ensures memory { IsOkUnless result Fault.Memory }
 {
     match form {
@@ -121,7 +127,8 @@ fn put_refusal(text: &mut Vec<u8>, form: DecodeForm, row: &RefusalRow) -> Result
 
 /// Puts a scan behind a text.
 fn put_scan(text: &mut Vec<u8>, form: DecodeForm, row: &ScanRow) -> Result<(), Fault>
-    ensures scan { OnOk result (text.new.items ≡ text.old.items ++ scan_form form row.now.ms row.now.steps.0 row.now.outputs) }
+    ensures scan { OnOk result (text.new.items
+        ≡ text.old.items ++ scan_form form row.now.ms row.now.steps.0 row.now.outputs) }
     ensures memory { IsOkUnless result Fault.Memory }
 {
     match form {
@@ -132,7 +139,8 @@ fn put_scan(text: &mut Vec<u8>, form: DecodeForm, row: &ScanRow) -> Result<(), F
 
 /// Puts what a line tells behind a text. `Memory` is the only fault.
 pub(crate) fn put_entry(text: &mut Vec<u8>, form: DecodeForm, entry: &Entry) -> Result<(), Fault>
-    ensures entry { OnOk result (text.new.items ≡ text.old.items ++ decoded form (entry_told entry.now)) }
+    ensures entry { OnOk result (text.new.items
+        ≡ text.old.items ++ decoded form (entry_told entry.now)) }
     ensures memory { IsOkUnless result Fault.Memory }
 {
     match entry {

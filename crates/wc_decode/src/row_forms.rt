@@ -73,7 +73,8 @@ pub(crate) fn put_bit_columns(text: &mut Vec<u8>, bits: u16) -> Result<(), Fault
 
 /// Puts a word behind its name behind a text.
 fn put_word(text: &mut Vec<u8>, name: &[u8], word: &i32) -> Result<(), Fault>
-    ensures word { OnOk result (text.new.items ≡ text.old.items ++ name.now ++ signed_decimal word.now) }
+    ensures word { OnOk result (text.new.items
+        ≡ text.old.items ++ name.now ++ signed_decimal word.now) }
     ensures memory { IsOkUnless result Fault.Memory }
 {
     put_bytes(text, name)?;
@@ -82,7 +83,8 @@ fn put_word(text: &mut Vec<u8>, name: &[u8], word: &i32) -> Result<(), Fault>
 
 /// Puts the words by name behind a text.
 pub(crate) fn put_words(text: &mut Vec<u8>, words: &[i32; 4]) -> Result<(), Fault>
-    ensures words { OnOk result (text.new.items ≡ text.old.items ++ named_words (word_names Text) words.now) }
+    ensures words { OnOk result (text.new.items
+        ≡ text.old.items ++ named_words (word_names Text) words.now) }
     ensures memory { IsOkUnless result Fault.Memory }
 {
     let [first, second, third, fourth] = words;
@@ -94,7 +96,8 @@ pub(crate) fn put_words(text: &mut Vec<u8>, words: &[i32; 4]) -> Result<(), Faul
 
 /// Puts the columns of the words behind a text.
 pub(crate) fn put_word_columns(text: &mut Vec<u8>, words: &[i32; 4]) -> Result<(), Fault>
-    ensures words { OnOk result (text.new.items ≡ text.old.items ++ named_words (word_names Table) words.now) }
+    ensures words { OnOk result (text.new.items
+        ≡ text.old.items ++ named_words (word_names Table) words.now) }
     ensures memory { IsOkUnless result Fault.Memory }
 {
     let [first, second, third, fourth] = words;

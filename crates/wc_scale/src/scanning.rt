@@ -14,7 +14,8 @@ use wc_store::SlotStore;
 
 /// No scan, for this reason.
 fn no_scan(status: u32) -> Scanned
-    ensures { result ≡ record { status = status; steps = 0; bits = 0; words = replicate 4 (pos 0) } }
+    ensures { result
+        ≡ record { status = status; steps = 0; bits = 0; words = replicate 4 (pos 0) } }
 {
     Scanned {
         status,

@@ -155,10 +155,12 @@ pub fn watch_files<P: ByteIn, T: ByteIn, N: ByteIn, L: ByteIn, W: ByteOut, B: By
     ensures unknown { IfErr result (λ name. (name.start + name.length ≤ length names.now)
         × (L.spent_count log.new ≡ L.spent_count log.old)) }
     // The input that a refusal names is the one that breaks the rule.
-    ensures blames_plate { IfOk result (λ ending. Blames Input.Plate RefusesPlate (P.bytes_left plate.old) ending) }
+    ensures blames_plate { IfOk result
+        (λ ending. Blames Input.Plate RefusesPlate (P.bytes_left plate.old) ending) }
     ensures blames_program { IfOk result (λ ending. Blames Input.Program RefusesProgram
         (T.bytes_left program.old) ending) }
-    ensures blames_next { IfOk result (λ ending. Blames Input.Next RefusesProgram (known_of N.bytes_left next.old)
+    ensures blames_next { IfOk result
+        (λ ending. Blames Input.Next RefusesProgram (known_of N.bytes_left next.old)
         ending) }
     ensures blames_log { IfOk result (λ ending. Blames Input.Log
         (RefusesLog (log_beside (is_some next.old)) (fields_told told.new))
