@@ -18,7 +18,7 @@ use wc_trace::Chosen;
 /// The product's version, the toolchain that its sources are for, and the digest of the legally relevant sources, which
 /// tools/legal_digest computes. Whether a build was proved is not known to the program.
 const VERSION: &str = "0.1.0 (Narbeddo)
-toolchain rattle-kit-13b logic dac8208d650f15bf
+toolchain rattle-kit-13 logic dac8208d650f15bf
 legal part sha256 ac4569f38600ca5cdb9287b9eac02efa6781e80314ff0a5153a9750f43727773";
 
 /// What the program does, with an example of each word.
