@@ -2,10 +2,6 @@
 use std::alloc::{AllocError, Global};
 use wc_messages::{Evidence, Form, Part, Refusal, explained, page_of, section_of, shown};
 
-/// A plate whose sixth line is out of range.
-const PLATE: &[u8] =
-    b"unit = \"kg\"\ndecimals = 3\nmax = 15000\ne = 5\nzero_counts = 10000\nspan_counts = 11999\nwindow = 4\n";
-
 /// A job whose log has a blank line before its second row.
 const JOB: &[u8] =
     b"@plate\n\n@program\nPROGRAM P\nLD x\nEND_PROGRAM\n@log\nms,kind,data\n\n0,s,\n";
@@ -50,82 +46,9 @@ fn a_token_is_marked(rt: HostRuntime) {
 }
 
 #[test]
-fn a_line_with_a_return_is_marked_at_its_end(rt: HostRuntime) {
-    let text = b"PROGRAM P\r\nLD\r\nEND_PROGRAM\r\n";
-    let wanted = b"error[201]: the line can't end here\n --> a.txt:2:3\n  |\n2 | LD\n  |   ^";
-    assert!(rt;
-        begins(
-            rt.alloc(),
-            Part::Program,
-            201,
-            2,
-            Evidence::Text(text),
-            wanted
-        ) == Ok(true)
-    );
-}
-
-#[test]
-fn a_byte_that_is_escaped_moves_the_marks(rt: HostRuntime) {
-    let text = b"PROGRAM P\n\t(*\xe9*) LD xy\nEND_PROGRAM\n";
-    let wanted =
-        b"error[401]: `xy` is not declared in this unit\n --> a.txt:2:11\n  |\n2 |  (*\\xe9*) LD xy\n  |              ^^\nhelp: ";
-    assert!(rt;
-        begins(
-            rt.alloc(),
-            Part::Program,
-            401,
-            2,
-            Evidence::Text(text),
-            wanted
-        ) == Ok(true)
-    );
-}
-
-#[test]
 fn a_number_says_what_is_not_found(rt: HostRuntime) {
     let wanted = b"error[403]: there is no current result\n --> a.txt:7\nhelp: ";
     assert!(rt; begins(rt.alloc(), Part::Program, 403, 7, Evidence::Nothing, wanted) == Ok(true));
-}
-
-#[test]
-fn a_key_is_marked(rt: HostRuntime) {
-    let wanted =
-        b"error[507]: span_counts is out of range\n --> a.txt:6:15\n  |\n6 | span_counts = 11999\n  |               ^^^^^\nhelp: with max / e = 3000, span_counts is 12000 to 8000000; `wc explain 507` says more\n";
-    assert!(rt;
-        begins(
-            rt.alloc(),
-            Part::Plate,
-            507,
-            0,
-            Evidence::Text(PLATE),
-            wanted
-        ) == Ok(true)
-    );
-}
-
-/// A name that is not declared, in a file whose name has a quote and a letter beyond ASCII, is told so in a form.
-fn is_told_so(alloc: Global, form: Form, wanted: &[u8]) -> Result<bool, AllocError> {
-    let refusal = Refusal {
-        number: 401,
-        place: 2,
-        part: Part::Program,
-        name: b"t\xc3\xbcr\".il",
-        in_job: false,
-        evidence: Evidence::Text(b"PROGRAM P\nLD xy\nEND_PROGRAM\n"),
-        above: 0,
-    };
-    let told = explained(alloc, form, &refusal)?;
-    Ok(told.as_slice() == wanted)
-}
-
-#[test]
-fn a_refusal_is_told_on_one_line(rt: HostRuntime) {
-    let short = b"t\\xc3\\xbcr\".il:2:4: error[401]: `xy` is not declared in this unit\n";
-    let json =
-        b"{\"file\":\"t\xc3\xbcr\\\".il\",\"line\":2,\"column\":4,\"endColumn\":6,\"number\":401,\"sentence\":\"`xy` is not declared in this unit\",\"hint\":\"declare the name in VAR, VAR_INPUT or VAR_OUTPUT of this unit\"}\n";
-    assert!(rt; is_told_so(rt.alloc(), Form::Short, short) == Ok(true));
-    assert!(rt; is_told_so(rt.alloc(), Form::Json, json) == Ok(true));
 }
 
 /// A row of a log that is not at hand is told so in a form.

@@ -85,25 +85,3 @@ fn ampersand_n_ends_where_a_name_does(rt: HostRuntime) {
     assert!(rt; has_shapes(rt.alloc(), b"&Nx", &[Shape::And, Shape::Identifier]));
     assert!(rt; has_shapes(rt.alloc(), b"& N", &[Shape::And, Shape::Identifier]));
 }
-
-/// Each cut of the text has no more tokens than bytes, or is refused.
-fn cuts_return(alloc: Global, text: &[u8]) -> bool {
-    for count in 0..text.len() {
-        let (piece, _) = text.split_at(count);
-        let right = match tokens(alloc, piece) {
-            Ok(found) => found.len() <= count,
-            Err(fault) => fault != Fault::Memory,
-        };
-        if !right {
-            return false;
-        }
-    }
-    true
-}
-
-#[test]
-fn every_cut_of_a_program_returns(rt: HostRuntime) {
-    let text =
-        b"PROGRAM P (* one\ntwo *)\r\nVAR a, b : BOOL; t : TIME := T#1m_30s; END_VAR\nL: LD %IX0.0\n&N( 16#7F )\nCAL x(IN := a, PT => b)\nEND_PROGRAM";
-    assert!(rt; cuts_return(rt.alloc(), text));
-}
