@@ -2,6 +2,10 @@
 use std::alloc::{AllocError, Global};
 use wc_messages::{Evidence, Form, Part, Refusal, explained, page_of, section_of, shown};
 
+/// A plate whose sixth line is out of range.
+const PLATE: &[u8] =
+    b"unit = \"kg\"\ndecimals = 3\nmax = 15000\ne = 5\nzero_counts = 10000\nspan_counts = 11999\nwindow = 4\n";
+
 /// A job whose log has a blank line before its second row.
 const JOB: &[u8] =
     b"@plate\n\n@program\nPROGRAM P\nLD x\nEND_PROGRAM\n@log\nms,kind,data\n\n0,s,\n";
@@ -49,6 +53,22 @@ fn a_token_is_marked(rt: HostRuntime) {
 fn a_number_says_what_is_not_found(rt: HostRuntime) {
     let wanted = b"error[403]: there is no current result\n --> a.txt:7\nhelp: ";
     assert!(rt; begins(rt.alloc(), Part::Program, 403, 7, Evidence::Nothing, wanted) == Ok(true));
+}
+
+#[test]
+fn a_key_is_marked(rt: HostRuntime) {
+    let wanted =
+        b"error[507]: span_counts is out of range\n --> a.txt:6:15\n  |\n6 | span_counts = 11999\n  |               ^^^^^\nhelp: with max / e = 3000, span_counts is 12000 to 8000000; `wc explain 507` says more\n";
+    assert!(rt;
+        begins(
+            rt.alloc(),
+            Part::Plate,
+            507,
+            0,
+            Evidence::Text(PLATE),
+            wanted
+        ) == Ok(true)
+    );
 }
 
 /// A row of a log that is not at hand is told so in a form.
