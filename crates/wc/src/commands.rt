@@ -2,8 +2,8 @@ ghost use Rattle.std.specs.Prelude.{◌≡◌, ◌≤◌, IfSome, Some, None, op
 ghost use Rattle.wc.specs.Asked.{asked, check, decode, form_asked, job, line, run, show, texts_of, trace};
 
 use crate::opening::Opening;
-use crate::output::{Emptying, Gathered, Sharing, shared_output};
-use crate::telling::{Met, ReadFile, Sources, end, without_memory};
+use crate::output::{Emptying, Gathered, Sharing};
+use crate::telling::{Met, ReadFile, Sources, end};
 use crate::words::ProgramFiles;
 use std::cell::RefCell;
 use std::io;
@@ -20,6 +20,14 @@ use wc_preview::preview_files;
 use wc_trace::{Chosen, trace_files};
 use wc_watch::{UnknownName, watch_files};
 
+/// What each command is given: the system, the form in which a refusal is told, and standard output with what is gathered for it.
+#[derive(Clone, Copy)]
+pub(crate) struct Desk<'a> {
+    pub(crate) rt: &'a HostRuntime,
+    pub(crate) form: Form,
+    pub(crate) gathered: &'a RefCell<Gathered>,
+}
+
 /// A file that is read, and before each read the output is emptied.
 type Source<'a> = Device<Emptying<'a, Noting<Opening<'a>>>>;
 
@@ -27,28 +35,21 @@ type Source<'a> = Device<Emptying<'a, Noting<Opening<'a>>>>;
 type KeptSource<'a> = Device<Emptying<'a, Keeping<Noting<Opening<'a>>>>>;
 
 /// A file, which is opened when it is first read.
-fn source<'a>(rt: &'a HostRuntime, path: &'a str, gathered: &'a RefCell<Gathered>) -> Source<'a> {
-    Device::new(Emptying::new(gathered, Noting::new(Opening::new(rt, path))))
+fn source<'a>(desk: Desk<'a>, path: &'a str) -> Source<'a> {
+    let noting = Noting::new(Opening::new(desk.rt, path));
+    Device::new(Emptying::new(desk.gathered, noting))
 }
 
 /// The same of a file whose bytes are kept.
-fn kept_source<'a>(
-    rt: &'a HostRuntime,
-    path: &'a str,
-    gathered: &'a RefCell<Gathered>,
-) -> KeptSource<'a> {
-    let keeping = Keeping::new(rt.alloc(), Noting::new(Opening::new(rt, path)));
-    Device::new(Emptying::new(gathered, keeping))
+fn kept_source<'a>(desk: Desk<'a>, path: &'a str) -> KeptSource<'a> {
+    let keeping = Keeping::new(desk.rt.alloc(), Noting::new(Opening::new(desk.rt, path)));
+    Device::new(Emptying::new(desk.gathered, keeping))
 }
 
 /// A file that may be there, whose bytes are kept.
-fn kept_source_of<'a>(
-    rt: &'a HostRuntime,
-    path: Option<&'a str>,
-    gathered: &'a RefCell<Gathered>,
-) -> Option<KeptSource<'a>> {
+fn kept_source_of<'a>(desk: Desk<'a>, path: Option<&'a str>) -> Option<KeptSource<'a>> {
     match path {
-        Some(path) => Some(kept_source(rt, path, gathered)),
+        Some(path) => Some(kept_source(desk, path)),
         None => None,
     }
 }
@@ -69,6 +70,19 @@ fn cause_of(source: &Option<KeptSource<'_>>) -> Option<io::Error> {
         Some(source) => kept_cause(source),
         None => None,
     }
+}
+
+/// Why a file of a run could not be read, if the system said so.
+fn cause_of_run(
+    plate: &KeptSource<'_>,
+    program: &KeptSource<'_>,
+    next: &Option<KeptSource<'_>>,
+    log: &Source<'_>,
+) -> Option<io::Error> {
+    kept_cause(plate)
+        .or(kept_cause(program))
+        .or(cause_of(next))
+        .or(cause(log))
 }
 
 /// A file by its path, with the bytes that were read of it.
@@ -106,7 +120,23 @@ fn plate_and_log<'a>(plate: &'a str, reader: &'a KeptSource<'_>, log: &'a str) -
     }
 }
 
-/// The files of a log that is run with a program, where one is given.
+/// The files of a log that is run with a program, and with the next one, where it is changed.
+fn run_sources<'a>(
+    plate: &'a str,
+    plate_reader: &'a KeptSource<'_>,
+    files: ProgramFiles<'a>,
+    program_reader: &'a KeptSource<'_>,
+    next_reader: &'a Option<KeptSource<'_>>,
+) -> Sources<'a> {
+    Sources::Files {
+        plate: read_of(plate, plate_reader),
+        program: read_of(files.program, program_reader),
+        next: read_if_any(files.next, next_reader),
+        log: files.log,
+    }
+}
+
+/// The files of a log that is run with a program, where one is given, and with the next one, where it is changed.
 fn shown_sources<'a>(
     plate: &'a str,
     plate_reader: &'a KeptSource<'_>,
@@ -127,15 +157,13 @@ fn shown_sources<'a>(
 
 /// Writes what is still gathered, and tells how the command ended: the exit status.
 fn finish(
-    rt: &HostRuntime,
-    form: Form,
+    desk: Desk<'_>,
     ending: Ending,
     reading: Option<io::Error>,
-    gathered: &RefCell<Gathered>,
     sources: &Sources<'_>,
     row: &RefusedRow,
 ) -> u8 {
-    let (written, writing) = match gathered.try_borrow_mut() {
+    let (written, writing) = match desk.gathered.try_borrow_mut() {
         Ok(mut gathered) => (gathered.empty().is_ok(), gathered.get_ref().cause()),
         Err(_) => (false, None),
     };
@@ -144,7 +172,7 @@ fn finish(
         reading,
         writing,
     };
-    end(rt, form, &met, sources, row)
+    end(desk.rt, desk.form, &met, sources, row)
 }
 
 /// Says that a job is awaited, where somebody types it.
@@ -157,85 +185,62 @@ fn tell_waiting(rt: &HostRuntime) {
 }
 
 /// Answers a job on standard input: the exit status.
-pub(crate) fn run_job(rt: &HostRuntime, _words: &[String], form: Form) -> u8
+pub(crate) fn run_job(desk: Desk<'_>, _words: &[String], row: &mut RefusedRow) -> u8
     requires asked { asked (texts_of _words.now) ≡ job }
-    requires form { form_asked (texts_of _words.now) ≡ Some form }
+    requires form { form_asked (texts_of _words.now) ≡ Some desk.form }
 {
-    let gathered = match shared_output(rt) {
-        Ok(gathered) => gathered,
-        Err(_) => return without_memory(rt),
-    };
-    tell_waiting(rt);
-    let input: Noting<Stdin> = Noting::new(rt.stdin());
-    let keeping = Keeping::new(rt.alloc(), input);
-    let mut reader = Device::new(Emptying::new(&gathered, keeping));
-    let mut writer = Device::new(Sharing::new(&gathered));
-    let mut row = RefusedRow::new(rt.alloc());
-    let ending = answer_job(rt.alloc(), &mut reader, &mut writer, &mut row);
+    tell_waiting(desk.rt);
+    let input: Noting<Stdin> = Noting::new(desk.rt.stdin());
+    let keeping = Keeping::new(desk.rt.alloc(), input);
+    let mut reader = Device::new(Emptying::new(desk.gathered, keeping));
+    let mut writer = Device::new(Sharing::new(desk.gathered));
+    let ending = answer_job(desk.rt.alloc(), &mut reader, &mut writer, row);
     let keeping = reader.get_ref().get_ref();
     let reading = keeping.get_ref().cause();
     let bytes = keeping.bytes_read();
-    finish(
-        rt,
-        form,
-        ending,
-        reading,
-        &gathered,
-        &Sources::Job { bytes },
-        &row,
-    )
+    finish(desk, ending, reading, &Sources::Job { bytes }, row)
 }
 
 /// Checks the program in a file: the exit status.
 pub(crate) fn check_words(
-    rt: &HostRuntime,
+    desk: Desk<'_>,
     _words: &[String],
-    form: Form,
+    row: &mut RefusedRow,
     program: &str,
     paths: bool,
 ) -> u8
     requires asked { asked (texts_of _words.now) ≡ check program.now None paths }
-    requires form { form_asked (texts_of _words.now) ≡ Some form }
+    requires form { form_asked (texts_of _words.now) ≡ Some desk.form }
 {
-    let gathered = match shared_output(rt) {
-        Ok(gathered) => gathered,
-        Err(_) => return without_memory(rt),
-    };
-    let mut reader = kept_source(rt, program, &gathered);
-    let mut writer = Device::new(Sharing::new(&gathered));
-    let ending = check_file(rt.alloc(), paths, &mut reader, &mut writer);
+    let mut reader = kept_source(desk, program);
+    let mut writer = Device::new(Sharing::new(desk.gathered));
+    let ending = check_file(desk.rt.alloc(), paths, &mut reader, &mut writer);
     finish(
-        rt,
-        form,
+        desk,
         ending,
         kept_cause(&reader),
-        &gathered,
         &program_alone(program, &reader),
-        &RefusedRow::new(rt.alloc()),
+        row,
     )
 }
 
 /// Tells what a change from the program in a file to the one in another keeps: the exit status.
 pub(crate) fn preview_words(
-    rt: &HostRuntime,
+    desk: Desk<'_>,
     _words: &[String],
-    form: Form,
+    row: &mut RefusedRow,
     program: &str,
     next: &str,
     paths: bool,
 ) -> u8
     requires asked { asked (texts_of _words.now) ≡ check program.now (Some next.now) paths }
-    requires form { form_asked (texts_of _words.now) ≡ Some form }
+    requires form { form_asked (texts_of _words.now) ≡ Some desk.form }
 {
-    let gathered = match shared_output(rt) {
-        Ok(gathered) => gathered,
-        Err(_) => return without_memory(rt),
-    };
-    let mut reader = kept_source(rt, program, &gathered);
-    let mut next_reader = kept_source(rt, next, &gathered);
-    let mut writer = Device::new(Sharing::new(&gathered));
+    let mut reader = kept_source(desk, program);
+    let mut next_reader = kept_source(desk, next);
+    let mut writer = Device::new(Sharing::new(desk.gathered));
     let ending = preview_files(
-        rt.alloc(),
+        desk.rt.alloc(),
         paths,
         &mut reader,
         &mut next_reader,
@@ -243,25 +248,23 @@ pub(crate) fn preview_words(
     );
     let reading = kept_cause(&reader).or(kept_cause(&next_reader));
     finish(
-        rt,
-        form,
+        desk,
         ending,
         reading,
-        &gathered,
         &Sources::Program {
             program: read_of(program, &reader),
             next: Some(read_of(next, &next_reader)),
         },
-        &RefusedRow::new(rt.alloc()),
+        row,
     )
 }
 
 /// Runs the log in a file with a program, and where one is given the next one, and prints every scan or the last so many:
 /// the exit status.
 pub(crate) fn run_words(
-    rt: &HostRuntime,
+    desk: Desk<'_>,
     _words: &[String],
-    form: Form,
+    row: &mut RefusedRow,
     last: Option<u16>,
     plate: &str,
     files: ProgramFiles<'_>,
@@ -269,21 +272,16 @@ pub(crate) fn run_words(
     requires asked { asked (texts_of _words.now)
         ≡ run plate.now files.program.now (option_map (λ next. next.now) files.next)
         files.log.now last None }
-    requires form { form_asked (texts_of _words.now) ≡ Some form }
+    requires form { form_asked (texts_of _words.now) ≡ Some desk.form }
     requires so_many { IfSome last (λ n. (1 ≤ n) × (n ≤ 1000)) }
 {
-    let gathered = match shared_output(rt) {
-        Ok(gathered) => gathered,
-        Err(_) => return without_memory(rt),
-    };
-    let mut plate_reader = kept_source(rt, plate, &gathered);
-    let mut program_reader = kept_source(rt, files.program, &gathered);
-    let mut next_reader = kept_source_of(rt, files.next, &gathered);
-    let mut row = RefusedRow::new(rt.alloc());
-    let mut log_reader = source(rt, files.log, &gathered);
-    let mut writer = Device::new(Sharing::new(&gathered));
+    let mut plate_reader = kept_source(desk, plate);
+    let mut program_reader = kept_source(desk, files.program);
+    let mut next_reader = kept_source_of(desk, files.next);
+    let mut log_reader = source(desk, files.log);
+    let mut writer = Device::new(Sharing::new(desk.gathered));
     let ending = run_files(
-        rt.alloc(),
+        desk.rt.alloc(),
         last,
         &mut Unwatched,
         &mut plate_reader,
@@ -291,34 +289,19 @@ pub(crate) fn run_words(
         &mut next_reader,
         &mut log_reader,
         &mut writer,
-        &mut row,
+        row,
     );
-    let reading = kept_cause(&plate_reader)
-        .or(kept_cause(&program_reader))
-        .or(cause_of(&next_reader))
-        .or(cause(&log_reader));
-    finish(
-        rt,
-        form,
-        ending,
-        reading,
-        &gathered,
-        &Sources::Files {
-            plate: read_of(plate, &plate_reader),
-            program: read_of(files.program, &program_reader),
-            next: read_if_any(files.next, &next_reader),
-            log: files.log,
-        },
-        &row,
-    )
+    let reading = cause_of_run(&plate_reader, &program_reader, &next_reader, &log_reader);
+    let sources = run_sources(plate, &plate_reader, files, &program_reader, &next_reader);
+    finish(desk, ending, reading, &sources, row)
 }
 
 /// Runs the log in a file with a program as `run_words` does, and prints the values of variables behind each scan: the exit
 /// status.
 pub(crate) fn watch_words(
-    rt: &HostRuntime,
+    desk: Desk<'_>,
     _words: &[String],
-    form: Form,
+    row: &mut RefusedRow,
     last: Option<u16>,
     watch: &str,
     plate: &str,
@@ -327,23 +310,18 @@ pub(crate) fn watch_words(
     requires asked { asked (texts_of _words.now)
         ≡ run plate.now files.program.now (option_map (λ next. next.now) files.next)
         files.log.now last (Some watch.now) }
-    requires form { form_asked (texts_of _words.now) ≡ Some form }
+    requires form { form_asked (texts_of _words.now) ≡ Some desk.form }
     requires so_many { IfSome last (λ n. (1 ≤ n) × (n ≤ 1000)) }
 {
-    let gathered = match shared_output(rt) {
-        Ok(gathered) => gathered,
-        Err(_) => return without_memory(rt),
-    };
-    let mut plate_reader = kept_source(rt, plate, &gathered);
-    let mut program_reader = kept_source(rt, files.program, &gathered);
-    let mut next_reader = kept_source_of(rt, files.next, &gathered);
-    let mut row = RefusedRow::new(rt.alloc());
-    let mut log_reader = source(rt, files.log, &gathered);
-    let mut writer = Device::new(Sharing::new(&gathered));
+    let mut plate_reader = kept_source(desk, plate);
+    let mut program_reader = kept_source(desk, files.program);
+    let mut next_reader = kept_source_of(desk, files.next);
+    let mut log_reader = source(desk, files.log);
+    let mut writer = Device::new(Sharing::new(desk.gathered));
     // What stands beside the report goes to the same output, so that it stands behind its line.
-    let mut beside = Device::new(Sharing::new(&gathered));
+    let mut beside = Device::new(Sharing::new(desk.gathered));
     let answer = watch_files(
-        rt.alloc(),
+        desk.rt.alloc(),
         watch.as_bytes(),
         last,
         &mut plate_reader,
@@ -352,41 +330,19 @@ pub(crate) fn watch_words(
         &mut log_reader,
         &mut writer,
         &mut beside,
-        &mut row,
+        row,
     );
     let ending = match answer {
         Ok(ending) => ending,
-        Err(unknown) => return refuse_name(rt, form, &gathered, watch, unknown, &row),
+        Err(unknown) => return refuse_name(desk, watch, unknown, row),
     };
-    let reading = kept_cause(&plate_reader)
-        .or(kept_cause(&program_reader))
-        .or(cause_of(&next_reader))
-        .or(cause(&log_reader));
-    finish(
-        rt,
-        form,
-        ending,
-        reading,
-        &gathered,
-        &Sources::Files {
-            plate: read_of(plate, &plate_reader),
-            program: read_of(files.program, &program_reader),
-            next: read_if_any(files.next, &next_reader),
-            log: files.log,
-        },
-        &row,
-    )
+    let reading = cause_of_run(&plate_reader, &program_reader, &next_reader, &log_reader);
+    let sources = run_sources(plate, &plate_reader, files, &program_reader, &next_reader);
+    finish(desk, ending, reading, &sources, row)
 }
 
 /// Tells that a name is unknown which is to be watched: the exit status.
-fn refuse_name(
-    rt: &HostRuntime,
-    form: Form,
-    gathered: &RefCell<Gathered>,
-    list: &str,
-    unknown: UnknownName,
-    row: &RefusedRow,
-) -> u8 {
+fn refuse_name(desk: Desk<'_>, list: &str, unknown: UnknownName, row: &RefusedRow) -> u8 {
     let ending = Ending::Refused {
         input: Input::Program,
         number: 401,
@@ -397,15 +353,15 @@ fn refuse_name(
         list,
         unknown,
     };
-    finish(rt, form, ending, None, gathered, &names, row)
+    finish(desk, ending, None, &names, row)
 }
 
 /// Runs the log in a file with a program, and where one is given the next one, and shows the scans that are chosen: the exit
 /// status.
 pub(crate) fn trace_words(
-    rt: &HostRuntime,
+    desk: Desk<'_>,
     _words: &[String],
-    form: Form,
+    row: &mut RefusedRow,
     chosen: Chosen,
     plate: &str,
     files: ProgramFiles<'_>,
@@ -413,90 +369,58 @@ pub(crate) fn trace_words(
     requires asked { asked (texts_of _words.now)
         ≡ trace plate.now files.program.now (option_map (λ next. next.now) files.next)
         files.log.now chosen.at chosen.scan chosen.from chosen.to }
-    requires form { form_asked (texts_of _words.now) ≡ Some form }
+    requires form { form_asked (texts_of _words.now) ≡ Some desk.form }
 {
-    let gathered = match shared_output(rt) {
-        Ok(gathered) => gathered,
-        Err(_) => return without_memory(rt),
-    };
-    let mut plate_reader = kept_source(rt, plate, &gathered);
-    let mut program_reader = kept_source(rt, files.program, &gathered);
-    let mut next_reader = kept_source_of(rt, files.next, &gathered);
-    let mut row = RefusedRow::new(rt.alloc());
-    let mut log_reader = source(rt, files.log, &gathered);
-    let mut writer = Device::new(Sharing::new(&gathered));
+    let mut plate_reader = kept_source(desk, plate);
+    let mut program_reader = kept_source(desk, files.program);
+    let mut next_reader = kept_source_of(desk, files.next);
+    let mut log_reader = source(desk, files.log);
+    let mut writer = Device::new(Sharing::new(desk.gathered));
     let ending = trace_files(
-        rt.alloc(),
+        desk.rt.alloc(),
         chosen,
         &mut plate_reader,
         &mut program_reader,
         &mut next_reader,
         &mut log_reader,
         &mut writer,
-        &mut row,
+        row,
     );
-    let reading = kept_cause(&plate_reader)
-        .or(kept_cause(&program_reader))
-        .or(cause_of(&next_reader))
-        .or(cause(&log_reader));
-    finish(
-        rt,
-        form,
-        ending,
-        reading,
-        &gathered,
-        &Sources::Files {
-            plate: read_of(plate, &plate_reader),
-            program: read_of(files.program, &program_reader),
-            next: read_if_any(files.next, &next_reader),
-            log: files.log,
-        },
-        &row,
-    )
+    let reading = cause_of_run(&plate_reader, &program_reader, &next_reader, &log_reader);
+    let sources = run_sources(plate, &plate_reader, files, &program_reader, &next_reader);
+    finish(desk, ending, reading, &sources, row)
 }
 
-/// Runs the log in a file, with a program where one is given, and writes a picture of it: the exit status.
+/// Runs the log in a file, with a program and a next one where they are given, and writes a picture of it: the exit status.
 pub(crate) fn show_words(
-    rt: &HostRuntime,
+    desk: Desk<'_>,
     _words: &[String],
-    form: Form,
+    row: &mut RefusedRow,
     plate: &str,
     program: Option<&str>,
     log: &str,
 ) -> u8
     requires asked { asked (texts_of _words.now)
         ≡ show plate.now (option_map (λ path. path.now) program) log.now }
-    requires form { form_asked (texts_of _words.now) ≡ Some form }
+    requires form { form_asked (texts_of _words.now) ≡ Some desk.form }
 {
-    let gathered = match shared_output(rt) {
-        Ok(gathered) => gathered,
-        Err(_) => return without_memory(rt),
-    };
-    let mut plate_reader = kept_source(rt, plate, &gathered);
-    let mut program_reader = kept_source_of(rt, program, &gathered);
-    let mut row = RefusedRow::new(rt.alloc());
-    let mut log_reader = source(rt, log, &gathered);
-    let mut writer = Device::new(Sharing::new(&gathered));
+    let mut plate_reader = kept_source(desk, plate);
+    let mut program_reader = kept_source_of(desk, program);
+    let mut log_reader = source(desk, log);
+    let mut writer = Device::new(Sharing::new(desk.gathered));
     let ending = show_files(
-        rt.alloc(),
+        desk.rt.alloc(),
         &mut plate_reader,
         &mut program_reader,
         &mut log_reader,
         &mut writer,
-        &mut row,
+        row,
     );
     let reading = kept_cause(&plate_reader)
         .or(cause_of(&program_reader))
         .or(cause(&log_reader));
-    finish(
-        rt,
-        form,
-        ending,
-        reading,
-        &gathered,
-        &shown_sources(plate, &plate_reader, program, &program_reader, log),
-        &row,
-    )
+    let sources = shown_sources(plate, &plate_reader, program, &program_reader, log);
+    finish(desk, ending, reading, &sources, row)
 }
 
 /// How a command ends that decodes a report.
@@ -512,70 +436,62 @@ fn ending_of(answer: Result<(), DecodeFault>) -> Ending {
 }
 
 /// Writes a report from standard input for people, or as a table: the exit status.
-pub(crate) fn decode_words(rt: &HostRuntime, _words: &[String], form: Form, table: bool) -> u8
+pub(crate) fn decode_words(
+    desk: Desk<'_>,
+    _words: &[String],
+    row: &mut RefusedRow,
+    table: bool,
+) -> u8
     requires asked { asked (texts_of _words.now) ≡ decode table }
-    requires form { form_asked (texts_of _words.now) ≡ Some form }
+    requires form { form_asked (texts_of _words.now) ≡ Some desk.form }
 {
-    let gathered = match shared_output(rt) {
-        Ok(gathered) => gathered,
-        Err(_) => return without_memory(rt),
-    };
-    let input: Noting<Stdin> = Noting::new(rt.stdin());
-    let mut reader = Device::new(Emptying::new(&gathered, input));
-    let mut writer = Device::new(Sharing::new(&gathered));
+    let input: Noting<Stdin> = Noting::new(desk.rt.stdin());
+    let mut reader = Device::new(Emptying::new(desk.gathered, input));
+    let mut writer = Device::new(Sharing::new(desk.gathered));
     let decoding = if table {
         DecodeForm::Table
     } else {
         DecodeForm::Text
     };
-    let answer = decode_report(rt.alloc(), &mut reader, &mut writer, decoding);
+    let answer = decode_report(desk.rt.alloc(), &mut reader, &mut writer, decoding);
     let reading = reader.get_ref().get_ref().cause();
     finish(
-        rt,
-        form,
+        desk,
         ending_of(answer),
         reading,
-        &gathered,
         &Sources::Job { bytes: None },
-        &RefusedRow::new(rt.alloc()),
+        row,
     )
 }
 
 /// Runs the log in a file with no program: the exit status.
 pub(crate) fn line_words(
-    rt: &HostRuntime,
+    desk: Desk<'_>,
     _words: &[String],
-    form: Form,
+    row: &mut RefusedRow,
     plate: &str,
     log: &str,
 ) -> u8
     requires asked { asked (texts_of _words.now) ≡ line plate.now log.now }
-    requires form { form_asked (texts_of _words.now) ≡ Some form }
+    requires form { form_asked (texts_of _words.now) ≡ Some desk.form }
 {
-    let gathered = match shared_output(rt) {
-        Ok(gathered) => gathered,
-        Err(_) => return without_memory(rt),
-    };
-    let mut plate_reader = kept_source(rt, plate, &gathered);
-    let mut log_reader = source(rt, log, &gathered);
-    let mut writer = Device::new(Sharing::new(&gathered));
-    let mut row = RefusedRow::new(rt.alloc());
+    let mut plate_reader = kept_source(desk, plate);
+    let mut log_reader = source(desk, log);
+    let mut writer = Device::new(Sharing::new(desk.gathered));
     let ending = line_files(
-        rt.alloc(),
+        desk.rt.alloc(),
         &mut Unwatched,
         &mut plate_reader,
         &mut log_reader,
         &mut writer,
-        &mut row,
+        row,
     );
     let reading = kept_cause(&plate_reader).or(cause(&log_reader));
     finish(
-        rt,
-        form,
+        desk,
         ending,
         reading,
-        &gathered,
         &plate_and_log(plate, &plate_reader, log),
-        &row,
+        row,
     )
 }

@@ -16,15 +16,17 @@ mod words;
 use clap::Error;
 use clap::error::ErrorKind;
 use commands::{
-    check_words, decode_words, line_words, preview_words, run_job, run_words, show_words,
+    Desk, check_words, decode_words, line_words, preview_words, run_job, run_words, show_words,
     trace_words, watch_words,
 };
 use explaining::explain;
+use output::shared_output;
 use std::fs::File;
 use std::io::Write;
 use std::process::ExitCode;
 use std::{env, io};
 use telling::{tell_write_fault, without_memory};
+use wc_controller::RefusedRow;
 use wc_messages::shown;
 use words::{Request, Wanted, read_words};
 
@@ -111,21 +113,21 @@ fn show_page(rt: &HostRuntime, _words: &[String], number: u16) -> u8
     }
 }
 
-/// Does what the words ask for: the exit status. The words stand here for the proof: nothing is done that they do not ask for.
-fn execute(rt: &HostRuntime, words: &[String], request: Request<'_>) -> u8
-    requires asked { asked (texts_of words.now) ≡ view request.wanted }
-    requires form { form_asked (texts_of words.now) ≡ Some request.form }
+/// Does what the words ask for that may read and write: the exit status. The words stand here for the proof: nothing is done that
+/// they do not ask for.
+fn execute_at(desk: Desk<'_>, words: &[String], row: &mut RefusedRow, wanted: Wanted<'_>) -> u8
+    requires asked { asked (texts_of words.now) ≡ view wanted }
+    requires form { form_asked (texts_of words.now) ≡ Some desk.form }
 {
-    let form = request.form;
-    match request.wanted {
-        Wanted::Job => run_job(rt, words, form),
+    match wanted {
+        Wanted::Job => run_job(desk, words, row),
         Wanted::Check {
             program,
             next,
             paths,
         } => match next {
-            Some(next) => preview_words(rt, words, form, program, next, paths),
-            None => check_words(rt, words, form, program, paths),
+            Some(next) => preview_words(desk, words, row, program, next, paths),
+            None => check_words(desk, words, row, program, paths),
         },
         Wanted::Run {
             plate,
@@ -135,24 +137,46 @@ fn execute(rt: &HostRuntime, words: &[String], request: Request<'_>) -> u8
         } => match last {
             Some(number) if number < 1 || number > 1000 => WRONG_WORDS,
             last => match watch {
-                Some(names) => watch_words(rt, words, form, last, names, plate, files),
-                None => run_words(rt, words, form, last, plate, files),
+                Some(names) => watch_words(desk, words, row, last, names, plate, files),
+                None => run_words(desk, words, row, last, plate, files),
             },
         },
         Wanted::Trace {
             plate,
             files,
             chosen,
-        } => trace_words(rt, words, form, chosen, plate, files),
+        } => trace_words(desk, words, row, chosen, plate, files),
         Wanted::Show {
             plate,
             program,
             log,
-        } => show_words(rt, words, form, plate, program, log),
-        Wanted::Decode { table } => decode_words(rt, words, form, table),
-        Wanted::Explain { number } => show_page(rt, words, number),
-        Wanted::Line { plate, log } => line_words(rt, words, form, plate, log),
+        } => show_words(desk, words, row, plate, program, log),
+        Wanted::Decode { table } => decode_words(desk, words, row, table),
+        Wanted::Explain { number } => show_page(desk.rt, words, number),
+        Wanted::Line { plate, log } => line_words(desk, words, row, plate, log),
     }
+}
+
+/// Does what the words ask for, with room for what is gathered for the output: the exit status.
+fn execute(rt: &HostRuntime, words: &[String], request: Request<'_>) -> u8
+    requires asked { asked (texts_of words.now) ≡ view request.wanted }
+    requires form { form_asked (texts_of words.now) ≡ Some request.form }
+{
+    let gathered = match shared_output(rt) {
+        Ok(gathered) => gathered,
+        Err(_) => return without_memory(rt),
+    };
+    let desk = Desk {
+        rt,
+        form: request.form,
+        gathered: &gathered,
+    };
+    execute_at(
+        desk,
+        words,
+        &mut RefusedRow::new(rt.alloc()),
+        request.wanted,
+    )
 }
 
 /// Does what the words ask for: the exit status, 0 where it succeeded, 1 where something was refused, 2 where the words are

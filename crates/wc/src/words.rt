@@ -1,13 +1,14 @@
 ghost use Rattle.std.specs.Prelude.{◌≡◌, IfOk, Some, false, codes, option_map};
 ghost use Rattle.std.specs.Option.{option_map_or};
 ghost use Rattle.clap.specs.Words.{FailsBy, found_of, subcommand_rows_of, rule_of, app_of, rows_of};
-ghost use Rattle.clap.specs.Words.{first_of};
+ghost use Rattle.clap.specs.Words.{App, Rule, first_of, with_rule, with_subcommand};
 ghost use Rattle.wc.specs.Asked.{asked, asked_at, asked_by, fault_in, file_in, flag_in};
 ghost use Rattle.wc.specs.Asked.{form_asked, form_in, form_named, number_in, texts_of, view, wide_number_in};
 ghost use Rattle.wc.specs.CommandLine.{Takes, command_line, check_word, run_word, show_word, trace_word, line_word};
 ghost use Rattle.wc.specs.CommandLine.{decode_word};
 ghost use Rattle.wc.specs.CommandLine.{explain_word, file_option, flag, message_option};
-ghost use Rattle.wc.specs.CommandLine.{number_option, place, value_option, wide_number_option};
+ghost use Rattle.wc.specs.CommandLine.{number_option, number_place, place, value_option};
+ghost use Rattle.wc.specs.CommandLine.{wide_number_option};
 
 use clap::error::ErrorKind;
 use clap::{Arg, ArgAction, ArgMatches, Command, Error, value_parser};
@@ -202,21 +203,46 @@ fn message_option<'a>(alloc: Global) -> Arg<'a>
         .help("Tell a refusal in this form: long (else taken), short or json")
 }
 
+/// A word with one more option. As it takes what may have failed, no word has a way out for each of its options.
+fn with_option<'a>(
+    word: Result<Command<'a>, AllocError>,
+    option: Arg<'a>,
+) -> Result<Command<'a>, AllocError>
+    ensures { (app : App) → (rule : Rule) → IfOk word.entry (Takes app) → rule_of option.entry ≡ rule
+        → option.entry.global ≡ false → IfOk result (Takes (with_rule app rule)) }
+{
+    match word {
+        Ok(word) => word.arg(option),
+        Err(error) => Err(error),
+    }
+}
+
+/// A command line with one more word.
+fn with_word<'a>(
+    line: Result<Command<'a>, AllocError>,
+    word: Result<Command<'a>, AllocError>,
+) -> Result<Command<'a>, AllocError>
+    ensures { (app : App) → (named : App) → IfOk line.entry (Takes app) → IfOk word.entry (Takes named)
+        → IfOk result (Takes (with_subcommand app named.top)) }
+{
+    match line {
+        Ok(line) => line.subcommand(word?),
+        Err(error) => Err(error),
+    }
+}
+
 /// The word `check`.
 fn check_command<'a>(alloc: Global) -> Result<Command<'a>, AllocError>
     ensures { IfOk result (Takes check_word) }
 {
-    let next = next_option(
-        alloc,
-        "The next program: print its numbers of steps, and what a change to it keeps",
+    let next = "The next program: print its numbers of steps, and what a change to it keeps";
+    let word = Command::new(alloc, "check").about(
+        "Load a program and print the greatest number of steps of each unit",
     );
-    let command = Command::new(alloc, "check")
-        .about("Load a program and print the greatest number of steps of each unit")
-        .arg(program_place(alloc))?
-        .arg(next)?
-        .arg(path_flag(alloc))?
-        .arg(message_option(alloc))?;
-    Ok(command)
+    let word = with_option(Ok(word), program_place(alloc));
+    let word = with_option(word, next_option(alloc, next));
+    let word = with_option(word, path_flag(alloc));
+    with_option(word, message_option(alloc))
 }
 
 /// The option that prints the last scans alone.
@@ -231,31 +257,40 @@ fn last_option<'a>(alloc: Global) -> Arg<'a>
         .help("Print the last N scans alone, 1 to 1000, behind the answers of the line")
 }
 
+/// The program's option.
+fn program_option<'a>(alloc: Global) -> Arg<'a>
+    ensures rule { rule_of result ≡ file_option (codes "program") }
+    ensures local { result.global ≡ false }
+{
+    file_option(alloc, "program", "The program text (Instruction List)")
+}
+
+/// What is said of the next program of a run.
+const NEXT: &str = "The next program, which a row of kind P takes (Instruction List)";
+
+/// The option that names variables.
+fn watch_option<'a>(alloc: Global) -> Arg<'a>
+    ensures rule { rule_of result ≡ value_option (codes "watch") }
+    ensures local { result.global ≡ false }
+{
+    let help = "Print the values of these variables behind each scan, as filling,t.ET";
+    value_option(alloc, "watch", "NAME,..", help)
+}
+
 /// The word `run`.
 fn run_command<'a>(alloc: Global) -> Result<Command<'a>, AllocError>
     ensures { IfOk result (Takes run_word) }
 {
-    let program = file_option(alloc, "program", "The program text (Instruction List)");
-    let next = next_option(
-        alloc,
-        "The next program, which a row of kind P takes (Instruction List)",
+    let word = Command::new(alloc, "run").about(
+        "Run a log with a program: print each scan, and each answer of the line",
     );
-    let watch = value_option(
-        alloc,
-        "watch",
-        "NAME,..",
-        "Print the values of these variables behind each scan, as filling,t.ET",
-    );
-    let command = Command::new(alloc, "run")
-        .about("Run a log with a program: print each scan, and each answer of the line")
-        .arg(plate_option(alloc))?
-        .arg(program)?
-        .arg(next)?
-        .arg(log_option(alloc))?
-        .arg(last_option(alloc))?
-        .arg(watch)?
-        .arg(message_option(alloc))?;
-    Ok(command)
+    let word = with_option(Ok(word), plate_option(alloc));
+    let word = with_option(word, program_option(alloc));
+    let word = with_option(word, next_option(alloc, NEXT));
+    let word = with_option(word, log_option(alloc));
+    let word = with_option(word, last_option(alloc));
+    let word = with_option(word, watch_option(alloc));
+    with_option(word, message_option(alloc))
 }
 
 /// An option that chooses scans by a number.
@@ -274,105 +309,109 @@ fn choosing_option<'a>(alloc: Global, name: &'a str, value: &'a str, help: &'a s
 fn trace_command<'a>(alloc: Global) -> Result<Command<'a>, AllocError>
     ensures { IfOk result (Takes trace_word) }
 {
-    let program = file_option(alloc, "program", "The program text (Instruction List)");
-    let next = next_option(
-        alloc,
-        "The next program, which a row of kind P takes (Instruction List)",
+    let (at, scan) = (
+        "Show the scans at this moment",
+        "Show the scan of this number, from 1",
     );
-    let at = choosing_option(alloc, "at", "MS", "Show the scans at this moment");
-    let scan = choosing_option(alloc, "scan", "N", "Show the scan of this number, from 1");
-    let from = choosing_option(alloc, "from", "MS", "Show no scan before this moment");
-    let to = choosing_option(alloc, "to", "MS", "Show no scan behind this moment");
-    let command = Command::new(alloc, "trace")
-        .about("Run a log with a program, and show its scans line by line")
-        .arg(plate_option(alloc))?
-        .arg(program)?
-        .arg(next)?
-        .arg(log_option(alloc))?
-        .arg(at)?
-        .arg(scan)?
-        .arg(from)?
-        .arg(to)?
-        .arg(message_option(alloc))?;
-    Ok(command)
+    let (from, to) = (
+        "Show no scan before this moment",
+        "Show no scan behind this moment",
+    );
+    let word = Command::new(alloc, "trace").about(
+        "Run a log with a program, and show its scans line by line",
+    );
+    let word = with_option(Ok(word), plate_option(alloc));
+    let word = with_option(word, program_option(alloc));
+    let word = with_option(word, next_option(alloc, NEXT));
+    let word = with_option(word, log_option(alloc));
+    let word = with_option(word, choosing_option(alloc, "at", "MS", at));
+    let word = with_option(word, choosing_option(alloc, "scan", "N", scan));
+    let word = with_option(word, choosing_option(alloc, "from", "MS", from));
+    let word = with_option(word, choosing_option(alloc, "to", "MS", to));
+    with_option(word, message_option(alloc))
 }
 
 /// The word `show`.
 fn show_command<'a>(alloc: Global) -> Result<Command<'a>, AllocError>
     ensures { IfOk result (Takes show_word) }
 {
-    let program = value_option(
-        alloc,
-        "program",
-        "FILE",
-        "The program text (Instruction List); where none is given the log is run with none",
-    );
-    let command = Command::new(alloc, "show")
-        .about("Run a log, and write a picture of it (SVG)")
-        .arg(plate_option(alloc))?
-        .arg(program)?
-        .arg(log_option(alloc))?
-        .arg(message_option(alloc))?;
-    Ok(command)
+    let program =
+        "The program text (Instruction List); where none is given the log is run with none";
+    let word = Command::new(alloc, "show").about("Run a log, and write a picture of it (SVG)");
+    let word = with_option(Ok(word), plate_option(alloc));
+    let word = with_option(word, value_option(alloc, "program", "FILE", program));
+    let word = with_option(word, log_option(alloc));
+    with_option(word, message_option(alloc))
 }
 
 /// The word `line`.
 fn line_command<'a>(alloc: Global) -> Result<Command<'a>, AllocError>
     ensures { IfOk result (Takes line_word) }
 {
-    let command = Command::new(alloc, "line")
-        .about("Run a log with no program: print each answer of the line")
-        .arg(plate_option(alloc))?
-        .arg(log_option(alloc))?
-        .arg(message_option(alloc))?;
-    Ok(command)
+    let word = Command::new(alloc, "line").about(
+        "Run a log with no program: print each answer of the line",
+    );
+    let word = with_option(Ok(word), plate_option(alloc));
+    let word = with_option(word, log_option(alloc));
+    with_option(word, message_option(alloc))
+}
+
+/// The option of a table.
+fn table_flag<'a>(alloc: Global) -> Arg<'a>
+    ensures rule { rule_of result ≡ flag (codes "csv") }
+    ensures local { result.global ≡ false }
+{
+    Arg::new(alloc, "csv")
+        .long("csv")
+        .action(ArgAction::SetTrue)
+        .help("Write a table for a spreadsheet (CSV)")
 }
 
 /// The word `decode`.
 fn decode_command<'a>(alloc: Global) -> Result<Command<'a>, AllocError>
     ensures { IfOk result (Takes decode_word) }
 {
-    let csv = Arg::new(alloc, "csv")
-        .long("csv")
-        .action(ArgAction::SetTrue)
-        .help("Write a table for a spreadsheet (CSV)");
-    let command = Command::new(alloc, "decode")
-        .about("Write a report, as a run prints it, from standard input for people")
-        .arg(csv)?;
-    Ok(command)
+    let word = Command::new(alloc, "decode").about(
+        "Write a report, as a run prints it, from standard input for people",
+    );
+    with_option(Ok(word), table_flag(alloc))
+}
+
+/// The place of a refusal's number.
+fn number_place<'a>(alloc: Global) -> Arg<'a>
+    ensures rule { rule_of result ≡ number_place (codes "number") }
+    ensures local { result.global ≡ false }
+{
+    Arg::new(alloc, "number")
+        .value_name("NUMBER")
+        .required(true)
+        .value_parser(value_parser!(u16))
+        .help("The number of a refusal, as 403")
 }
 
 /// The word `explain`.
 fn explain_command<'a>(alloc: Global) -> Result<Command<'a>, AllocError>
     ensures { IfOk result (Takes explain_word) }
 {
-    let number = Arg::new(alloc, "number")
-        .value_name("NUMBER")
-        .required(true)
-        .value_parser(value_parser!(u16))
-        .help("The number of a refusal, as 403");
-    let command = Command::new(alloc, "explain")
-        .about("Say what a refusal means, where it is met, and how to mend it")
-        .arg(number)?;
-    Ok(command)
+    let word = Command::new(alloc, "explain").about(
+        "Say what a refusal means, where it is met, and how to mend it",
+    );
+    with_option(Ok(word), number_place(alloc))
 }
 
 /// The whole command line.
 fn command<'a>(alloc: Global) -> Result<Command<'a>, AllocError>
     ensures { IfOk result (λ c. app_of c ≡ command_line) }
 {
-    let command = Command::new(alloc, "wc")
-        .version(VERSION)
-        .about(ABOUT)
-        .arg(message_option(alloc))?
-        .subcommand(check_command(alloc)?)?
-        .subcommand(run_command(alloc)?)?
-        .subcommand(trace_command(alloc)?)?
-        .subcommand(show_command(alloc)?)?
-        .subcommand(line_command(alloc)?)?
-        .subcommand(decode_command(alloc)?)?
-        .subcommand(explain_command(alloc)?)?;
-    Ok(command)
+    let line = Command::new(alloc, "wc").version(VERSION).about(ABOUT);
+    let line = with_option(Ok(line), message_option(alloc));
+    let line = with_word(line, check_command(alloc));
+    let line = with_word(line, run_command(alloc));
+    let line = with_word(line, trace_command(alloc));
+    let line = with_word(line, show_command(alloc));
+    let line = with_word(line, line_command(alloc));
+    let line = with_word(line, decode_command(alloc));
+    with_word(line, explain_command(alloc))
 }
 
 /// The file behind an option that must be there.

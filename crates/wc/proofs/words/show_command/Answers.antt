@@ -4,13 +4,12 @@ use Rattle.clap.specs.Simple.{app_of_fields}
 use Rattle.clap.specs.declared.builder.command.Command.TheOpen.{Command-F}
 use Rattle.clap.specs.declared.builder.command.Command.{Command}
 use Rattle.wc.specs.CommandLine.{Takes}
-use Rattle.wc.proofs.Tables.{one_option}
 use Rattle.wc.proofs.words.show_command.Goals as goal
 
 pub returns : goal.returns
 returns c =
-    let zero : Takes (new_app (codes "show")) c.about.result = (ap app_of_fields c.about.ensures ∙ c.new.ensures.app, ap (λ (f : Command-F Command). f.has_globals) c.about.ensures ∙ c.new.ensures.local) in
-    let one = one_option _ _ _ _ _ c.in_ok-arg.ensures c.plate_option.ensures.rule c.plate_option.ensures.local zero in
-    let two = one_option _ _ _ _ _ c.in_ok-arg-2.ensures c.value_option-program.ensures.rule c.value_option-program.ensures.local one in
-    let three = one_option _ _ _ _ _ c.in_ok-arg-3.ensures c.log_option.ensures.rule c.log_option.ensures.local two in
-    one_option _ _ _ _ _ c.in_ok-command.ensures c.message_option.ensures.rule c.message_option.ensures.local three
+    let zero : Takes (new_app (codes "show")) c.about-word.result = (ap app_of_fields c.about-word.ensures ∙ c.new.ensures.app, ap (λ (f : Command-F Command). f.has_globals) c.about-word.ensures ∙ c.new.ensures.local) in
+    let one = c.with_option-word.ensures _ _ zero c.plate_option.ensures.rule c.plate_option.ensures.local in
+    let two = c.with_option-word-2.ensures _ _ one c.value_option.ensures.rule c.value_option.ensures.local in
+    let three = c.with_option-word-3.ensures _ _ two c.log_option.ensures.rule c.log_option.ensures.local in
+    c.with_option.ensures _ _ three c.message_option.ensures.rule c.message_option.ensures.local

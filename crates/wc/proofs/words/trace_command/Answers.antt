@@ -4,18 +4,17 @@ use Rattle.clap.specs.Simple.{app_of_fields}
 use Rattle.clap.specs.declared.builder.command.Command.TheOpen.{Command-F}
 use Rattle.clap.specs.declared.builder.command.Command.{Command}
 use Rattle.wc.specs.CommandLine.{Takes}
-use Rattle.wc.proofs.Tables.{one_option}
 use Rattle.wc.proofs.words.trace_command.Goals as goal
 
 pub returns : goal.returns
 returns c =
-    let zero : Takes (new_app (codes "trace")) c.about.result = (ap app_of_fields c.about.ensures ∙ c.new.ensures.app, ap (λ (f : Command-F Command). f.has_globals) c.about.ensures ∙ c.new.ensures.local) in
-    let one = one_option _ _ _ _ _ c.in_ok-arg.ensures c.plate_option.ensures.rule c.plate_option.ensures.local zero in
-    let two = one_option _ _ _ _ _ c.in_ok-arg-2.ensures c.file_option-program.ensures.rule c.file_option-program.ensures.local one in
-    let three = one_option _ _ _ _ _ c.in_ok-arg-3.ensures c.next_option-next.ensures.rule c.next_option-next.ensures.local two in
-    let four = one_option _ _ _ _ _ c.in_ok-arg-4.ensures c.log_option.ensures.rule c.log_option.ensures.local three in
-    let five = one_option _ _ _ _ _ c.in_ok-arg-5.ensures c.choosing_option-at.ensures.rule c.choosing_option-at.ensures.local four in
-    let six = one_option _ _ _ _ _ c.in_ok-arg-6.ensures c.choosing_option-scan.ensures.rule c.choosing_option-scan.ensures.local five in
-    let seven = one_option _ _ _ _ _ c.in_ok-arg-7.ensures c.choosing_option-from.ensures.rule c.choosing_option-from.ensures.local six in
-    let eight = one_option _ _ _ _ _ c.in_ok-arg-8.ensures c.choosing_option-to.ensures.rule c.choosing_option-to.ensures.local seven in
-    one_option _ _ _ _ _ c.in_ok-command.ensures c.message_option.ensures.rule c.message_option.ensures.local eight
+    let zero : Takes (new_app (codes "trace")) c.about-word.result = (ap app_of_fields c.about-word.ensures ∙ c.new.ensures.app, ap (λ (f : Command-F Command). f.has_globals) c.about-word.ensures ∙ c.new.ensures.local) in
+    let one = c.with_option-word.ensures _ _ zero c.plate_option.ensures.rule c.plate_option.ensures.local in
+    let two = c.with_option-word-2.ensures _ _ one c.program_option.ensures.rule c.program_option.ensures.local in
+    let three = c.with_option-word-3.ensures _ _ two c.next_option.ensures.rule c.next_option.ensures.local in
+    let four = c.with_option-word-4.ensures _ _ three c.log_option.ensures.rule c.log_option.ensures.local in
+    let five = c.with_option-word-5.ensures _ _ four c.choosing_option.ensures.rule c.choosing_option.ensures.local in
+    let six = c.with_option-word-6.ensures _ _ five c.choosing_option-2.ensures.rule c.choosing_option-2.ensures.local in
+    let seven = c.with_option-word-7.ensures _ _ six c.choosing_option-3.ensures.rule c.choosing_option-3.ensures.local in
+    let eight = c.with_option-word-8.ensures _ _ seven c.choosing_option-4.ensures.rule c.choosing_option-4.ensures.local in
+    c.with_option.ensures _ _ eight c.message_option.ensures.rule c.message_option.ensures.local
