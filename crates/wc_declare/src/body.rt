@@ -54,11 +54,13 @@ fn judge_operand<'a>(in_block: bool, operand: &Operand<'a>) -> Result<(), Fault>
 
 /// Judges the values of a call's arguments.
 fn judge_arguments<'a>(in_block: bool, arguments: &[Argument<'a>]) -> Result<(), Fault>
-    ensures { (unit : ProgramUnit) (rest : List Check) → in_block ≡ is_block unit
+    ensures judged { (unit : ProgramUnit) (rest : List Check) → in_block ≡ is_block unit
         → Judges
         (first_broken
         (flat_map (λ a. term_checks unit a.actual) (map assignment_view arguments.now) ++ rest))
         (first_broken rest) result }
+    // It takes no memory, so a refusal is not told as want of it.
+    ensures refuses { IfErr result (λ fault. fault ≡ Fault.Memory → ⊥) }
 {
     for argument in arguments {
         if let Err(fault) = judge_operand(in_block, &argument.value) {
@@ -70,9 +72,11 @@ fn judge_arguments<'a>(in_block: bool, arguments: &[Argument<'a>]) -> Result<(),
 
 /// Judges the operand of an opening line, where there is one.
 fn judge_first<'a>(in_block: bool, operand: &Option<Operand<'a>>) -> Result<(), Fault>
-    ensures { (unit : ProgramUnit) (rest : List Check) → in_block ≡ is_block unit
+    ensures judged { (unit : ProgramUnit) (rest : List Check) → in_block ≡ is_block unit
         → Judges (first_broken (operand_checks unit (option_map term_view operand.now) ++ rest))
         (first_broken rest) result }
+    // It takes no memory, so a refusal is not told as want of it.
+    ensures refuses { IfErr result (λ fault. fault ≡ Fault.Memory → ⊥) }
 {
     match operand {
         Some(operand) => judge_operand(in_block, operand),
@@ -82,9 +86,12 @@ fn judge_first<'a>(in_block: bool, operand: &Option<Operand<'a>>) -> Result<(), 
 
 /// Judges a line with the lines inside it: each label and address.
 fn judge_line<'a>(in_block: bool, line: &Line<'a>) -> Result<(), Fault>
-    ensures { (unit : ProgramUnit) (others : Lines) (rest : List Check) → in_block ≡ is_block unit
+    ensures judged { (unit : ProgramUnit) (others : Lines) (rest : List Check)
+        → in_block ≡ is_block unit
         → Judges (first_broken (body_name_checks unit (line_view line.now others) ++ rest))
         (first_broken (body_name_checks unit others ++ rest)) result }
+    // It takes no memory, so a refusal is not told as want of it.
+    ensures refuses { IfErr result (λ fault. fault ≡ Fault.Memory → ⊥) }
 {
     if let Err(fault) = judge_label(line.label) {
         return Err(fault);
@@ -118,9 +125,11 @@ fn judge_line<'a>(in_block: bool, line: &Line<'a>) -> Result<(), Fault>
 
 /// Judges the lines of a body: each label and address.
 pub(crate) fn judge_body<'a>(in_block: bool, lines: &[Line<'a>]) -> Result<(), Fault>
-    ensures { (unit : ProgramUnit) (rest : List Check) → in_block ≡ is_block unit
+    ensures judged { (unit : ProgramUnit) (rest : List Check) → in_block ≡ is_block unit
         → Judges (first_broken (body_name_checks unit (lines_view lines.now) ++ rest))
         (first_broken rest) result }
+    // It takes no memory, so a refusal is not told as want of it.
+    ensures refuses { IfErr result (λ fault. fault ≡ Fault.Memory → ⊥) }
 {
     for line in lines {
         if let Err(fault) = judge_line(in_block, line) {

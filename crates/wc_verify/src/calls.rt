@@ -1,4 +1,4 @@
-ghost use Rattle.std.specs.Prelude.{◌≡◌, ℕ, ◌∷◌, ◌++◌, List, Option, Some, OnOk, map, option_and_then, is_some};
+ghost use Rattle.std.specs.Prelude.{◌≡◌, ℕ, ◌<◌, ◌∷◌, ◌++◌, List, Option, Some, IfErr, OnOk, length, map, option_and_then, is_some};
 ghost use Rattle.std.specs.List.{flat_map};
 ghost use Rattle.wc_model.specs.Language.BodyRules.{actual_checks, argument_checks, call_checks, suits_input, suits_output};
 ghost use Rattle.wc_model.specs.Language.Checks.{Check, first_broken, spots_of};
@@ -122,12 +122,14 @@ fn judge_arguments<'a>(
     arguments: &[Argument<'a>],
     line: u32,
 ) -> Result<(), Fault>
-    ensures { (scope : Scope) (type : VariableType) (rest : List Check)
+    ensures judged { (scope : Scope) (type : VariableType) (rest : List Check)
         → IsScope tables.now unit scope → numbered_type scope.before type ≡ Some declared
         → Judges
         (first_broken
         (flat_map (argument_checks scope line (members_of scope.before type))
         (spots_of (map assignment_view arguments.now)) ++ rest)) (first_broken rest) result }
+    // With an empty list no memory is taken.
+    ensures room { IfErr result (λ fault. fault ≡ Fault.Memory → 0 < length arguments.now) }
 {
     let mut names = Names::new(alloc);
     for argument in arguments {
@@ -172,11 +174,13 @@ pub(crate) fn judge_call<'a>(
     line: u32,
     kind: Option<Kind>,
 ) -> Result<(), Fault>
-    ensures { (scope : Scope) (rest : List Check) → IsScope tables.now unit scope
+    ensures judged { (scope : Scope) (rest : List Check) → IsScope tables.now unit scope
         → Judges
         (first_broken
         (call_checks scope line condition (name_of instance.now)
         (map assignment_view arguments.now) kind ++ rest)) (first_broken rest) result }
+    // With an empty list no memory is taken, so no refusal is told as want of it.
+    ensures room { IfErr result (λ fault. fault ≡ Fault.Memory → 0 < length arguments.now) }
 {
     let Some(declared) = type_of(tables, unit, instance) else {
         return Err(refused(401, line));

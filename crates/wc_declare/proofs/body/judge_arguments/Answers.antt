@@ -20,8 +20,8 @@ asked unit args = flat_map (λ a. term_checks unit a.actual) args
 abbrev no_argument : Argument
 no_argument = record { direction = Into; name = record { ref_ptr = (0, 0); now = [] }; value = Literal (Truth false) }
 
-pub returns-in-Err : goal.returns-in-Err
-returns-in-Err c = λ unit rest block.
+pub returns-in-Err-clause-judged : goal.returns-in-Err-clause-judged
+returns-in-Err-clause-judged c = λ unit rest block.
     let i = c.loop-argument.argument-index in
     let items = c.args.arguments.now in
     let argument = get_or items i no_argument in
@@ -43,7 +43,7 @@ loop-argument-preserved c = λ unit rest block.
     c.loop-argument.invariant unit rest block ∙ ap (λ xs. first_broken (asked unit (map assignment_view xs) ++ rest)) cut ∙ ap first_broken (append_assoc (term_checks unit (term_view argument.value)) (asked unit left) rest)
     ∙ judges_ok (first_broken (term_checks unit (term_view argument.value) ++ behind)) (first_broken behind) c.judge_operand.result c.in_default.field-0 c.in_default.is (c.judge_operand.ensures.judged unit behind block)
 
-pub returns : goal.returns
-returns c = λ unit rest block.
+pub returns-clause-judged : goal.returns-clause-judged
+returns-clause-judged c = λ unit rest block.
     let end : drop c.loop-argument.argument-index c.args.arguments.now ≡ [] = drop_all c.loop-argument.argument-index c.args.arguments.now c.loop-argument-test.false in
     c.loop-argument.invariant unit rest block ∙ ap (λ xs. first_broken (asked unit (map assignment_view xs) ++ rest)) end

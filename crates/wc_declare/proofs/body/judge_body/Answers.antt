@@ -7,14 +7,14 @@ use Rattle.wc_declare.proofs.Judging.{judges_err, judges_ok}
 use Rattle.wc_names.proofs.Lists.{from_index}
 use Rattle.wc_declare.proofs.body.judge_body.Goals as goal
 
-pub returns-in-Err : goal.returns-in-Err
-returns-in-Err c = λ unit rest block.
+pub returns-in-Err-clause-judged : goal.returns-in-Err-clause-judged
+returns-in-Err-clause-judged c = λ unit rest block.
     let i = c.loop-line.line-index in
     let items = c.args.lines.now in
     let left = lines_view (drop (i + 1) items) in
     let cut = from_index items i c.line-item.result c.loop-line-test.true c.line-item.is in
     judges_err (Unit {0}) (Unit {0}) (first_broken (body_name_checks unit (lines_view items) ++ rest)) (first_broken (body_name_checks unit (line_view c.line-item.result left) ++ rest)) (first_broken (body_name_checks unit left ++ rest)) (first_broken rest) c.in-Err.fault
-    (c.loop-line.invariant unit rest block ∙ ap (λ xs. first_broken (body_name_checks unit (lines_view xs) ++ rest)) cut) (c.in-Err.ensures unit left rest block)
+    (c.loop-line.invariant unit rest block ∙ ap (λ xs. first_broken (body_name_checks unit (lines_view xs) ++ rest)) cut) (c.in-Err.ensures.judged unit left rest block)
 
 pub loop-line-preserved : goal.loop-line-preserved
 loop-line-preserved c = λ unit rest block.
@@ -23,9 +23,9 @@ loop-line-preserved c = λ unit rest block.
     let left = lines_view (drop (i + 1) items) in
     let cut = from_index items i c.line-item.result c.loop-line-test.true c.line-item.is in
     c.loop-line.invariant unit rest block ∙ ap (λ xs. first_broken (body_name_checks unit (lines_view xs) ++ rest)) cut
-    ∙ judges_ok (first_broken (body_name_checks unit (line_view c.line-item.result left) ++ rest)) (first_broken (body_name_checks unit left ++ rest)) c.judge_line.result c.in_default.field-0 c.in_default.is (c.judge_line.ensures unit left rest block)
+    ∙ judges_ok (first_broken (body_name_checks unit (line_view c.line-item.result left) ++ rest)) (first_broken (body_name_checks unit left ++ rest)) c.judge_line.result c.in_default.field-0 c.in_default.is (c.judge_line.ensures.judged unit left rest block)
 
-pub returns : goal.returns
-returns c = λ unit rest block.
+pub returns-clause-judged : goal.returns-clause-judged
+returns-clause-judged c = λ unit rest block.
     let end : drop c.loop-line.line-index c.args.lines.now ≡ [] = drop_all c.loop-line.line-index c.args.lines.now c.loop-line-test.false in
     c.loop-line.invariant unit rest block ∙ ap (λ xs. first_broken (body_name_checks unit (lines_view xs) ++ rest)) end

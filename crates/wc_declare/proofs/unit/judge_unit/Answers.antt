@@ -50,7 +50,7 @@ returns-in-Err-judge_body-clause-judged c = λ text before rest units.
     ∙ ap first_broken (append_assoc (unit_declaration_checks text before unit) (body_name_checks unit unit.body) rest)
     ∙ judges_ok (first_broken (unit_declaration_checks text before unit ++ body)) (first_broken body) c.judge_declarations.result c.in_default-judge_declarations.field-0 c.in_default-judge_declarations.is (c.judge_declarations.ensures.judged text before body units none)
     ∙ ap (λ xs. first_broken (body_name_checks unit (lines_view xs) ++ rest)) (sym c.deref.ensures.value))
-    (c.in-Err-judge_body.ensures unit rest c.is_block-in_block.ensures)
+    (c.in-Err-judge_body.ensures.judged unit rest c.is_block-in_block.ensures)
 
 pub returns-clause-judged : goal.returns-clause-judged
 returns-clause-judged c = λ text before rest units.
@@ -62,7 +62,7 @@ returns-clause-judged c = λ text before rest units.
     ∙ ap first_broken (append_assoc (unit_declaration_checks text before unit) (body_name_checks unit unit.body) rest)
     ∙ judges_ok (first_broken (unit_declaration_checks text before unit ++ body)) (first_broken body) c.judge_declarations.result c.in_default-judge_declarations.field-0 c.in_default-judge_declarations.is (c.judge_declarations.ensures.judged text before body units none)
     ∙ ap (λ xs. first_broken (body_name_checks unit (lines_view xs) ++ rest)) (sym c.deref.ensures.value)
-    ∙ judges_ok (first_broken (body_name_checks unit (lines_view c.deref.result.now) ++ rest)) (first_broken rest) c.judge_body.result c.in_default-judge_body.field-0 c.in_default-judge_body.is (c.judge_body.ensures unit rest c.is_block-in_block.ensures)
+    ∙ judges_ok (first_broken (body_name_checks unit (lines_view c.deref.result.now) ++ rest)) (first_broken rest) c.judge_body.result c.in_default-judge_body.field-0 c.in_default-judge_body.is (c.judge_body.ensures.judged unit rest c.is_block-in_block.ensures)
 
 pub returns-clause-table : goal.returns-clause-table
 returns-clause-table c = λ text before units.

@@ -25,8 +25,8 @@ begin : (tables : Tables) (unit : ℕ) (declared : DeclaredType) (line : ℕ) (n
     ArgumentsBehind tables unit declared line names all (map assignment_view (drop i items)) → ArgumentsBehind tables unit declared line names all (assignment_view (get_or items i one) ∷ map assignment_view (drop (i + 1) items))
 begin tables unit declared line names all items i below h = subst (λ xs. ArgumentsBehind tables unit declared line names all (map assignment_view xs)) (from_index_or items i one below) h
 
-pub returns-in-Err : goal.returns-in-Err
-returns-in-Err c = λ scope type rest is num.
+pub returns-in-Err-clause-judged : goal.returns-in-Err-clause-judged
+returns-in-Err-clause-judged c = λ scope type rest is num.
     let items = c.args.arguments.now in
     let i = c.loop-argument.argument-index in
     let all = map assignment_view items in

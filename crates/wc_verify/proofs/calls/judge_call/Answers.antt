@@ -10,24 +10,24 @@ use Rattle.wc_verify.proofs.Calling.{instance_found, no_instance_found, type_par
 use Rattle.wc_declare.proofs.Judging.{judges_same}
 use Rattle.wc_verify.proofs.calls.judge_call.Goals as goal
 
-pub returns-then-not-is_instance : goal.returns-then-not-is_instance
-returns-then-not-is_instance c = λ scope rest is.
+pub returns-then-not-is_instance-clause-judged : goal.returns-then-not-is_instance-clause-judged
+returns-then-not-is_instance-clause-judged c = λ scope rest is.
     let typed = type_parts scope (type_of scope (name_of c.args.instance.now)) c.in-Some.declared (c.in-Some.ensures.declared scope is) in
     rw c.refused-then-not-is_instance.ensures (no_instance_found scope c.args.line c.args.condition (type_of scope (name_of c.args.instance.now)) (map assignment_view c.args.arguments.now) c.args.kind rest c.in-Some.declared typed (sym c.if-not-is_instance.ensures))
 
-pub returns-in-Some-judge_condition : goal.returns-in-Some-judge_condition
-returns-in-Some-judge_condition c = λ scope rest is.
+pub returns-in-Some-judge_condition-clause-judged : goal.returns-in-Some-judge_condition-clause-judged
+returns-in-Some-judge_condition-clause-judged c = λ scope rest is.
     let typed = type_parts scope (type_of scope (name_of c.args.instance.now)) c.in-Some.declared (c.in-Some.ensures.declared scope is) in
     let arguments = map assignment_view c.args.arguments.now in
     rw c.refused-in-Some-judge_condition.ensures (instance_found scope c.args.line c.args.condition (type_of scope (name_of c.args.instance.now)) arguments c.args.kind rest c.in-Some.declared typed (sym c.if-not-is_instance.ensures)
     ∙ c.in-Some-judge_condition.ensures c.args.line (flat_map (argument_checks scope c.args.line (members_of scope.before typed.type)) (spots_of arguments) ++ rest))
 
-pub returns-in-None : goal.returns-in-None
-returns-in-None c = λ scope rest is.
+pub returns-in-None-clause-judged : goal.returns-in-None-clause-judged
+returns-in-None-clause-judged c = λ scope rest is.
     let typed = type_parts scope (type_of scope (name_of c.args.instance.now)) c.in-Some.declared (c.in-Some.ensures.declared scope is) in
     let arguments = map assignment_view c.args.arguments.now in
     let checks = flat_map (argument_checks scope c.args.line (members_of scope.before typed.type)) (spots_of arguments) in
     judges_same (first_broken (call_checks scope c.args.line c.args.condition (name_of c.args.instance.now) arguments c.args.kind ++ rest)) (first_broken (checks ++ rest)) (first_broken rest) c.judge_arguments.result
     (instance_found scope c.args.line c.args.condition (type_of scope (name_of c.args.instance.now)) arguments c.args.kind rest c.in-Some.declared typed (sym c.if-not-is_instance.ensures)
     ∙ c.in-None.ensures c.args.line (checks ++ rest))
-    (c.judge_arguments.ensures scope typed.type rest is typed.numbered)
+    (c.judge_arguments.ensures.judged scope typed.type rest is typed.numbered)
