@@ -9,12 +9,11 @@ use Rattle.wc_controller.specs.Endings.{RefusesPlate, RefusesLength, WritesUpTo,
 use Rattle.wc_controller.specs.Files.{AnswersFile, AnswersPlateFile, AnswersWithPlate, too_long, whole}
 use Rattle.wc_controller.specs.Jobs.{Allows, AllowsSections}
 use Rattle.wc_controller.specs.TakenLogs.{IfKnown}
-use Rattle.wc_job.specs.Reads.{IsWhole}
 use Rattle.wc_model.specs.Instrument.PlateTable.{plate_of}
 use Rattle.wc_model.specs.Instrument.Plates.{PlateData}
 use Rattle.wc_model.specs.Run.JobSections.{Sections, longest_job, sections_in, sections_of, sections_or_refusal, whole_lines}
 use Rattle.wc_model.specs.Run.Log.{log_of}
-use Rattle.wc_model.specs.Say.Job.{JobAnswer, AnswersPlate, AnswersPrograms, AnswersSections, refused_text, refusing, run_answer}
+use Rattle.wc_model.specs.Say.Job.{JobAnswer, AnswersPlate, AnswersPrograms, AnswersSections, refusing, run_answer}
 use Rattle.wc_model.specs.declared.fault.Fault.{Fault}
 use Rattle.wc_model.specs.declared.fault.Fault.TheVariants as fault
 use Rattle.wc_plate.specs.TomlTable.{table_read}

@@ -2,12 +2,12 @@
 use Rattle.std.proofs.Common.{◌≡◌, ℕ, ◌≤◌, List, length, Result, Ok, Err, refl, ap, sym, ◌∙◌, subst, inr}
 use Rattle.std.specs.Prelude.{Option, Some, None, IfErr, IfSome, IsSome, is_some}
 use Rattle.wc_controller.proofs.Allowing.{on_known}
-use Rattle.wc_controller.specs.Blames.{Blames, RefusesLog, RefusesProgram, RefusesText, StopsFor}
+use Rattle.wc_controller.specs.Blames.{Blames, IsNextUnloaded, IsUnloaded, RefusesLog, RefusesProgram, RefusesText, StopsFor}
 use Rattle.wc_controller.specs.Endings.{EndsBehind, EndsBehindFault, EndsRefused, HasNotFailedAt, StopsAt, TellsMemory, met, of_refused_log, of_unread_log, run_fault_of}
 use Rattle.wc_controller.specs.Loads.{IsRefusedLoad}
 use Rattle.wc_model.specs.declared.fault.Fault.{Fault}
 use Rattle.wc_model.specs.declared.fault.Fault.TheVariants as fault
-use Rattle.wc_controller.specs.TakenLogs.{log_beside}
+use Rattle.wc_controller.specs.TakenLogs.{AreReadOf, IsNextLoadedOf, known_of, log_beside}
 use Rattle.wc_cost.specs.LoadedTexts.{LoadedText}
 use Rattle.wc_controller.specs.declared.ending.Ending.{Ending}
 use Rattle.wc_controller.specs.declared.ending.Ending.TheVariants as ended
@@ -19,46 +19,47 @@ use Rattle.wc_model.specs.Run.JobSections.{longest_job}
 use Rattle.wc_model.specs.Instrument.Plates.{PlateData}
 use Rattle.wc_model.specs.Language.Tree.{Text}
 use Rattle.wc_model.specs.Run.Log.{LogOf, Record, log_of}
-use Rattle.wc_model.specs.Run.Rows.{LogRow}
 use Rattle.wc_model.specs.Say.LogFor.{log_for}
-use Rattle.wc_model.specs.Say.ProgramReport.{first_logic}
+use Rattle.wc_model.specs.Say.ProgramReport.{Logic, first_logic}
 use Rattle.wc_record.specs.Reading.{records_of}
 use Rattle.wc_record.specs.Told.{records_read}
-use Rattle.wc_run.specs.Deferring.{text_at_once, text_in_all}
-use Rattle.wc_run.specs.Doing.{Ends}
 use Rattle.wc_run.specs.Logics.{text_of_next}
-use Rattle.wc_run.specs.Runs.{HasNotFailed, ReportsBy, TellsFault}
+use Rattle.wc_run.specs.Runs.{HasNotFailed, Reports, TellsFault}
 use Rattle.wc_run.specs.declared.fault.RunFault.{RunFault}
-use Rattle.wc_run.specs.declared.fault.RunFault.TheVariants.{Refused, Read, Write, Memory}
+use Rattle.wc_run.specs.declared.fault.RunFault.TheVariants.{Refused, Memory}
 
 -- a run that is refused tells the refusal of the log as it is taken, and its row
-pub log_refused : (whole coming : List LogRow → List ℕ) (taken : List ℕ → LogOf) (fields : Record) (bytes : List ℕ) (why : RunFault) (old new : Option (List ℕ))
-    → ReportsBy whole coming (taken bytes) (Err why) old new → TellsFault (records_read bytes) fields why → RefusesLog taken fields bytes why
-log_refused whole coming taken fields bytes (Refused number place) old new told row = (told.0, row)
-log_refused whole coming taken fields bytes Read old new told row = tt
-log_refused whole coming taken fields bytes Write old new told row = tt
-log_refused whole coming taken fields bytes Memory old new told row = tt
+pub log_refused : (last : Option ℕ) (plate : PlateData) (logic : Option Logic) (taken : List ℕ → LogOf) (fields : Record) (bytes : List ℕ) (why : RunFault) (old new : Option (List ℕ))
+    → Reports last plate logic (taken bytes) (Err why) old new → TellsFault (records_read bytes) fields why → RefusesLog taken fields bytes why
+log_refused last plate logic taken fields bytes (Refused number place) old new told row = (told.0, row)
+log_refused last plate logic taken fields bytes why old new told row = tt
 
--- a machine takes the log by whether its next program is loaded
-pub taken_beside : (next : Option LoadedText) (text : Text) (bytes : List ℕ) → log_for (Some (first_logic text (text_of_next next))) (log_of (records_of bytes)) ≡ log_beside (is_some next) bytes
-taken_beside None text bytes = refl
-taken_beside (Some next) text bytes = refl
+-- a machine takes the log by whether there is a next program, which is loaded
+taken_beside : (known : Option (List ℕ)) (next : Option LoadedText) (text : Text) (bytes : List ℕ) → IsNextLoadedOf known next
+    → log_for (Some (first_logic text (text_of_next next))) (log_of (records_of bytes)) ≡ log_beside (is_some known) bytes
+taken_beside None None text bytes is = refl
+taken_beside None (Some next) text bytes is = absurd is
+taken_beside (Some known) None text bytes is = absurd is
+taken_beside (Some known) (Some next) text bytes is = refl
 
--- so is a run with a machine, which prints every scan or the last so many
-pub machine_refused : (last : Option ℕ) (plate : PlateData) (next : Option LoadedText) (text : Text) (fields : Record) (bytes : List ℕ) (why : RunFault) (old new : Option (List ℕ))
-    → Ends last plate (Some (first_logic text (text_of_next next))) (log_for (Some (first_logic text (text_of_next next))) (log_of (records_of bytes))) (Err why) old new
-    → TellsFault (records_read bytes) fields why → RefusesLog (log_beside (is_some next)) fields bytes why
-machine_refused last plate next text fields bytes why old new told row =
+-- so is a run with a machine
+pub machine_refused : (last : Option ℕ) (plate : PlateData) (known : Option (List ℕ)) (next : Option LoadedText) (text : Text) (fields : Record) (bytes : List ℕ) (why : RunFault) (old new : Option (List ℕ))
+    → IsNextLoadedOf known next → Reports last plate (Some (first_logic text (text_of_next next))) (log_for (Some (first_logic text (text_of_next next))) (log_of (records_of bytes))) (Err why) old new
+    → TellsFault (records_read bytes) fields why → RefusesLog (log_beside (is_some known)) fields bytes why
+machine_refused last plate known next text fields bytes why old new is told row =
     let logic = Some (first_logic text (text_of_next next)) in
-    log_refused (text_in_all last plate logic) (text_at_once last plate logic) (log_beside (is_some next)) fields bytes why old new
-    (subst (λ log. Ends last plate logic log (Err why) old new) (taken_beside next text bytes) told) row
+    log_refused last plate logic (log_beside (is_some known)) fields bytes why old new
+    (subst (λ log. Reports last plate logic log (Err why) old new) (taken_beside known next text bytes is) told) row
+
+-- where no text is loaded it is refused so
+pub text_refused : (bytes : List ℕ) (why : RunFault) → IsUnloaded bytes why → RefusesText bytes why
+text_refused bytes (Refused number place) h = h
+text_refused bytes why h = tt
 
 -- a text's fault is that of its file
 text_in_file : (bytes : List ℕ) (why : RunFault) → length bytes ≤ longest_job → RefusesText bytes why → RefusesProgram bytes why
 text_in_file bytes (Refused number place) short h = inr (short, h)
-text_in_file bytes Read short h = tt
-text_in_file bytes Write short h = tt
-text_in_file bytes Memory short h = tt
+text_in_file bytes why short h = tt
 
 -- a program that was read whole
 pub program_read : {X : Type 0} (at : Input) (result : Result X Stopped) (known : Option (List ℕ)) (bytes : List ℕ) → IsWhole known bytes
@@ -66,6 +67,26 @@ pub program_read : {X : Type 0} (at : Input) (result : Result X Stopped) (known 
 program_read at (Ok done) known bytes is h = tt
 program_read at (Err stopped) None bytes is h = λ e. tt
 program_read at (Err stopped) (Some all) bytes is h = λ e. subst (λ those. RefusesProgram those stopped.fault) is.1 (text_in_file bytes stopped.fault is.0 (h e))
+
+-- so of a next program
+pub next_read : {R X : Type 0} (bytes_left : R → Option (List ℕ)) (next : Option R) (held : Option (List ℕ)) (result : Result X Stopped) → AreReadOf bytes_left next held
+    → IfErr result (λ stopped. stopped.input ≡ input.Next → IsNextUnloaded held stopped.fault) → StopsFor input.Next RefusesProgram (known_of bytes_left next) result
+next_read bytes_left next held (Ok done) is h = tt
+next_read bytes_left None held (Err stopped) is h = λ e. tt
+next_read bytes_left (Some reader) None (Err stopped) is h = absurd is
+next_read bytes_left (Some reader) (Some bytes) (Err stopped) is h = program_read {X = Unit {0}} input.Next (Err stopped) (bytes_left reader) bytes is (λ e. text_refused bytes stopped.fault (h e))
+
+-- there is a next program where its bytes were read
+pub same_next : {R : Type 0} (bytes_left : R → Option (List ℕ)) (next : Option R) (held : Option (List ℕ)) → AreReadOf bytes_left next held → is_some held ≡ is_some next
+same_next bytes_left None None is = refl
+same_next bytes_left None (Some bytes) is = absurd is
+same_next bytes_left (Some reader) None is = absurd is
+same_next bytes_left (Some reader) (Some bytes) is = refl
+
+-- why a text is not loaded, as the fault of a command
+pub not_loaded_why : (bytes : List ℕ) (why : Fault) → IsRefusedLoad bytes why → IsUnloaded bytes (run_fault_of why)
+not_loaded_why bytes (fault.Refused number place) h = h
+not_loaded_why bytes fault.Memory h = tt
 
 -- a text that is not loaded is refused so
 pub load_refused : (bytes : List ℕ) (why : Fault) → IsRefusedLoad bytes why → RefusesText bytes (run_fault_of why)
@@ -75,21 +96,16 @@ load_refused bytes fault.Memory h = tt
 -- an ending of a refusal
 of_refusal : (input at : Input) (number place : ℕ) (refuses : List ℕ → RunFault → Type 0) (known : Option (List ℕ)) (ending : Ending) (old new : Option (List ℕ))
     → EndsRefused at number place ending old new → (at ≡ input → IfSome known (λ bytes. refuses bytes (Refused number place))) → Blames input refuses known ending
-of_refusal input at number place refuses known ended.Done old new k h = tt
 of_refusal input at number place refuses known (ended.Refused one other line) old new k h = λ e.
     subst (λ n. IfSome known (λ bytes. refuses bytes (Refused n line))) (sym k.1)
     (subst (λ l. IfSome known (λ bytes. refuses bytes (Refused number l))) (sym k.2) (h (sym k.0 ∙ e)))
-of_refusal input at number place refuses known (ended.ReadFault one) old new k h = tt
-of_refusal input at number place refuses known ended.WriteFault old new k h = tt
-of_refusal input at number place refuses known ended.NoMemory old new k h = tt
+of_refusal input at number place refuses known ending old new k h = tt
 
 -- an ending of whatever fault
 of_fault : (input at : Input) (why : RunFault) (refuses : List ℕ → RunFault → Type 0) (known : Option (List ℕ)) (ending : Ending) (old new : Option (List ℕ))
     → EndsBehindFault at why ending old new → (at ≡ input → IfSome known (λ bytes. refuses bytes why)) → Blames input refuses known ending
 of_fault input at (Refused number place) refuses known ending old new k h = of_refusal input at number place refuses known ending old new k h
-of_fault input at Read refuses known ending old new k h = subst (λ e. Blames input refuses known e) (sym k.0) tt
-of_fault input at Write refuses known ending old new k h = subst (λ e. Blames input refuses known e) (sym k.0) tt
-of_fault input at Memory refuses known ending old new k h = subst (λ e. Blames input refuses known e) (sym k.0) tt
+of_fault input at why refuses known ending old new k h = subst (λ e. Blames input refuses known e) (sym k.0) tt
 
 -- an ending says of an input what stopped there
 pub blamed : {X : Type 0} (input : Input) (refuses : List ℕ → RunFault → Type 0) (known : Option (List ℕ)) (result : Result X Stopped) (ending : Ending) (old new : Option (List ℕ))
@@ -127,6 +143,5 @@ module _ (taken : List ℕ → LogOf) (told : Record) (known : Option (List ℕ)
         (λ at. on_known known (λ bytes. RefusesLog taken told bytes stopped.fault) (λ bytes. RefusesLog taken told bytes (Refused number place))
         (λ bytes r. subst (λ one. RefusesLog taken told bytes one) same r) (log at))
         (λ at. subst (λ one. HasNotFailed (Err one) before failures) same (well at))
-    by_fault Read same h = absurd (cc (sym h.0 ∙ e))
-    by_fault Write same h = absurd (cc (sym h.0 ∙ e))
     by_fault Memory same h = memory (ap Some same)
+    by_fault why same h = absurd (cc (sym h.0 ∙ e))

@@ -4,6 +4,7 @@ pub mod Refusals
 pub mod UnitReports
 pub mod Givings
 pub mod Allowing
+pub mod FileRuns
 pub mod Blaming
 pub mod BlamingParts
 pub mod Settled

@@ -13,36 +13,36 @@ use Rattle.wc_model.specs.Run.Log.{LogOf, Record}
 use Rattle.wc_plate.specs.TomlTable.{table_read}
 use Rattle.wc_record.specs.Told.{record_at, records_read}
 use Rattle.wc_run.specs.declared.fault.RunFault.{RunFault}
-use Rattle.wc_run.specs.declared.fault.RunFault.TheVariants.{Refused, Read, Write, Memory}
+use Rattle.wc_run.specs.declared.fault.RunFault.TheVariants.{Refused, Memory}
 
 -- a text is refused for its first fault
 abbrev pub RefusesText : List ℕ → RunFault → Type 0
 RefusesText bytes (Refused number place) = IsRefused bytes number place
-RefusesText bytes Read = ⊤
-RefusesText bytes Write = ⊤
-RefusesText bytes Memory = ⊤
+RefusesText bytes fault = ⊤
 
--- so is a next text, where there is one
-abbrev pub RefusesNextText : Option (List ℕ) → RunFault → Type 0
-RefusesNextText None fault = ⊥
-RefusesNextText (Some bytes) fault = RefusesText bytes fault
+-- no text is loaded of these bytes: it is refused for its first fault, or memory is wanted
+abbrev pub IsUnloaded : List ℕ → RunFault → Type 0
+IsUnloaded bytes (Refused number place) = IsRefused bytes number place
+IsUnloaded bytes Memory = ⊤
+IsUnloaded bytes fault = ⊥
+
+-- so of a next text, which there is
+abbrev pub IsNextUnloaded : Option (List ℕ) → RunFault → Type 0
+IsNextUnloaded None fault = ⊥
+IsNextUnloaded (Some bytes) fault = IsUnloaded bytes fault
 
 -- a program's file is refused because it is too long, else for the first fault of its text
 abbrev pub RefusesProgram : List ℕ → RunFault → Type 0
 RefusesProgram bytes (Refused number place) =
     ((number ≡ 702) × (place ≡ 0) × (longest_job < length bytes)) ⊎ ((length bytes ≤ longest_job) × IsRefused bytes number place)
-RefusesProgram bytes Read = ⊤
-RefusesProgram bytes Write = ⊤
-RefusesProgram bytes Memory = ⊤
+RefusesProgram bytes fault = ⊤
 
 -- a log is refused at its first row that breaks a rule, as the command takes it, and these are the fields of that row: the
 -- record of its number
 abbrev pub RefusesLog : (List ℕ → LogOf) → Record → List ℕ → RunFault → Type 0
 RefusesLog taken told bytes (Refused number place) =
     ((taken bytes).refusal ≡ Some (record { number = number; row = place })) × (told ≡ record_at (records_read bytes) place)
-RefusesLog taken told bytes Read = ⊤
-RefusesLog taken told bytes Write = ⊤
-RefusesLog taken told bytes Memory = ⊤
+RefusesLog taken told bytes fault = ⊤
 
 -- what stopped at this input is a refusal of its bytes, where it is one
 abbrev pub StopsFor : {X : Type 0} → Input → (List ℕ → RunFault → Type 0) → Option (List ℕ) → Result X Stopped → Type 0
@@ -51,11 +51,8 @@ StopsFor input refuses known (Err stopped) = stopped.input ≡ input → IfSome 
 
 -- an ending that names this input with a refusal says what its bytes break
 abbrev pub Blames : Input → (List ℕ → RunFault → Type 0) → Option (List ℕ) → Ending → Type 0
-Blames input refuses known ended.Done = ⊤
 Blames input refuses known (ended.Refused at number place) = at ≡ input → IfSome known (λ bytes. refuses bytes (Refused number place))
-Blames input refuses known (ended.ReadFault at) = ⊤
-Blames input refuses known ended.WriteFault = ⊤
-Blames input refuses known ended.NoMemory = ⊤
+Blames input refuses known ending = ⊤
 
 -- What a refusal says of the part of a job that it names: the job has not its sections; the plate
 -- breaks that rule first; the program, or the next one, has that first fault; the log has that first
@@ -71,9 +68,7 @@ RefusesPart told (Ok sections) input.Log number place = RefusesLog (log_beside (
 -- what stopped at a part of a job is a refusal of that part, where it is one
 abbrev pub StopsAsPart : Record → Result Sections ℕ → Input → RunFault → Type 0
 StopsAsPart told parts at (Refused number place) = RefusesPart told parts at number place
-StopsAsPart told parts at Read = ⊤
-StopsAsPart told parts at Write = ⊤
-StopsAsPart told parts at Memory = ⊤
+StopsAsPart told parts at fault = ⊤
 
 -- the same of whatever is answered
 abbrev pub StopsForPart : {X : Type 0} → Record → Result Sections ℕ → Result X Stopped → Type 0
@@ -82,8 +77,5 @@ StopsForPart told parts (Err stopped) = StopsAsPart told parts stopped.input sto
 
 -- an ending of a job that names a part with a refusal says what that part breaks
 abbrev pub BlamesPart : Record → Result Sections ℕ → Ending → Type 0
-BlamesPart told parts ended.Done = ⊤
 BlamesPart told parts (ended.Refused at number place) = RefusesPart told parts at number place
-BlamesPart told parts (ended.ReadFault at) = ⊤
-BlamesPart told parts ended.WriteFault = ⊤
-BlamesPart told parts ended.NoMemory = ⊤
+BlamesPart told parts ending = ⊤

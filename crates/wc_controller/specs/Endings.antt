@@ -1,10 +1,11 @@
 -- How far an answer was written when a command stopped, and how it ended. (The profile's own.)
-use Rattle.std.specs.Prelude.{◌≡◌, ⊤, ℕ, ◌<◌, ◌≤◌, ◌⊎◌, List, ◌++◌, length, Option, Some, None, IfSome, IsSome, Result, Ok, Err}
+use Rattle.std.specs.Prelude.{◌≡◌, ⊤, ℕ, ◌+◌, ◌<◌, ◌≤◌, ◌⊎◌, List, ◌++◌, length, Option, Some, None, IfSome, IsSome, Result, Ok, Err}
 use Rattle.std.specs.Io.KnownBytes.{Appends, Keeps}
 use Rattle.wc_controller.specs.declared.ending.Ending.{Ending}
 use Rattle.wc_controller.specs.declared.ending.Ending.TheVariants as ended
 use Rattle.wc_controller.specs.declared.input.Input.{Input}
 use Rattle.wc_controller.specs.declared.input.Stopped.{Stopped}
+use Rattle.wc_job.specs.Reads.{TakesAtMost}
 use Rattle.wc_job.specs.declared.reading.ReadFault.{ReadFault}
 use Rattle.wc_job.specs.declared.reading.ReadFault.TheVariants as unread
 use Rattle.wc_model.specs.declared.fault.Fault.{Fault}
@@ -17,7 +18,7 @@ use Rattle.wc_model.specs.Run.Writing.{HasFailedSince, TakesFront}
 use Rattle.wc_model.specs.Say.Job.{JobAnswer, refused_text}
 use Rattle.wc_plate.specs.TomlTable.{table_read}
 use Rattle.wc_record.specs.Left.{HasCause}
-use Rattle.wc_run.specs.Runs.{AppendsFront, HasNotFailed}
+use Rattle.wc_run.specs.Runs.{AppendsFront, HasNotFailed, TellsWrite}
 use Rattle.wc_run.specs.declared.fault.RunFault.{RunFault}
 use Rattle.wc_run.specs.declared.fault.RunFault.TheVariants.{Refused, Read, Write, Memory}
 
@@ -41,9 +42,7 @@ abbrev pub WritesUpTo : (JobAnswer → Type 0) → Option RunFault → Option (L
 WritesUpTo allowed None old new = (answer : JobAnswer) × allowed answer × (answer.status ≡ 0) × Appends old new answer.output
 WritesUpTo allowed (Some (Refused number place)) old new =
     (report : List ℕ) × allowed (record { output = report ++ refused_text number place; status = 1 }) × Appends old new report
-WritesUpTo allowed (Some Read) old new = WritesFront allowed old new
-WritesUpTo allowed (Some Write) old new = WritesFront allowed old new
-WritesUpTo allowed (Some Memory) old new = WritesFront allowed old new
+WritesUpTo allowed (Some fault) old new = WritesFront allowed old new
 
 -- a file is refused only because it is too long
 abbrev pub RefusesLength : Option (List ℕ) → RunFault → Type 0
@@ -59,6 +58,10 @@ RefusesPlate bytes (Refused number place) =
 RefusesPlate bytes Read = ⊤
 RefusesPlate bytes Write = ⊥
 RefusesPlate bytes Memory = ⊤
+
+-- of an input no more is taken than the byte that makes it too long
+abbrev pub TakesInput : Option (List ℕ) → Option (List ℕ) → Type 0
+TakesInput old new = TakesAtMost (longest_job + 1) old new
 
 -- a plate that was read of these bytes, or why there is none
 abbrev pub ReadsPlate : List ℕ → Result PlateData Stopped → Type 0
@@ -88,9 +91,7 @@ status_of ended.NoMemory = 4
 abbrev pub IsFailing : Ending → Type 0
 IsFailing ended.Done = ⊥
 IsFailing (ended.Refused input number place) = ⊥
-IsFailing (ended.ReadFault input) = ⊤
-IsFailing ended.WriteFault = ⊤
-IsFailing ended.NoMemory = ⊤
+IsFailing ending = ⊤
 
 -- what an ending tells of an answer that was written whole: that nothing is refused, or the refusal
 -- in its last line
@@ -98,24 +99,13 @@ abbrev pub IsEndingOf : JobAnswer → Ending → Type 0
 IsEndingOf answer ended.Done = answer.status ≡ 0
 IsEndingOf answer (ended.Refused input number place) =
     (report : List ℕ) × (answer ≡ record { output = report ++ refused_text number place; status = 1 })
-IsEndingOf answer (ended.ReadFault input) = ⊥
-IsEndingOf answer ended.WriteFault = ⊥
-IsEndingOf answer ended.NoMemory = ⊥
+IsEndingOf answer ending = ⊥
 
 -- An answer that is allowed was written whole, and the ending tells how it ends; or something
 -- failed, and a front of such an answer was written, or nothing.
 pub data EndsAs (allowed : JobAnswer → Type 0) (ending : Ending) (old new : Option (List ℕ)) : Type 0 where
   answered : (answer : JobAnswer) → allowed answer → IsEndingOf answer ending → Appends old new answer.output → EndsAs allowed ending old new
   failed : IsFailing ending → WritesFront allowed old new → EndsAs allowed ending old new
-
--- a refusal's line was written; at a write fault a front of it, and not all; for want of memory
--- nothing
-abbrev pub WritesRefusal : {X : Type 0} → ℕ → ℕ → Result X RunFault → Option (List ℕ) → Option (List ℕ) → Type 0
-WritesRefusal number place (Ok done) old new = Appends old new (refused_text number place)
-WritesRefusal number place (Err (Refused other at)) old new = ⊥
-WritesRefusal number place (Err Read) old new = ⊥
-WritesRefusal number place (Err Write) old new = TakesFront old new (refused_text number place)
-WritesRefusal number place (Err Memory) old new = Keeps old new
 
 -- the ending of a refusal, and what was written behind the report
 abbrev pub EndsRefused : Input → ℕ → ℕ → Ending → Option (List ℕ) → Option (List ℕ) → Type 0
@@ -145,10 +135,7 @@ TellsFailures ending old new = (ending ≡ ended.WriteFault → HasFailedSince o
 -- the same of a fault
 abbrev pub TellsWriteFaults : Option RunFault → ℕ → ℕ → Type 0
 TellsWriteFaults None old new = new ≡ old
-TellsWriteFaults (Some (Refused number place)) old new = new ≡ old
-TellsWriteFaults (Some Read) old new = new ≡ old
-TellsWriteFaults (Some Write) old new = HasFailedSince old new
-TellsWriteFaults (Some Memory) old new = new ≡ old
+TellsWriteFaults (Some fault) old new = TellsWrite fault old new
 
 -- it stopped at this input
 abbrev pub StopsAt : {X : Type 0} → Input → Result X Stopped → Type 0
@@ -170,18 +157,14 @@ TellsReadEndings input ending old new = (ending ≡ ended.ReadFault input → Ha
 
 -- of a log that lies in memory: to read it fails only for want of memory
 abbrev pub fault_in_memory : RunFault → RunFault
-fault_in_memory (Refused number place) = Refused number place
 fault_in_memory Read = Memory
-fault_in_memory Write = Write
-fault_in_memory Memory = Memory
+fault_in_memory fault = fault
 
 -- the ending is that of this input
 abbrev pub IsAt : Input → Ending → Type 0
-IsAt input ended.Done = ⊥
 IsAt input (ended.Refused at number place) = at ≡ input
 IsAt input (ended.ReadFault at) = at ≡ input
-IsAt input ended.WriteFault = ⊥
-IsAt input ended.NoMemory = ⊥
+IsAt input ending = ⊥
 
 -- behind a refusal of this input, its reader has not failed
 abbrev pub HasNotFailedAt : {X : Type 0} → Input → Result X Stopped → ℕ → ℕ → Type 0

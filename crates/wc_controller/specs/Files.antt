@@ -7,13 +7,14 @@ use Rattle.wc_model.specs.Language.Loading.{IsLoaded, IsRefused}
 use Rattle.wc_model.specs.Language.Tree.{Text}
 use Rattle.wc_model.specs.Run.JobSections.{longest_job}
 use Rattle.wc_model.specs.Run.Log.{LogOf, log_of}
-use Rattle.wc_model.specs.Say.Job.{AnswersProgram, JobAnswer, behind_report, refusing, run_answer}
+use Rattle.wc_model.specs.Say.Job.{AnswersProgram, JobAnswer, behind_report, refusing}
 use Rattle.wc_model.specs.Say.LogFor.{log_for}
-use Rattle.wc_model.specs.Say.ProgramReport.{Logic, first_logic, program_report_last}
+use Rattle.wc_model.specs.Say.ProgramReport.{Logic, first_logic}
 use Rattle.wc_model.specs.Say.Report.{line_report}
 use Rattle.wc_model.specs.Say.UnitReport.{IsUnitReport}
 use Rattle.wc_plate.specs.TomlTable.{table_read}
 use Rattle.wc_record.specs.Reading.{records_of}
+use Rattle.wc_run.specs.Runs.{report_printing}
 
 -- a file that is longer than a job may be is refused; of any other the rest says what is answered
 pub data AnswersFile (bytes : List ℕ) (rest : JobAnswer → Type 0) (answer : JobAnswer) : Type 0 where
@@ -31,10 +32,9 @@ AnswersWithPlate bytes rest answer = AnswersFile bytes (AnswersPlateFile (plate_
 
 -- what a run with programs answers that prints every scan, or the last so many alone
 abbrev pub answer_printing : Option ℕ → PlateData → Logic → LogOf → JobAnswer
-answer_printing None plate logic log = run_answer plate logic log
-answer_printing (Some number) plate logic log =
+answer_printing last plate logic log =
     let taken = log_for (Some logic) log in
-    behind_report (program_report_last number plate logic taken.rows) taken.refusal
+    behind_report (report_printing last plate (Some logic) taken.rows) taken.refusal
 
 -- the answer of a run that begins with a text, and has a next one or none
 abbrev pub AnswersPrinting : Option ℕ → PlateData → LogOf → Text → Option Text → JobAnswer → Type 0

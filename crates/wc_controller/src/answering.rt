@@ -1,26 +1,20 @@
-ghost use Rattle.std.specs.Prelude.{◌≡◌, ◌⊎◌, ◌+◌, Some, IfErr, IfSome, Ok, is_some, option_map};
-ghost use Rattle.wc_controller.specs.Blames.{BlamesPart, RefusesLog, RefusesNextText, RefusesText, StopsFor, StopsForPart};
-ghost use Rattle.wc_controller.specs.Endings.{EndsAs, IsReadFaultAt, StopsAt, TellsFailures, TellsReadEndings, TellsReadFaults, TellsWriteFaults, WritesUpTo, fault_in_memory, met};
+ghost use Rattle.std.specs.Prelude.{◌≡◌, ◌⊎◌, Some, IfSome, Ok};
+ghost use Rattle.wc_controller.specs.Blames.{BlamesPart, StopsForPart};
+ghost use Rattle.wc_controller.specs.Endings.{EndsAs, IsReadFaultAt, TakesInput, TellsFailures, TellsReadEndings, TellsReadFaults, TellsWriteFaults, WritesUpTo, fault_in_memory, met};
 ghost use Rattle.wc_controller.specs.Jobs.{Allows, AllowsSections, Gives, IsStatus};
-ghost use Rattle.wc_controller.specs.TakenLogs.{log_beside};
-ghost use Rattle.wc_job.specs.Reads.{TakesAtMost};
 ghost use Rattle.wc_job.specs.Views.{sections_view};
-ghost use Rattle.wc_model.specs.Run.JobSections.{longest_job, sections_of};
-ghost use Rattle.wc_model.specs.Run.Log.{log_of};
+ghost use Rattle.wc_model.specs.Run.JobSections.{sections_of};
 ghost use Rattle.wc_model.specs.Run.Writing.{HasFailedSince};
-ghost use Rattle.wc_model.specs.Say.Job.{AnswersPrograms, run_answer};
 ghost use Rattle.wc_record.specs.Told.{fields_told};
-ghost use Rattle.wc_record.specs.Reading.{records_of};
 
 use crate::ending::{Ending, end};
 use crate::input::{Input, Stopped};
-use crate::loaded::{run_loaded, run_with_next};
-use crate::loading::load;
+use crate::loaded::{load_input, run_loaded};
 use crate::reading::{read_input, run_fault_of};
 use std::alloc::Global;
 use wc_job::{Sections, sections};
 use wc_model::{ByteIn, ByteOut, Device};
-use wc_plate::{Plate, plate};
+use wc_plate::plate;
 use wc_record::RefusedRow;
 use wc_run::{RunFault, Unwatched};
 
@@ -36,70 +30,6 @@ fn stopped_in_memory(stopped: Stopped) -> Stopped
     Stopped {
         input: stopped.input,
         fault,
-    }
-}
-
-/// Loads the program of a job, and the next one if there is one, and runs its log with them.
-fn run_sections<'a, L: ByteIn, W: ByteOut>(
-    alloc: Global,
-    plate: &Plate,
-    program: &'a [u8],
-    next: Option<&'a [u8]>,
-    log: &mut L,
-    writer: &mut W,
-    told: &mut RefusedRow,
-) -> Result<(), Stopped>
-    ensures writes { IfSome (L.bytes_left log.old)
-        (λ bytes. WritesUpTo
-        (AnswersPrograms (λ logic. run_answer plate.now logic (log_of (records_of bytes)))
-        program.now (option_map (λ text. text.now) next.entry))
-        (met result) (W.bytes_taken writer.old) (W.bytes_taken writer.new)) }
-    ensures blames_program { IfErr result
-        (λ stopped. stopped.input ≡ Input.Program → RefusesText program.now stopped.fault) }
-    ensures blames_next { IfErr result
-        (λ stopped. stopped.input ≡ Input.Next
-        → RefusesNextText (option_map (λ text. text.now) next.entry) stopped.fault) }
-    ensures blames_log { StopsFor Input.Log
-        (RefusesLog (log_beside (is_some (option_map (λ text. text.now) next.entry)))
-        (fields_told told.new))
-        (L.bytes_left log.old) result }
-    ensures later { ¬ StopsAt Input.Plate result }
-    ensures own { ¬ StopsAt Input.Job result }
-    ensures failures { TellsWriteFaults (met result) (W.failure_count writer.old)
-        (W.failure_count writer.new) }
-{
-    let loaded = match load(alloc, program) {
-        Ok(loaded) => loaded,
-        Err(fault) => {
-            return Err(Stopped {
-                input: Input::Program,
-                fault: run_fault_of(fault),
-            });
-        }
-    };
-    match next {
-        Some(text) => run_with_next(
-            alloc,
-            None,
-            &mut Unwatched,
-            plate,
-            loaded,
-            text,
-            log,
-            writer,
-            told,
-        ),
-        None => run_loaded(
-            alloc,
-            None,
-            &mut Unwatched,
-            plate,
-            loaded,
-            None,
-            log,
-            writer,
-            told,
-        ),
     }
 }
 
@@ -125,11 +55,17 @@ fn answer_sections<W: ByteOut>(
             fault: run_fault_of(fault),
         }),
     };
+    let loaded = match load_input(alloc, &mut Unwatched, Input::Program, sections.program) {
+        Ok(loaded) => loaded,
+        Err(stopped) => return Err(stopped),
+    };
     let mut log = Device::new(sections.log);
-    match run_sections(
+    match run_loaded(
         alloc,
+        None,
+        &mut Unwatched,
         &plate,
-        sections.program,
+        loaded,
         sections.next,
         &mut log,
         writer,
@@ -180,8 +116,7 @@ fn answer_input<R: ByteIn, W: ByteOut>(
     ensures own { (input : Input) → IsReadFaultAt input result → input ≡ Input.Job }
     ensures failures { TellsWriteFaults (met result) (W.failure_count writer.old)
         (W.failure_count writer.new) }
-    ensures taken { TakesAtMost (longest_job + 1) (R.bytes_left reader.old)
-        (R.bytes_left reader.new) }
+    ensures taken { TakesInput (R.bytes_left reader.old) (R.bytes_left reader.new) }
 {
     match read_input(alloc, Input::Job, reader) {
         Ok(bytes) => answer_bytes(alloc, &bytes, writer, told),
@@ -213,8 +148,7 @@ pub fn answer_job<R: ByteIn, W: ByteOut>(
     ensures failures { TellsFailures result (W.failure_count writer.old)
         (W.failure_count writer.new) }
     // It reads no further than the byte that makes a job too long.
-    ensures taken { TakesAtMost (longest_job + 1) (R.bytes_left reader.old)
-        (R.bytes_left reader.new) }
+    ensures taken { TakesInput (R.bytes_left reader.old) (R.bytes_left reader.new) }
 {
     let answer = answer_input(alloc, reader, writer, told);
     end(alloc, answer, writer)
@@ -233,8 +167,7 @@ pub fn job<R: ByteIn, W: ByteOut>(alloc: Global, reader: &mut R, writer: &mut W)
     ensures steady { ¬ (result ≡ 3)
         → (R.failure_count reader.new ≡ R.failure_count reader.old)
         × (W.failure_count writer.new ≡ W.failure_count writer.old) }
-    ensures taken { TakesAtMost (longest_job + 1) (R.bytes_left reader.old)
-        (R.bytes_left reader.new) }
+    ensures taken { TakesInput (R.bytes_left reader.old) (R.bytes_left reader.new) }
 {
     let mut told = RefusedRow::new(alloc);
     answer_job(alloc, reader, writer, &mut told).status()

@@ -1,11 +1,9 @@
-ghost use Rattle.std.specs.Prelude.{◌≡◌, ◌+◌, IfErr, IfSome, IsErrOf};
+ghost use Rattle.std.specs.Prelude.{◌≡◌, IfErr, IfSome};
 ghost use Rattle.wc_controller.specs.Checking.{Checks, WritesReport};
-ghost use Rattle.wc_controller.specs.Endings.{EndsAs, IsAt, IsReadFaultAt, TellsFailures, TellsReadEndings, TellsReadFaults, TellsWriteFaults, WritesUpTo, met};
-ghost use Rattle.wc_controller.specs.Files.{AnswersCheck, AnswersCheckFile};
-ghost use Rattle.wc_job.specs.Reads.{TakesAtMost};
+ghost use Rattle.wc_controller.specs.Endings.{EndsAs, IsAt, TakesInput, TellsFailures, TellsReadEndings, TellsReadFaults, TellsWriteFaults, WritesUpTo, met};
+ghost use Rattle.wc_controller.specs.Files.{AnswersCheckFile};
 ghost use Rattle.wc_model.specs.Language.Views.{text_view};
-ghost use Rattle.wc_model.specs.Run.JobSections.{longest_job};
-ghost use Rattle.wc_model.specs.Run.Writing.{HasFailedSince};
+ghost use Rattle.wc_run.specs.Runs.{TellsWrites};
 
 use crate::ending::{Ending, end};
 use crate::input::{Input, Stopped};
@@ -26,10 +24,8 @@ fn write_report<W: ByteOut>(
 ) -> Result<(), RunFault>
     ensures report { WritesReport paths (text_view loaded.now.source) result
         (W.bytes_taken writer.old) (W.bytes_taken writer.new) }
-    ensures write { IsErrOf result RunFault.Write
-        → HasFailedSince (W.failure_count writer.old) (W.failure_count writer.new) }
-    ensures steady { ¬ IsErrOf result RunFault.Write
-        → W.failure_count writer.new ≡ W.failure_count writer.old }
+    ensures failures { TellsWrites result (W.failure_count writer.old)
+        (W.failure_count writer.new) }
 {
     let lines = match text_of_units(alloc, loaded, paths) {
         Ok(lines) => lines,
@@ -54,10 +50,8 @@ pub fn check<W: ByteOut>(
 ) -> Result<(), RunFault>
     ensures checks { Checks paths text.now result (W.bytes_taken writer.old)
         (W.bytes_taken writer.new) }
-    ensures write { IsErrOf result RunFault.Write
-        → HasFailedSince (W.failure_count writer.old) (W.failure_count writer.new) }
-    ensures steady { ¬ IsErrOf result RunFault.Write
-        → W.failure_count writer.new ≡ W.failure_count writer.old }
+    ensures failures { TellsWrites result (W.failure_count writer.old)
+        (W.failure_count writer.new) }
 {
     match load(alloc, text) {
         Ok(loaded) => write_report(alloc, &loaded, paths, writer),
@@ -65,29 +59,6 @@ pub fn check<W: ByteOut>(
             Fault::Refused { number, place } => Err(RunFault::Refused { number, place }),
             Fault::Memory => Err(RunFault::Memory),
         },
-    }
-}
-
-/// Checks a program, up to its refusal.
-fn check_text<W: ByteOut>(
-    alloc: Global,
-    paths: bool,
-    text: &[u8],
-    writer: &mut W,
-) -> Result<(), Stopped>
-    ensures writes { WritesUpTo (AnswersCheck paths text.now) (met result)
-        (W.bytes_taken writer.old) (W.bytes_taken writer.new) }
-    ensures held { ¬ IsReadFaultAt Input.Program result }
-    ensures own { IfErr result (λ stopped. stopped.input ≡ Input.Program) }
-    ensures failures { TellsWriteFaults (met result) (W.failure_count writer.old)
-        (W.failure_count writer.new) }
-{
-    match check(alloc, text, paths, writer) {
-        Ok(()) => Ok(()),
-        Err(fault) => Err(Stopped {
-            input: Input::Program,
-            fault,
-        }),
     }
 }
 
@@ -106,11 +77,16 @@ fn check_input<T: ByteIn, W: ByteOut>(
         (T.failure_count program.new) }
     ensures failures { TellsWriteFaults (met result) (W.failure_count writer.old)
         (W.failure_count writer.new) }
-    ensures taken { TakesAtMost (longest_job + 1) (T.bytes_left program.old)
-        (T.bytes_left program.new) }
+    ensures taken { TakesInput (T.bytes_left program.old) (T.bytes_left program.new) }
 {
     match read_input(alloc, Input::Program, program) {
-        Ok(text) => check_text(alloc, paths, &text, writer),
+        Ok(text) => match check(alloc, &text, paths, writer) {
+            Ok(()) => Ok(()),
+            Err(fault) => Err(Stopped {
+                input: Input::Program,
+                fault,
+            }),
+        },
         Err(stopped) => Err(stopped),
     }
 }
@@ -136,8 +112,7 @@ pub fn check_file<T: ByteIn, W: ByteOut>(
     ensures failures { TellsFailures result (W.failure_count writer.old)
         (W.failure_count writer.new) }
     // It reads no further than the byte that makes a program too long.
-    ensures taken { TakesAtMost (longest_job + 1) (T.bytes_left program.old)
-        (T.bytes_left program.new) }
+    ensures taken { TakesInput (T.bytes_left program.old) (T.bytes_left program.new) }
 {
     let answer = check_input(alloc, paths, program, writer);
     end(alloc, answer, writer)

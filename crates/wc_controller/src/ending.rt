@@ -2,9 +2,9 @@ ghost use Rattle.std.specs.Prelude.{◌≡◌, ℕ};
 ghost use Rattle.wc_controller.specs.Endings.{EndsBehind, EndsRefused, TellsFailures, TellsWriteFaults, met, status_of};
 
 use crate::input::{Input, Stopped};
-use crate::refusing::write_refusal;
 use std::alloc::Global;
-use wc_model::ByteOut;
+use wc_model::{ByteOut, write_whole};
+use wc_report::refused_line;
 use wc_run::RunFault;
 
 /// How a command ended.
@@ -61,16 +61,17 @@ fn end_refused<W: ByteOut>(
     ensures failures { TellsFailures result (W.failure_count writer.old)
         (W.failure_count writer.new) }
 {
-    match write_refusal(alloc, number, place, writer) {
+    let line = match refused_line(alloc, number, place) {
+        Ok(line) => line,
+        Err(_) => return Ending::NoMemory,
+    };
+    match write_whole(writer, &line) {
         Ok(()) => Ending::Refused {
             input,
             number,
             place,
         },
-        Err(fault) => match fault {
-            RunFault::Write => Ending::WriteFault,
-            _ => Ending::NoMemory,
-        },
+        Err(_) => Ending::WriteFault,
     }
 }
 

@@ -1,5 +1,3 @@
-ghost use Rattle.std.specs.Prelude.{◌≡◌};
-
 use wc_run::RunFault;
 
 /// What a command reads, in the order in which it is read.
@@ -24,15 +22,4 @@ pub struct Stopped {
     pub input: Input,
     /// The fault.
     pub fault: RunFault,
-}
-
-/// A run that is not to begin, by who does its scans: it ends as for want of memory.
-pub(crate) fn unbegun(input: Input) -> Stopped
-    ensures input { result.input ≡ input }
-    ensures fault { result.fault ≡ RunFault.Memory }
-{
-    Stopped {
-        input,
-        fault: RunFault::Memory,
-    }
 }

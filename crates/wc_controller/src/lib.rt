@@ -11,7 +11,6 @@ mod lining;
 mod loaded;
 mod loading;
 mod reading;
-mod refusing;
 mod running;
 mod unit_lines;
 
@@ -25,5 +24,4 @@ pub use loading::load;
 pub use reading::{read_input, run_fault_of};
 pub use running::run_files;
 pub use unit_lines::text_of_units;
-pub use wc_record::RefusedRow;
-pub use wc_run::{RunFault, Scanner, Unwatched, run, run_last};
+pub use wc_run::{RefusedRow, RunFault, Scanner, Unwatched};

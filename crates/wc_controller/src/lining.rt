@@ -1,10 +1,8 @@
-ghost use Rattle.std.specs.Prelude.{◌≡◌, ◌+◌, IfSome, Some};
+ghost use Rattle.std.specs.Prelude.{◌≡◌, IfSome, Some};
 ghost use Rattle.wc_controller.specs.Blames.{Blames, RefusesLog, StopsFor};
-ghost use Rattle.wc_controller.specs.Endings.{EndsAs, HasNotFailedAt, IsAt, IsReadFaultAt, RefusesPlate, StopsAt, TellsFailures, TellsMemory, TellsReadEndings, TellsReadFaults, TellsWriteFaults, WritesUpTo, met};
+ghost use Rattle.wc_controller.specs.Endings.{EndsAs, HasNotFailedAt, IsAt, IsReadFaultAt, RefusesPlate, StopsAt, TakesInput, TellsFailures, TellsMemory, TellsReadEndings, TellsReadFaults, TellsWriteFaults, WritesUpTo, met};
 ghost use Rattle.wc_controller.specs.Files.{AnswersLine};
 ghost use Rattle.wc_controller.specs.TakenLogs.{log_alone};
-ghost use Rattle.wc_job.specs.Reads.{TakesAtMost};
-ghost use Rattle.wc_model.specs.Run.JobSections.{longest_job};
 ghost use Rattle.wc_record.specs.Left.{HasCause};
 ghost use Rattle.wc_record.specs.Told.{fields_told};
 
@@ -14,7 +12,7 @@ use crate::reading::read_plate;
 use std::alloc::Global;
 use wc_model::{ByteIn, ByteOut};
 use wc_record::RefusedRow;
-use wc_run::{RunFault, Scanner, run_telling};
+use wc_run::{RunFault, Scanner, run};
 
 /// Reads a plate, and runs a log with no program.
 fn line_inputs<V: Scanner, P: ByteIn, L: ByteIn, W: ByteOut>(
@@ -48,14 +46,13 @@ fn line_inputs<V: Scanner, P: ByteIn, L: ByteIn, W: ByteOut>(
         (L.failure_count log.new) }
     ensures failures { TellsWriteFaults (met result) (W.failure_count writer.old)
         (W.failure_count writer.new) }
-    ensures taken { TakesAtMost (longest_job + 1) (P.bytes_left plate.old)
-        (P.bytes_left plate.new) }
+    ensures taken { TakesInput (P.bytes_left plate.old) (P.bytes_left plate.new) }
 {
     let plate = match read_plate(alloc, plate) {
         Ok(plate) => plate,
         Err(stopped) => return Err(stopped),
     };
-    match run_telling(alloc, None, scanner, &plate, None, None, log, writer, told) {
+    match run(alloc, None, scanner, &plate, None, None, log, writer, told) {
         Ok(_) => Ok(()),
         Err(fault) => Err(Stopped {
             input: Input::Log,
@@ -100,8 +97,7 @@ pub fn line_files<V: Scanner, P: ByteIn, L: ByteIn, W: ByteOut>(
     ensures failures { TellsFailures result (W.failure_count writer.old)
         (W.failure_count writer.new) }
     // Of the plate it reads no further than the byte that makes it too long.
-    ensures taken { TakesAtMost (longest_job + 1) (P.bytes_left plate.old)
-        (P.bytes_left plate.new) }
+    ensures taken { TakesInput (P.bytes_left plate.old) (P.bytes_left plate.new) }
 {
     let answer = line_inputs(alloc, scanner, plate, log, writer, told);
     end(alloc, answer, writer)

@@ -12,27 +12,6 @@ use wc_model::Fault;
 use wc_reader::read;
 use wc_verify::verify;
 
-/// Loads a program text in five passes: tokens, reading, declarations, bodies, cost.
-fn load_in_passes<'a>(alloc: Global, text: &'a [u8]) -> Result<Loaded<'a>, Fault>
-    ensures loaded { IfOk result (λ loaded. IsLoaded text.now (text_view loaded.source)) }
-    ensures headline { IfOk result
-        (λ loaded. (plate : PlateData) → HasTheHeadline plate (text_view loaded.source)) }
-    ensures refused { IfErr result (λ fault. IsRefusedLoad text.now fault) }
-{
-    let source = match read(alloc, text) {
-        Ok(source) => source,
-        Err(fault) => return Err(fault),
-    };
-    let tables = match tables(alloc, &source) {
-        Ok(tables) => tables,
-        Err(fault) => return Err(fault),
-    };
-    match verify(alloc, source, tables) {
-        Ok(checked) => cost(alloc, checked),
-        Err(fault) => Err(fault),
-    }
-}
-
 /// Loads a program text in five passes: tokens, reading, declarations, bodies, cost. `Err(Refused)`
 /// has the number and the line of the first fault of the first pass that has one, by the list of
 /// refusals; there is no other, and the text is then loaded as nothing. `Err(Memory)` is want of
@@ -46,5 +25,16 @@ pub fn load<'a>(alloc: Global, text: &'a [u8]) -> Result<Loaded<'a>, Fault>
     ensures accepted { IfOk result (λ loaded. IsNeverRefused text.now) }
     ensures only { IfErr result (λ fault. IsTheOnlyRefusal text.now fault) }
 {
-    load_in_passes(alloc, text)
+    let source = match read(alloc, text) {
+        Ok(source) => source,
+        Err(fault) => return Err(fault),
+    };
+    let tables = match tables(alloc, &source) {
+        Ok(tables) => tables,
+        Err(fault) => return Err(fault),
+    };
+    match verify(alloc, source, tables) {
+        Ok(checked) => cost(alloc, checked),
+        Err(fault) => Err(fault),
+    }
 }

@@ -1,8 +1,8 @@
-ghost use Rattle.std.specs.Prelude.{◌≡◌, ℕ, ◌+◌, IfErr, IfOk, IfSome};
-ghost use Rattle.wc_controller.specs.Endings.{ReadsPlate, RefusesLength, TellsReadFaults, TellsWriteFaults, met};
+ghost use Rattle.std.specs.Prelude.{◌≡◌, ℕ, IfErr, IfOk, IfSome, IsSome, option_map};
+ghost use Rattle.wc_controller.specs.Endings.{ReadsPlate, RefusesLength, TakesInput, TellsReadFaults, TellsWriteFaults, met};
 ghost use Rattle.wc_controller.specs.Endings as endings;
-ghost use Rattle.wc_job.specs.Reads.{IsWhole, TakesAtMost};
-ghost use Rattle.wc_model.specs.Run.JobSections.{longest_job};
+ghost use Rattle.wc_controller.specs.TakenLogs.{AreReadOf, count_of, known_of};
+ghost use Rattle.wc_job.specs.Reads.{IsWhole};
 
 use crate::input::{Input, Stopped};
 use std::alloc::Global;
@@ -47,8 +47,7 @@ pub fn read_input<R: ByteIn>(
     ensures input { IfErr result (λ stopped. stopped.input ≡ input) }
     ensures failures { TellsReadFaults input result (R.failure_count reader.old)
         (R.failure_count reader.new) }
-    ensures taken { TakesAtMost (longest_job + 1) (R.bytes_left reader.old)
-        (R.bytes_left reader.new) }
+    ensures taken { TakesInput (R.bytes_left reader.old) (R.bytes_left reader.new) }
 {
     match read_whole(alloc, reader) {
         Ok(bytes) => Ok(bytes),
@@ -59,6 +58,40 @@ pub fn read_input<R: ByteIn>(
     }
 }
 
+/// All bytes of the next program, if there is one.
+pub(crate) fn read_next<N: ByteIn>(
+    alloc: Global,
+    next: &mut Option<N>,
+) -> Result<Option<Vec<u8>>, Stopped>
+    ensures whole { IfOk result
+        (λ text. AreReadOf N.bytes_left next.old (option_map (λ held. held.items) text)) }
+    ensures too_long { IfErr result
+        (λ stopped. RefusesLength (known_of N.bytes_left next.old) stopped.fault) }
+    ensures there { IfErr result (λ stopped. IsSome next.old) }
+    ensures input { IfErr result (λ stopped. stopped.input ≡ Input.Next) }
+    ensures failures { TellsReadFaults Input.Next result (count_of N.failure_count next.old)
+        (count_of N.failure_count next.new) }
+    ensures taken { TakesInput (known_of N.bytes_left next.old) (known_of N.bytes_left next.new) }
+{
+    match next {
+        Some(reader) => match read_input(alloc, Input::Next, reader) {
+            Ok(text) => Ok(Some(text)),
+            Err(stopped) => Err(stopped),
+        },
+        None => Ok(None),
+    }
+}
+
+/// The text that stands there, lent.
+pub(crate) fn lent(text: &Option<Vec<u8>>) -> Option<&[u8]>
+    ensures { option_map (λ lent. lent.now) result ≡ option_map (λ held. held.items) text.now }
+{
+    match text {
+        Some(text) => Some(text.as_slice()),
+        None => None,
+    }
+}
+
 /// The plate that a reader gives.
 pub(crate) fn read_plate<R: ByteIn>(alloc: Global, reader: &mut R) -> Result<Plate, Stopped>
     ensures plate { IfSome (R.bytes_left reader.old) (λ bytes. ReadsPlate bytes result) }
@@ -66,8 +99,7 @@ pub(crate) fn read_plate<R: ByteIn>(alloc: Global, reader: &mut R) -> Result<Pla
     ensures silent { (count : ℕ) → TellsWriteFaults (met result) count count }
     ensures failures { TellsReadFaults Input.Plate result (R.failure_count reader.old)
         (R.failure_count reader.new) }
-    ensures taken { TakesAtMost (longest_job + 1) (R.bytes_left reader.old)
-        (R.bytes_left reader.new) }
+    ensures taken { TakesInput (R.bytes_left reader.old) (R.bytes_left reader.new) }
 {
     let bytes = match read_input(alloc, Input::Plate, reader) {
         Ok(bytes) => bytes,

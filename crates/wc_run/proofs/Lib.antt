@@ -1,3 +1,4 @@
+pub mod Fronts
 pub mod Texts
 pub mod Puttings
 pub mod RunsOn

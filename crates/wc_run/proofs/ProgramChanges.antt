@@ -1,5 +1,5 @@
 -- What a change of the program leaves in a scale.
-use Rattle.std.proofs.Common.{◌≡◌, refl, ◌≤◌, ℕ, List, ◌∷◌, sym, ◌∙◌, subst, append-nil, Option, Some, None, Result, Ok, Err}
+use Rattle.std.proofs.Common.{◌≡◌, refl, ◌≤◌, ℕ, ◌∷◌, sym, subst, append-nil, Option, Some, None, Ok, Err}
 use Rattle.std.specs.Prelude.{is_some}
 use Rattle.wc_cost.specs.LoadedTexts.{LoadedText}
 use Rattle.wc_machine.specs.Machines.{MachineState, StandsFor}
@@ -12,11 +12,10 @@ use Rattle.wc_model.specs.Run.Log.{LogOf, refused_at, with_row}
 use Rattle.wc_model.specs.Run.Rows.{Change, LogRow, Past, line_bytes}
 use Rattle.wc_model.specs.Say.LogFor.{change_on, log_for, log_while}
 use Rattle.wc_model.specs.Say.ProgramReport.{Logic, change_to, logic_behind}
-use Rattle.wc_run.specs.Logics.{IsRefusedRow, IsTaken, StandsAt, logic_after, text_of_next}
-use Rattle.wc_run.specs.Standing.{Stands}
+use Rattle.wc_run.specs.Logics.{IsRefusedRow, IsTaken, StandsAt, logic_after}
 use Rattle.wc_run.specs.Taking.{row_at, Changes, RunsRow, StopsAtRow, TakesRow}
 use Rattle.wc_run.specs.declared.fault.RunFault.{RunFault}
-use Rattle.wc_run.specs.declared.fault.RunFault.TheVariants.{Refused, Read, Write, Memory}
+use Rattle.wc_run.specs.declared.fault.RunFault.TheVariants.{Refused}
 use Rattle.wc_run.specs.declared.scale.Scale.{Scale}
 use Rattle.wc_sma.specs.Standing.{StandsAfter}
 

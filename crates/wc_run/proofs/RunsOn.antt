@@ -1,7 +1,6 @@
 -- While a log is run: what is done of it, and what is left.
 use Rattle.std.proofs.Common.{◌≡◌, refl, ap, sym, subst, ◌∙◌, ℕ, ◌+◌, List, [], ◌∷◌, ◌++◌, length, Option, Some, None, Result, Ok, Err, arith}
 use Rattle.std.proofs.KnownBytes.{Appends-kept, Appends-nil, Appends-trans, Keeps-refl}
-use Rattle.std.proofs.lemmas.List.{append_assoc}
 use Rattle.std.specs.Io.KnownBytes.{Appends, Keeps}
 use Rattle.wc_model.specs.Run.Log.{LogOf, refused_at, with_row}
 use Rattle.wc_model.specs.Instrument.Plates.{PlateData}
@@ -14,6 +13,7 @@ use Rattle.wc_record.specs.declared.log.Rows.{Rows}
 use Rattle.wc_record.specs.declared.row_kind.LogFault.{LogFault}
 use Rattle.wc_record.specs.declared.row_kind.LogFault.TheVariants as fault
 use Rattle.wc_record.specs.declared.row_kind.Row.{Row}
+use Rattle.wc_run.proofs.Fronts.{front_behind, front_of_more}
 use Rattle.wc_run.specs.Deferring.{HoldsScans, lines_at_once, text_at_once}
 use Rattle.wc_run.specs.Doing.{Does, Puts, RunsRows, answer_to}
 use Rattle.wc_model.specs.Say.LogFor.{log_for}
@@ -175,8 +175,7 @@ module _ {R : Type 0} (bytes_left : R → Option (List ℕ)) (rows : Rows R) (sc
   at_fault rows' (fault.Refused code place) takes =
       at_refusal recorder mid code place
       (ap (λ l. log_for (logic_after plate logic r.past) l) takes.0 ∙ refusal_taken (logic_after plate logic r.past) code place) r.holds (Keeps-refl mid)
-  at_fault rows' fault.Read takes = first_written
-  at_fault rows' fault.Memory takes = first_written
+  at_fault rows' met takes = first_written
 
   -- a row of which a front was written
   front_of_row : (new : Option (List ℕ)) (row : LogRow) (rest : LogOf) → log_for (logic_after plate logic r.past) r.left ≡ with_row row rest
@@ -187,17 +186,14 @@ module _ {R : Type 0} (bytes_left : R → Option (List ℕ)) (rows : Rows R) (sc
       let before : List ReportLine = lines_so_far plate logic r.past in
       let behind : List ReportLine = lines_of_rows plate logic (row ∷ r.past) rest.rows in
       let done : List ℕ = report_text (lines_at_once number before) in
-      let later : List ℕ = report_text (lines_at_once number behind) in (
-        done ++ cut.0,
-        cut.1 ++ later,
-        ap (λ l. text_at_once number plate logic l) (r.in_all ∙ ap (λ l. onto r.past l.rows) one)
-            ∙ ap (λ l. report_text (lines_at_once number l)) (lines_of_all plate logic r.past (row ∷ rest.rows))
-            ∙ once_text number before (lines_of_rows plate logic r.past (row ∷ rest.rows))
-            ∙ ap (λ t. done ++ t) (ap (λ l. report_text (lines_at_once number l)) (one_row_more plate logic r.past row rest.rows)
-            ∙ once_text number here behind ∙ ap (λ t. t ++ later) cut.2 ∙ append_assoc cut.0 cut.1 later)
-            ∙ sym (append_assoc done cut.0 (cut.1 ++ later)),
-        Appends-trans old mid new done cut.0 r.written cut.3,
-      )
+      let this : List ℕ = report_text (lines_at_once number here) in
+      let later : List ℕ = report_text (lines_at_once number behind) in
+      let all : text_at_once number plate logic log.rows ≡ done ++ (this ++ later) =
+      ap (λ l. text_at_once number plate logic l) (r.in_all ∙ ap (λ l. onto r.past l.rows) one)
+      ∙ ap (λ l. report_text (lines_at_once number l)) (lines_of_all plate logic r.past (row ∷ rest.rows))
+      ∙ once_text number before (lines_of_rows plate logic r.past (row ∷ rest.rows))
+      ∙ ap (λ t. done ++ t) (ap (λ l. report_text (lines_at_once number l)) (one_row_more plate logic r.past row rest.rows) ∙ once_text number here behind) in
+      subst (λ t. AppendsFront old new t) (sym all) (front_behind old mid new done (this ++ later) r.written (front_of_more mid new this later cut))
 
   -- a row that was refused, or not done to its end
   pub at_row : (rows' : Rows R) (scale' : Scale) (recorder' : Option RecorderState) (new : Option (List ℕ)) (row : Row) (X : Type 0)

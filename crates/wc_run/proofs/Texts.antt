@@ -1,5 +1,5 @@
 -- The lines of rows, one after the other, and what is written of them at once and at the end.
-use Rattle.std.proofs.Common.{◌≡◌, refl, ap, sym, ◌∙◌, arith, ℕ, zero, suc, ◌+◌, ◌-◌, List, [], ◌∷◌, ◌++◌, length, drop, Option, Some, None, append-nil}
+use Rattle.std.proofs.Common.{◌≡◌, refl, ap, sym, subst, ◌∙◌, arith, ℕ, zero, suc, ◌+◌, ◌-◌, List, [], ◌∷◌, ◌++◌, length, drop, Option, Some, None, Result, append-nil}
 use Rattle.std.proofs.lemmas.Grind.{flat_map-append}
 use Rattle.std.proofs.lemmas.List.{append_assoc}
 use Rattle.std.proofs.lemmas.List.Elements.{filter-append}
@@ -7,10 +7,14 @@ use Rattle.std.specs.Prelude.{filter}
 use Rattle.wc_instrument_laws.proofs.Independence.{is_free_of_programs}
 use Rattle.wc_model.specs.Instrument.Plates.{PlateData}
 use Rattle.wc_model.specs.Say.ProgramReport.{Logic, programs}
-use Rattle.wc_model.specs.Say.Report.{ReportLine, answer_line, answer_lines, is_answer_line, is_scan_line, line_report, line_text, report_text}
+use Rattle.wc_model.specs.Say.Report.{ReportLine, answer_line, answer_lines, is_answer_line, is_scan_line, line_text, report_text}
 use Rattle.wc_model.specs.Run.Rows.{LogRow, Past, answer_of_row}
-use Rattle.wc_run.specs.Deferring.{lines_at_once, text_at_once, text_in_all}
-use Rattle.wc_run.specs.Logics.{lines_of_row, lines_of_rows, run_report, run_report_last}
+use Rattle.wc_model.specs.Run.Log.{LogOf}
+use Rattle.wc_run.specs.Deferring.{lines_at_once, text_at_end, text_at_once, text_in_all}
+use Rattle.wc_run.specs.Doing.{Ends}
+use Rattle.wc_run.specs.Logics.{lines_of_row, lines_of_rows}
+use Rattle.wc_run.specs.Runs.{Reports, ReportsBy, report_coming, report_printing}
+use Rattle.wc_run.specs.declared.fault.RunFault.{RunFault}
 
 -- rows with those before them, the newest of which stands first
 abbrev pub onto : Past → List LogRow → List LogRow
@@ -68,15 +72,6 @@ pub once_text : (number : Option ℕ) (lines more : List ReportLine)
 once_text number lines more =
     ap report_text (once-append number lines more) ∙ flat_map-append line_text (lines_at_once number lines) (lines_at_once number more)
 
--- with each line written at once a run's report is the text of its lines
-pub at_once_is_report : (plate : PlateData) (logic : Option Logic) (rows : List LogRow) → text_at_once None plate logic rows ≡ run_report plate logic rows
-at_once_is_report plate None rows = refl
-at_once_is_report plate (Some logic) rows = refl
-
--- and nothing is left for the end
-pub all_is_report : (plate : PlateData) (logic : Option Logic) (rows : List LogRow) → text_in_all None plate logic rows ≡ run_report plate logic rows
-all_is_report plate logic rows = append-nil (text_at_once None plate logic rows) ∙ at_once_is_report plate logic rows
-
 -- the line of an answer is an answer's, and no scan's
 answer_kept : (ms : ℕ) (bytes : List ℕ) → filter is_answer_line (answer_line ms bytes) ≡ answer_line ms bytes
 answer_kept ms [] = refl
@@ -99,10 +94,12 @@ answers_dropped plate past (row ∷ rows) =
     filter-append is_scan_line (answer_line row.ms (answer_of_row plate past row)) (answer_lines plate (row ∷ past) rows)
     ∙ λ i. answer_dropped row.ms (answer_of_row plate past row) i ++ answers_dropped plate (row ∷ past) rows i
 
--- where the last scans are asked for, what is written at once is what a run with no program writes
-pub at_once_is_line : (number : ℕ) (plate : PlateData) (logic : Option Logic) (rows : List LogRow) → text_at_once (Some number) plate logic rows ≡ line_report plate rows
-at_once_is_line number plate None rows = ap report_text (answers_kept plate [] rows)
-at_once_is_line number plate (Some logic) rows = (is_free_of_programs plate programs logic rows).bytes
+-- what is written at once is what is written as the rows come
+coming_text : (last : Option ℕ) (plate : PlateData) (logic : Option Logic) (rows : List LogRow) → text_at_once last plate logic rows ≡ report_coming last plate logic rows
+coming_text None plate None rows = refl
+coming_text None plate (Some logic) rows = refl
+coming_text (Some number) plate None rows = ap report_text (answers_kept plate [] rows)
+coming_text (Some number) plate (Some logic) rows = (is_free_of_programs plate programs logic rows).bytes
 
 -- nothing is left of no lines
 drop-none : (n : ℕ) (lines : List ReportLine) → lines ≡ [] → drop n lines ≡ []
@@ -110,11 +107,46 @@ drop-none zero lines none = none
 drop-none (suc n) [] none = refl
 drop-none (suc n) (line ∷ lines) none = absurd (cc)
 
--- and all of it is the report of the last scans
-pub all_is_last : (number : ℕ) (plate : PlateData) (logic : Option Logic) (rows : List LogRow) → text_in_all (Some number) plate logic rows ≡ run_report_last number plate logic rows
-all_is_last number plate None rows =
+-- and all of it is the report
+whole_text : (last : Option ℕ) (plate : PlateData) (logic : Option Logic) (rows : List LogRow) → text_in_all last plate logic rows ≡ report_printing last plate logic rows
+whole_text None plate logic rows = append-nil (text_at_once None plate logic rows) ∙ coming_text None plate logic rows
+whole_text (Some number) plate None rows =
     let begun : List ℕ = text_at_once (Some number) plate None rows in
     let scans : List ReportLine = filter is_scan_line (answer_lines plate [] rows) in
     ap (λ lines. begun ++ report_text lines) (drop-none (length scans - number) scans (answers_dropped plate [] rows))
-    ∙ append-nil begun ∙ at_once_is_line number plate None rows
-all_is_last number plate (Some logic) rows = refl
+    ∙ append-nil begun ∙ coming_text (Some number) plate None rows
+whole_text (Some number) plate (Some logic) rows = refl
+
+-- the whole of a run is its report
+pub ends_reported : (last : Option ℕ) (plate : PlateData) (logic : Option Logic) (log : LogOf) (answer : Result ℕ RunFault) (old new : Option (List ℕ))
+    → Ends last plate logic log answer old new → Reports last plate logic log answer old new
+ends_reported last plate logic log answer old new ends =
+    subst (λ coming. ReportsBy (report_printing last plate logic) coming log answer old new) (λ i rows. coming_text last plate logic rows i)
+    (subst (λ whole. ReportsBy whole (text_at_once last plate logic) log answer old new) (λ i rows. whole_text last plate logic rows i) ends)
+
+-- the lines of the first rows stand before the lines of the others
+lines_first : (plate : PlateData) (logic : Option Logic) (past : Past) (first left : List LogRow)
+    → (others : List ReportLine) × (lines_of_rows plate logic past (first ++ left) ≡ lines_of_rows plate logic past first ++ others)
+lines_first plate logic past [] left = (lines_of_rows plate logic past left, sym (ap (λ l. l ++ lines_of_rows plate logic past left) (no_rows plate logic past)))
+lines_first plate logic past (row ∷ rows) left =
+    let rest = lines_first plate logic (row ∷ past) rows left in
+    let here : List ReportLine = lines_of_row plate logic past row in (
+      rest.0,
+      one_row_more plate logic past row (rows ++ left) ∙ ap (λ l. here ++ l) rest.1
+          ∙ sym (append_assoc here (lines_of_rows plate logic (row ∷ past) rows) rest.0)
+          ∙ ap (λ l. l ++ rest.0) (sym (one_row_more plate logic past row rows)),
+    )
+
+-- what is written of the first rows as they come is a front of the report of all
+pub report_first : (last : Option ℕ) (plate : PlateData) (logic : Option Logic) (first left : List LogRow)
+    → (rest : List ℕ) × (report_printing last plate logic (first ++ left) ≡ report_coming last plate logic first ++ rest)
+report_first last plate logic first left =
+    let lines = lines_first plate logic [] first left in
+    let here : List ReportLine = lines_of_rows plate logic [] first in
+    let more : List ℕ = report_text (lines_at_once last lines.0) in
+    let behind : List ℕ = text_at_end last plate logic (first ++ left) in (
+      more ++ behind,
+      sym (whole_text last plate logic (first ++ left))
+          ∙ ap (λ text. text ++ behind) (ap (λ l. report_text (lines_at_once last l)) lines.1 ∙ once_text last here lines.0 ∙ ap (λ text. text ++ more) (coming_text last plate logic first))
+          ∙ append_assoc (report_coming last plate logic first) more behind,
+    )

@@ -59,17 +59,14 @@ RunsRows number plate logic log recorder (Ok count) old new =
     (log.refusal ≡ None) × (count ≡ length log.rows) × HoldsScans recorder number (lines_of_rows plate logic [] log.rows) × Appends old new (text_at_once number plate logic log.rows)
 RunsRows number plate logic log recorder (Err (Refused code place)) old new =
     (log.refusal ≡ Some (record { number = code; row = place })) × HoldsScans recorder number (lines_of_rows plate logic [] log.rows) × Appends old new (text_at_once number plate logic log.rows)
-RunsRows number plate logic log recorder (Err Read) old new = AppendsFirst (text_at_once number plate logic) log.rows old new
 RunsRows number plate logic log recorder (Err Write) old new = AppendsFront old new (text_at_once number plate logic log.rows)
-RunsRows number plate logic log recorder (Err Memory) old new = AppendsFirst (text_at_once number plate logic) log.rows old new
+RunsRows number plate logic log recorder (Err fault) old new = AppendsFirst (text_at_once number plate logic) log.rows old new
 
 -- whether a fault of a device or of memory cut the rows short
 abbrev pub is_cut_short : Result ℕ RunFault → Bool
 is_cut_short (Ok count) = false
 is_cut_short (Err (Refused number place)) = false
-is_cut_short (Err Read) = true
-is_cut_short (Err Write) = true
-is_cut_short (Err Memory) = true
+is_cut_short (Err fault) = true
 
 -- The whole of a run is written, what is deferred behind the rest.
 abbrev pub Ends : Option ℕ → PlateData → Option Logic → LogOf → Result ℕ RunFault → Option (List ℕ) → Option (List ℕ) → Type 0
@@ -84,7 +81,6 @@ answer_to log.Memory = Memory
 -- a refusal and a write fault stay as they are; what else kept the log from being run is judged by
 -- its cause
 abbrev pub IsJudged : RunFault → RunFault → Type 0
-IsJudged (Refused number place) judged = judged ≡ Refused number place
-IsJudged Write judged = judged ≡ Write
 IsJudged Read judged = (judged ≡ Read) ⊎ (judged ≡ Memory)
 IsJudged Memory judged = (judged ≡ Read) ⊎ (judged ≡ Memory)
+IsJudged fault judged = judged ≡ fault

@@ -1,16 +1,17 @@
 -- What an answer of a run says of the log and of what was written.
-use Rattle.std.specs.Prelude.{◌≡◌, ◌≤◌, ℕ, List, ◌++◌, length, Option, Some, None, Result, Ok, Err}
+use Rattle.std.specs.Prelude.{◌≡◌, ◌≤◌, ℕ, List, ◌++◌, length, Option, Some, None, IfSome, Result, Ok, Err}
 use Rattle.std.specs.Io.KnownBytes.{Appends}
 use Rattle.wc_model.specs.Run.Log.{LogOf, Record}
 use Rattle.wc_model.specs.Instrument.Plates.{PlateData}
 use Rattle.wc_model.specs.Run.Rows.{LogRow}
+use Rattle.wc_model.specs.Run.Writing.{HasFailedSince}
 use Rattle.wc_model.specs.Say.Report.{line_report}
 use Rattle.wc_instrument_laws.specs.WrittenLines.{without_scan_lines}
 use Rattle.wc_model.specs.Say.ProgramReport.{Logic}
-use Rattle.wc_record.specs.Told.{record_at}
+use Rattle.wc_record.specs.Told.{record_at, records_read}
 use Rattle.wc_run.specs.Logics.{run_report, run_report_last}
 use Rattle.wc_run.specs.declared.fault.RunFault.{RunFault}
-use Rattle.wc_run.specs.declared.fault.RunFault.TheVariants.{Refused, Read, Write, Memory}
+use Rattle.wc_run.specs.declared.fault.RunFault.TheVariants.{Refused, Write}
 
 -- a front of the text was written
 abbrev pub AppendsFront : Option (List ℕ) → Option (List ℕ) → List ℕ → Type 0
@@ -26,18 +27,23 @@ AppendsFirst text rows old new = (first : List LogRow) × (left : List LogRow) �
 abbrev pub ReportsBy : (List LogRow → List ℕ) → (List LogRow → List ℕ) → LogOf → Result ℕ RunFault → Option (List ℕ) → Option (List ℕ) → Type 0
 ReportsBy whole coming log (Ok count) old new = (log.refusal ≡ None) × (count ≡ length log.rows) × Appends old new (whole log.rows)
 ReportsBy whole coming log (Err (Refused number place)) old new = (log.refusal ≡ Some (record { number = number; row = place })) × Appends old new (whole log.rows)
-ReportsBy whole coming log (Err Read) old new = AppendsFirst coming log.rows old new
 ReportsBy whole coming log (Err Write) old new = AppendsFront old new (whole log.rows)
-ReportsBy whole coming log (Err Memory) old new = AppendsFirst coming log.rows old new
+ReportsBy whole coming log (Err fault) old new = AppendsFirst coming log.rows old new
 
--- A run writes the report, line for line as the rows come.
-abbrev pub Reports : PlateData → Option Logic → LogOf → Result ℕ RunFault → Option (List ℕ) → Option (List ℕ) → Type 0
-Reports plate logic log answer old new = ReportsBy (run_report plate logic) (run_report plate logic) log answer old new
+-- what a run of rows writes that prints every scan, or the last so many alone
+abbrev pub report_printing : Option ℕ → PlateData → Option Logic → List LogRow → List ℕ
+report_printing None plate logic = run_report plate logic
+report_printing (Some number) plate logic = run_report_last number plate logic
 
--- A run that keeps the last so many scans writes the answers as the rows come, which are those of a
--- run with no program, and those scans behind them: the report of the last scans.
-abbrev pub ReportsLast : ℕ → PlateData → Option Logic → LogOf → Result ℕ RunFault → Option (List ℕ) → Option (List ℕ) → Type 0
-ReportsLast number plate logic log answer old new = ReportsBy (run_report_last number plate logic) (line_report plate) log answer old new
+-- what it writes of rows as they come: of the last scans none, so the answers alone
+abbrev pub report_coming : Option ℕ → PlateData → Option Logic → List LogRow → List ℕ
+report_coming None plate logic = run_report plate logic
+report_coming (Some number) plate logic = line_report plate
+
+-- A run writes the report, line for line as the rows come; or, where the last so many scans are asked
+-- for, the answers, which are those of a run with no program, and those scans behind them.
+abbrev pub Reports : Option ℕ → PlateData → Option Logic → LogOf → Result ℕ RunFault → Option (List ℕ) → Option (List ℕ) → Type 0
+Reports last plate logic log answer old new = ReportsBy (report_printing last plate logic) (report_coming last plate logic) log answer old new
 
 -- What was written is the line's answers to the rows, once the lines that begin with an S are taken
 -- out of it.
@@ -54,40 +60,45 @@ AppendsLineOfFirst plate rows old new = (first : List LogRow) × (left : List Lo
 abbrev pub LeavesLine : PlateData → LogOf → Result ℕ RunFault → Option (List ℕ) → Option (List ℕ) → Type 0
 LeavesLine plate log (Ok count) old new = AppendsLine plate log.rows old new
 LeavesLine plate log (Err (Refused number place)) old new = AppendsLine plate log.rows old new
-LeavesLine plate log (Err Read) old new = AppendsLineOfFirst plate log.rows old new
 LeavesLine plate log (Err Write) old new = Unit {0}
-LeavesLine plate log (Err Memory) old new = AppendsLineOfFirst plate log.rows old new
+LeavesLine plate log (Err fault) old new = AppendsLineOfFirst plate log.rows old new
 
 -- The log's reader has not failed where a run came to the log's end or to a refused row.
 abbrev pub HasNotFailed : Result ℕ RunFault → ℕ → ℕ → Type 0
 HasNotFailed (Ok count) old new = new ≤ old
 HasNotFailed (Err (Refused number place)) old new = new ≤ old
-HasNotFailed (Err Read) old new = Unit {0}
-HasNotFailed (Err Write) old new = Unit {0}
-HasNotFailed (Err Memory) old new = Unit {0}
+HasNotFailed (Err fault) old new = Unit {0}
 
 -- at a refusal these are the fields of the refused row: the record of that number
 abbrev pub TellsFault : List Record → Record → RunFault → Type 0
 TellsFault records fields (Refused number place) = fields ≡ record_at records place
-TellsFault records fields Read = Unit {0}
-TellsFault records fields Write = Unit {0}
-TellsFault records fields Memory = Unit {0}
+TellsFault records fields fault = Unit {0}
 
 -- the same of whatever a run answers
 abbrev pub TellsRow : {X : Type 0} → List Record → Record → Result X RunFault → Type 0
 TellsRow records fields (Ok x) = Unit {0}
 TellsRow records fields (Err fault) = TellsFault records fields fault
 
+-- of a log whose bytes are known the refused row is told
+abbrev pub TellsRefused : {X : Type 0} → Option (List ℕ) → Record → Result X RunFault → Type 0
+TellsRefused known fields answer = IfSome known (λ bytes. TellsRow (records_read bytes) fields answer)
+
+-- a write fault is told where the writer's failed calls rose, and only there
+abbrev pub TellsWrite : RunFault → ℕ → ℕ → Type 0
+TellsWrite Write old new = HasFailedSince old new
+TellsWrite fault old new = new ≡ old
+
+-- the same of whatever a run answers
+abbrev pub TellsWrites : {X : Type 0} → Result X RunFault → ℕ → ℕ → Type 0
+TellsWrites (Ok x) old new = new ≡ old
+TellsWrites (Err fault) old new = TellsWrite fault old new
+
 -- a fault at a row is a refusal of that row, or of a device or memory
 abbrev pub IsFaultAt : ℕ → RunFault → Type 0
 IsFaultAt row (Refused number place) = place ≡ row
-IsFaultAt row Read = Unit {0}
-IsFaultAt row Write = Unit {0}
-IsFaultAt row Memory = Unit {0}
+IsFaultAt row fault = Unit {0}
 
 -- a fault of a device or of memory
 abbrev pub IsNoRefusal : RunFault → Type 0
 IsNoRefusal (Refused number place) = ⊥
-IsNoRefusal Read = Unit {0}
-IsNoRefusal Write = Unit {0}
-IsNoRefusal Memory = Unit {0}
+IsNoRefusal fault = Unit {0}

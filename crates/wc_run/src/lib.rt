@@ -15,5 +15,6 @@ mod scanner;
 mod scans;
 
 pub use fault::RunFault;
-pub use running::{run, run_last, run_telling};
+pub use running::run;
 pub use scanner::{Scanner, Unwatched};
+pub use wc_record::RefusedRow;

@@ -1,19 +1,18 @@
-ghost use Rattle.std.specs.Prelude.{◌≡◌, ◌<◌, ◌^◌, ℕ, List, [], Option, IfErr, IfSome, IsErrOf, OnOk};
+ghost use Rattle.std.specs.Prelude.{◌≡◌, ◌<◌, ◌^◌, ℕ, List, [], Option, IfErr, IfSome, OnOk};
 ghost use Rattle.wc_model.specs.Run.Log.{LogOf, Record, log_of};
 ghost use Rattle.wc_model.specs.Instrument.Plates.{PlateData};
 ghost use Rattle.wc_model.specs.Run.Rows.{Past};
-ghost use Rattle.wc_model.specs.Run.Writing.{HasFailedSince};
 ghost use Rattle.wc_model.specs.Say.Report.{ReportLine};
 ghost use Rattle.wc_record.specs.Left.{HasLeft, last_ms, rows_read};
 ghost use Rattle.wc_record.specs.Reading.{records_of};
-ghost use Rattle.wc_record.specs.Told.{Reads, at_hand, fields_told, records_read};
+ghost use Rattle.wc_record.specs.Told.{Reads, at_hand, fields_told};
 ghost use Rattle.wc_record.specs.Views.{IsDataInRange, data_view, row_view};
 ghost use Rattle.wc_run.specs.Deferring.{HoldsScans};
 ghost use Rattle.wc_run.specs.Doing.{Does, RunsRows};
 ghost use Rattle.wc_run.specs.Doing as doing;
 ghost use Rattle.wc_model.specs.Say.LogFor.{log_for};
 ghost use Rattle.wc_model.specs.Say.ProgramReport.{Logic};
-ghost use Rattle.wc_run.specs.Runs.{IsFaultAt, TellsRow};
+ghost use Rattle.wc_run.specs.Runs.{IsFaultAt, TellsRefused, TellsRow, TellsWrites};
 ghost use Rattle.wc_run.specs.Standing.{IsNotBehind, Stands};
 
 use crate::fault::RunFault;
@@ -47,10 +46,8 @@ fn run_row<V: Scanner, W: ByteOut>(
         (W.bytes_taken writer.old) (W.bytes_taken writer.new) }
     ensures place { IfErr result (IsFaultAt row.number) }
     ensures in_order { OnOk result (IsNotBehind scale.new row.ms) }
-    ensures write { IsErrOf result RunFault.Write
-        → HasFailedSince (W.failure_count writer.old) (W.failure_count writer.new) }
-    ensures steady { ¬ IsErrOf result RunFault.Write
-        → W.failure_count writer.new ≡ W.failure_count writer.old }
+    ensures failures { TellsWrites result (W.failure_count writer.old)
+        (W.failure_count writer.new) }
 {
     match scale.take(alloc, scanner, room, row, bytes) {
         Ok(output) => {
@@ -91,10 +88,8 @@ fn run_rows<V: Scanner, R: ByteIn, W: ByteOut>(
         (W.bytes_taken writer.old) (W.bytes_taken writer.new) }
     ensures told { (records : List Record) → Reads R.bytes_left rows.old records
         → TellsRow records (at_hand rows.new) result }
-    ensures write { IsErrOf result RunFault.Write
-        → HasFailedSince (W.failure_count writer.old) (W.failure_count writer.new) }
-    ensures steady { ¬ IsErrOf result RunFault.Write
-        → W.failure_count writer.new ≡ W.failure_count writer.old }
+    ensures failures { TellsWrites result (W.failure_count writer.old)
+        (W.failure_count writer.new) }
 {
     let mut count = 0;
     loop {
@@ -134,14 +129,11 @@ pub(crate) fn run_log<V: Scanner, R: ByteIn, W: ByteOut>(
     ensures reports { IfSome (R.bytes_left reader.old)
         (λ bytes. (plate : PlateData) (logic : Option Logic) (number : Option ℕ)
         → Stands scale.old plate logic [] → HoldsScans recorder.old number []
-        → RunsRows number plate logic (log_for logic (log_of (records_of bytes))) recorder.new result
-        (W.bytes_taken writer.old) (W.bytes_taken writer.new)) }
-    ensures told { IfSome (R.bytes_left reader.old)
-        (λ bytes. TellsRow (records_read bytes) (fields_told told.new) result) }
-    ensures write { IsErrOf result RunFault.Write
-        → HasFailedSince (W.failure_count writer.old) (W.failure_count writer.new) }
-    ensures steady { ¬ IsErrOf result RunFault.Write
-        → W.failure_count writer.new ≡ W.failure_count writer.old }
+        → RunsRows number plate logic (log_for logic (log_of (records_of bytes))) recorder.new
+        result (W.bytes_taken writer.old) (W.bytes_taken writer.new)) }
+    ensures told { TellsRefused (R.bytes_left reader.old) (fields_told told.new) result }
+    ensures failures { TellsWrites result (W.failure_count writer.old)
+        (W.failure_count writer.new) }
 {
     let mut room = Room::new(alloc);
     let mut rows = Rows::new(alloc, reader);

@@ -1,9 +1,8 @@
-ghost use Rattle.std.specs.Prelude.{◌≡◌, ◌∷◌, [], ℕ, List, Option, IfErr, IsErrOf};
-ghost use Rattle.wc_model.specs.Run.Writing.{HasFailedSince};
+ghost use Rattle.std.specs.Prelude.{◌≡◌, ◌∷◌, [], ℕ, List, Option, IfErr};
 ghost use Rattle.wc_model.specs.Say.Report.{ReportLine, line_text, report_text};
 ghost use Rattle.wc_run.specs.Deferring.{HoldsScans, lines_at_end};
 ghost use Rattle.wc_run.specs.Doing.{Puts, Writes};
-ghost use Rattle.wc_run.specs.Runs.{IsNoRefusal};
+ghost use Rattle.wc_run.specs.Runs.{IsNoRefusal, TellsWrites};
 ghost use Rattle.wc_run.specs.Outputs.{IsOutput, line_of_record};
 
 use crate::fault::RunFault;
@@ -18,10 +17,8 @@ use wc_record::{Record, Recorder};
 fn write_text<W: ByteOut>(text: &[u8], writer: &mut W) -> Result<(), RunFault>
     ensures writes { Writes text.now result (W.bytes_taken writer.old) (W.bytes_taken writer.new) }
     ensures held { IfErr result IsNoRefusal }
-    ensures write { IsErrOf result RunFault.Write
-        → HasFailedSince (W.failure_count writer.old) (W.failure_count writer.new) }
-    ensures steady { ¬ IsErrOf result RunFault.Write
-        → W.failure_count writer.new ≡ W.failure_count writer.old }
+    ensures failures { TellsWrites result (W.failure_count writer.old)
+        (W.failure_count writer.new) }
 {
     match write_whole(writer, text) {
         Ok(()) => Ok(()),
@@ -35,10 +32,8 @@ fn write_scan<W: ByteOut>(scan: &Record, text: &mut Vec<u8>, writer: &mut W) -> 
     ensures writes { Writes (line_text (line_of_record scan.now)) result
         (W.bytes_taken writer.old) (W.bytes_taken writer.new) }
     ensures held { IfErr result IsNoRefusal }
-    ensures write { IsErrOf result RunFault.Write
-        → HasFailedSince (W.failure_count writer.old) (W.failure_count writer.new) }
-    ensures steady { ¬ IsErrOf result RunFault.Write
-        → W.failure_count writer.new ≡ W.failure_count writer.old }
+    ensures failures { TellsWrites result (W.failure_count writer.old)
+        (W.failure_count writer.new) }
 {
     text.clear();
     match put_record(text, scan) {
@@ -60,10 +55,8 @@ fn put_scan<W: ByteOut>(
         → Puts number before lines recorder.new result (W.bytes_taken writer.old)
         (W.bytes_taken writer.new) }
     ensures held { IfErr result IsNoRefusal }
-    ensures write { IsErrOf result RunFault.Write
-        → HasFailedSince (W.failure_count writer.old) (W.failure_count writer.new) }
-    ensures steady { ¬ IsErrOf result RunFault.Write
-        → W.failure_count writer.new ≡ W.failure_count writer.old }
+    ensures failures { TellsWrites result (W.failure_count writer.old)
+        (W.failure_count writer.new) }
 {
     match recorder {
         Some(recorder) => {
@@ -88,10 +81,8 @@ pub(crate) fn put<W: ByteOut>(
         → Puts number before lines recorder.new result (W.bytes_taken writer.old)
         (W.bytes_taken writer.new) }
     ensures held { IfErr result IsNoRefusal }
-    ensures write { IsErrOf result RunFault.Write
-        → HasFailedSince (W.failure_count writer.old) (W.failure_count writer.new) }
-    ensures steady { ¬ IsErrOf result RunFault.Write
-        → W.failure_count writer.new ≡ W.failure_count writer.old }
+    ensures failures { TellsWrites result (W.failure_count writer.old)
+        (W.failure_count writer.new) }
 {
     match output {
         RowOutput::Nothing => Ok(()),
@@ -111,10 +102,8 @@ pub(crate) fn write_last<W: ByteOut>(
         → Writes (report_text (lines_at_end number lines)) result (W.bytes_taken writer.old)
         (W.bytes_taken writer.new) }
     ensures held { IfErr result IsNoRefusal }
-    ensures write { IsErrOf result RunFault.Write
-        → HasFailedSince (W.failure_count writer.old) (W.failure_count writer.new) }
-    ensures steady { ¬ IsErrOf result RunFault.Write
-        → W.failure_count writer.new ≡ W.failure_count writer.old }
+    ensures failures { TellsWrites result (W.failure_count writer.old)
+        (W.failure_count writer.new) }
 {
     match recorder {
         Some(recorder) => match last_text(alloc, recorder) {

@@ -1,8 +1,10 @@
 //! Runs of logs with no program, and their reports.
+ghost use Rattle.std.specs.Prelude.{◌≤◌, IfSome};
+
 use std::alloc::{AllocError, Global};
 use wc_model::{ByteIn, ByteOut, Device, FuseIn, FuseOut};
 use wc_plate::plate;
-use wc_run::{RunFault, run, run_last};
+use wc_run::{RefusedRow, RunFault, Unwatched, run};
 
 /// The plate of 15 kg in steps of 5 g: 3000 intervals of 200 counts, and 4 samples in the window.
 const FIFTEEN_KILOGRAMS: &[u8] =
@@ -20,22 +22,24 @@ fn answer<R: ByteIn, W: ByteOut>(
     last: Option<u16>,
     reader: &mut R,
     writer: &mut W,
-) -> Result<u32, RunFault> {
+) -> Result<u32, RunFault>
+    requires { IfSome last (λ n. (1 ≤ n) × (n ≤ 1000)) }
+{
     let Ok(plate) = plate(alloc, FIFTEEN_KILOGRAMS) else {
         return Err(RunFault::Memory);
     };
-    match last {
-        Some(number) => run_last(
-            alloc,
-            number.clamp(1, 1000),
-            &plate,
-            None,
-            None,
-            reader,
-            writer,
-        ),
-        None => run(alloc, &plate, None, None, reader, writer),
-    }
+    let mut told = RefusedRow::new(alloc);
+    run(
+        alloc,
+        last,
+        &mut Unwatched,
+        &plate,
+        None,
+        None,
+        reader,
+        writer,
+        &mut told,
+    )
 }
 
 /// A run of a reader is answered so, and this is written.
@@ -45,7 +49,9 @@ fn gives<R: ByteIn>(
     reader: &mut R,
     wanted: Result<u32, RunFault>,
     report: &[u8],
-) -> bool {
+) -> bool
+    requires { IfSome last (λ n. (1 ≤ n) × (n ≤ 1000)) }
+{
     let mut out = Vec::new(alloc);
     let mut writer = Device::new(&mut out);
     let given = answer(alloc, last, reader, &mut writer);
@@ -61,10 +67,10 @@ fn fails_behind(alloc: Global, in_all: usize, written: &[u8]) -> Result<bool, Al
 
 #[test]
 fn a_log_is_run_and_its_report_is_written(rt: HostRuntime) {
-    for last in [None, Some(3)] {
-        let mut log = Device::new(WEIGHT_LOG);
-        assert!(rt; gives(rt.alloc(), last, &mut log, Ok(4), WEIGHT_REPORT));
-    }
+    let mut log = Device::new(WEIGHT_LOG);
+    assert!(rt; gives(rt.alloc(), None, &mut log, Ok(4), WEIGHT_REPORT));
+    let mut again = Device::new(WEIGHT_LOG);
+    assert!(rt; gives(rt.alloc(), Some(3), &mut again, Ok(4), WEIGHT_REPORT));
 }
 
 #[test]

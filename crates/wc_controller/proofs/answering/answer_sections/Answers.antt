@@ -1,55 +1,83 @@
-use Rattle.std.proofs.Common.{◌≡◌, ap, sym, subst}
+use Rattle.std.proofs.Common.{◌≡◌, refl, ap, sym, subst}
 use Rattle.std.specs.Prelude.{Some, None, Ok, is_some}
 use Rattle.wc_controller.proofs.Allowing.{sections_run}
-use Rattle.wc_controller.proofs.BlamingParts.{plate_part, run_part}
-use Rattle.wc_controller.proofs.Givings.{in_memory, upto_more}
+use Rattle.wc_controller.proofs.BlamingParts.{plate_part, program_part, run_part}
+use Rattle.wc_controller.proofs.Givings.{in_memory, unloaded, upto_more}
 use Rattle.wc_controller.proofs.answering.answer_sections.Goals as goal
 use Rattle.wc_controller.specs.Blames.{RefusesLog, StopsAsPart}
 use Rattle.wc_controller.specs.Endings.{WritesUpTo}
-use Rattle.wc_controller.specs.TakenLogs.{log_beside}
+use Rattle.wc_controller.specs.Files.{AnswersPrinting}
 use Rattle.wc_controller.specs.Jobs.{AllowsSections}
+use Rattle.wc_controller.specs.TakenLogs.{log_beside}
 use Rattle.wc_controller.specs.declared.input.Input.TheVariants as input
 use Rattle.wc_job.specs.Views.{sections_view}
+use Rattle.wc_model.specs.Language.Views.{text_view}
 use Rattle.wc_model.specs.Run.Log.{log_of}
-use Rattle.wc_model.specs.Say.Job.{AnswersPrograms, run_answer}
+use Rattle.wc_model.specs.Say.Job.{AnswersNext, AnswersPrograms, loads_program, run_answer}
 use Rattle.wc_record.specs.Reading.{records_of}
 use Rattle.wc_record.specs.Told.{fields_told}
+use Rattle.wc_run.specs.declared.fault.RunFault.TheVariants as fault
 
-pub returns-in-Ok-run_sections-clause-writes : goal.returns-in-Ok-run_sections-clause-writes
-returns-in-Ok-run_sections-clause-writes g c =
+pub returns-in-Err-load_input-clause-writes : goal.returns-in-Err-load_input-clause-writes
+returns-in-Err-load_input-clause-writes g c =
     let old = g.W.ByteOut.bytes_taken c.args.writer.now in
-    let new = g.W.ByteOut.bytes_taken c.run_sections.new.writer in
-    upto_more (AnswersPrograms (λ logic. run_answer c.in-Ok.plate logic (log_of (records_of c.args.sections.log.now))) c.args.sections.program.now (sections_view c.args.sections).next)
-    (AllowsSections (sections_view c.args.sections)) None old new
-    (sections_run (sections_view c.args.sections) c.in-Ok.plate c.in-Ok.ensures.verdict)
-    (subst (λ log. WritesUpTo (AnswersPrograms (λ logic. run_answer c.in-Ok.plate logic (log_of (records_of log))) c.args.sections.program.now (sections_view c.args.sections).next) None old new)
-    (ap (λ log. log.now) c.new-log.ensures.inner) c.in-Ok-run_sections.ensures.writes)
+    let sections = sections_view c.args.sections in
+    let log = log_of (records_of c.args.sections.log.now) in
+    let why = c.in-Err-load_input.stopped.fault in
+    upto_more (AnswersPrograms (λ logic. run_answer c.in-Ok.plate logic log) c.args.sections.program.now sections.next) (AllowsSections sections) (Some why) old old
+    (sections_run sections c.in-Ok.plate c.in-Ok.ensures.verdict)
+    (unloaded c.args.sections.program.now (λ text. AnswersNext sections.next (AnswersPrinting None c.in-Ok.plate log text)) why old c.in-Err-load_input.ensures.refused)
 
-pub returns-in-Err-run_sections-clause-writes : goal.returns-in-Err-run_sections-clause-writes
-returns-in-Err-run_sections-clause-writes g c =
+pub returns-in-Ok-run_loaded-clause-writes : goal.returns-in-Ok-run_loaded-clause-writes
+returns-in-Ok-run_loaded-clause-writes g c =
     let old = g.W.ByteOut.bytes_taken c.args.writer.now in
-    let new = g.W.ByteOut.bytes_taken c.run_sections.new.writer in
-    let why = c.in-Err-run_sections.stopped.fault in
-    subst (λ fault. WritesUpTo (AllowsSections (sections_view c.args.sections)) (Some fault) old new) (sym c.stopped_in_memory.ensures.fault)
-    (in_memory (AllowsSections (sections_view c.args.sections)) why old new
-    (upto_more (AnswersPrograms (λ logic. run_answer c.in-Ok.plate logic (log_of (records_of c.args.sections.log.now))) c.args.sections.program.now (sections_view c.args.sections).next)
-    (AllowsSections (sections_view c.args.sections)) (Some why) old new
-    (sections_run (sections_view c.args.sections) c.in-Ok.plate c.in-Ok.ensures.verdict)
-    (subst (λ log. WritesUpTo (AnswersPrograms (λ logic. run_answer c.in-Ok.plate logic (log_of (records_of log))) c.args.sections.program.now (sections_view c.args.sections).next) (Some why) old new)
-    (ap (λ log. log.now) c.new-log.ensures.inner) c.in-Err-run_sections.ensures.writes)))
+    let new = g.W.ByteOut.bytes_taken c.run_loaded.new.writer in
+    let sections = sections_view c.args.sections in
+    let first = text_view c.in-Ok-load_input.loaded.source in
+    upto_more (AnswersNext sections.next (AnswersPrinting None c.in-Ok.plate (log_of (records_of c.args.sections.log.now)) first)) (AllowsSections sections) None old new
+    (λ one h. sections_run sections c.in-Ok.plate c.in-Ok.ensures.verdict one (loads_program first c.in-Ok-load_input.ensures.loaded h))
+    (subst (λ log. WritesUpTo (AnswersNext sections.next (AnswersPrinting None c.in-Ok.plate (log_of (records_of log)) first)) None old new)
+    (ap (λ log. log.now) c.new-log.ensures.inner) c.in-Ok-run_loaded.ensures.writes)
+
+pub returns-in-Err-run_loaded-clause-writes : goal.returns-in-Err-run_loaded-clause-writes
+returns-in-Err-run_loaded-clause-writes g c =
+    let old = g.W.ByteOut.bytes_taken c.args.writer.now in
+    let new = g.W.ByteOut.bytes_taken c.run_loaded.new.writer in
+    let sections = sections_view c.args.sections in
+    let first = text_view c.in-Ok-load_input.loaded.source in
+    let why = c.in-Err-run_loaded.stopped.fault in
+    subst (λ fault. WritesUpTo (AllowsSections sections) (Some fault) old new) (sym c.stopped_in_memory.ensures.fault)
+    (in_memory (AllowsSections sections) why old new
+    (upto_more (AnswersNext sections.next (AnswersPrinting None c.in-Ok.plate (log_of (records_of c.args.sections.log.now)) first)) (AllowsSections sections) (Some why) old new
+    (λ one h. sections_run sections c.in-Ok.plate c.in-Ok.ensures.verdict one (loads_program first c.in-Ok-load_input.ensures.loaded h))
+    (subst (λ log. WritesUpTo (AnswersNext sections.next (AnswersPrinting None c.in-Ok.plate (log_of (records_of log)) first)) (Some why) old new)
+    (ap (λ log. log.now) c.new-log.ensures.inner) c.in-Err-run_loaded.ensures.writes)))
 
 pub returns-in-Err-clause-blames : goal.returns-in-Err-clause-blames
 returns-in-Err-clause-blames g c =
     subst (λ why. StopsAsPart (fields_told c.args.told.now) (Ok (sections_view c.args.sections)) input.Plate why) (sym c.run_fault_of.ensures)
     (plate_part (fields_told c.args.told.now) (sections_view c.args.sections) c.in-Err.fault c.in-Err.ensures.verdict)
 
-pub returns-in-Err-run_sections-clause-blames : goal.returns-in-Err-run_sections-clause-blames
-returns-in-Err-run_sections-clause-blames g c =
-    let told = fields_told c.run_sections.new.told in
+pub returns-in-Err-load_input-clause-blames : goal.returns-in-Err-load_input-clause-blames
+returns-in-Err-load_input-clause-blames g c =
+    let told = fields_told c.args.told.now in
     let sections = sections_view c.args.sections in
-    let stopped = c.in-Err-run_sections.stopped in
-    let said = c.in-Err-run_sections.ensures in
+    let stopped = c.in-Err-load_input.stopped in
+    subst (λ at. StopsAsPart told (Ok sections) at stopped.fault) (sym c.in-Err-load_input.ensures.input) (program_part told sections stopped.fault c.in-Err-load_input.ensures.refused)
+
+pub returns-in-Err-load_input-clause-held : goal.returns-in-Err-load_input-clause-held
+returns-in-Err-load_input-clause-held g c = λ e.
+    let stopped = c.in-Err-load_input.stopped in
+    let same : stopped.fault ≡ fault.Read = cc in
+    c.in-Err-load_input.ensures.held stopped.input (refl, same)
+
+pub returns-in-Err-run_loaded-clause-blames : goal.returns-in-Err-run_loaded-clause-blames
+returns-in-Err-run_loaded-clause-blames g c =
+    let told = fields_told c.run_loaded.new.told in
+    let sections = sections_view c.args.sections in
+    let stopped = c.in-Err-run_loaded.stopped in
+    let said = c.in-Err-run_loaded.ensures in
     subst (λ at. StopsAsPart told (Ok sections) at c.stopped_in_memory.result.fault) (sym c.stopped_in_memory.ensures.input)
     (subst (λ why. StopsAsPart told (Ok sections) stopped.input why) (sym c.stopped_in_memory.ensures.fault)
-    (run_part told sections stopped.input stopped.fault said.blames_program said.blames_next
-    (subst (λ log. stopped.input ≡ input.Log → RefusesLog (log_beside (is_some sections.next)) told log stopped.fault) (ap (λ log. log.now) c.new-log.ensures.inner) said.blames_log) said.later said.own))
+    (run_part told sections stopped.input stopped.fault said.blames_next
+    (subst (λ log. stopped.input ≡ input.Log → RefusesLog (log_beside (is_some sections.next)) told log stopped.fault) (ap (λ log. log.now) c.new-log.ensures.inner) said.blames_log) said.later))

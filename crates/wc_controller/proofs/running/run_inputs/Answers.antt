@@ -1,31 +1,85 @@
-use Rattle.std.proofs.Common.{[], arith}
+use Rattle.std.proofs.Common.{◌≡◌, [], List, ℕ, arith, ap, ◌∙◌, subst}
 use Rattle.std.proofs.KnownBytes.{Consumes-nil}
-use Rattle.wc_controller.proofs.Allowing.{known_each, known_more, on_each, on_known, plate_not_read, plate_read}
+use Rattle.std.specs.Prelude.{IfErr, IfSome, Option, Some, Err, is_some, option_map}
+use Rattle.wc_controller.proofs.Blaming.{next_read, program_read, same_next, text_refused}
+use Rattle.wc_controller.proofs.FileRuns.{at_log, at_next, at_plate, at_program, at_text}
 use Rattle.wc_controller.proofs.running.run_inputs.Goals as goal
-use Rattle.wc_controller.specs.Endings.{met}
-use Rattle.wc_controller.specs.Files.{AnswersFile, AnswersText}
-use Rattle.wc_controller.specs.TakenLogs.{known_of}
+use Rattle.wc_controller.specs.Blames.{IsNextUnloaded, IsUnloaded, RefusesLog, StopsFor}
+use Rattle.wc_controller.specs.Endings.{TellsMemory, WritesUpTo, met}
+use Rattle.wc_controller.specs.Files.{AnswersPrinting}
+use Rattle.wc_controller.specs.TakenLogs.{known_of, log_beside}
+use Rattle.wc_controller.specs.declared.input.Input.TheVariants as input
+use Rattle.wc_model.specs.Language.Loading.{IsLoaded}
+use Rattle.wc_model.specs.Language.Views.{text_view}
 use Rattle.wc_model.specs.Run.Log.{log_of}
+use Rattle.wc_model.specs.Say.Job.{AnswersNext}
 use Rattle.wc_record.specs.Reading.{records_of}
-
-pub returns-in-Ok-clause-writes : goal.returns-in-Ok-clause-writes
-returns-in-Ok-clause-writes g c =
-    let taken = g.W.ByteOut.bytes_taken in
-    on_known (g.P.ByteIn.bytes_left c.args.plate.now) _ _
-    (λ table is. on_known (g.T.ByteIn.bytes_left c.args.program.now) _ _
-    (λ text told. known_more g.N.ByteIn.bytes_left c.args.next.now _ _
-    (λ known more. on_known (g.L.ByteIn.bytes_left c.args.log.now) _ _
-    (λ log upto. plate_read table c.in-Ok.plate (λ read. AnswersFile text (AnswersText c.args.last read text known (log_of (records_of log)))) (met c.run_program.result)
-    (taken c.args.writer.now) (taken c.run_program.new.writer) is upto) more) told) c.run_program.ensures.writes) c.in-Ok.ensures.plate
+use Rattle.wc_record.specs.Told.{fields_told}
+use Rattle.wc_run.specs.declared.fault.RunFault.TheVariants as fault
 
 pub returns-in-Err-clause-writes : goal.returns-in-Err-clause-writes
 returns-in-Err-clause-writes g c =
-    on_known (g.P.ByteIn.bytes_left c.args.plate.now) _ _
-    (λ table is. on_each (g.T.ByteIn.bytes_left c.args.program.now) _
-    (λ text. known_each g.N.ByteIn.bytes_left c.args.next.now _
-    (λ known. on_each (g.L.ByteIn.bytes_left c.args.log.now) _
-    (λ log. plate_not_read table (λ read. AnswersFile text (AnswersText c.args.last read text known (log_of (records_of log)))) c.in-Err.stopped.fault
-    (g.W.ByteOut.bytes_taken c.args.writer.now) is)))) c.in-Err.ensures.plate
+    at_plate g.N.ByteIn.bytes_left c.args.last (g.P.ByteIn.bytes_left c.args.plate.now) (g.T.ByteIn.bytes_left c.args.program.now) c.args.next.now (g.L.ByteIn.bytes_left c.args.log.now)
+    c.in-Err.stopped.fault (g.W.ByteOut.bytes_taken c.args.writer.now) c.in-Err.ensures.plate
+
+pub returns-in-Err-read_input-clause-writes : goal.returns-in-Err-read_input-clause-writes
+returns-in-Err-read_input-clause-writes g c =
+    at_program g.N.ByteIn.bytes_left c.args.last (g.P.ByteIn.bytes_left c.args.plate.now) (g.T.ByteIn.bytes_left c.args.program.now) c.args.next.now (g.L.ByteIn.bytes_left c.args.log.now)
+    c.in-Ok.plate c.in-Ok.ensures.plate c.in-Err-read_input.stopped.fault (g.W.ByteOut.bytes_taken c.args.writer.now) c.in-Err-read_input.ensures.too_long
+
+pub returns-in-Err-load_input-clause-writes : goal.returns-in-Err-load_input-clause-writes
+returns-in-Err-load_input-clause-writes g c =
+    let why = c.in-Err-load_input.stopped.fault in
+    at_text g.N.ByteIn.bytes_left c.args.last (g.P.ByteIn.bytes_left c.args.plate.now) (g.T.ByteIn.bytes_left c.args.program.now) c.args.next.now (g.L.ByteIn.bytes_left c.args.log.now)
+    c.in-Ok.plate c.in-Ok.ensures.plate c.in-Ok-read_input.text.items c.in-Ok-read_input.ensures.whole why (g.W.ByteOut.bytes_taken c.args.writer.now)
+    (subst (λ text. IsUnloaded text why) c.deref.ensures.value c.in-Err-load_input.ensures.refused)
+
+pub returns-in-Err-read_next-clause-writes : goal.returns-in-Err-read_next-clause-writes
+returns-in-Err-read_next-clause-writes g c =
+    let first = text_view c.in-Ok-load_input.loaded.source in
+    at_next g.N.ByteIn.bytes_left c.args.last (g.P.ByteIn.bytes_left c.args.plate.now) (g.T.ByteIn.bytes_left c.args.program.now) c.args.next.now (g.L.ByteIn.bytes_left c.args.log.now)
+    c.in-Ok.plate c.in-Ok.ensures.plate c.in-Ok-read_input.text.items c.in-Ok-read_input.ensures.whole
+    first (subst (λ text. IsLoaded text first) c.deref.ensures.value c.in-Ok-load_input.ensures.loaded)
+    c.in-Err-read_next.stopped.fault (g.W.ByteOut.bytes_taken c.args.writer.now) c.in-Err-read_next.ensures.there c.in-Err-read_next.ensures.too_long
+
+pub returns-clause-writes : goal.returns-clause-writes
+returns-clause-writes g c =
+    let old = g.W.ByteOut.bytes_taken c.args.writer.now in
+    let new = g.W.ByteOut.bytes_taken c.run_loaded.new.writer in
+    let first = text_view c.in-Ok-load_input.loaded.source in
+    at_log g.N.ByteIn.bytes_left c.args.last (g.P.ByteIn.bytes_left c.args.plate.now) (g.T.ByteIn.bytes_left c.args.program.now) c.args.next.now (g.L.ByteIn.bytes_left c.args.log.now)
+    c.in-Ok.plate c.in-Ok.ensures.plate c.in-Ok-read_input.text.items c.in-Ok-read_input.ensures.whole
+    first (subst (λ text. IsLoaded text first) c.deref.ensures.value c.in-Ok-load_input.ensures.loaded)
+    (option_map (λ held. held.items) c.in-Ok-read_next.other) c.in-Ok-read_next.ensures.whole (met c.run_loaded.result) old new
+    (subst (λ (known : Option (List ℕ)). IfSome (g.L.ByteIn.bytes_left c.args.log.now) (λ bytes.
+    WritesUpTo (AnswersNext known (AnswersPrinting c.args.last c.in-Ok.plate (log_of (records_of bytes)) first)) (met c.run_loaded.result) old new))
+    c.lent.ensures c.run_loaded.ensures.writes)
+
+pub returns-in-Err-load_input-clause-blames_program : goal.returns-in-Err-load_input-clause-blames_program
+returns-in-Err-load_input-clause-blames_program g c =
+    let stopped = c.in-Err-load_input.stopped in
+    program_read {X = Unit {0}} input.Program (Err stopped) (g.T.ByteIn.bytes_left c.args.program.now) c.in-Ok-read_input.text.items c.in-Ok-read_input.ensures.whole
+    (λ e. text_refused c.in-Ok-read_input.text.items stopped.fault (subst (λ text. IsUnloaded text stopped.fault) c.deref.ensures.value c.in-Err-load_input.ensures.refused))
+
+pub returns-clause-blames_next : goal.returns-clause-blames_next
+returns-clause-blames_next g c =
+    next_read g.N.ByteIn.bytes_left c.args.next.now (option_map (λ held. held.items) c.in-Ok-read_next.other) c.run_loaded.result c.in-Ok-read_next.ensures.whole
+    (subst (λ (known : Option (List ℕ)). IfErr c.run_loaded.result (λ stopped. stopped.input ≡ input.Next → IsNextUnloaded known stopped.fault)) c.lent.ensures c.run_loaded.ensures.blames_next)
+
+pub returns-clause-blames_log : goal.returns-clause-blames_log
+returns-clause-blames_log g c =
+    let same = same_next g.N.ByteIn.bytes_left c.args.next.now (option_map (λ held. held.items) c.in-Ok-read_next.other) c.in-Ok-read_next.ensures.whole in
+    subst (λ there. StopsFor input.Log (RefusesLog (log_beside there) (fields_told c.run_loaded.new.told)) (g.L.ByteIn.bytes_left c.args.log.now) c.run_loaded.result)
+    (ap (λ (known : Option (List ℕ)). is_some known) c.lent.ensures ∙ same) c.run_loaded.ensures.blames_log
+
+pub returns-clause-memory : goal.returns-clause-memory
+returns-clause-memory g c =
+    let failures = g.L.ByteIn.failure_count in
+    let spent = g.L.ByteIn.spent_count in
+    let same = same_next g.N.ByteIn.bytes_left c.args.next.now (option_map (λ held. held.items) c.in-Ok-read_next.other) c.in-Ok-read_next.ensures.whole in
+    subst (λ there. met c.run_loaded.result ≡ Some fault.Memory
+    → TellsMemory (log_beside there) (g.L.ByteIn.bytes_left c.args.log.now) (failures c.args.log.now) (failures c.run_loaded.new.log) (spent c.args.log.now) (spent c.run_loaded.new.log))
+    (ap (λ (known : Option (List ℕ)). is_some known) c.lent.ensures ∙ same) c.run_loaded.ensures.memory
 
 -- of a program that is not read nothing is taken
 pub returns-in-Err-clause-taken_program : goal.returns-in-Err-clause-taken_program
@@ -33,3 +87,9 @@ returns-in-Err-clause-taken_program g c = ([], Consumes-nil (g.T.ByteIn.bytes_le
 
 pub returns-in-Err-clause-taken_next : goal.returns-in-Err-clause-taken_next
 returns-in-Err-clause-taken_next g c = ([], Consumes-nil (known_of g.N.ByteIn.bytes_left c.args.next.now), omega arith)
+
+pub returns-in-Err-read_input-clause-taken_next : goal.returns-in-Err-read_input-clause-taken_next
+returns-in-Err-read_input-clause-taken_next g c = ([], Consumes-nil (known_of g.N.ByteIn.bytes_left c.args.next.now), omega arith)
+
+pub returns-in-Err-load_input-clause-taken_next : goal.returns-in-Err-load_input-clause-taken_next
+returns-in-Err-load_input-clause-taken_next g c = ([], Consumes-nil (known_of g.N.ByteIn.bytes_left c.args.next.now), omega arith)

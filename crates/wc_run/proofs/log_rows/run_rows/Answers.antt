@@ -37,7 +37,7 @@ loop-given-preserved g c =
       in_order = subst (λ ms. IsNotBehind c.run_row.new.scale ms) (sym next.kept) done.in_order;
       numbered = omega (arith, c.loop-given.invariant.numbered, next.number_is, next.counted);
       few = omega (arith, next.counted, next.few);
-      steady = done.steady (λ e. cc) ∙ c.loop-given.invariant.steady;
+      steady = done.failures ∙ c.loop-given.invariant.steady;
     }
 
 pub returns-in-None-clause-reports : goal.returns-in-None-clause-reports

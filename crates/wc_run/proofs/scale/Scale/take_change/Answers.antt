@@ -1,4 +1,4 @@
-use Rattle.std.proofs.Common.{◌≡◌, ◌≤◌, IfSome, sym, subst, Ok, Err, Option, Some, None}
+use Rattle.std.proofs.Common.{◌≤◌, IfSome, sym, subst, Ok, Err, Some}
 use Rattle.wc_model.specs.Run.Rows.{Change}
 use Rattle.wc_run.proofs.ProgramChanges.{keeps_moment, runs_change, stops_change, takes_change}
 use Rattle.wc_run.specs.Taking.{Changes, TakesRow}
