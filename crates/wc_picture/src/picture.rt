@@ -1,9 +1,8 @@
-use crate::drawing::draw;
-use crate::view::{Scale, View};
 use std::alloc::{AllocError, Global};
 use wc_columns::{Column, Events, State, TimeLine, Tracker};
 use wc_controller::{Scanner, Unwatched};
 use wc_cost::Loaded;
+use wc_drawing::{View, draw};
 use wc_indicator::Indicator;
 use wc_machine::Machine;
 use wc_model::{Image, Outputs};
@@ -89,7 +88,7 @@ impl Picture {
             Some(line) => (line.columns(), line.start(), line.width()),
             None => (&[] as &[Column], 0, 1),
         };
-        let view = View::new(columns, start, width, Scale::of(self.plate), self.bound);
+        let view = View::new(columns, start, width, self.plate, self.bound);
         draw(alloc, &view, self.rows, refusal)
     }
 }

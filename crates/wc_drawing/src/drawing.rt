@@ -116,7 +116,7 @@ fn put_rows(
 }
 
 /// The text of a picture. It is bounded, since there are never more than so many columns and lanes.
-pub(crate) fn draw(
+pub fn draw(
     alloc: Global,
     view: &View<'_>,
     rows: u32,

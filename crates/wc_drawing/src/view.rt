@@ -39,7 +39,7 @@ impl Scale {
 
 /// What is drawn, and where.
 #[derive(Clone, Copy)]
-pub(crate) struct View<'p> {
+pub struct View<'p> {
     pub(crate) columns: &'p [Column],
     /// The first moment in milliseconds, and how many a column has.
     pub(crate) start: u64,
@@ -77,13 +77,14 @@ pub(crate) fn part(length: u64, some: u64, whole: u64) -> u64 {
 
 impl<'p> View<'p> {
     /// A view with room for all weights and zero, for Max where it is not far above, and a little more.
-    pub(crate) fn new(
+    pub fn new(
         columns: &'p [Column],
         start: u64,
         width: u64,
-        scale: Scale,
+        plate: Option<Plate>,
         bound: u32,
     ) -> View<'p> {
+        let scale = Scale::of(plate);
         let (least, greatest) = match weights(columns) {
             Some(span) => (i64::from(span.least), i64::from(span.greatest)),
             None => (0, 0),
