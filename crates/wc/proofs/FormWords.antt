@@ -1,5 +1,5 @@
 -- The form that the words give, behind a word or before it, and the words that are refused.
-use Rattle.std.proofs.Common.{◌≡◌, ◌∙◌, true, List, [], ◌∷◌, Option, Some, None, refl, ap, ap₂, sym, subst, inl, inr, codes, option_map, unwrap_or}
+use Rattle.std.proofs.Common.{◌≡◌, ◌∙◌, true, false, List, [], ◌∷◌, Option, Some, None, refl, ap, ap₂, sym, subst, inl, inr, codes, option_map, unwrap_or}
 use Rattle.std.specs.Option.{option_map_or, option_or}
 use Rattle.clap.specs.Words.{App, HasKind, Kinds, Row, Text, fault_of, first_of, is_simple, is_simple_and_free, matches_of, subcommand_of}
 use Rattle.clap.specs.Kinds.{or_else}
@@ -17,7 +17,7 @@ use Rattle.clap.proofs.OnLiterals.{clap_on_literals}
 use Rattle.wc_messages.specs.declared.form.Form.{Form}
 use Rattle.wc_messages.specs.declared.form.Form.TheVariants.{Long}
 use Rattle.wc.specs.CommandLine.{command_line}
-use Rattle.wc.specs.Asked.{Asked, asked, asked_at, asked_by, fault_in, form_asked, form_in, form_named}
+use Rattle.wc.specs.Asked.{Asked, asked, asked_at, asked_by, fault_in, form_asked, form_in, form_named, lacks_program}
 
 -- a form behind the word that was met, else before it
 pub behind_word : (met : Option (Text × List Row)) (rows before : List Row) (v : Option Text) → Some rows ≡ option_map (λ p. p.1) met → v ≡ first_of (codes "message") rows
@@ -90,6 +90,12 @@ no_form_is a words met rows text line matches given read =
 pub refused_form : (words : List Text) (e : Error) → fault_of command_line words ≡ [] → form_asked words ≡ None → kind_of e ≡ kind.InvalidValue → HasKind (fault_in words) e
 refused_form words e none asked is = rw (none, asked) (inr (inl is))
 
--- words that are parsed, with a form that there is, are not refused
-pub not_refused : (words : List Text) (form : Form) → fault_of command_line words ≡ [] → form_asked words ≡ Some form → fault_in words ≡ []
-not_refused words form none asked = rw (none, asked) refl
+-- words that are parsed, with a form that there is, are refused where a next program stands alone
+pub refused_next : (words : List Text) (form : Form) (this : Asked) (e : Error) → fault_of command_line words ≡ [] → form_asked words ≡ Some form → this ≡ asked words
+    → true ≡ lacks_program this → kind_of e ≡ kind.MissingRequiredArgument → HasKind (fault_in words) e
+refused_next words form this e none given same lacks is = rw (none, given, ← same, ← lacks) (inr (inl is))
+
+-- and are not, where none does
+pub not_refused : (words : List Text) (form : Form) (this : Asked) → fault_of command_line words ≡ [] → form_asked words ≡ Some form → this ≡ asked words
+    → false ≡ lacks_program this → fault_in words ≡ []
+not_refused words form this none given same whole = rw (none, given, ← same, ← whole) refl

@@ -1,5 +1,5 @@
 -- Which command is meant by which words, the first of which is the program's own name.
-use Rattle.std.specs.Prelude.{◌≡◌, ◌==◌, ℕ, Bool, false, List, [], ◌∷◌, map, Option, Some, None}
+use Rattle.std.specs.Prelude.{◌≡◌, ◌==◌, ℕ, Bool, true, false, List, [], ◌∷◌, map, Option, Some, None}
 use Rattle.std.specs.Prelude.{codes, if◌then◌else◌, is_some, option_and_then, option_map, unwrap_or}
 use Rattle.std.specs.Prelude.{String}
 use Rattle.std.specs.Prelude.{string_bytes}
@@ -62,8 +62,9 @@ pub data Asked : Type 0 where
   -- the files of a run whose scans are shown, in the same order, and which: the moment, the number of the
   -- scan, the first moment and the last
   trace : Text → Text → Option Text → Text → Option ℕ → Option ℕ → Option ℕ → Option ℕ → Asked
-  -- the files of a plate, a program where one is given, and a log, of whose run a picture is wanted
-  show : Text → Option Text → Text → Asked
+  -- the files of a plate, a program and a next program where they are given, and a log, of whose run a
+  -- picture is wanted
+  show : Text → Option Text → Option Text → Text → Asked
   -- a report from standard input, and whether a table is wanted
   decode : Bool → Asked
   explain : ℕ → Asked
@@ -87,7 +88,7 @@ asked_at word given =
     (wide_number_in (codes "from") given) (wide_number_in (codes "to") given)
     else (if bytes_eq word (codes "show")
     then show (file_in (codes "plate") given) (first_of (codes "program") given)
-    (file_in (codes "log") given)
+    (first_of (codes "next") given) (file_in (codes "log") given)
     else (if bytes_eq word (codes "decode") then decode (flag_in (codes "csv") given)
     else (if bytes_eq word (codes "explain")
     then explain (unwrap_or (number_in (codes "number") given) 0)
@@ -113,8 +114,9 @@ view (wanted.Run plate files last watch) =
 view (wanted.Trace plate files chosen) =
     trace plate.now files.program.now (option_map (λ next. next.now) files.next) files.log.now
     chosen.at chosen.scan chosen.from chosen.to
-view (wanted.Show plate program log) =
-    show plate.now (option_map (λ path. path.now) program) log.now
+view (wanted.Show plate program next log) =
+    show plate.now (option_map (λ path. path.now) program) (option_map (λ path. path.now) next)
+    log.now
 view (wanted.Decode table) = decode table
 view (wanted.Explain number) = explain number
 view (wanted.Line plate log) = line plate.now log.now
@@ -136,15 +138,21 @@ abbrev pub form_asked : List Text → Option Form
 form_asked words = option_map_or form_named
     (form_in (subcommand_of command_line words) (matches_of command_line words)) (Some Long)
 
+-- a next program is given, and none whose place it could take
+abbrev pub lacks_program : Asked → Bool
+lacks_program (show plate None (Some next) log) = true
+lacks_program this = false
+
 -- the kinds of fault by which the words are refused, those of the first step that fails
 abbrev pub fault_in : List Text → Kinds
-fault_in words = or_else (fault_of command_line words)
-    (if is_some (form_asked words) then [] else kind.InvalidValue ∷ [])
+fault_in words = or_else (fault_of command_line words) (if is_some (form_asked words)
+    then (if lacks_program (asked words) then kind.MissingRequiredArgument ∷ [] else [])
+    else kind.InvalidValue ∷ [])
 
 -- the words are not refused, and ask for this, and for refusals in this form
 abbrev pub Ask : List Text → Asked → Form → Type 0
-Ask words this form =
-    (asked words ≡ this) × (form_asked words ≡ Some form) × (fault_of command_line words ≡ [])
+Ask words this form = (asked words ≡ this) × (form_asked words ≡ Some form)
+    × (fault_of command_line words ≡ []) × (lacks_program this ≡ false)
 
 -- a word that does not begin with a hyphen (45), so that it is no option
 abbrev pub IsPlain : Text → Type 0

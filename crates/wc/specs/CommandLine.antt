@@ -69,11 +69,11 @@ trace_word = with_rule (with_rule (with_rule (with_rule (with_rule (with_rule (w
     (wide_number_option (codes "at"))) (wide_number_option (codes "scan")))
     (wide_number_option (codes "from"))) (wide_number_option (codes "to"))) message_option
 
--- `show --plate FILE [--program FILE] --log FILE [--message FORM]`
+-- `show --plate FILE [--program FILE [--next FILE]] --log FILE [--message FORM]`
 abbrev pub show_word : App
-show_word = with_rule (with_rule (with_rule (with_rule (new_app (codes "show"))
-    (file_option (codes "plate"))) (value_option (codes "program"))) (file_option (codes "log")))
-    message_option
+show_word = with_rule (with_rule (with_rule (with_rule (with_rule (new_app (codes "show"))
+    (file_option (codes "plate"))) (value_option (codes "program"))) (value_option (codes "next")))
+    (file_option (codes "log"))) message_option
 
 -- `line --plate FILE --log FILE [--message FORM]`
 abbrev pub line_word : App

@@ -142,13 +142,15 @@ fn shown_sources<'a>(
     plate_reader: &'a KeptSource<'_>,
     program: Option<&'a str>,
     program_reader: &'a Option<KeptSource<'_>>,
+    next: Option<&'a str>,
+    next_reader: &'a Option<KeptSource<'_>>,
     log: &'a str,
 ) -> Sources<'a> {
     match read_if_any(program, program_reader) {
         Some(program) => Sources::Files {
             plate: read_of(plate, plate_reader),
             program,
-            next: None,
+            next: read_if_any(next, next_reader),
             log,
         },
         None => plate_and_log(plate, plate_reader, log),
@@ -398,28 +400,41 @@ pub(crate) fn show_words(
     row: &mut RefusedRow,
     plate: &str,
     program: Option<&str>,
+    next: Option<&str>,
     log: &str,
 ) -> u8
     requires asked { asked (texts_of _words.now)
-        ≡ show plate.now (option_map (λ path. path.now) program) log.now }
+        ≡ show plate.now (option_map (λ path. path.now) program)
+        (option_map (λ path. path.now) next) log.now }
     requires form { form_asked (texts_of _words.now) ≡ Some desk.form }
 {
     let mut plate_reader = kept_source(desk, plate);
     let mut program_reader = kept_source_of(desk, program);
+    let mut next_reader = kept_source_of(desk, next);
     let mut log_reader = source(desk, log);
     let mut writer = Device::new(Sharing::new(desk.gathered));
     let ending = show_files(
         desk.rt.alloc(),
         &mut plate_reader,
         &mut program_reader,
+        &mut next_reader,
         &mut log_reader,
         &mut writer,
         row,
     );
     let reading = kept_cause(&plate_reader)
         .or(cause_of(&program_reader))
+        .or(cause_of(&next_reader))
         .or(cause(&log_reader));
-    let sources = shown_sources(plate, &plate_reader, program, &program_reader, log);
+    let sources = shown_sources(
+        plate,
+        &plate_reader,
+        program,
+        &program_reader,
+        next,
+        &next_reader,
+        log,
+    );
     finish(desk, ending, reading, &sources, row)
 }
 

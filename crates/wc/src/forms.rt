@@ -1,7 +1,9 @@
 ghost use Rattle.std.specs.Prelude.{◌≡◌, List, [], ◌∷◌, Some, None, true, false, codes};
 ghost use Rattle.clap.specs.Words.{Text};
+ghost use Rattle.clap.specs.declared.error.kind.ErrorKind.TheVariants as kind;
 ghost use Rattle.wc_messages.specs.declared.form.Form.TheVariants.{Long};
-ghost use Rattle.wc.specs.Asked.{Ask, IsPlain, check, decode, explain, job, line, asked, run, show, trace};
+ghost use Rattle.wc.specs.Asked.{Ask, IsPlain, check, decode, explain, fault_in, job, line, asked, run};
+ghost use Rattle.wc.specs.Asked.{show, trace};
 
 /// What the plain forms of the words ask for, where each file is a word that does not begin with a hyphen.
 pub(crate) fn plain_forms()
@@ -32,10 +34,17 @@ pub(crate) fn plain_forms()
         ∷ codes "--program" ∷ codes "b" ∷ codes "--log" ∷ codes "c" ∷ codes "--at" ∷ codes "650"
         ∷ []) (trace (codes "a") (codes "b") None (codes "c") (Some 650) None None None) Long }
     ensures show { (name : Text) → Ask (name ∷ codes "show" ∷ codes "--plate" ∷ codes "a"
-        ∷ codes "--log" ∷ codes "b" ∷ []) (show (codes "a") None (codes "b")) Long }
+        ∷ codes "--log" ∷ codes "b" ∷ []) (show (codes "a") None None (codes "b")) Long }
     ensures drawn { (name : Text) → Ask (name ∷ codes "show" ∷ codes "--plate" ∷ codes "a"
         ∷ codes "--program" ∷ codes "b" ∷ codes "--log" ∷ codes "c" ∷ [])
-        (show (codes "a") (Some (codes "b")) (codes "c")) Long }
+        (show (codes "a") (Some (codes "b")) None (codes "c")) Long }
+    ensures redrawn { (name : Text) → Ask (name ∷ codes "show" ∷ codes "--plate" ∷ codes "a"
+        ∷ codes "--program" ∷ codes "b" ∷ codes "--next" ∷ codes "c" ∷ codes "--log"
+        ∷ codes "d" ∷ [])
+        (show (codes "a") (Some (codes "b")) (Some (codes "c")) (codes "d")) Long }
+    ensures next_alone { (name : Text) → fault_in (name ∷ codes "show" ∷ codes "--plate"
+        ∷ codes "a" ∷ codes "--next" ∷ codes "b" ∷ codes "--log" ∷ codes "c" ∷ [])
+        ≡ kind.MissingRequiredArgument ∷ [] }
     ensures line { (name plate log : Text) → IsPlain plate → IsPlain log
         → Ask (name ∷ codes "line" ∷ codes "--plate" ∷ plate ∷ codes "--log" ∷ log ∷ [])
         (line plate log) Long }

@@ -149,8 +149,9 @@ fn execute_at(desk: Desk<'_>, words: &[String], row: &mut RefusedRow, wanted: Wa
         Wanted::Show {
             plate,
             program,
+            next,
             log,
-        } => show_words(desk, words, row, plate, program, log),
+        } => show_words(desk, words, row, plate, program, next, log),
         Wanted::Decode { table } => decode_words(desk, words, row, table),
         Wanted::Explain { number } => show_page(desk.rt, words, number),
         Wanted::Line { plate, log } => line_words(desk, words, row, plate, log),

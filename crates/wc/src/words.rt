@@ -3,7 +3,8 @@ ghost use Rattle.std.specs.Option.{option_map_or};
 ghost use Rattle.clap.specs.Words.{FailsBy, found_of, subcommand_rows_of, rule_of, app_of, rows_of};
 ghost use Rattle.clap.specs.Words.{App, Rule, first_of, with_rule, with_subcommand};
 ghost use Rattle.wc.specs.Asked.{asked, asked_at, asked_by, fault_in, file_in, flag_in};
-ghost use Rattle.wc.specs.Asked.{form_asked, form_in, form_named, number_in, texts_of, view, wide_number_in};
+ghost use Rattle.wc.specs.Asked.{form_asked, form_in, form_named, lacks_program, number_in, texts_of, view};
+ghost use Rattle.wc.specs.Asked.{wide_number_in};
 ghost use Rattle.wc.specs.CommandLine.{Takes, command_line, check_word, run_word, show_word, trace_word, line_word};
 ghost use Rattle.wc.specs.CommandLine.{decode_word};
 ghost use Rattle.wc.specs.CommandLine.{explain_word, file_option, flag, message_option};
@@ -81,10 +82,11 @@ pub(crate) enum Wanted<'a> {
         files: ProgramFiles<'a>,
         chosen: Chosen,
     },
-    /// A picture of a run of a log, with a program or with none.
+    /// A picture of a run of a log, with a program, and where it is changed with the next one, or with none.
     Show {
         plate: &'a str,
         program: Option<&'a str>,
+        next: Option<&'a str>,
         log: &'a str,
     },
     /// A report from standard input for people, or as a table.
@@ -111,6 +113,9 @@ pub(crate) struct Request<'a> {
 
 /// What is said of a form that there is not.
 const NO_FORM: &str = "the form behind '--message' is none of long, short and json";
+
+/// What is said where a next program is given alone.
+const NO_PROGRAM: &str = "'--next' is given, and no '--program' whose place it could take";
 
 /// An option that must have a file.
 fn file_option<'a>(alloc: Global, name: &'a str, help: &'a str) -> Arg<'a>
@@ -337,9 +342,11 @@ fn show_command<'a>(alloc: Global) -> Result<Command<'a>, AllocError>
 {
     let program =
         "The program text (Instruction List); where none is given the log is run with none";
+    let next = "The next program, which a row of kind P puts in place of that of --program";
     let word = Command::new(alloc, "show").about("Run a log, and write a picture of it (SVG)");
     let word = with_option(Ok(word), plate_option(alloc));
     let word = with_option(word, value_option(alloc, "program", "FILE", program));
+    let word = with_option(word, next_option(alloc, next));
     let word = with_option(word, log_option(alloc));
     with_option(word, message_option(alloc))
 }
@@ -507,6 +514,7 @@ fn wanted_by<'a>(word: &str, matches: &ArgMatches<'a>) -> Wanted<'a>
         "show" => Wanted::Show {
             plate: file(matches, "plate"),
             program: optional_file(matches, "program"),
+            next: optional_file(matches, "next"),
             log: file(matches, "log"),
         },
         "decode" => Wanted::Decode {
@@ -562,6 +570,20 @@ fn form_of(text: Option<&str>) -> Option<Form>
     }
 }
 
+/// Whether a next program is given, and none whose place it could take.
+fn lacks_program(wanted: &Wanted<'_>) -> bool
+    ensures { result ≡ lacks_program (view wanted.now) }
+{
+    match wanted {
+        Wanted::Show {
+            program: None,
+            next: Some(_),
+            ..
+        } => true,
+        _ => false,
+    }
+}
+
 /// What these words ask for, the first of which is the program's own name; or a fault in them, or help or the version that
 /// was asked for.
 pub(crate) fn read_words<'a>(alloc: Global, words: &'a [String]) -> Result<Request<'a>, Error>
@@ -576,7 +598,12 @@ pub(crate) fn read_words<'a>(alloc: Global, words: &'a [String]) -> Result<Reque
     };
     let (wanted, text) = chosen(&matches);
     match form_of(text) {
-        Some(form) => Ok(Request { wanted, form }),
+        Some(form) => {
+            if lacks_program(&wanted) {
+                return Err(command.error(ErrorKind::MissingRequiredArgument, NO_PROGRAM)?);
+            }
+            Ok(Request { wanted, form })
+        }
         None => Err(command.error(ErrorKind::InvalidValue, NO_FORM)?),
     }
 }

@@ -8,3 +8,4 @@ pub mod FileRuns
 pub mod Blaming
 pub mod BlamingParts
 pub mod Settled
+pub mod ShownEndings

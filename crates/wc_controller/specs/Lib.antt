@@ -7,3 +7,4 @@ pub mod TakenLogs
 pub mod Files
 pub mod Endings
 pub mod Blames
+pub mod Shown

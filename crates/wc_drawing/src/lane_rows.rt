@@ -1,6 +1,7 @@
 use crate::curves::{Curve, Range, put_curve};
 use crate::numbers::Tenths;
 use crate::request_marks::put_requests;
+use crate::steps::Steps;
 use crate::view::{HEIGHT, LEFT, TOP, View, WIDTH, part};
 use std::alloc::AllocError;
 use std::fmt::Write;
@@ -112,14 +113,19 @@ fn put_word(
     write!(out, "{least} to {greatest}</text>\n")
 }
 
-/// Puts a bar for each column with a scan, as high as the steps of its longest among those of the bound.
-fn put_bars(out: &mut String, view: &View<'_>, top: u64, height: u64) -> Result<(), AllocError> {
-    let bottom = top.saturating_add(height);
-    let base = Tenths(bottom);
+/// Where so many steps stand in the lane of the scans, which is as high as the greatest bound.
+fn steps_y(view: &View<'_>, top: u64, steps: u32) -> u64 {
+    let height = height(Lane::Scans);
+    let above = part(height, u64::from(steps), u64::from(view.steps.bound()));
+    top.saturating_add(height.saturating_sub(above))
+}
+
+/// Puts a bar for each column with a scan, as high as the steps of its longest.
+fn put_bars(out: &mut String, view: &View<'_>, top: u64) -> Result<(), AllocError> {
+    let base = Tenths(top.saturating_add(height(Lane::Scans)));
     for (index, column) in view.columns.iter().enumerate() {
         if column.events.scans != 0 {
-            let steps = u64::from(column.events.steps);
-            let y = Tenths(bottom.saturating_sub(part(height, steps, u64::from(view.bound))));
+            let y = Tenths(steps_y(view, top, column.events.steps));
             let left = view.x(index);
             let right = Tenths(view.x(index.saturating_add(1)).max(left.saturating_add(15)));
             let left = Tenths(left);
@@ -129,18 +135,40 @@ fn put_bars(out: &mut String, view: &View<'_>, top: u64, height: u64) -> Result<
     Ok(())
 }
 
-/// Puts the lane of the scans.
-fn put_scans(out: &mut String, view: &View<'_>, all: &Column, top: u64) -> Result<(), AllocError> {
-    out.push_str("<path class=\"full\" d=\"")?;
-    put_bars(out, view, top, height(Lane::Scans))?;
-    let (left, right, y) = (Tenths(LEFT), Tenths(LEFT + WIDTH), Tenths(top));
-    write!(
-        out,
-        "\"/>\n<path class=\"bound\" d=\"M{left} {y}H{right}\"/>\n"
-    )?;
+/// Puts the line of the bound, with a step where the program was changed.
+fn put_bound(out: &mut String, view: &View<'_>, top: u64) -> Result<(), AllocError> {
+    let (left, right) = (Tenths(LEFT), Tenths(LEFT + WIDTH));
+    let y = Tenths(steps_y(view, top, view.steps.first.bound));
+    write!(out, "<path class=\"bound\" d=\"M{left} {y}")?;
+    if let Some(next) = view.steps.next {
+        if let Some(index) = view.change() {
+            let (x, y) = (view.x(index), steps_y(view, top, next.bound));
+            let (x, y) = (Tenths(x), Tenths(y));
+            write!(out, "H{x}V{y}")?;
+        }
+    }
+    write!(out, "H{right}\"/>\n")
+}
+
+/// Puts the most steps of a scan and the bound, of the first program, and below of the next one.
+fn put_most(out: &mut String, view: &View<'_>, top: u64) -> Result<(), AllocError> {
+    let Steps { most, bound } = view.steps.first;
     put_beside(out, top)?;
-    let (steps, bound) = (all.events.steps, view.bound);
-    write!(out, "{steps} of {bound}</text>\n")
+    write!(out, "{most} of {bound}</text>\n")?;
+    if let Some(Steps { most, bound }) = view.steps.next {
+        put_beside(out, top.saturating_add(140))?;
+        write!(out, "then {most} of {bound}</text>\n")?;
+    }
+    Ok(())
+}
+
+/// Puts the lane of the scans.
+fn put_scans(out: &mut String, view: &View<'_>, top: u64) -> Result<(), AllocError> {
+    out.push_str("<path class=\"full\" d=\"")?;
+    put_bars(out, view, top)?;
+    out.push_str("\"/>\n")?;
+    put_bound(out, view, top)?;
+    put_most(out, view, top)
 }
 
 /// Puts a lane's name, and the line on which it stands.
@@ -167,7 +195,7 @@ fn put_lane(
     match lane {
         Lane::Requests => put_requests(out, view, top, height(lane)),
         Lane::Word(number) => put_word(out, view, all, number, top),
-        Lane::Scans => put_scans(out, view, all, top),
+        Lane::Scans => put_scans(out, view, top),
         _ => put_flat(out, view, lane, top),
     }
 }

@@ -10,8 +10,10 @@ mod marks;
 mod numbers;
 mod readings;
 mod request_marks;
+mod steps;
 mod style;
 mod view;
 
 pub use drawing::draw;
+pub use steps::{RunSteps, Steps};
 pub use view::View;

@@ -61,6 +61,20 @@ fn is_marked(events: &Events) -> bool {
         || events.changes != 0
 }
 
+/// Puts the bound that holds behind a change of the program.
+fn put_bound(out: &mut String, view: &View<'_>, events: &Events) -> Result<(), AllocError> {
+    if events.changes == 0 {
+        return Ok(());
+    }
+    match view.steps.next {
+        Some(next) => {
+            let bound = next.bound;
+            write!(out, ", bound {bound}")
+        }
+        None => Ok(()),
+    }
+}
+
 /// Puts the mark of a column over the height of the curves, with its letters at a height above.
 fn put_mark(
     out: &mut String,
@@ -76,8 +90,9 @@ fn put_mark(
         (0, 0, 0, 0) => "refused",
         _ => "mark",
     };
-    write!(out, "<g class=\"{look}\"><title>{moment}{words}</title>")?;
-    write!(out, "<path d=\"M{x} {base}V{top}\"/>")?;
+    write!(out, "<g class=\"{look}\"><title>{moment}{words}")?;
+    put_bound(out, view, events)?;
+    write!(out, "</title><path d=\"M{x} {base}V{top}\"/>")?;
     if let Some(y) = y {
         let y = Tenths(y);
         write!(out, "<text x=\"{x}\" y=\"{y}\">{letters}</text>")?;

@@ -1,4 +1,5 @@
 use crate::answers::unit_text;
+use crate::steps::RunSteps;
 use wc_columns::{Column, Span, join};
 use wc_plate::Plate;
 
@@ -45,8 +46,7 @@ pub struct View<'p> {
     pub(crate) start: u64,
     pub(crate) width: u64,
     pub(crate) scale: Scale,
-    /// The bound in steps.
-    pub(crate) bound: u32,
+    pub(crate) steps: RunSteps,
     /// The weights at the lower and the upper edge.
     low: i64,
     high: i64,
@@ -82,7 +82,7 @@ impl<'p> View<'p> {
         start: u64,
         width: u64,
         plate: Option<Plate>,
-        bound: u32,
+        steps: RunSteps,
     ) -> View<'p> {
         let scale = Scale::of(plate);
         let (least, greatest) = match weights(columns) {
@@ -97,7 +97,7 @@ impl<'p> View<'p> {
             start,
             width,
             scale,
-            bound,
+            steps,
             low: low.saturating_sub(room),
             high: high.saturating_add(room).saturating_add(1),
         }
@@ -126,6 +126,13 @@ impl<'p> View<'p> {
     pub(crate) fn x_at(&self, ms: u64) -> u64 {
         let passed = ms.saturating_sub(self.start);
         part(WIDTH, passed, self.time()).saturating_add(LEFT)
+    }
+
+    /// The column in which the program was changed.
+    pub(crate) fn change(&self) -> Option<usize> {
+        self.columns
+            .iter()
+            .position(|column| column.events.changes != 0)
     }
 
     /// The weights at the lower and the upper edge.

@@ -2,7 +2,7 @@ use std::alloc::{AllocError, Global};
 use wc_columns::{Column, Events, State, TimeLine, Tracker};
 use wc_controller::{Scanner, Unwatched};
 use wc_cost::Loaded;
-use wc_drawing::{View, draw};
+use wc_drawing::{RunSteps, Steps, View, draw};
 use wc_indicator::Indicator;
 use wc_machine::Machine;
 use wc_model::{Image, Outputs};
@@ -20,11 +20,24 @@ pub(crate) struct Picture {
     outputs: Outputs,
     /// The steps of the last scan; none where no program does any.
     steps: Option<u32>,
-    /// The bound of its program, in steps.
-    bound: u32,
+    /// The steps of the program that runs; none where none does.
+    running: Option<Steps>,
+    /// The steps of the one whose place it took.
+    before: Option<Steps>,
+    /// The bound of the one that may take its place.
+    next_bound: u32,
     tracker: Tracker,
     rows: u32,
     has_no_room: bool,
+}
+
+/// The bound of a program, which is the last unit of its text.
+fn program_bound(loaded: &Loaded<'_>) -> u32 {
+    let units = loaded.units();
+    if units == 0 {
+        return 0;
+    }
+    loaded.bound(units - 1)
 }
 
 impl Picture {
@@ -40,7 +53,9 @@ impl Picture {
                 words: [0; 4],
             },
             steps: None,
-            bound: 0,
+            running: None,
+            before: None,
+            next_bound: 0,
             tracker: Tracker::new(),
             rows: 0,
             has_no_room: false,
@@ -58,7 +73,11 @@ impl Picture {
                     events.scan(steps);
                 }
             }
-            RowKind::Change => events.changes = 1,
+            RowKind::Change => {
+                if self.running.is_some() {
+                    events.changes = 1;
+                }
+            }
             RowKind::Counts(_) => {}
         }
         events
@@ -75,6 +94,32 @@ impl Picture {
         }
     }
 
+    /// Counts the steps of a scan.
+    fn count(&mut self, steps: u32) {
+        self.steps = Some(steps);
+        if let Some(Steps { most, bound }) = self.running {
+            self.running = Some(Steps {
+                most: most.max(steps),
+                bound,
+            });
+        }
+    }
+
+    /// The steps of the programs that ran.
+    fn run_steps(&self) -> RunSteps {
+        let running = self.running.unwrap_or(Steps { most: 0, bound: 0 });
+        match self.before {
+            Some(before) => RunSteps {
+                first: before,
+                next: Some(running),
+            },
+            None => RunSteps {
+                first: running,
+                next: None,
+            },
+        }
+    }
+
     /// The text of the picture, with the number and the row of a refusal.
     pub(crate) fn draw(
         &self,
@@ -88,7 +133,7 @@ impl Picture {
             Some(line) => (line.columns(), line.start(), line.width()),
             None => (&[] as &[Column], 0, 1),
         };
-        let view = View::new(columns, start, width, self.plate, self.bound);
+        let view = View::new(columns, start, width, self.plate, self.run_steps());
         draw(alloc, &view, self.rows, refusal)
     }
 }
@@ -97,16 +142,29 @@ impl Scanner for Picture {
     fn scan(&mut self, ms: u64, image: &Image, machine: &mut Machine<'_, SlotStore>) -> Record {
         let record = Unwatched.scan(ms, image, machine);
         self.outputs = record.outputs;
-        self.steps = Some(record.steps);
-        self.bound = machine.bound();
+        self.count(record.steps);
         record
     }
 
-    fn know(&mut self, _text: &[u8], _loaded: &Loaded<'_>) -> bool {
+    fn know(&mut self, _text: &[u8], loaded: &Loaded<'_>) -> bool {
+        let bound = program_bound(loaded);
+        if self.running.is_none() {
+            self.running = Some(Steps { most: 0, bound });
+        } else {
+            self.next_bound = bound;
+        }
         true
     }
 
-    fn change(&mut self) {}
+    fn change(&mut self) {
+        if self.running.is_some() {
+            self.before = self.running;
+            self.running = Some(Steps {
+                most: 0,
+                bound: self.next_bound,
+            });
+        }
+    }
 
     fn see(&mut self, row: Row, bytes: &[u8], indicator: &Indicator, answers: &[u8]) {
         self.rows = self.rows.saturating_add(1);

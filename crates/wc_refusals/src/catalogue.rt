@@ -262,7 +262,7 @@ fn log_entry(number: u16) -> Option<&'static Entry>
             help "leave the third field of a scan and of a change empty, as 10,S,";
         609 "log": "there is no next program to change to"
             at "the row", "row 0,P," => 2,
-            help "name the next program by --next of run or trace, or by @next; one run changes its program once";
+            help "name the next program by --next of run, trace or show, or by @next; one run changes its program once";
     }
 }
 

@@ -1,13 +1,12 @@
-ghost use Rattle.std.specs.Prelude.{◌≡◌, ◌+◌, IfSome, None, is_some};
+ghost use Rattle.std.specs.Prelude.{◌≡◌, ◌+◌, None, is_some};
 ghost use Rattle.wc_controller.specs.Blames.{Blames, RefusesLog, RefusesProgram};
 ghost use Rattle.wc_controller.specs.Endings.{IsAt, RefusesPlate, TellsReadEndings};
-ghost use Rattle.wc_controller.specs.Files.{AnswersRun};
-ghost use Rattle.wc_controller.specs.TakenLogs.{IfKnown, count_of, known_of, log_beside};
+ghost use Rattle.wc_controller.specs.Shown.{EndsLikeRun, IsEndedBy};
+ghost use Rattle.wc_controller.specs.TakenLogs.{count_of, known_of, log_beside};
 ghost use Rattle.wc_job.specs.Reads.{TakesAtMost};
 ghost use Rattle.wc_model.specs.Run.JobSections.{longest_job};
 ghost use Rattle.wc_record.specs.Left.{HasCause};
 ghost use Rattle.wc_record.specs.Told.{fields_told};
-ghost use Rattle.wc_trace.specs.Ended.{EndsLike, IsEndedBy};
 
 use crate::chosen::Chosen;
 use crate::unwritten::Unwritten;
@@ -60,9 +59,8 @@ pub fn trace_files<P: ByteIn, T: ByteIn, N: ByteIn, L: ByteIn, W: ByteOut>(
     told: &mut RefusedRow,
 ) -> Ending
     // It ends as a run of these inputs does, or something failed.
-    ensures ends { IfSome (P.bytes_left plate.old) (λ table. IfSome (T.bytes_left program.old)
-        (λ text. IfKnown N.bytes_left next.old (λ known. IfSome (L.bytes_left log.old)
-        (λ bytes. EndsLike (AnswersRun None table text known bytes) result)))) }
+    ensures ends { EndsLikeRun None (P.bytes_left plate.old) (T.bytes_left program.old)
+        N.bytes_left next.old (L.bytes_left log.old) result }
     // The input that a refusal names is the one that breaks the rule.
     ensures blames_plate { Blames Input.Plate RefusesPlate (P.bytes_left plate.old) result }
     ensures blames_program { Blames Input.Program RefusesProgram

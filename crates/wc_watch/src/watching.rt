@@ -1,12 +1,12 @@
 ghost use Rattle.std.specs.Prelude.{◌≡◌, ◌≤◌, ◌+◌, length, IfErr, IfOk, IfSome, is_some};
 ghost use Rattle.wc_controller.specs.Blames.{Blames, RefusesLog, RefusesProgram};
 ghost use Rattle.wc_controller.specs.Endings.{IsAt, RefusesPlate};
+ghost use Rattle.wc_controller.specs.Shown.{EndsLikeRun, IsEndedBy, IsFaulty};
 ghost use Rattle.wc_controller.specs.TakenLogs.{count_of, known_of, log_beside};
 ghost use Rattle.wc_job.specs.Reads.{TakesAtMost};
 ghost use Rattle.wc_model.specs.Run.JobSections.{longest_job};
 ghost use Rattle.wc_record.specs.Left.{HasCause};
 ghost use Rattle.wc_record.specs.Told.{fields_told};
-ghost use Rattle.wc_watch.specs.Ended.{IsEndedBy, IsFaulty};
 
 use crate::lines::Lines;
 use crate::names::{UnknownName, name_at};
@@ -42,6 +42,8 @@ fn run_woven<P: ByteIn, T: ByteIn, N: ByteIn, L: ByteIn, W: ByteOut, B: ByteOut>
     told: &mut RefusedRow,
 ) -> (Ending, bool)
     requires few { IfSome last (λ n. (1 ≤ n) × (n ≤ 1000)) }
+    ensures ends { EndsLikeRun last (P.bytes_left plate.old) (T.bytes_left program.old)
+        N.bytes_left next.old (L.bytes_left log.old) result.0 }
     ensures blames_plate { Blames Input.Plate RefusesPlate (P.bytes_left plate.old) result.0 }
     ensures blames_program { Blames Input.Program RefusesProgram
         (T.bytes_left program.old) result.0 }
@@ -154,6 +156,9 @@ pub fn watch_files<P: ByteIn, T: ByteIn, N: ByteIn, L: ByteIn, W: ByteOut, B: By
     // A name is refused before the log is read.
     ensures unknown { IfErr result (λ name. (name.start + name.length ≤ length names.now)
         × (L.spent_count log.new ≡ L.spent_count log.old)) }
+    // Else it ends as a run of these inputs does, or something failed.
+    ensures ends { IfOk result (λ ending. EndsLikeRun last (P.bytes_left plate.old)
+        (T.bytes_left program.old) N.bytes_left next.old (L.bytes_left log.old) ending) }
     // The input that a refusal names is the one that breaks the rule.
     ensures blames_plate { IfOk result
         (λ ending. Blames Input.Plate RefusesPlate (P.bytes_left plate.old) ending) }

@@ -1,5 +1,6 @@
-use Rattle.wc.specs.Asked.{texts_of}
-use Rattle.wc.proofs.FormWords.{asked_is, form_is, no_form_is, not_refused, parsed, refused_by, refused_form}
+use Rattle.std.proofs.Common.{◌∙◌, sym}
+use Rattle.wc.specs.Asked.{texts_of, view}
+use Rattle.wc.proofs.FormWords.{asked_is, form_is, no_form_is, not_refused, parsed, refused_by, refused_form, refused_next}
 use Rattle.wc.proofs.words.read_words.Goals as goal
 
 pub returns-in-Some-clause-asked : goal.returns-in-Some-clause-asked
@@ -17,5 +18,11 @@ pub returns-in-Err-clause-refused : goal.returns-in-Err-clause-refused
 returns-in-Err-clause-refused c = refused_by _ (texts_of c.args.words.now) c.in-Err.error c.in_ok-command.ensures c.in-Err.ensures.kinds
 
 pub returns-in-Some-clause-refused : goal.returns-in-Some-clause-refused
-returns-in-Some-clause-refused c = not_refused (texts_of c.args.words.now) c.in-Some.form (parsed _ (texts_of c.args.words.now) c.in_ok-command.ensures c.in-Ok.ensures.kinds)
+returns-in-Some-clause-refused c = not_refused (texts_of c.args.words.now) c.in-Some.form (view c.chosen.result.0) (parsed _ (texts_of c.args.words.now) c.in_ok-command.ensures c.in-Ok.ensures.kinds)
     (form_is _ (texts_of c.args.words.now) _ _ _ c.in-Some.form c.in_ok-command.ensures c.in-Ok.ensures.ok.2 c.chosen.ensures.form c.in-Some.ensures)
+    (asked_is _ (texts_of c.args.words.now) _ _ _ c.in_ok-command.ensures c.in-Ok.ensures.ok.2 c.chosen.ensures.asked) (sym c.if-lacks_program.false ∙ c.lacks_program.ensures)
+
+pub returns-then-lacks_program-clause-refused : goal.returns-then-lacks_program-clause-refused
+returns-then-lacks_program-clause-refused c = refused_next (texts_of c.args.words.now) c.in-Some.form (view c.chosen.result.0) c.in_ok-error-in-Some.field-0 (parsed _ (texts_of c.args.words.now) c.in_ok-command.ensures c.in-Ok.ensures.kinds)
+    (form_is _ (texts_of c.args.words.now) _ _ _ c.in-Some.form c.in_ok-command.ensures c.in-Ok.ensures.ok.2 c.chosen.ensures.form c.in-Some.ensures)
+    (asked_is _ (texts_of c.args.words.now) _ _ _ c.in_ok-command.ensures c.in-Ok.ensures.ok.2 c.chosen.ensures.asked) (sym c.if-lacks_program.true ∙ c.lacks_program.ensures) c.in_ok-error-in-Some.ensures.kind

@@ -11,5 +11,6 @@ returns c =
     let zero : Takes (new_app (codes "show")) c.about-word.result = (ap app_of_fields c.about-word.ensures ∙ c.new.ensures.app, ap (λ (f : Command-F Command). f.has_globals) c.about-word.ensures ∙ c.new.ensures.local) in
     let one = c.with_option-word.ensures _ _ zero c.plate_option.ensures.rule c.plate_option.ensures.local in
     let two = c.with_option-word-2.ensures _ _ one c.value_option.ensures.rule c.value_option.ensures.local in
-    let three = c.with_option-word-3.ensures _ _ two c.log_option.ensures.rule c.log_option.ensures.local in
-    c.with_option.ensures _ _ three c.message_option.ensures.rule c.message_option.ensures.local
+    let three = c.with_option-word-3.ensures _ _ two c.next_option.ensures.rule c.next_option.ensures.local in
+    let four = c.with_option-word-4.ensures _ _ three c.log_option.ensures.rule c.log_option.ensures.local in
+    c.with_option.ensures _ _ four c.message_option.ensures.rule c.message_option.ensures.local
