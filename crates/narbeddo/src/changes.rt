@@ -37,7 +37,8 @@ pub unsafe extern "C" fn narbeddo_load(scale: *mut u8, text: &'static [u8]) -> R
     ghost before: { Scale }
     requires* { sem 𝓛 (lies_at the_row full_share scale before) }
     ensures* { ∃ₛ (λ (after : Scale). sem 𝓛 (lies_at the_row full_share scale after)
-        ∗ ⌜ (TakesLoad before after text.now result) × (RefusesLoad before after text.now result) ⌝) }
+        ∗ ⌜ (TakesLoad before after text.now result)
+        × (RefusesLoad before after text.now result) ⌝) }
 {
     (&mut *(scale as *mut Scale)).load(text)
 }
@@ -48,7 +49,8 @@ pub unsafe extern "C" fn narbeddo_change(scale: *mut u8, text: &'static [u8]) ->
     ghost before: { Scale }
     requires* { sem 𝓛 (lies_at the_row full_share scale before) }
     ensures* { ∃ₛ (λ (after : Scale). sem 𝓛 (lies_at the_row full_share scale after)
-        ∗ ⌜ (TakesChange before after text.now result) × (RefusesChange before after text.now result) ⌝) }
+        ∗ ⌜ (TakesChange before after text.now result)
+        × (RefusesChange before after text.now result) ⌝) }
 {
     (&mut *(scale as *mut Scale)).change(text)
 }

@@ -23,7 +23,8 @@ pub unsafe extern "C" fn narbeddo_read(scale: *mut u8) -> Reading
     ghost before: { Scale }
     requires* { sem 𝓛 (lies_at the_row full_share scale before) }
     ensures* { ∃ₛ (λ (after : Scale). sem 𝓛 (lies_at the_row full_share scale after)
-        ∗ ⌜ (TellsReading before result) × (IsClosed before → result.status ≡ 3) × (after ≡ before) ⌝) }
+        ∗ ⌜ (TellsReading before result) × (IsClosed before → result.status ≡ 3)
+        × (after ≡ before) ⌝) }
 {
     reading_of(&mut *(scale as *mut Scale))
 }

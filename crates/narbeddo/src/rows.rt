@@ -12,7 +12,8 @@ pub unsafe extern "C" fn narbeddo_sample(scale: *mut u8, counts: i32) -> u32
     ghost before: { Scale }
     requires* { sem 𝓛 (lies_at the_row full_share scale before) }
     ensures* { ∃ₛ (λ (after : Scale). sem 𝓛 (lies_at the_row full_share scale after)
-        ∗ ⌜ (TakesSample before after counts result) × (RefusesSample before after counts result) ⌝) }
+        ∗ ⌜ (TakesSample before after counts result)
+        × (RefusesSample before after counts result) ⌝) }
 {
     (&mut *(scale as *mut Scale)).sample(counts)
 }
@@ -45,7 +46,8 @@ pub unsafe extern "C" fn narbeddo_scan(scale: *mut u8, moment: u64) -> Scanned
     ghost before: { Scale }
     requires* { sem 𝓛 (lies_at the_row full_share scale before) }
     ensures* { ∃ₛ (λ (after : Scale). sem 𝓛 (lies_at the_row full_share scale after)
-        ∗ ⌜ (TakesScan before after moment result) × (RefusesScan before after moment result.status) ⌝) }
+        ∗ ⌜ (TakesScan before after moment result)
+        × (RefusesScan before after moment result.status) ⌝) }
 {
     (&mut *(scale as *mut Scale)).scan(moment)
 }

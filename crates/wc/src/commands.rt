@@ -1,10 +1,9 @@
 ghost use Rattle.std.specs.Prelude.{◌≡◌, ◌≤◌, IfSome, Some, None, option_map};
-ghost use Rattle.wc.specs.Asked.{asked, check, decode, form_asked, job, line, run, show, texts_of, trace};
+ghost use Rattle.wc_words.specs.Asked.{asked, check, decode, form_asked, job, line, run, show, texts_of, trace};
 
 use crate::opening::Opening;
 use crate::output::{Emptying, Gathered, Sharing};
 use crate::telling::{Met, ReadFile, Sources, end};
-use crate::words::ProgramFiles;
 use std::cell::RefCell;
 use std::io;
 use std::io::{IsTerminal, Stdin};
@@ -13,12 +12,13 @@ use wc_controller::{
 };
 use wc_decode::{DecodeFault, DecodeForm, decode as decode_report};
 use wc_devices::{Keeping, Noting};
-use wc_messages::Form;
 use wc_model::Device;
 use wc_picture::show_files;
 use wc_preview::preview_files;
+use wc_refusals::Form;
 use wc_trace::{Chosen, trace_files};
 use wc_watch::{UnknownName, watch_files};
+use wc_words::{ProgramFiles, ScanChoice};
 
 /// What each command is given: the system, the form in which a refusal is told, and standard output with what is gathered for it.
 #[derive(Clone, Copy)]
@@ -358,13 +358,23 @@ fn refuse_name(desk: Desk<'_>, list: &str, unknown: UnknownName, row: &RefusedRo
     finish(desk, ending, None, &names, row)
 }
 
+/// The scans that the words choose.
+fn scans_of(chosen: ScanChoice) -> Chosen {
+    Chosen {
+        at: chosen.at,
+        scan: chosen.scan,
+        from: chosen.from,
+        to: chosen.to,
+    }
+}
+
 /// Runs the log in a file with a program, and where one is given the next one, and shows the scans that are chosen: the exit
 /// status.
 pub(crate) fn trace_words(
     desk: Desk<'_>,
     _words: &[String],
     row: &mut RefusedRow,
-    chosen: Chosen,
+    chosen: ScanChoice,
     plate: &str,
     files: ProgramFiles<'_>,
 ) -> u8
@@ -380,7 +390,7 @@ pub(crate) fn trace_words(
     let mut writer = Device::new(Sharing::new(desk.gathered));
     let ending = trace_files(
         desk.rt.alloc(),
-        chosen,
+        scans_of(chosen),
         &mut plate_reader,
         &mut program_reader,
         &mut next_reader,

@@ -3,15 +3,13 @@
 #![tactic(auto)]
 
 ghost use Rattle.std.specs.Prelude.{◌≡◌, Some};
-ghost use Rattle.wc.specs.Asked.{asked, explain as explain_asked, form_asked, texts_of, view};
+ghost use Rattle.wc_words.specs.Asked.{asked, explain as explain_asked, form_asked, texts_of, view};
 
 mod commands;
 mod explaining;
-mod forms;
 mod opening;
 mod output;
 mod telling;
-mod words;
 
 use clap::Error;
 use clap::error::ErrorKind;
@@ -28,7 +26,7 @@ use std::{env, io};
 use telling::{tell_write_fault, without_memory};
 use wc_controller::RefusedRow;
 use wc_messages::shown;
-use words::{Request, Wanted, read_words};
+use wc_words::{Request, Wanted, read_words};
 
 /// The exit status where the words are wrong.
 const WRONG_WORDS: u8 = 2;

@@ -1,7 +1,8 @@
 use std::io;
 use std::io::Write;
 use wc_controller::{Ending, Input, RefusedRow};
-use wc_messages::{Evidence, Form, Part, Refusal, Section, explained, section_of, shown};
+use wc_messages::{Evidence, Part, Refusal, Section, explained, section_of, shown};
+use wc_refusals::Form;
 use wc_watch::UnknownName;
 
 /// How a command ended, and what the system said of a read and of a write that failed.

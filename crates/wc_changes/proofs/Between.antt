@@ -1,16 +1,14 @@
 -- The lines of a variable inside an instance are those that it has in the instance's own unit, behind one name more.
-use Rattle.std.proofs.Common.{◌≡◌, ℕ, Bool, true, false, ◌&&◌, List, [], ◌∷◌, ◌++◌, map, length, Option, Some, None, option_map, refl, sym, ap, subst, ◌∙◌, append_assoc}
+use Rattle.std.proofs.Common.{◌≡◌, ℕ, Bool, true, false, ◌&&◌, List, [], ◌∷◌, ◌++◌, map, length, Option, Some, None, option_map, refl, sym, ap, ◌∙◌, append_assoc}
 use Rattle.std.proofs.lemmas.List.Folds.{list_all-map}
 use Rattle.std.specs.List.{flat_map, list_all}
 use Rattle.std.specs.Prelude.{if◌then◌else◌, option_and_then}
-use Rattle.wc_model.specs.Language.Carried.{Lead, ToPlace, ToField, field_lead, lead_by, lead_from, plain_lead, same_lead}
+use Rattle.wc_model.specs.Language.Carried.{Lead, ToField, lead_by, lead_from, same_lead}
 use Rattle.wc_model.specs.Language.Declarations.{VariableType, Elementary, Standard, Block, block_named}
 use Rattle.wc_model.specs.Language.Names.{Name, name_of}
 use Rattle.wc_model.specs.Language.Scopes.{Scope, type_of}
 use Rattle.wc_model.specs.Language.Store.{Content, standard_fields}
 use Rattle.wc_model.specs.Language.Tree.{ProgramUnit, Text}
-use Rattle.wc_model.specs.declared.block.StandardBlock.{StandardBlock}
-use Rattle.wc_model.specs.declared.kind.Kind.{Kind}
 use Rattle.wc_names.specs.Numbered.{numbered_type}
 use Rattle.wc_names.specs.declared.declared_type.DeclaredType.TheVariants as numbered
 use Rattle.wc_soundness.proofs.Carrying.{is_field}

@@ -4,9 +4,8 @@ use Rattle.std.proofs.Math.Bool.{and-true}
 use Rattle.std.proofs.lemmas.List.Folds.{list_all-map}
 use Rattle.std.specs.List.{list_all}
 use Rattle.std.specs.Prelude.{if◌then◌else◌, option_and_then}
-use Rattle.wc_model.specs.Language.Carried.{Lead, ToPlace, ToField, field_lead, lead_by, lead_from, plain_lead, same_block, same_lead}
+use Rattle.wc_model.specs.Language.Carried.{Lead, ToPlace, ToField, lead_by, lead_from, same_block, same_lead}
 use Rattle.wc_model.specs.Language.Declarations.{Variable, VariableType, Elementary, Standard, Block, block_named, type_named, variable_named}
-use Rattle.wc_model.specs.Language.Kinds.{is_kind}
 use Rattle.wc_model.specs.Language.Names.{Name}
 use Rattle.wc_model.specs.Language.Scopes.{Scope, type_of}
 use Rattle.wc_model.specs.Language.Store.{Content, standard_fields}

@@ -1,5 +1,5 @@
 -- The lines of one declared name, by the type that it has.
-use Rattle.std.proofs.Common.{◌≡◌, ℕ, ◌+◌, ◌<◌, ◌≤◌, Bool, false, List, [], ◌∷◌, ◌++◌, map, length, take, get_or, Option, Some, None, Result, Ok, Err, refl, sym, ap, subst, ◌∙◌, arith, is_some, append-nil}
+use Rattle.std.proofs.Common.{◌≡◌, ℕ, ◌+◌, ◌<◌, ◌≤◌, Bool, false, List, [], ◌∷◌, ◌++◌, map, length, take, Option, Some, None, Result, Ok, Err, sym, ap, subst, ◌∙◌, arith, is_some, append-nil}
 use Rattle.std.proofs.Math.Bool.{and-true}
 use Rattle.std.proofs.lemmas.List.{flat_map_more, take_all}
 use Rattle.std.specs.List.{flat_map}
@@ -10,23 +10,23 @@ use Rattle.wc_model.specs.Language.Names.{Name, name_of}
 use Rattle.wc_model.specs.Language.Scopes.{Scope, type_of}
 use Rattle.wc_model.specs.Language.Store.{Content, first_content}
 use Rattle.wc_model.specs.Language.Tree.{ProgramUnit}
-use Rattle.wc_model.specs.Language.Views.{text_view, unit_view}
+use Rattle.wc_model.specs.Language.Views.{unit_view}
 use Rattle.wc_model.specs.declared.block.StandardBlock.{StandardBlock}
 use Rattle.wc_model.specs.declared.kind.Kind.{Kind}
 use Rattle.wc_model.specs.declared.source.Initial.{Initial}
 use Rattle.wc_model.specs.declared.source.Source.{Source}
 use Rattle.wc_model.specs.declared.source.Unit.{Unit as CodeUnit}
-use Rattle.wc_names.specs.Numbered.{IsUnit, numbered_type}
+use Rattle.wc_names.specs.Numbered.{numbered_type}
 use Rattle.wc_names.specs.declared.declared_type.DeclaredType.TheVariants as numbered
 use Rattle.wc_names.proofs.Places.{TypeCase, of_block, of_elementary, of_standard, type_case}
 use Rattle.wc_changes.specs.ChangeReport.{line_text}
 use Rattle.wc_changes.specs.Forms.{has_form}
-use Rattle.wc_changes.specs.Shown.{Plain, Instance, Shown, Declared, declared_of, inside, seen, shown_by, shown_from, shown_in}
+use Rattle.wc_changes.specs.Shown.{Plain, Instance, Declared, declared_of, inside, seen, shown_by, shown_from, shown_in}
 use Rattle.wc_changes.specs.Sides.{IsAt, line_between, lines_between, numbered_side, side_behind, side_text, variable_lines}
 use Rattle.wc_changes.proofs.Between.{lines_inside}
 use Rattle.wc_changes.proofs.Leads.{plain_kept, standard_kept}
 use Rattle.wc_changes.proofs.Nothing.{nothing_shown}
-use Rattle.wc_changes.proofs.Units.{CodeBlock, block_at, block_before, code_block, seen_unit}
+use Rattle.wc_changes.proofs.Units.{CodeBlock, block_at, block_before, code_block}
 
 -- what follows from what was done
 pub on_ok : {X E : Type 0} (r : Result X E) (P Q : Type 0) → (P → Q) → OnOk r P → OnOk r Q

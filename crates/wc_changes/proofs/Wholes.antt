@@ -1,9 +1,9 @@
 -- The lines of a whole text, from its program on.
-use Rattle.std.proofs.Common.{◌≡◌, ℕ, zero, suc, ◌+◌, ◌-◌, ◌≤◌, Bool, ◌&&◌, List, [], ◌∷◌, ◌++◌, map, length, reverse, Option, Some, None, refl, sym, ap, subst, ◌∙◌, arith, append_assoc}
+use Rattle.std.proofs.Common.{◌≡◌, ℕ, zero, suc, ◌+◌, ◌-◌, ◌≤◌, List, [], ◌∷◌, ◌++◌, map, length, reverse, Option, Some, None, refl, sym, ap, ◌∙◌, arith, append_assoc}
 use Rattle.std.proofs.lemmas.Grind.{reverse_onto, flat_map-append}
-use Rattle.std.proofs.lemmas.List.{append-nil, length-map, length-reverse, reverse-reverse}
+use Rattle.std.proofs.lemmas.List.{append-nil, length-reverse, reverse-reverse}
 use Rattle.std.proofs.lemmas.List.Folds.{flat_map-map}
-use Rattle.std.specs.List.{flat_map, list_all}
+use Rattle.std.specs.List.{flat_map}
 use Rattle.std.specs.Option.{SomeIff}
 use Rattle.wc_cost.proofs.TextUnits.{unit_at}
 use Rattle.wc_model.specs.Language.Carried.{keeps, lead_from, path_lead, same_lead}
@@ -18,7 +18,7 @@ use Rattle.wc_model.specs.declared.source.Source.{Source}
 use Rattle.wc_model.specs.declared.source.Unit.{Unit as CodeUnit}
 use Rattle.wc_names.specs.StandsFor.{onto}
 use Rattle.wc_changes.specs.ChangeReport.{change_report, is_kept, line_of, line_text, path_text, type_text_of, type_text_reversed}
-use Rattle.wc_changes.specs.Shown.{Declared, Shown, declared_in, declared_of, names_of, paths_of, seen, shown_all, shown_by, shown_from, shown_in, shown_of, shown_reversed}
+use Rattle.wc_changes.specs.Shown.{Declared, Shown, declared_in, declared_of, names_of, paths_of, seen, shown_all, shown_by, shown_from, shown_in, shown_reversed}
 use Rattle.wc_changes.specs.Sides.{IsAt, IsSide, declaration_lines, kept_between, line_between, lines_between, program_of, program_reversed, side_lead, side_text, variable_lines}
 use Rattle.wc_changes.proofs.Between.{all_same}
 use Rattle.wc_changes.proofs.Units.{map_onto}
@@ -88,13 +88,6 @@ lines_there old source u before e (s ∷ ss) =
 -- the whole report
 pub report_there : (old : Text) (source : Source) (u : CodeUnit) (before : List CodeUnit) → reverse source.units.items ≡ u ∷ before → change_report old source ≡ lines_between (program_of old) before u [] (declared_of u)
 report_there old source u before e = ap (λ units. flat_map (line_of old (text_view source)) (shown_reversed units)) e ∙ lines_there old source u before e (shown_from before u)
-
-pub no_report : (old : Text) (source : Source) → length source.units.items ≡ 0 → change_report old source ≡ []
-no_report old source e = by source.units.items e
-  where
-    by : (units : List CodeUnit) → length units ≡ 0 → flat_map (line_of old (text_view source)) (shown_reversed (reverse units)) ≡ []
-    by [] e = refl
-    by (unit ∷ units) e = absurd (omega (arith, e))
 
 -- the lines of one declared name more, and of one declaration more
 pub by_names : (side : Option Scope) (before : List CodeUnit) (u : CodeUnit) (prefix : List ℕ) (ds : List Declared) → flat_map (variable_lines side before u prefix) ds ≡ lines_between side before u prefix ds

@@ -1,5 +1,5 @@
 -- What the values of the code stand for. (No rule of the language.)
-use Rattle.std.specs.Prelude.{Bool, false, Option, Some, None}
+use Rattle.std.specs.Prelude.{Bool, false, Option, Some}
 use Rattle.wc_model.specs.Language.Carried.{same_block}
 use Rattle.wc_model.specs.Language.Kinds.{is_kind}
 use Rattle.wc_model.specs.Language.Store as store

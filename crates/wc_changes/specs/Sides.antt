@@ -38,11 +38,6 @@ program_reversed (program ∷ before) = Some (record { before = before; unit = p
 abbrev pub program_of : Text → Option Scope
 program_of text = program_reversed (reverse text)
 
--- the type of a name there, and the same by its number
-abbrev pub side_type : Option Scope → Name → Option VariableType
-side_type None name = None
-side_type (Some scope) name = type_of scope name
-
 abbrev pub numbered_side : Option Scope → Name → Option DeclaredType
 numbered_side None name = None
 numbered_side (Some scope) name = option_and_then (numbered_type scope.before) (type_of scope name)

@@ -10,10 +10,10 @@ ghost use Rattle.wc_changes.specs.Shown.{declared_of};
 ghost use Rattle.wc_changes.specs.Sides.{IsAt, IsSide, declaration_lines, lines_between, numbered_side, side_text, variable_lines};
 
 use crate::form::{Form, first_value, is_kept};
-use crate::lines::{put, put_first, put_kept};
+use crate::lines::{put_first, put_kept};
 use crate::old::{old_type, type_text, unit_of};
 use std::alloc::Global;
-use wc_model::{Decl, Fault, Value};
+use wc_model::{Decl, Fault, Value, put_bytes};
 use wc_names::DeclaredType;
 use wc_verify::Checked;
 
@@ -24,13 +24,9 @@ fn longer(alloc: Global, prefix: &[u8], name: &[u8]) -> Result<Vec<u8>, Fault>
     ensures memory { IsOkUnless result Fault.Memory }
 {
     let mut longer = Vec::new(alloc);
-    if let Err(fault) = put(&mut longer, prefix) {
-        return Err(fault);
-    }
-    if let Err(fault) = put(&mut longer, name) {
-        return Err(fault);
-    }
-    match put(&mut longer, b".") {
+    put_bytes(&mut longer, prefix)?;
+    put_bytes(&mut longer, name)?;
+    match put_bytes(&mut longer, b".") {
         Ok(()) => Ok(longer),
         Err(fault) => Err(fault),
     }

@@ -8,18 +8,7 @@ ghost use Rattle.wc_changes.specs.Forms.{form_view};
 
 use crate::form::{Form, block_text, kind_text};
 use std::alloc::Global;
-use wc_model::{Fault, Value};
-
-/// Puts bytes behind a text. `Memory` is the only fault.
-pub(crate) fn put(out: &mut Vec<u8>, bytes: &[u8]) -> Result<(), Fault>
-    ensures bytes { OnOk result (out.new.items ≡ out.old.items ++ bytes.now) }
-    ensures memory { IsOkUnless result Fault.Memory }
-{
-    match out.extend_from_slice(bytes) {
-        Ok(()) => Ok(()),
-        Err(_) => Err(Fault::Memory),
-    }
-}
+use wc_model::{Fault, Value, put_bytes};
 
 /// Puts a number in decimal digits, with bytes before it and behind it.
 fn put_number(
@@ -35,7 +24,7 @@ fn put_number(
     ensures memory { IsOkUnless result Fault.Memory }
 {
     match format!(in alloc; "{before}{number}{behind}") {
-        Ok(text) => put(out, text.as_bytes()),
+        Ok(text) => put_bytes(out, text.as_bytes()),
         Err(_) => Err(Fault::Memory),
     }
 }
@@ -47,8 +36,8 @@ pub fn put_value(alloc: Global, out: &mut Vec<u8>, value: Value) -> Result<(), F
     ensures memory { IsOkUnless result Fault.Memory }
 {
     match value {
-        Value::Bool(false) => put(out, b"FALSE"),
-        Value::Bool(true) => put(out, b"TRUE"),
+        Value::Bool(false) => put_bytes(out, b"FALSE"),
+        Value::Bool(true) => put_bytes(out, b"TRUE"),
         Value::Dint(number) => put_number(alloc, out, "", number, ""),
         Value::Time(time) => put_number(alloc, out, "T#", time, "ms"),
     }
@@ -61,14 +50,10 @@ fn put_form(alloc: Global, out: &mut Vec<u8>, form: Form) -> Result<(), Fault>
     ensures memory { IsOkUnless result Fault.Memory }
 {
     match form {
-        Form::Instance(block) => put(out, block_text(block)),
+        Form::Instance(block) => put_bytes(out, block_text(block)),
         Form::Plain(kind, value) => {
-            if let Err(fault) = put(out, kind_text(kind)) {
-                return Err(fault);
-            }
-            if let Err(fault) = put(out, b" ") {
-                return Err(fault);
-            }
+            put_bytes(out, kind_text(kind))?;
+            put_bytes(out, b" ")?;
             put_value(alloc, out, value)
         }
     }
@@ -82,15 +67,11 @@ fn put_reason(out: &mut Vec<u8>, old_type: Option<&[u8]>) -> Result<(), Fault>
     ensures memory { IsOkUnless result Fault.Memory }
 {
     let Some(spelled) = old_type else {
-        return put(out, b"new\n");
+        return put_bytes(out, b"new\n");
     };
-    if let Err(fault) = put(out, b"was ") {
-        return Err(fault);
-    }
-    if let Err(fault) = put(out, spelled) {
-        return Err(fault);
-    }
-    put(out, b"\n")
+    put_bytes(out, b"was ")?;
+    put_bytes(out, spelled)?;
+    put_bytes(out, b"\n")
 }
 
 /// Puts what a line says first, and the names of its variable.
@@ -99,13 +80,9 @@ fn put_names(out: &mut Vec<u8>, word: &[u8], prefix: &[u8], name: &[u8]) -> Resu
         (out.new.items ≡ out.old.items ++ (word.now ++ (prefix.now ++ name.now))) }
     ensures memory { IsOkUnless result Fault.Memory }
 {
-    if let Err(fault) = put(out, word) {
-        return Err(fault);
-    }
-    if let Err(fault) = put(out, prefix) {
-        return Err(fault);
-    }
-    put(out, name)
+    put_bytes(out, word)?;
+    put_bytes(out, prefix)?;
+    put_bytes(out, name)
 }
 
 /// Puts the line of a variable that keeps its value.
@@ -114,10 +91,8 @@ pub(crate) fn put_kept(out: &mut Vec<u8>, prefix: &[u8], name: &[u8]) -> Result<
         (out.new.items ≡ out.old.items ++ line_text true (prefix.now ++ name.now) form old) }
     ensures memory { IsOkUnless result Fault.Memory }
 {
-    if let Err(fault) = put_names(out, b"kept ", prefix, name) {
-        return Err(fault);
-    }
-    put(out, b"\n")
+    put_names(out, b"kept ", prefix, name)?;
+    put_bytes(out, b"\n")
 }
 
 /// Puts the line of a variable that begins with its first value.
@@ -135,17 +110,9 @@ pub(crate) fn put_first(
         (option_map (λ spelled. spelled.now) old_type.entry)) }
     ensures memory { IsOkUnless result Fault.Memory }
 {
-    if let Err(fault) = put_names(out, b"first ", prefix, name) {
-        return Err(fault);
-    }
-    if let Err(fault) = put(out, b" ") {
-        return Err(fault);
-    }
-    if let Err(fault) = put_form(alloc, out, form) {
-        return Err(fault);
-    }
-    if let Err(fault) = put(out, b" ") {
-        return Err(fault);
-    }
+    put_names(out, b"first ", prefix, name)?;
+    put_bytes(out, b" ")?;
+    put_form(alloc, out, form)?;
+    put_bytes(out, b" ")?;
     put_reason(out, old_type)
 }

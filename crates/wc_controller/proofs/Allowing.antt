@@ -1,23 +1,20 @@
 -- Which answers are allowed, from the program to the whole job and to the files that a command
 -- names.
-use Rattle.std.proofs.Common.{◌≡◌, ℕ, ◌<◌, ◌≤◌, List, true, length, nat_lt, Ok, Err, refl, ap, sym, subst, arith, inl, inr}
+use Rattle.std.proofs.Common.{◌≡◌, ℕ, ◌<◌, ◌≤◌, List, length, Ok, Err, refl, ap, sym, subst, inl, inr}
 use Rattle.std.proofs.KnownBytes.{Keeps-refl}
-use Rattle.std.proofs.lemmas.Bool.Decides.{nat_tests}
-use Rattle.std.specs.Prelude.{◌⊎◌, Option, Some, None, IfSome, if◌then◌else◌}
+use Rattle.std.specs.Prelude.{◌⊎◌, Option, Some, None, IfSome}
 use Rattle.wc_controller.proofs.Givings.{only_refused, upto_more}
-use Rattle.wc_controller.specs.Endings.{RefusesPlate, RefusesLength, WritesUpTo, run_fault_of}
+use Rattle.wc_controller.specs.Endings.{RefusesPlate, RefusesLength, WritesUpTo}
 use Rattle.wc_controller.specs.Files.{AnswersFile, AnswersPlateFile, AnswersWithPlate, too_long, whole}
-use Rattle.wc_controller.specs.Jobs.{Allows, AllowsSections}
+use Rattle.wc_controller.specs.Jobs.{AllowsSections}
 use Rattle.wc_controller.specs.TakenLogs.{IfKnown}
 use Rattle.wc_model.specs.Instrument.PlateTable.{plate_of}
 use Rattle.wc_model.specs.Instrument.Plates.{PlateData}
-use Rattle.wc_model.specs.Run.JobSections.{Sections, longest_job, sections_in, sections_of, sections_or_refusal, whole_lines}
+use Rattle.wc_model.specs.Run.JobSections.{Sections, longest_job}
 use Rattle.wc_model.specs.Run.Log.{log_of}
-use Rattle.wc_model.specs.Say.Job.{JobAnswer, AnswersPlate, AnswersPrograms, AnswersSections, refusing, run_answer}
-use Rattle.wc_model.specs.declared.fault.Fault.{Fault}
+use Rattle.wc_model.specs.Say.Job.{JobAnswer, AnswersPlate, AnswersPrograms, refusing, run_answer}
 use Rattle.wc_model.specs.declared.fault.Fault.TheVariants as fault
 use Rattle.wc_plate.specs.TomlTable.{table_read}
-use Rattle.wc_plate.specs.Verdict.{AgreesWith}
 use Rattle.wc_record.specs.Reading.{records_of}
 use Rattle.wc_run.specs.declared.fault.RunFault.{RunFault}
 use Rattle.wc_run.specs.declared.fault.RunFault.TheVariants.{Refused, Read, Write, Memory}
@@ -58,30 +55,6 @@ pub sections_run : (sections : Sections) (plate : PlateData) → plate_of (table
     (answer : JobAnswer) → AnswersPrograms (λ logic. run_answer plate logic (log_of (records_of sections.log))) sections.program sections.next answer → AllowsSections sections answer
 sections_run sections plate e answer h = subst (λ judged. AnswersPlate records_of sections judged answer) (sym e) h
 
--- a plate that is refused
-pub plate_refused : (sections : Sections) (why : Fault) (old : Option (List ℕ)) → AgreesWith (plate_of (table_read sections.plate)) (Err why) →
-    WritesUpTo (AllowsSections sections) (Some (run_fault_of why)) old old
-plate_refused sections (fault.Refused number place) old h =
-    only_refused (AllowsSections sections) number place old
-    (subst (λ judged. AnswersPlate records_of sections judged (refusing number place)) (sym h.0) (ap (λ p. refusing number p) h.1))
-plate_refused sections fault.Memory old h = inl (Keeps-refl old)
-
--- a job that has its sections
-pub job_run : (bytes : List ℕ) (sections : Sections) → Ok sections ≡ sections_of bytes → (answer : JobAnswer) → AllowsSections sections answer → Allows bytes answer
-job_run bytes sections e answer h = subst (λ cut. AnswersSections table_read records_of cut answer) e h
-
--- a job that has not
-pub job_refused : (bytes : List ℕ) (number : ℕ) (old : Option (List ℕ)) → Err number ≡ sections_of bytes →
-    WritesUpTo (Allows bytes) (Some (Refused number 0)) old old
-job_refused bytes number old e =
-    only_refused (Allows bytes) number 0 old (subst (λ cut. AnswersSections table_read records_of cut (refusing number 0)) e refl)
-
--- a job that is too long has no sections
-pub long_job : (bytes : List ℕ) → longest_job < length bytes → Err 702 ≡ sections_of bytes
-long_job bytes h =
-    let longer : nat_lt longest_job (length bytes) ≡ true = grind (arith, nat_tests) in
-    sym (ap (λ b. if b then Err 702 else sections_or_refusal (sections_in (whole_lines bytes))) longer)
-
 -- an input that was not read whole, where one that is too long is refused by what is allowed
 not_read : (allowed : JobAnswer → Type 0) (bytes : List ℕ) (why : RunFault) (old : Option (List ℕ)) →
     (longest_job < length bytes → allowed (refusing 702 0)) → RefusesLength (Some bytes) why → WritesUpTo allowed (Some why) old old
@@ -91,14 +64,6 @@ not_read allowed bytes (Refused number place) old f h =
 not_read allowed bytes Read old f h = inl (Keeps-refl old)
 not_read allowed bytes Write old f h = absurd h
 not_read allowed bytes Memory old f h = inl (Keeps-refl old)
-
--- a job that was not read whole
-pub job_not_read : (known : Option (List ℕ)) (why : RunFault) (old : Option (List ℕ)) → RefusesLength known why →
-    IfSome known (λ bytes. WritesUpTo (Allows bytes) (Some why) old old)
-job_not_read None why old h = tt
-job_not_read (Some bytes) why old h =
-    not_read (Allows bytes) bytes why old
-    (λ longer. subst (λ cut. AnswersSections table_read records_of cut (refusing 702 0)) (long_job bytes longer) refl) h
 
 -- a file that was not read whole
 pub file_not_read : (known : Option (List ℕ)) (P : List ℕ → Type 0) (why : RunFault) → ((bytes : List ℕ) → RefusesLength (Some bytes) why → P bytes)

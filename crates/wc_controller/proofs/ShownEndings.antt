@@ -1,12 +1,14 @@
 -- How a run ends that is shown.
-use Rattle.std.proofs.Common.{List, ℕ, inl, inr, subst, sym}
+use Rattle.std.proofs.Common.{List, ℕ, inl, inr, refl, subst, sym}
 use Rattle.std.specs.Prelude.{Option, IfSome}
 use Rattle.wc_controller.proofs.Allowing.{known_each, known_more, on_each, on_known}
-use Rattle.wc_controller.specs.Endings.{EndsAs, answered, failed}
+use Rattle.wc_controller.specs.Endings.{EndsAs, EndsRefused, answered, failed}
 use Rattle.wc_controller.specs.Files.{AnswersLine, AnswersRun}
 use Rattle.wc_controller.specs.Shown.{EndsLike, EndsLikeLine, EndsLikeRun, IsEndedBy, IsFaulty}
 use Rattle.wc_controller.specs.TakenLogs.{IfKnown}
 use Rattle.wc_controller.specs.declared.ending.Ending.{Ending}
+use Rattle.wc_controller.specs.declared.ending.Ending.TheVariants as ended
+use Rattle.wc_controller.specs.declared.input.Input.{Input}
 use Rattle.wc_model.specs.Say.Job.{JobAnswer}
 
 -- what was written left out
@@ -69,3 +71,11 @@ line_shown plate log ending shown by h =
     on_known plate _ _
     (λ table told. on_known log _ _
     (λ bytes upto. ends_shown (AnswersLine table bytes) ending shown by upto) told) h
+
+-- a refusal whose line was to be written
+pub refused_shown : (input : Input) (number place : ℕ) (shown : Ending) (old new : Option (List ℕ)) → EndsRefused input number place shown old new → IsEndedBy (ended.Refused input number place) shown
+refused_shown input number place ended.Done old new h = absurd h
+refused_shown input number place (ended.Refused at other line) old new h = inl (λ i. ended.Refused (h.0 i) (h.1 i) (h.2 i))
+refused_shown input number place (ended.ReadFault at) old new h = absurd h
+refused_shown input number place ended.WriteFault old new h = inr (inl refl)
+refused_shown input number place ended.NoMemory old new h = inr (inr refl)

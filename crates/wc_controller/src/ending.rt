@@ -1,4 +1,5 @@
 ghost use Rattle.std.specs.Prelude.{◌≡◌, ℕ};
+ghost use Rattle.wc_controller.specs.Shown.{IsEndedBy};
 ghost use Rattle.wc_controller.specs.Endings.{EndsBehind, EndsRefused, TellsFailures, TellsWriteFaults, met, status_of};
 
 use crate::input::{Input, Stopped};
@@ -94,5 +95,19 @@ pub fn end<W: ByteOut>(alloc: Global, answer: Result<(), Stopped>, writer: &mut 
         RunFault::Read => Ending::ReadFault { input },
         RunFault::Write => Ending::WriteFault,
         RunFault::Memory => Ending::NoMemory,
+    }
+}
+
+/// How a run ends that is shown: the line of a refusal is written behind what was shown.
+pub fn end_shown<W: ByteOut>(alloc: Global, ending: Ending, writer: &mut W) -> Ending
+    ensures { IsEndedBy ending result }
+{
+    match ending {
+        Ending::Refused {
+            input,
+            number,
+            place,
+        } => end_refused(alloc, input, number, place, writer),
+        _ => ending,
     }
 }

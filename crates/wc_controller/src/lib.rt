@@ -16,7 +16,7 @@ mod unit_lines;
 
 pub use answering::{answer_job, job};
 pub use checking::{check, check_file};
-pub use ending::{Ending, end};
+pub use ending::{Ending, end, end_shown};
 pub use headline::the_headline;
 pub use input::{Input, Stopped};
 pub use lining::line_files;

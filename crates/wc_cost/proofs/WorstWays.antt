@@ -1,6 +1,6 @@
 -- The worst ways through flat code, computed from the last line to the first.
 use Rattle.std.proofs.Common.{◌≡◌, ℕ, zero, suc, ◌+◌, ◌*◌, ◌<◌, ◌≤◌, Bool, true, false, List, [], ◌∷◌, ◌++◌, length, drop, get_or, set, append_assoc, refl, sym, ap, subst, ◌∙◌, arith}
-use Rattle.std.proofs.lemmas.List.{append-nil, drop-set, drop_all, get_or-drop, length-map, length-drop}
+use Rattle.std.proofs.lemmas.List.{drop-set, get_or-drop, length-map, length-drop}
 use Rattle.std.specs.Prelude.{if◌then◌else◌, nat_lt, slice_index}
 use Rattle.wc_flat.specs.FlatPaths.{Worst, from_line, line_worst, no_more, one_more, preceded, turned, worse, worst_from, worst_of}
 use Rattle.wc_model.specs.Language.Faults.{MOST_STEPS}
@@ -188,12 +188,3 @@ executed bounds code sources i left more line lines new below is e way f h =
     in
     ap (λ l. l ++ (from_line rest more).lines) f ∙ append_assoc lines (own_source line source) (from_line rest more).lines
     ∙ ap (λ l. lines ++ l) (sym (ap (λ (w : Worst). w.lines) way ∙ then_lines bounds source line (from_line rest more))) ∙ here
-
--- nothing is listed yet, and all is
-pub listed_none : (bounds : List ℕ) (code : List Code) (sources : List ℕ) → Lists bounds code sources 0 0 []
-listed_none bounds code sources = refl
-
-pub listed_all : (bounds : List ℕ) (code : List Code) (sources : List ℕ) (i left : ℕ) (lines : List ℕ) → length code ≤ i → Lists bounds code sources i left lines → lines ≡ (worst_of bounds code sources).lines
-listed_all bounds code sources i left lines past_all h =
-    let end : drop i code ≡ [] = drop_all i code past_all in
-    sym (append-nil lines) ∙ subst (λ (c : List Code). lines ++ (from_line (worst_from bounds c (drop i sources)) left).lines ≡ (worst_of bounds code sources).lines) end h

@@ -1,5 +1,3 @@
-ghost use Rattle.std.specs.Prelude.{◌≡◌, None};
-ghost use Rattle.wc_model.specs.Language.Faults.{IsCostFault};
 ghost use Rattle.wc_model.specs.Language.Views.{text_view};
 ghost use Rattle.wc_cost.specs.Costs.{IsCosted};
 ghost use Rattle.wc_cost.specs.Faultless.{IsFaultless, Measures};

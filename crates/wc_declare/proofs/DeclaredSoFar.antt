@@ -65,9 +65,6 @@ first_small : (unit : ProgramUnit) (b : Bool) → is_block unit ≡ b → first_
 first_small unit true e = rw e (lit≤ tt)
 first_small unit false e = rw e (lit≤ tt)
 
-first_variables : (unit : ProgramUnit) → (taken_at_first unit).variables ≡ 0
-first_variables unit = refl
-
 pub none_declared : (text : Text) (before : List ProgramUnit) (unit : ProgramUnit) (own : UnitTable) (all : List Declaration) → IsEmptyOf unit own → Declares text before unit own all all
 none_declared text before unit own all h = record {
   passed = [];

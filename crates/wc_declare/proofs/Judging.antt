@@ -15,11 +15,6 @@ judges_same found other rest (Ok x) e h = e ∙ h
 judges_same found other rest (Err (Refused number place)) e h = e ∙ h
 judges_same found other rest (Err Memory) e h = tt
 
--- a fault is the same of whatever rest
-pub judges_fault : (X Y : Type 0) (found rest other : Option Refusal) (fault : Fault) → Judges {X = X} found rest (Err fault) → Judges {X = Y} found other (Err fault)
-judges_fault X Y found rest other (Refused number place) h = h
-judges_fault X Y found rest other Memory h = tt
-
 -- the fault of a piece, behind what is found before it
 pub judges_err : (X Y : Type 0) (found other rest behind : Option Refusal) (fault : Fault) → found ≡ other → Judges {X = X} other rest (Err fault) → Judges {X = Y} found behind (Err fault)
 judges_err X Y found other rest behind (Refused number place) e h = e ∙ h

@@ -80,10 +80,6 @@ pub found_at : (unit : ProgramUnit) (line : Line) (instr : Option Instr) (others
     first_broken (body_name_checks unit (line_view line others) ++ rest) ≡ first_broken (body_name_checks unit seen ++ rest)
 found_at unit line instr others seen rest e s = ap (λ i. first_broken (body_name_checks unit (line_view (record { label = line.label; instr = i }) others) ++ rest)) e ∙ ap (λ l. first_broken (body_name_checks unit l ++ rest)) s
 
-pub none_at : (unit : ProgramUnit) (line : Line) (others : Lines) (rest : List Check) → line.instr ≡ None →
-    first_broken (body_name_checks unit (line_view line others) ++ rest) ≡ first_broken (label_checks (option_map word_view line.label) ++ (body_name_checks unit others ++ rest))
-none_at unit line others rest e = found_at unit line None others _ rest e (made_none line.label others) ∙ bare_found unit (option_map word_view line.label) others rest
-
 made_load : (label : Option Spelled) (n : Bool) (o : Operand) (k : ℕ) (rest : Lines) → line_view (record { label = label; instr = Some (instrs.Load n o k) }) rest ≡ Plain (option_map word_view label) k (Load n (term_view o)) rest
 made_load label n o k rest = search (the_lemmas, rules)
 
@@ -92,15 +88,6 @@ made_store label n o k rest = search (the_lemmas, rules)
 
 made_apply : (label : Option Spelled) (n : Operator) (o : Operand) (k : ℕ) (rest : Lines) → line_view (record { label = label; instr = Some (instrs.Apply n o k) }) rest ≡ Plain (option_map word_view label) k (Apply n (term_view o)) rest
 made_apply label n o k rest = search (the_lemmas, rules)
-
-made_not : (label : Option Spelled) (k : ℕ) (rest : Lines) → line_view (record { label = label; instr = Some (instrs.Not k) }) rest ≡ Plain (option_map word_view label) k Negate rest
-made_not label k rest = search (the_lemmas, rules)
-
-made_jump : (label : Option Spelled) (n : Condition) (w : Bor (List ℕ)) (k : ℕ) (rest : Lines) → line_view (record { label = label; instr = Some (instrs.Jump n w k) }) rest ≡ Plain (option_map word_view label) k (Jump n (name_of w.now)) rest
-made_jump label n w k rest = search (the_lemmas, rules)
-
-made_return : (label : Option Spelled) (n : Condition) (k : ℕ) (rest : Lines) → line_view (record { label = label; instr = Some (instrs.Return n k) }) rest ≡ Plain (option_map word_view label) k (Return n) rest
-made_return label n k rest = search (the_lemmas, rules)
 
 -- the rules of a line with a plain instruction
 abbrev PlainAt : ProgramUnit → Line → Instr → Step → Type 0
@@ -116,15 +103,6 @@ store_at unit line n o k others rest e = found_at unit line _ others _ rest e (m
 
 pub apply_at : (unit : ProgramUnit) (line : Line) (n : Operator) (o : Operand) (k : ℕ) → PlainAt unit line (instrs.Apply n o k) (Apply n (term_view o))
 apply_at unit line n o k others rest e = found_at unit line _ others _ rest e (made_apply line.label n o k others) ∙ plain_found unit (option_map word_view line.label) k (Apply n (term_view o)) others rest
-
-pub not_at : (unit : ProgramUnit) (line : Line) (k : ℕ) → PlainAt unit line (instrs.Not k) Negate
-not_at unit line k others rest e = found_at unit line _ others _ rest e (made_not line.label k others) ∙ plain_found unit (option_map word_view line.label) k Negate others rest
-
-pub jump_at : (unit : ProgramUnit) (line : Line) (n : Condition) (w : Bor (List ℕ)) (k : ℕ) → PlainAt unit line (instrs.Jump n w k) (Jump n (name_of w.now))
-jump_at unit line n w k others rest e = found_at unit line _ others _ rest e (made_jump line.label n w k others) ∙ plain_found unit (option_map word_view line.label) k (Jump n (name_of w.now)) others rest
-
-pub return_at : (unit : ProgramUnit) (line : Line) (n : Condition) (k : ℕ) → PlainAt unit line (instrs.Return n k) (Return n)
-return_at unit line n k others rest e = found_at unit line _ others _ rest e (made_return line.label n k others) ∙ plain_found unit (option_map word_view line.label) k (Return n) others rest
 
 made_call : (label : Option Spelled) (n : Condition) (w : Bor (List ℕ)) (args : Vec Argument Global) (k : ℕ) (rest : Lines) →
     line_view (record { label = label; instr = Some (instrs.Call n w args k) }) rest ≡ Plain (option_map word_view label) k (Call n (name_of w.now) (map assignment_view args.items)) rest

@@ -1,6 +1,6 @@
 ghost use Rattle.std.specs.Prelude.{◌≡◌, ℕ, ◌≤◌, [], ◌∷◌, ◌++◌, List, Some, option_map, OnOk, IfOk, IfErr, map, length, true, false};
 ghost use Rattle.wc_model.specs.Language.Checks.{Check, first_broken};
-ghost use Rattle.wc_model.specs.Language.DeclarationRules.{Taken, and_more, declaration_checks, initial_checks, is_among, is_closed_before, is_new, is_own, name_of_word, names_are_new, not_reserved, places_of_type, reserved_words, room_checks, suits_kind, type_checks, unit_declaration_checks};
+ghost use Rattle.wc_model.specs.Language.DeclarationRules.{Taken, and_more, declaration_checks, initial_checks, is_among, is_closed_before, is_new, name_of_word, names_are_new, not_reserved, places_of_type, reserved_words, room_checks, suits_kind, type_checks, unit_declaration_checks};
 ghost use Rattle.wc_model.specs.Language.Declarations.{Variable as Declared, declared_by};
 ghost use Rattle.wc_model.specs.Language.Names.{Name, name_of};
 ghost use Rattle.wc_model.specs.Language.Tree.{ProgramUnit, Text};

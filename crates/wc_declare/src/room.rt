@@ -1,4 +1,4 @@
-ghost use Rattle.std.specs.Prelude.{◌≡◌, ◌+◌, ◌≤◌, [], ◌∷◌, ◌++◌, List, None, OnOk, IfErr, IfSome, IsOkUnless, true, is_some, length, nat_le, ◌&&◌, map};
+ghost use Rattle.std.specs.Prelude.{◌≡◌, ◌+◌, ◌≤◌, [], ◌∷◌, ◌++◌, List, None, OnOk, IfErr, IfSome, IsOkUnless, true, is_some, nat_le, ◌&&◌, map};
 ghost use Rattle.wc_model.specs.Language.Checks.{Check, asks, first_broken};
 ghost use Rattle.wc_model.specs.Language.DeclarationRules.{Taken, and_more, has_room};
 ghost use Rattle.wc_model.specs.Language.Judging.{Judges};
@@ -90,9 +90,7 @@ pub(crate) fn add_variable<'a>(
     if table.rows.push(variable).is_err() {
         return Err(Fault::Memory);
     }
-    if let Err(fault) = push_field(&mut table.fields, word, variable) {
-        return Err(fault);
-    }
+    push_field(&mut table.fields, word, variable)?;
     table.size = end;
     Ok(())
 }

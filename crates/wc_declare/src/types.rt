@@ -1,5 +1,5 @@
-ghost use Rattle.std.specs.Prelude.{◌≡◌, List, Some, IfSome, is_some, option_map, length, if◌then◌else◌};
-ghost use Rattle.wc_model.specs.Language.DeclarationRules.{is_own, may_stand, places_of_type};
+ghost use Rattle.std.specs.Prelude.{◌≡◌, List, Some, IfSome, is_some, option_map, length};
+ghost use Rattle.wc_model.specs.Language.DeclarationRules.{places_of_type};
 ghost use Rattle.wc_model.specs.Language.Declarations.{block_named, elementary_types, named_in};
 ghost use Rattle.wc_model.specs.Language.Names.{Name, name_of};
 ghost use Rattle.wc_model.specs.Language.Store.{standard_fields};

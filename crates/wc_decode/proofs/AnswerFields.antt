@@ -1,5 +1,5 @@
 -- Lists of as many elements as the fields of an answer have.
-use Rattle.std.proofs.Common.{◌≡◌, ◌+◌, ◌<◌, ℕ, suc, List, [], ◌∷◌, ◌++◌, length, get_or, take, drop, refl, sym, ◌∙◌, ap, subst, arith}
+use Rattle.std.proofs.Common.{◌≡◌, ◌+◌, ℕ, List, [], ◌∷◌, ◌++◌, length, get_or, take, drop, refl, sym, ◌∙◌, ap, subst, arith}
 use Rattle.wc_decode.specs.AnswerBytes.{reading_bytes, status_letter, kind_letter, motion_letter, unit_bytes}
 use Rattle.wc_decode.specs.declared.answer.MassUnit.{MassUnit}
 use Rattle.wc_decode.specs.declared.answer.MassUnit.TheVariants.{Gram, Kilogram, Tonne}

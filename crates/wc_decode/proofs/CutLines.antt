@@ -1,8 +1,8 @@
 -- What is cut out of a line, field by field.
-use Rattle.std.proofs.Common.{◌≡◌, ◌<◌, ◌^◌, ◌≤◌, ℕ, ℤ, List, [], ◌∷◌, ◌++◌, FitsSigned, codes, decimal, refl, sym, ap, ◌∙◌, arith, rules, lit≤}
+use Rattle.std.proofs.Common.{◌≡◌, ◌≤◌, ℕ, ℤ, List, [], ◌∷◌, ◌++◌, FitsSigned, codes, decimal, refl, arith, rules, lit≤}
 use Rattle.std.proofs.lemmas.List.{append_assoc}
 use Rattle.std.specs.Fmt.{signed_decimal}
-use Rattle.wc_decode.proofs.Digits.{decimal_is_field, hex_is_field, signed_is_field}
+use Rattle.wc_decode.proofs.Digits.{signed_is_field}
 use Rattle.wc_decode.specs.Fields.{AreFieldBytes, CutsField, words_text}
 use Rattle.wc_decode.specs.Lines.{AreWords, TellsRefusal, TellsScan, told_text}
 use Rattle.wc_model.specs.Run.Hex.{hex_of_bytes, hex_of_word}

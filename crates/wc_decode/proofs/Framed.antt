@@ -1,17 +1,15 @@
 -- What twenty bytes are, where it is known which reading they could be.
-use Rattle.std.proofs.Common.{◌≡◌, ◌+◌, ◌<◌, ℕ, Bool, true, false, List, [], ◌∷◌, ◌++◌, length, take, drop, refl, sym, ◌∙◌, ap, subst, arith, length-append, Option, Some, None}
+use Rattle.std.proofs.Common.{◌≡◌, ◌+◌, ℕ, true, false, List, [], ◌∷◌, ◌++◌, length, take, drop, refl, sym, ◌∙◌, ap, subst, arith, length-append, Option, Some, None}
 use Rattle.std.proofs.Math.Seq.{take-append_seam}
 use Rattle.std.proofs.lemmas.List.{take-append-drop}
 use Rattle.std.specs.List.{list_all}
-use Rattle.wc_decode.specs.AnswerBytes.{IsAnswer, answer_bytes, is_weight_byte, reading_bytes, status_letter, unit_bytes}
+use Rattle.wc_decode.specs.AnswerBytes.{IsAnswer, answer_bytes, is_weight_byte, reading_bytes, unit_bytes}
 use Rattle.wc_decode.specs.Found.{IsAnswerOf, IsFirstAnswer}
 use Rattle.wc_decode.specs.declared.answer.Answer.{Answer}
 use Rattle.wc_decode.specs.declared.answer.Answer.TheVariants.{Weight, NotUnderstood}
 use Rattle.wc_decode.specs.declared.answer.MassUnit.{MassUnit}
 use Rattle.wc_decode.specs.declared.answer.MassUnit.TheVariants.{Gram, Kilogram, Tonne}
 use Rattle.wc_decode.specs.declared.answer.Reading.{Reading}
-use Rattle.wc_decode.specs.declared.answer.Status.{Status}
-use Rattle.wc_decode.specs.declared.answer.Status.TheVariants.{Normal, CentreOfZero, Over, Under, NoSample, ZeroRefused, TareRefused}
 
 -- it is this reading if it is any
 abbrev pub IsOnly : Reading → List ℕ → Type 0
@@ -47,16 +45,6 @@ unit_length Tonne = refl
 pub reading_length : (r : Reading) → length r.weight ≡ 10 → length (reading_bytes r) ≡ 20
 reading_length r size =
     omega (arith, size, unit_length r.unit, length-append (r.weight ++ unit_bytes r.unit) (13 ∷ []), length-append r.weight (unit_bytes r.unit))
-
--- no status is a question mark
-no_question : (s : Status) → ¬ (status_letter s ≡ 63)
-no_question Normal e = omega (arith, e)
-no_question CentreOfZero e = omega (arith, e)
-no_question Over e = omega (arith, e)
-no_question Under e = omega (arith, e)
-no_question NoSample e = omega (arith, e)
-no_question ZeroRefused e = omega (arith, e)
-no_question TareRefused e = omega (arith, e)
 
 -- the bytes of an answer with a weight, in front of others, stand in the first twenty
 pub front_of_reading : (bytes rest : List ℕ) (x : Reading) → length x.weight ≡ 10 → bytes ≡ reading_bytes x ++ rest → take 20 bytes ≡ reading_bytes x

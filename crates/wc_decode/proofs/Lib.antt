@@ -9,4 +9,3 @@ mod Several
 mod Standings
 mod Takings
 mod ToldRows
-mod WrittenDigits

@@ -1,5 +1,5 @@
 -- A report that is read, decoded and written piece by piece.
-use Rattle.std.proofs.Common.{◌≡◌, ◌<◌, ℕ, List, [], ◌∷◌, ◌++◌, length, take, Option, Result, Ok, Err, refl, sym, ap, ◌∙◌, subst}
+use Rattle.std.proofs.Common.{◌≡◌, ℕ, List, [], ◌++◌, Option, Result, Ok, Err, refl, sym, ap, ◌∙◌, subst}
 use Rattle.std.proofs.KnownBytes.{Appends-nil, Appends-trans, Consumes-kept, Consumes-nil, Consumes-trans}
 use Rattle.std.proofs.lemmas.List.{append_assoc, append-nil}
 use Rattle.std.specs.Io.KnownBytes.{Appends, Consumes, IsAtEnd, Keeps}
@@ -7,7 +7,7 @@ use Rattle.wc_decode.proofs.Standings.{end_front, front_written}
 use Rattle.wc_decode.specs.Decoding.{Decodes, DecodesAll, DecodesFront}
 use Rattle.wc_decode.specs.Forms.{heading}
 use Rattle.wc_decode.specs.Running.{DecodesPiece, DecodesRest, Ends, GoesOn, WritesText}
-use Rattle.wc_decode.specs.Standing.{Stands, StandsIn}
+use Rattle.wc_decode.specs.Standing.{Stands}
 use Rattle.wc_decode.specs.declared.decoder.Decoder.{Decoder}
 use Rattle.wc_decode.specs.declared.form.DecodeFault.{DecodeFault}
 use Rattle.wc_decode.specs.declared.form.DecodeForm.{DecodeForm}
@@ -61,10 +61,6 @@ end_written (Err fault) decoder none made old new empty goes (front, rest, cut, 
 pub end_refused : (decoder : Decoder) (old : Option (List ℕ)) (read text : List ℕ) → Stands decoder read text
     → (added : List ℕ) × Appends old old added × DecodesFront decoder.form read (text ++ added)
 end_refused decoder old read text stands = ([], Appends-nil old, front_of_all decoder read text stands)
-
--- nothing is read yet
-pub goes_first : (decoder : Decoder) (input output : Option (List ℕ)) → GoesOn decoder decoder input input output output
-goes_first decoder input output text stands = ([], [], Consumes-nil input, Appends-nil output, subst (Stands decoder []) (sym (append-nil text)) stands)
 
 -- a piece more
 pub goes_more : (before now after : Decoder) (piece : List ℕ) (in0 in1 in2 out0 out1 out2 : Option (List ℕ)) → GoesOn before now in0 in1 out0 out1 → Consumes in1 in2 piece

@@ -1,18 +1,18 @@
 -- How a decoder goes on from where it stands.
-use Rattle.std.proofs.Common.{◌≡◌, ◌<◌, ◌≤◌, ◌+◌, ℕ, zero, suc, Bool, true, false, cond, not, ◌==◌, List, [], ◌∷◌, ◌++◌, length, take, Option, Some, None, Result, Ok, Err, OnOk, IfOk, if◌then◌else◌, refl, sym, ap, ◌∙◌, subst, arith, rules, length-append}
+use Rattle.std.proofs.Common.{◌≡◌, ◌<◌, ◌≤◌, ◌+◌, ℕ, Bool, true, false, ◌==◌, List, [], ◌∷◌, ◌++◌, length, take, if◌then◌else◌, refl, sym, ap, ◌∙◌, subst, arith, length-append}
 use Rattle.std.proofs.Math.Seq.{take-append_seam, take-length}
 use Rattle.std.proofs.lemmas.List.{append_assoc, append-nil}
 use Rattle.std.proofs.lemmas.Bool.{ne_eqb}
-use Rattle.std.specs.List.{before_first, position_or_len}
+use Rattle.std.specs.List.{position_or_len}
 use Rattle.std.specs.Prelude.{codes, decimal}
 use Rattle.wc_decode.specs.AnswerBytes.{bytes_of_answers}
 use Rattle.wc_model.specs.Run.Hex.{hex_of_bytes, hex_of_word}
 use Rattle.wc_model.specs.Say.Report.{spaced_numbers}
 use Rattle.wc_decode.proofs.RowTexts.{passed_behind}
 use Rattle.wc_decode.specs.Decoding.{AreDecoded, Decodes, DecodesFront, IsDecodedLine, Tells, longest_line, without_end}
-use Rattle.wc_decode.specs.Forms.{closing, decoded, heading, opening, passed_on, unknown}
-use Rattle.wc_decode.specs.Lines.{InRange, IsToldBy, Told, TellsAnswers, TellsRefusal, TellsScan, told_text}
-use Rattle.wc_decode.specs.Standing.{HasNoEnd, KeepsLine, PutsLine, StandsIn}
+use Rattle.wc_decode.specs.Forms.{closing, heading, opening, passed_on, unknown}
+use Rattle.wc_decode.specs.Lines.{Told, TellsAnswers, TellsRefusal, TellsScan, told_text}
+use Rattle.wc_decode.specs.Standing.{HasNoEnd, StandsIn}
 use Rattle.wc_decode.specs.declared.form.DecodeForm.{DecodeForm}
 use Rattle.wc_model.specs.Run.JobSections.{onto_first_line, whole_lines}
 
@@ -82,15 +82,6 @@ marked_last form line single =
 -- nor does one that is too long
 too_long : (form : DecodeForm) (line shown : List ℕ) → longest_line + 1 < length line → shown ≡ unknown form (without_end line) → IsDecodedLine form line shown
 too_long form line shown long is = marked form line shown (λ told tells. omega (arith, long, tells.1)) is
-
--- a line that is told
-pub told_line : (form : DecodeForm) (found : Option Told) (line shown : List ℕ) → IsToldBy found line
-    → (length line ≤ longest_line + 1) → shown ≡ (elim found [ Some told ↦ decoded form told | None ↦ unknown form (without_end line) ]) → IsDecodedLine form line shown
-told_line form (Some told) line shown (range, is, only) short e = record {
-  report = λ other tells. e ∙ ap (decoded form) (only other tells.0 tells.2);
-  other = λ never. absurd (never told (range, short, is));
-}
-told_line form None line shown none short e = marked form line shown (λ told tells. none told tells.0 tells.2) e
 
 -- lines decoded one behind the other
 pub decoded_behind : (form : DecodeForm) (lines : List (List ℕ)) (line shown first : List ℕ) → AreDecoded form lines shown → IsDecodedLine form line first
@@ -249,16 +240,6 @@ finished_kept form read kept text some stands = record {
     positive : (xs : List ℕ) → ¬ (xs ≡ []) → 0 < length xs
     positive [] some = absurd (some refl)
     positive (x ∷ xs) some = omega arith
-
--- one that ends with a line's end
-pub finished_none : (form : DecodeForm) (read kept text : List ℕ) → kept ≡ [] → StandsIn form read kept false text → Decodes form read text
-finished_none form read kept text none stands = record {
-  shown = stands.shown;
-  each = subst (λ l. AreDecoded form l stands.shown)
-      (sym (ap whole_lines (sym (append-nil read)) ∙ stands.whole [] ∙ ap (λ l. stands.lines ++ whole_lines (l ++ [])) (stands.keeps.0 ∙ none) ∙ append-nil stands.lines))
-      stands.each;
-  text_is = stands.text_is ∙ ap (λ s. heading form ++ stands.shown ++ s) stands.keeps.2 ∙ append-nil (heading form ++ stands.shown);
-}
 
 -- what was written of a report so far is a front of it decoded
 pub front_written : (form : DecodeForm) (read kept : List ℕ) (is_long : Bool) (text rest : List ℕ) → StandsIn form read kept is_long (text ++ rest) → DecodesFront form read text

@@ -1,11 +1,10 @@
 -- What is taken and what is written of it, where no memory was refused.
-use Rattle.std.proofs.Common.{◌≡◌, ◌<◌, ◌+◌, ℕ, suc, Bool, true, false, List, [], ◌∷◌, ◌++◌, length, take, get_or, Result, Ok, Err, OnOk, refl, sym, ap, ◌∙◌, subst, arith}
-use Rattle.std.proofs.Math.Seq.{take-length, take-suc}
-use Rattle.std.proofs.lemmas.List.{append_assoc, append-nil}
+use Rattle.std.proofs.Common.{◌≡◌, ◌<◌, ◌+◌, ℕ, suc, List, [], ◌∷◌, ◌++◌, length, take, get_or, Result, Ok, Err, OnOk, sym, ap, ◌∙◌, arith}
+use Rattle.std.proofs.Math.Seq.{take-suc}
+use Rattle.std.proofs.lemmas.List.{append_assoc}
 use Rattle.wc_decode.specs.Decoding.{Decodes}
-use Rattle.wc_decode.specs.Standing.{Finishes, Stands, StandsIn, TakesBytes}
+use Rattle.wc_decode.specs.Standing.{Finishes, Stands, TakesBytes}
 use Rattle.wc_decode.specs.declared.decoder.Decoder.{Decoder}
-use Rattle.wc_decode.specs.declared.form.DecodeForm.{DecodeForm}
 
 -- bytes are taken where what is said of that holds
 pub takes_if : {E : Type 0} (r : Result Unit E) (before after : Decoder) (bytes old new : List ℕ) (P : Type 0) → OnOk r P

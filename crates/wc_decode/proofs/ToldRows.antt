@@ -1,5 +1,5 @@
 -- What a line with answers tells.
-use Rattle.std.proofs.Common.{◌≡◌, ◌<◌, ◌^◌, ℕ, List, [], ◌∷◌, length, Option, Some, None, Result, Ok, Err, IfOk, option_map, slice_index, refl, sym, ap, ◌∙◌, arith}
+use Rattle.std.proofs.Common.{◌≡◌, ◌<◌, ◌^◌, ℕ, List, length, Option, Some, None, Result, Ok, Err, IfOk, option_map, slice_index, sym, ap, ◌∙◌, arith}
 use Rattle.hex.specs.Hex.{IsBytes}
 use Rattle.wc_decode.proofs.ByteLists.{answers_are_bytes}
 use Rattle.wc_decode.specs.AnswerBytes.{AreAllAnswers, bytes_of_answers}

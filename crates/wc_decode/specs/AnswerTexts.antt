@@ -1,5 +1,5 @@
 -- What people read of an answer. (The words are the profile's own.)
-use Rattle.std.specs.Prelude.{ℕ, ◌==◌, Bool, true, false, List, [], ◌∷◌, ◌++◌, drop, codes}
+use Rattle.std.specs.Prelude.{ℕ, ◌==◌, Bool, true, false, List, [], ◌++◌, drop, codes}
 use Rattle.std.specs.List.{prefix_len}
 use Rattle.wc_decode.specs.declared.answer.Answer.{Answer}
 use Rattle.wc_decode.specs.declared.answer.Answer.TheVariants.{Weight, NotUnderstood}

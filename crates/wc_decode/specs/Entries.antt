@@ -1,5 +1,4 @@
 -- What the rows of the code tell.
-use Rattle.std.specs.Prelude.{Option, option_map}
 use Rattle.wc_decode.specs.Lines.{Told, TellsScan, TellsAnswers, TellsRefusal}
 use Rattle.wc_decode.specs.declared.entry.AnswerRow.{AnswerRow}
 use Rattle.wc_decode.specs.declared.entry.Entry as answer

@@ -1,5 +1,5 @@
 -- The lines of a report, and what each tells. (The form is the profile's own.)
-use Rattle.std.specs.Prelude.{◌≡◌, ℕ, ◌^◌, ◌<◌, ◌≤◌, List, [], ◌∷◌, ◌++◌, length, All, Option, Some, None, FitsSigned, ℤ}
+use Rattle.std.specs.Prelude.{◌≡◌, ℕ, ◌^◌, ◌<◌, List, [], ◌∷◌, length, Option, Some, None, FitsSigned, ℤ}
 use mir.Syntax.{w32}
 use Rattle.wc_decode.specs.AnswerBytes.{AreAllAnswers, bytes_of_answers}
 use Rattle.wc_decode.specs.declared.answer.Answer.{Answer}

@@ -1,5 +1,5 @@
 /// The status of an answer.
-#[derive(Clone, Copy, Debug, PartialEq, Eq)]
+#[derive(Clone, Copy, PartialEq, Eq)]
 pub enum Status {
     /// None of the others.
     Normal,
@@ -18,7 +18,7 @@ pub enum Status {
 }
 
 /// Which weight is told.
-#[derive(Clone, Copy, Debug, PartialEq, Eq)]
+#[derive(Clone, Copy, PartialEq, Eq)]
 pub enum WeightKind {
     Gross,
     Net,
@@ -26,7 +26,7 @@ pub enum WeightKind {
 }
 
 /// The unit of a weight.
-#[derive(Clone, Copy, Debug, PartialEq, Eq)]
+#[derive(Clone, Copy, PartialEq, Eq)]
 pub enum MassUnit {
     Gram,
     Kilogram,

@@ -4,8 +4,7 @@ ghost use Rattle.wc_decode.specs.declared.answer.Answer.TheVariants.{Weight};
 ghost use Rattle.wc_decode.specs.AnswerTexts.{answer_text, kind_text, motion_text, status_text, unit_text};
 
 use crate::answer::{Answer, MassUnit, Reading, Status, WeightKind};
-use crate::putting::put_bytes;
-use wc_model::Fault;
+use wc_model::{Fault, put_bytes};
 
 /// The unit, behind a space.
 fn unit_text(unit: MassUnit) -> &'static [u8]

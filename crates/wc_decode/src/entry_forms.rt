@@ -7,9 +7,9 @@ use crate::answer::Answer;
 use crate::answer_texts::put_answer;
 use crate::entry::{Entry, RefusalRow, ScanRow};
 use crate::form::DecodeForm;
-use crate::putting::{put_bytes, put_number};
 use crate::row_forms::{put_bit_columns, put_bits, put_word_columns, put_words};
-use wc_model::Fault;
+use wc_model::{Fault, put_bytes};
+use wc_report::put_number;
 
 /// Puts the moment, the steps and the bits of a scan behind a text.
 fn put_scan_front(text: &mut Vec<u8>, row: &ScanRow) -> Result<(), Fault>

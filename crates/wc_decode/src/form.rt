@@ -1,5 +1,5 @@
 /// How a report is written anew.
-#[derive(Clone, Copy, Debug, PartialEq, Eq)]
+#[derive(Clone, Copy, PartialEq, Eq)]
 pub enum DecodeForm {
     /// A line for people.
     Text,
@@ -8,7 +8,7 @@ pub enum DecodeForm {
 }
 
 /// Why a report was not decoded to its end.
-#[derive(Clone, Copy, Debug, PartialEq, Eq)]
+#[derive(Clone, Copy, PartialEq, Eq)]
 pub enum DecodeFault {
     /// A read failed, or as much was read as may be.
     Read,

@@ -12,8 +12,6 @@ mod fields;
 mod form;
 mod frames;
 mod lines;
-mod memory;
-mod putting;
 mod refusals;
 mod row_forms;
 mod same;

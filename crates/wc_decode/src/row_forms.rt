@@ -3,8 +3,8 @@ ghost use Rattle.std.specs.Fmt.{signed_decimal};
 ghost use Rattle.wc_decode.specs.declared.form.DecodeForm.TheVariants.{Table, Text};
 ghost use Rattle.wc_decode.specs.Forms.{bit_column, bit_name, bits_row, bits_text, is_bit_on, named_words, word_names};
 
-use crate::putting::{put_bytes, put_number, put_signed};
-use wc_model::Fault;
+use wc_model::{Fault, put_bytes};
+use wc_report::{put_number, put_signed};
 
 /// Whether a bit is set.
 fn is_bit_on(bits: u16, index: u16) -> bool
@@ -78,7 +78,7 @@ fn put_word(text: &mut Vec<u8>, name: &[u8], word: &i32) -> Result<(), Fault>
     ensures memory { IsOkUnless result Fault.Memory }
 {
     put_bytes(text, name)?;
-    put_signed(text, *word)
+    put_signed(text, i64::from(*word))
 }
 
 /// Puts the words by name behind a text.

@@ -2,8 +2,7 @@ ghost use Rattle.std.specs.Prelude.{◌≡◌, ◌++◌, ◌∷◌, [], IsOkUnle
 ghost use Rattle.wc_decode.specs.Forms.{closing, opening, passed_on, unknown};
 
 use crate::form::DecodeForm;
-use crate::putting::put_bytes;
-use wc_model::Fault;
+use wc_model::{Fault, put_bytes};
 
 /// Puts what stands before a line that is none of a report behind a text.
 pub(crate) fn put_opening(text: &mut Vec<u8>, form: DecodeForm) -> Result<(), Fault>

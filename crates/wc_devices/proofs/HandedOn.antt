@@ -1,5 +1,5 @@
 -- What is gathered is neither lost nor written twice.
-use Rattle.std.proofs.Common.{◌≡◌, ℕ, ◌≤◌, List, [], ◌++◌, Option, Some, None, Result, Ok, Err, refl, ap, sym, subst, ◌∙◌, append_assoc, append-nil, length, take, drop, take-append-drop}
+use Rattle.std.proofs.Common.{ℕ, List, [], ◌++◌, Option, Some, None, Result, Ok, Err, ap, sym, ◌∙◌, append_assoc, append-nil, take, drop, take-append-drop}
 use Rattle.std.specs.Io.KnownBytes.{Appends, Keeps, WriteAppends, append_known}
 
 -- some of what is pending is handed on
@@ -8,17 +8,6 @@ handed_on None new pending count wrote = tt
 handed_on (Some xs) None pending count wrote = absurd wrote
 handed_on (Some xs) (Some ys) pending count wrote =
     ap (λ bytes. bytes ++ drop count pending) wrote ∙ append_assoc xs (take count pending) (drop count pending) ∙ ap (λ bytes. xs ++ bytes) (take-append-drop count pending)
-
--- nothing is handed on
-pub stays_pending : (old new : Option (List ℕ)) (pending : List ℕ) → Keeps old new → Keeps (append_known old pending) (append_known new pending)
-stays_pending None new pending kept = tt
-stays_pending (Some xs) None pending kept = absurd kept
-stays_pending (Some xs) (Some ys) pending kept = ap (λ bytes. bytes ++ pending) kept
-
--- a piece more is pending
-pub more_pending : (known : Option (List ℕ)) (pending piece : List ℕ) → Appends (append_known known pending) (append_known known (pending ++ piece)) piece
-more_pending None pending piece = tt
-more_pending (Some xs) pending piece = sym (append_assoc xs pending piece)
 
 -- a piece goes on where nothing is pending
 pub passed_on : {E : Type 0} (old new : Option (List ℕ)) (result : Result ℕ E) (piece : List ℕ) → WriteAppends old new result piece → WriteAppends (append_known old []) (append_known new []) result piece

@@ -1,29 +1,11 @@
 -- A call that is tried again behind one that failed does what it would have done at once.
-use Rattle.std.proofs.Common.{◌≡◌, ℕ, List, Option, Some, None, Result, Ok, Err, refl, subst, sym, ◌∙◌}
-use Rattle.std.specs.Io.KnownBytes.{Consumes, Keeps, ReadConsumes, WriteAppends}
-use Rattle.std.specs.Prelude.{IsErr}
-
--- known bytes that stay stay over two calls
-pub keeps_on : (old between new : Option (List ℕ)) → Keeps old between → Keeps between new → Keeps old new
-keeps_on None between new first then = tt
-keeps_on (Some xs) None new first then = absurd first
-keeps_on (Some xs) (Some ys) None first then = absurd then
-keeps_on (Some xs) (Some ys) (Some zs) first then = then ∙ first
+use Rattle.std.proofs.Common.{ℕ, List, Option, Some, None, Result, Ok, Err, refl, subst}
+use Rattle.std.specs.Io.KnownBytes.{Keeps, ReadConsumes, WriteAppends}
 
 -- known bytes stay as they are
 pub keeps_all : (old : Option (List ℕ)) → Keeps old old
 keeps_all None = tt
 keeps_all (Some xs) = refl
-
--- a read that fails takes none
-pub kept_by_read : {E : Type 0} (old new : Option (List ℕ)) (result : Result ℕ E) (buffer : List ℕ) → IsErr result → ReadConsumes old new result buffer → Keeps old new
-kept_by_read old new (Ok count) buffer failed read = absurd (let h = failed in cc)
-kept_by_read old new (Err error) buffer failed read = read
-
--- so does a write
-pub kept_by_write : {E : Type 0} (old new : Option (List ℕ)) (result : Result ℕ E) (piece : List ℕ) → IsErr result → WriteAppends old new result piece → Keeps old new
-kept_by_write old new (Ok count) piece failed written = absurd (let h = failed in cc)
-kept_by_write old new (Err error) piece failed written = written
 
 -- a read behind calls that took nothing
 pub read_behind : {E : Type 0} (old between new : Option (List ℕ)) (result : Result ℕ E) (buffer : List ℕ) → Keeps old between → ReadConsumes between new result buffer → ReadConsumes old new result buffer

@@ -82,9 +82,7 @@ impl<D: Write> Gathering<D> {
         if self.failed {
             return Err(failed_before());
         }
-        if let Err(error) = self.give_all() {
-            return Err(error);
-        }
+        self.give_all()?;
         self.gathered.clear();
         self.given = 0;
         Ok(())
@@ -133,9 +131,7 @@ impl<D: Write> Write for Gathering<D> {
         if piece.len() <= self.room.saturating_sub(self.gathered.len()) {
             return self.keep(piece);
         }
-        if let Err(error) = self.empty() {
-            return Err(error);
-        }
+        self.empty()?;
         // A piece that is larger than the room goes on as it is, so that none takes memory.
         if piece.len() > self.room {
             self.pass(piece)

@@ -14,10 +14,6 @@ use Rattle.wc_findings.specs.Lines.{HasBelow, IsOneLine, cut_lines, line_of_numb
 abbrev pub is_end : ℕ → Bool
 is_end byte = byte == 10
 
--- an LF that stands in front is the first
-pub feed_in_front : (text : List ℕ) → 0 < length text → is_end (get_or text 0 0) ≡ true → 0 ≡ position_or_len is_end text
-feed_in_front text some end = sym (position_or_len_is is_end text 0 0 (omega arith) (λ k before. absurd (omega (arith, before))) (λ within. end))
-
 -- the LF that a search finds is the first
 pub feed_found : (text : List ℕ) (place : ℕ) → IsFirstByte (is_byte 10) text (Some place) → place ≡ position_or_len is_end text
 feed_found text place found =
@@ -41,10 +37,6 @@ one_line (byte ∷ text) h = by_test (is_end byte) refl h (one_line text)
         → cond b ([] ∷ cut_lines text) (onto_first byte (cut_lines text)) ≡ (byte ∷ text) ∷ []
     by_test true e f further = absurd (omega arith)
     by_test false e f further = ap (onto_first byte) (further (omega arith))
-
--- a place within, or at the end
-place_in : (n k : ℕ) → k ≤ n → min k n ≡ k
-place_in n k h = omega arith
 
 -- the first of a list's items
 first_item : (items : List (List ℕ)) (first : List ℕ) (more : List (List ℕ)) → items ≡ first ∷ more → slice_get items 0 ≡ Some first

@@ -1,23 +1,11 @@
 -- What is meant on a line.
-use Rattle.std.proofs.Common.{◌≡◌, ◌<◌, ◌≤◌, refl, ℕ, List, Option, Some, None, IfSome, drop, length, min, take, sym, ap, subst, ◌∙◌}
-use Rattle.std.proofs.lemmas.List.{drop_min, length-take, take_min}
-use Rattle.wc_findings.specs.Meant.{HasLaterSpot, HasStop, IsKept, IsLaterPiece, IsMeantBy, IsStop, IsStoppedBy, MeansPiece, MeansStop, StandsAt}
+use Rattle.std.proofs.Common.{◌≡◌, ◌<◌, ◌≤◌, refl, ℕ, List, Option, Some, None, IfSome, length, sym, subst}
+use Rattle.wc_findings.specs.Meant.{HasLaterSpot, HasStop, IsKept, IsLaterPiece, IsMeantBy, IsStop, IsStoppedBy, MeansPiece, MeansStop}
 use Rattle.wc_findings.specs.Showing.{line_of_part, read_as}
 use Rattle.wc_findings.specs.declared.refusal.Part.{Part}
 use Rattle.wc_findings.specs.declared.refusal.Part.TheVariants.{Job, Plate, Program, Next, Log}
 use Rattle.wc_findings.specs.declared.finding.Finding.{Finding}
 use Rattle.wc_findings.specs.declared.finding.Spot.{Spot}
-
--- a piece of a text stands in it where it was cut
-pub piece_stands : (text rest piece : List ℕ) (start count : ℕ) → rest ≡ drop (min start (length text)) text → piece ≡ take (min count (length rest)) rest → StandsAt text start piece
-piece_stands text rest piece start count e f =
-    let from : rest ≡ drop start text = e ∙ drop_min start text in
-    let cut : piece ≡ take count rest = f ∙ take_min count rest in
-    ap (λ r. take (length piece) r) (sym from)
-    ∙ ap (λ p. take (length p) rest) cut
-    ∙ ap (λ k. take k rest) (length-take count rest)
-    ∙ take_min count rest
-    ∙ sym cut
 
 -- the reader's stop is that of the line that is shown
 stop_shown : (number line : ℕ) (text : List ℕ) (old new : Finding) (spot : Option Spot) → HasStop text number line old → IfSome spot (λ s. IsKept old new line s)

@@ -49,11 +49,6 @@ row_shown fields count e =
     let turned : count ≡ min 128 (length fields) = omega (arith, e) in
     ap (λ n. joined (take n fields)) turned ∙ ap joined (take_min 128 fields)
 
--- a field behind others has a comma
-pub glued_behind : (k : ℕ) (field : List ℕ) → 0 < k → glued k field ≡ 44 ∷ field
-glued_behind zero field some = absurd (omega (arith, some))
-glued_behind (suc k) field some = refl
-
 -- a spot that is kept means the field that was found
 pub field_kept : (number line : ℕ) (fields : Record) (old new : Finding) (spot : Option Spot) → IfSome old.spot (MeansField number fields)
     → IfSome spot (λ s. IsKept old new line s) → IfSome spot (λ s. (found : Spot) × MeansField number fields found × IsCutTo new.shown.items found s)

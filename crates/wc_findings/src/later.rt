@@ -21,9 +21,9 @@ fn says_untaken(kind: Kind) -> &'static str {
 /// A kind that is not that of the result.
 fn says_unlike(kind: Kind) -> &'static str {
     match kind {
-        Kind::Bool => "is a BOOL, and the result before it is none",
-        Kind::Dint => "is a DINT, and the result before it is none",
-        Kind::Time => "is a TIME, and the result before it is none",
+        Kind::Bool => "is a BOOL, and the result before it is of another kind",
+        Kind::Dint => "is a DINT, and the result before it is of another kind",
+        Kind::Time => "is a TIME, and the result before it is of another kind",
     }
 }
 

@@ -1,5 +1,5 @@
-ghost use Rattle.std.specs.Prelude.{◌≡◌, ◌≤◌, ◌==◌, ◌∷◌, [], MatchOption, length, min, option_map, slice_get, take, drop, Some};
-ghost use Rattle.std.specs.List.{before_first, position_or_len};
+ghost use Rattle.std.specs.Prelude.{◌≡◌, ◌≤◌, ◌==◌, MatchOption, length, min, option_map, slice_get, take, drop, Some};
+ghost use Rattle.std.specs.List.{position_or_len};
 ghost use Rattle.wc_findings.specs.Meant.{StandsAt};
 ghost use Rattle.wc_findings.specs.Lines.{HasBelow, IsOneLine, column_at, cut_lines, line_of_number, without_return};
 

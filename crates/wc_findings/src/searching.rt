@@ -1,4 +1,4 @@
-ghost use Rattle.std.specs.Prelude.{◌≡◌, ◌≤◌, ◌<◌, IfOk, IfSome, None, Some, [], length};
+ghost use Rattle.std.specs.Prelude.{◌≡◌, ◌≤◌, ◌<◌, IfOk, IfSome, None, Some, length};
 ghost use Rattle.wc_findings.specs.Finds.{Finds, FindsIn, FindsName, FindsRow, IsWithin};
 ghost use Rattle.wc_findings.specs.Meant.{HasLaterSpot, HasStop, IsKept};
 ghost use Rattle.wc_record.specs.Told.{fields_told};

@@ -14,7 +14,7 @@ use Rattle.wc_flat.specs.FlatMeaning.{State, Course, Skips, Ended, Moved, Ran, g
 use Rattle.wc_flat.specs.Laid.{Operand, Number, At, load_line, apply_line, short_line, IsStepLaid, IsOpening, step_length, flat_length, lines_ahead, IsLaid}
 use Rattle.wc_flat.specs.NumberOperators.{given, combined, acts}
 use Rattle.wc_model.specs.Text.Limits.{depth}
-use Rattle.wc_model.specs.Language.Meaning.{Outcome, Done, Stuck, Mode, Running, Seeking, Returned, Effect, Goes, Fails, carries, arriving, after, continued, given as given_value, from_value, value_of, step_effect, line_effect, closed, opened, nested_effect, means}
+use Rattle.wc_model.specs.Language.Meaning.{Outcome, Done, Stuck, Mode, Running, Seeking, Returned, Effect, Goes, Fails, carries, arriving, after, continued, from_value, value_of, step_effect, line_effect, closed, nested_effect, means}
 use Rattle.wc_model.specs.Language.Meaning as meaning
 use Rattle.wc_model.specs.Language.Names.{Name}
 use Rattle.wc_model.specs.Language.Operators.{apply}

@@ -18,7 +18,7 @@ use Rattle.wc_language_laws.proofs.Longest.{trace_length}
 use Rattle.wc_model.specs.Language.BlockCalls.{standard_called}
 use Rattle.wc_model.specs.Language.Declarations.{VariableType, Elementary, Standard, Block, Member, members_of, is_block, block_named, same_name}
 use Rattle.wc_model.specs.Language.Frames.{place_number, slot_kinds}
-use Rattle.wc_model.specs.Language.Meaning.{Outcome, Done, Stuck, Effect, Goes, Fails, Running, value_of, from_store, chosen, input_kind, argument_term, assigned_input, assigned_one, assigned, given_one, given_out, written_to, call_trace, body_outcome, made, called_type, call_effect, step_effect}
+use Rattle.wc_model.specs.Language.Meaning.{Outcome, Done, Stuck, Effect, Goes, Fails, Running, value_of, from_store, input_kind, argument_term, assigned_input, assigned_one, assigned, given_one, given_out, written_to, call_trace, body_outcome, made, called_type, call_effect, step_effect}
 use Rattle.wc_model.specs.Language.Meaning as meaning
 use Rattle.wc_model.specs.Language.Names.{Name}
 use Rattle.wc_model.specs.Language.Reasons.{Reason, NoSuchPlace}

@@ -10,7 +10,7 @@ use Rattle.wc_flat.specs.FlatMeaning.{State, Moved, goes_on, with_result, with_a
 use Rattle.wc_flat.specs.Laid.{Operand, Number, At, IsPlaceOf, IsOperand, load_line, apply_line}
 use Rattle.wc_flat.specs.NumberOperators.{given, flipped, combined}
 use Rattle.wc_model.specs.Language.Frames.{content_number, place_number, slot_kind_of, slot_kinds}
-use Rattle.wc_model.specs.Language.Meaning.{Effect, Goes, Fails, Running, as_truth, takes_truth, beside, value_of, written_to, from_value, from_store, next, stored, set_where, store_effect, step_effect}
+use Rattle.wc_model.specs.Language.Meaning.{Goes, Running, as_truth, takes_truth, beside, value_of, written_to, from_value, from_store, next, store_effect, step_effect}
 use Rattle.wc_model.specs.Language.Meaning as meaning
 use Rattle.wc_model.specs.Language.Operators.{apply, negated}
 use Rattle.wc_model.specs.Language.Reasons.{Reason, NoSuchPlace, WrongKind}

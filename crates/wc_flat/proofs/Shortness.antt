@@ -1,5 +1,5 @@
 -- The flat lines of a unit are no more than the bytes of its text.
-use Rattle.std.proofs.Common.{◌≡◌, ℕ, zero, suc, ◌+◌, ◌≤◌, Bool, List, [], ◌∷◌, ◌++◌, map, length, Option, Some, None, refl, sym, ap, subst, ◌∙◌, arith}
+use Rattle.std.proofs.Common.{◌≡◌, ℕ, zero, suc, ◌+◌, ◌≤◌, Bool, List, [], ◌∷◌, ◌++◌, map, length, Some, refl, ap, ◌∙◌, arith}
 use Rattle.std.proofs.lemmas.List.{length-append, length-map}
 use Rattle.wc_flat.specs.Laid.{step_length, flat_length}
 use Rattle.wc_model.specs.Text.Grammar.{InBody, InParentheses, Setting, instruction, lines, IsOperatorOf, IsOn, bracketed, symbol, call_list, argument, unit_of, line_ends}

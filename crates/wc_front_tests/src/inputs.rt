@@ -1,8 +1,7 @@
 //! What the words of the program answer to their inputs: how they end, and what is read.
 use std::alloc::Global;
-use wc_controller::{Ending, Input, RefusedRow, Unwatched, check_file, line_files, run_files};
+use wc_controller::{Ending, Input, RefusedRow, Unwatched, run_files};
 use wc_model::{ByteIn, Device, FuseIn};
-use wc_preview::preview_files;
 
 /// The plate of 15 kg in steps of 5 g.
 pub(crate) const PLATE: &[u8] =
@@ -12,10 +11,7 @@ pub(crate) const PLATE: &[u8] =
 pub(crate) const PROGRAM: &[u8] = b"PROGRAM P\nLD %IX0.0\nST %QX0.0\nEND_PROGRAM\n";
 
 /// Two scans, and a request for the weight before the first sample.
-pub(crate) const LOG: &[u8] = b"ms,kind,data\n0,I,0001\n0,S,\n1,L,0a570d\n2,S,\n";
-
-/// What the line answers to it.
-const ANSWER: &[u8] = b"L 1 0a4931474d202d2d2d2d2d2d2d2d2d2d6b67200d\n";
+const LOG: &[u8] = b"ms,kind,data\n0,I,0001\n0,S,\n1,L,0a570d\n2,S,\n";
 
 /// How a run ends, whose output is written behind `out`; of its scans the last one is printed, or all.
 pub(crate) fn run_of<T: ByteIn, L: ByteIn>(
@@ -58,7 +54,7 @@ fn runs_so(alloc: Global, plate: &[u8], program: &[u8], ending: Ending, output: 
 }
 
 /// The refusal of an input.
-pub(crate) fn refused(input: Input, number: u16, place: u32) -> Ending {
+fn refused(input: Input, number: u16, place: u32) -> Ending {
     Ending::Refused {
         input,
         number,
@@ -96,100 +92,4 @@ fn nothing_is_read_behind_what_decides(rt: HostRuntime) {
         input: Input::Program,
     };
     assert!(rt; ending == unread && ending.status() == 3 && program > 0 && log == 0);
-}
-
-/// The answers of the line alone are printed.
-fn is_line(alloc: Global) -> bool {
-    let mut out = Vec::new(alloc);
-    let mut writer = Device::new(&mut out);
-    let ending = line_files(
-        alloc,
-        &mut Unwatched,
-        &mut Device::new(PLATE),
-        &mut Device::new(LOG),
-        &mut writer,
-        &mut RefusedRow::new(alloc),
-    );
-    ending == Ending::Done && out.as_slice() == ANSWER
-}
-
-/// The unit of the program is printed, and its worst path.
-fn is_checked(alloc: Global) -> bool {
-    let mut out = Vec::new(alloc);
-    let ending = check_file(
-        alloc,
-        true,
-        &mut Device::new(PROGRAM),
-        &mut Device::new(&mut out),
-    );
-    ending == Ending::Done && out.as_slice() == b"unit P cost 2\npath 2 3\n".as_slice()
-}
-
-#[test]
-fn line_and_check_print_what_they_should(rt: HostRuntime) {
-    assert!(rt; is_line(rt.alloc()));
-    assert!(rt; is_checked(rt.alloc()));
-}
-
-/// Output 1 follows input 0.
-const NEXT: &[u8] = b"PROGRAM Q\nLD %IX0.0\nST %QX0.1\nEND_PROGRAM\n";
-
-/// A scan before a change and one behind it, and a change for which no program is left.
-const CHANGES: &[u8] = b"ms,kind,data\n0,I,0001\n0,S,\n1,P,\n1,S,\n2,P,\n";
-
-/// A run with this next program ends so, and this is written.
-fn changes_so(alloc: Global, next: &[u8], ending: Ending, output: &[u8]) -> bool {
-    let mut out = Vec::new(alloc);
-    let (mut plate, mut program) = (Device::new(PLATE), Device::new(PROGRAM));
-    let (mut next, mut log) = (Some(Device::new(next)), Device::new(CHANGES));
-    let mut writer = Device::new(&mut out);
-    let found = run_files(
-        alloc,
-        None,
-        &mut Unwatched,
-        &mut plate,
-        &mut program,
-        &mut next,
-        &mut log,
-        &mut writer,
-        &mut RefusedRow::new(alloc),
-    );
-    found == ending && out.as_slice() == output
-}
-
-#[test]
-fn change_succeeds(rt: HostRuntime) {
-    let third = refused(Input::Log, 609, 6);
-    let output = b"S 0 2 0001 0 0 0 0\nS 1 2 0003 0 0 0 0\nrefused 609 6\n";
-    assert!(rt; changes_so(rt.alloc(), NEXT, third, output));
-    let unread = refused(Input::Next, 203, 1);
-    assert!(rt; changes_so(rt.alloc(), b"", unread, b"refused 203 1\n"));
-}
-
-/// How it ends where a change to the program is looked at, and what is written.
-fn is_previewed(alloc: Global, old: &[u8], ending: Ending, output: &[u8]) -> bool {
-    let mut out = Vec::new(alloc);
-    let mut writer = Device::new(&mut out);
-    let found = preview_files(
-        alloc,
-        true,
-        &mut Device::new(old),
-        &mut Device::new(PROGRAM),
-        &mut writer,
-    );
-    found == ending && out.as_slice() == output
-}
-
-#[test]
-fn a_change_is_looked_at(rt: HostRuntime) {
-    assert!(rt;
-        is_previewed(
-            rt.alloc(),
-            PROGRAM,
-            Ending::Done,
-            b"unit P cost 2\npath 2 3\n"
-        )
-    );
-    let old = refused(Input::Program, 203, 1);
-    assert!(rt; is_previewed(rt.alloc(), b"", old, b"refused 203 1\n"));
 }

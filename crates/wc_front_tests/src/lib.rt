@@ -7,10 +7,4 @@ mod inputs;
 #[cfg(test)]
 mod jobs;
 #[cfg(test)]
-mod pictures;
-#[cfg(test)]
 mod runs;
-#[cfg(test)]
-mod traces;
-#[cfg(test)]
-mod watches;

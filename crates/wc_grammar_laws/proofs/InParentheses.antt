@@ -1,5 +1,5 @@
 -- Where tokens stop in parentheses, the walk says so.
-use Rattle.std.proofs.Common.{◌≡◌, ℕ, false, List, [], ◌∷◌, ◌++◌, Option, Some, refl, ap, subst, if◌then◌else◌, ◌∙◌, sym, inl, inr}
+use Rattle.std.proofs.Common.{◌≡◌, ℕ, false, List, [], ◌∷◌, ◌++◌, Option, Some, refl, ap, subst, ◌∙◌, sym, inl, inr}
 use Rattle.std.specs.Prelude.{◌⊎◌, Err}
 use Rattle.wc_grammar_laws.proofs.Judged.{operator_walked, same_end}
 use Rattle.wc_grammar_laws.specs.LineMoves.{LineForm, Instructs, Opens, Begun, Bracketed, Operated}

@@ -1,5 +1,5 @@
 -- Each fault that is met at a token is judged there, or one of lower rank.
-use Rattle.std.proofs.Common.{◌≡◌, ◌≢◌, ◌≤◌, ℕ, Bool, true, false, List, [], ◌∷◌, ◌++◌, length, Option, Some, None, refl, ap, subst, append-nil, if◌then◌else◌, ◌∙◌, sym, inl, inr, arith, not}
+use Rattle.std.proofs.Common.{◌≡◌, ◌≢◌, ◌≤◌, ℕ, Bool, true, false, List, [], ◌∷◌, ◌++◌, length, Option, Some, None, refl, ap, subst, append-nil, ◌∙◌, sym, inl, inr, arith, not}
 use Rattle.std.proofs.lemmas.Bool.Decides.{nat_tests}
 use Rattle.std.proofs.lemmas.List.Folds.{list_any-from_Any}
 use Rattle.std.specs.Prelude.{◌⊎◌, ◌&&◌, Any, nat_le, is_some}

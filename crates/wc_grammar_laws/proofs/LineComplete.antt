@@ -1,5 +1,5 @@
 -- What completes a line is taken by the walk, token by token.
-use Rattle.std.proofs.Common.{◌≡◌, ◌≢◌, ℕ, Bool, false, List, [], ◌∷◌, Option, Some, None, refl, ap, subst, if◌then◌else◌, append-nil, ◌∙◌, sym, inl, inr}
+use Rattle.std.proofs.Common.{◌≡◌, ◌≢◌, ℕ, Bool, false, List, [], ◌∷◌, Option, Some, None, refl, ap, subst, append-nil, ◌∙◌, sym, inl, inr}
 use Rattle.std.specs.Prelude.{◌⊎◌, not, filter}
 use Rattle.wc_grammar_laws.specs.LineMoves.{Formal, formal_of, with_actual, LineForm, LabelAlone, Instructs, Opens, Begun, Listed, OperandOf, OfStep, OfOpening, OfArgument, InList, AtFirst, AtNext, AtAssign, AtValue, AtEnd, LineState, Start, Worded, Labelled, Operated, Jumped, Called, Instanced, Listing, Bracketed, Named, Pointed, Stepped, BracketedWith, Ended, behind_operand, name_or_literal, at_operand, behind_operator, at_operator, at_labelled, at_operated, at_list, at_bracketed, at_field, line_move}
 use Rattle.wc_grammar_laws.proofs.LineRests.{behind_its_name, behind_its_point, more_arguments, list_rest, list_end, call_form, operand_rest, labelled_rest, rest_of}
@@ -9,7 +9,7 @@ use Rattle.wc_grammar_laws.proofs.WordLaws.{step_begins, operator_is, operation_
 use Rattle.wc_grammar_laws.specs.Words.{Operating, Loads, Stores, Applies, Operation, Operates, found, operation_of, step_of, truths}
 use Rattle.wc_grammar_laws.proofs.Languages.{next_is, passed, both_empty, given_are, given_first, ungroup, pass}
 use Rattle.wc_model.specs.Text.Grammar as grammar
-use Rattle.wc_model.specs.Text.Grammar.{sign_of, operand, argument, call_list, bracketed, instruction, opening, operands_of, IsLiteral, IsOn, IsOperatorOf, Setting, InBody, InParentheses, MayStand, label_in}
+use Rattle.wc_model.specs.Text.Grammar.{sign_of, operand, argument, call_list, bracketed, instruction, opening, operands_of, IsLiteral, Setting}
 use Rattle.wc_model.specs.Text.Keywords.{truth_word}
 use Rattle.wc_model.specs.Text.Languages.{◌then◌, empty, optional, separated, skipping}
 use Rattle.wc_model.specs.Text.Marks.{Symbol, Identifier, Direct, OpeningBracket, ClosingBracket, Comma, Colon, Point, Assign, Arrow, LineEnd, Mark, is_line_end, is_line_end_symbol, name_in, address_in}

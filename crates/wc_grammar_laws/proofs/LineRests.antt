@@ -4,7 +4,7 @@ use Rattle.wc_grammar_laws.specs.LineMoves.{formal_of, with_actual, LineForm, La
 use Rattle.wc_grammar_laws.specs.Words.{Applies, step_of}
 use Rattle.wc_model.specs.Text.Grammar.{sign_of, symbol, identifier, operand, argument, call_list, instruction, opening, Setting, MayStand, label_in}
 use Rattle.wc_model.specs.Text.Languages.{Language, nothing, empty, ◌then◌, ◌given◌, optional, each, separated, skipping}
-use Rattle.wc_model.specs.Text.Marks.{Mark, OpeningBracket, ClosingBracket, Comma, Colon, Point, Assign, LineEnd, is_line_end}
+use Rattle.wc_model.specs.Text.Marks.{Mark, OpeningBracket, ClosingBracket, Comma, Colon, Point, LineEnd, is_line_end}
 use Rattle.wc_model.specs.Language.Names.{Name}
 use Rattle.wc_model.specs.Language.Tree.{Word, Term, Constant, Address, Variable, Field, Assignment, Jump, Call}
 use Rattle.wc_model.specs.declared.operator.Operator.{Operator}

@@ -9,7 +9,7 @@ use Rattle.wc_grammar_laws.proofs.WordLaws.{operation_in}
 use Rattle.wc_grammar_laws.specs.Words.{Applies, Operation, Operates, is_transfer, operation_of}
 use Rattle.wc_grammar_laws.proofs.Languages.{next_is, passed, both_empty, given_are, ungroup, after}
 use Rattle.wc_model.specs.Text.Grammar as grammar
-use Rattle.wc_model.specs.Text.Grammar.{operand, call_list, instruction, operands_of, IsLiteral, Setting, InBody, InParentheses, MayStand}
+use Rattle.wc_model.specs.Text.Grammar.{operand, operands_of, IsLiteral, Setting, InBody, InParentheses, MayStand}
 use Rattle.wc_model.specs.Text.Languages.{◌then◌}
 use Rattle.wc_model.specs.Text.Marks.{Symbol, Identifier, Colon, LineEnd, OpeningBracket, Mark, IsWord, name_in, address_in, Ampersand, AmpersandN}
 use Rattle.wc_model.specs.Language.Names.{Name, name_of}

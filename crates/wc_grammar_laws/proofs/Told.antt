@@ -1,5 +1,5 @@
 -- What the walk's state tells of the tokens that led to it.
-use Rattle.std.proofs.Common.{◌≡◌, ℕ, List, [], ◌∷◌, ◌++◌, Option, Some, None, refl, ap, subst, append_assoc, append-nil, if◌then◌else◌, ◌∙◌, sym}
+use Rattle.std.proofs.Common.{◌≡◌, ℕ, List, [], ◌∷◌, ◌++◌, Option, Some, None, refl, ap, subst, append_assoc, append-nil, ◌∙◌, sym}
 use Rattle.std.specs.Prelude.{flat_map, option_map}
 use Rattle.wc_grammar_laws.proofs.Appending.{append_last, with_nothing}
 use Rattle.wc_grammar_laws.proofs.DeclarationRests.{declarations_of, declared_rest}

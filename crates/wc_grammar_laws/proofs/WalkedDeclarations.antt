@@ -11,7 +11,7 @@ use Rattle.wc_grammar_laws.specs.Words.{found, literal_of, truth_value, truths}
 use Rattle.wc_grammar_laws.proofs.Languages.{next_is, passed, both_empty, given_are, ungroup, after}
 use Rattle.wc_model.specs.Language.Declarations.{same_name}
 use Rattle.wc_model.specs.Text.Grammar as grammar
-use Rattle.wc_model.specs.Text.Grammar.{declaration, declared_names, initial_value, IsLiteral, IsOn}
+use Rattle.wc_model.specs.Text.Grammar.{declared_names, initial_value, IsLiteral}
 use Rattle.wc_model.specs.Text.Keywords.{end_var, truth_word}
 use Rattle.wc_model.specs.Text.Languages.{◌then◌, optional, skipping}
 use Rattle.wc_model.specs.Text.Marks.{Symbol, Colon, LineEnd, Mark, is_line_end, is_line_end_symbol}

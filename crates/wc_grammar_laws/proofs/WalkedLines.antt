@@ -10,7 +10,7 @@ use Rattle.wc_grammar_laws.specs.Words.{Loads, Stores, Applies, Operation, Opera
 use Rattle.wc_grammar_laws.proofs.Languages.{next_is, both_empty, regroup, after, given_first}
 use Rattle.wc_model.specs.Language.Declarations.{same_name}
 use Rattle.wc_model.specs.Text.Grammar as grammar
-use Rattle.wc_model.specs.Text.Grammar.{IsOn, Setting, InBody, InParentheses, HasContent, lines, line_ends, label_in, opening, instruction}
+use Rattle.wc_model.specs.Text.Grammar.{IsOn, Setting, InBody, InParentheses, HasContent, lines, line_ends}
 use Rattle.wc_model.specs.Text.Keywords.{end_word}
 use Rattle.wc_model.specs.Text.Languages.{◌then◌, one}
 use Rattle.wc_model.specs.Text.Marks.{Symbol, Identifier, LineEnd, ClosingBracket, Mark, IsSymbol}

@@ -1,4 +1,3 @@
 pub mod Near
 pub mod Windows
-pub mod Extremes
 pub mod Units

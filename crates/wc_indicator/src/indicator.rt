@@ -1,4 +1,4 @@
-ghost use Rattle.std.specs.Prelude.{◌≡◌, ◌≤ℤ◌, ◌∷◌, [], IfOk, IsOk, IsErrOf, IsOkUnless, unsigned_abs, ◌≤◌, ◌^◌};
+ghost use Rattle.std.specs.Prelude.{◌≡◌, ◌≤ℤ◌, ◌∷◌, [], IfOk, IsOkUnless, unsigned_abs, ◌≤◌, ◌^◌};
 ghost use Rattle.wc_model.specs.Instrument.Plates.{least_sample, greatest_sample, PlateData};
 ghost use Rattle.wc_model.specs.Instrument.WeighingHistories.{Sample, History};
 ghost use Rattle.wc_model.specs.Instrument.Indication as told;

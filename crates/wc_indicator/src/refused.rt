@@ -3,7 +3,7 @@ ghost use Rattle.wc_model.specs.Instrument.Indication.{refused_unless};
 ghost use Rattle.wc_indicator.specs.Refusals.{told_by};
 
 /// Why a command was refused.
-#[derive(Clone, Copy, Debug, PartialEq, Eq)]
+#[derive(Clone, Copy, PartialEq, Eq)]
 pub enum Refused {
     /// The scale was not stable.
     Motion,

@@ -1,10 +1,6 @@
-//! Tests of plate, indicator and line through their public calls. What a whole run of them prints is tried on the program.
+//! Tests of the line through its public calls, over writers that fail. What plate, indicator and line print is tried on the program.
 #![tactic(auto)]
 
-#[cfg(test)]
-mod indications;
-#[cfg(test)]
-mod plates;
 #[cfg(test)]
 mod requests;
 #[cfg(test)]

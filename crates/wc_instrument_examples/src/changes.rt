@@ -1,7 +1,7 @@
-ghost use Rattle.std.specs.Prelude.{◌≡◌, [], ◌∷◌, codes, true, false};
+ghost use Rattle.std.specs.Prelude.{◌≡◌, codes, true, false};
 ghost use Rattle.wc_instrument_examples.specs.Changes.{old_text, new_text, other_kinds, plain, field};
 ghost use Rattle.wc_model.specs.Language.Carried.{keeps};
-ghost use Rattle.wc_model.specs.Language.DirectVariables.{InputBit, OutputWord};
+ghost use Rattle.wc_model.specs.Language.DirectVariables.{OutputWord};
 ghost use Rattle.wc_model.specs.Language.Store.{Direct};
 
 /// A variable of the same name and kind keeps its value, and so does each field of a timer of the same name; a new variable

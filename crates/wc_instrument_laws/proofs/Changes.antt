@@ -1,16 +1,16 @@
 -- Reports over a change of the program.
-use Rattle.std.proofs.Common.{◌≡◌, refl, ap, sym, subst, ◌∙◌, Bool, true, false, ℕ, List, [], ◌∷◌, ◌++◌, append_assoc, Option, Some, None}
+use Rattle.std.proofs.Common.{◌≡◌, refl, ap, sym, ◌∙◌, Bool, true, false, ℕ, List, [], ◌∷◌, ◌++◌, append_assoc, Option, None}
 use Rattle.std.specs.Prelude.{is_some}
 use Rattle.wc_instrument_laws.specs.Changes.{HasNoChange, IsNoChange, ReportsFromTheChange, ReportsUpToTheChange, RowsAreRun, lines_at, lines_from}
 use Rattle.wc_model.specs.Instrument.Plates.{PlateData}
 use Rattle.wc_model.specs.Language.Store.{Store}
 use Rattle.wc_model.specs.Language.Tree.{Text}
-use Rattle.wc_model.specs.Run.Log.{LogOf, LogRefusal, with_row}
+use Rattle.wc_model.specs.Run.Log.{LogOf, LogRefusal}
 use Rattle.wc_model.specs.Run.ProcessImage.{image_after}
 use Rattle.wc_model.specs.Run.Rows.{RowData, Counts, Bytes, Inputs, Scan, Change, LogRow, Past}
-use Rattle.wc_model.specs.Say.LogFor.{AreRun, log_while, row_on}
+use Rattle.wc_model.specs.Say.LogFor.{log_while, row_on}
 use Rattle.wc_model.specs.Say.ProgramReport.{Logic, change_logic, logic_behind, programs}
-use Rattle.wc_model.specs.Say.Report.{Program, ReportLine, lines_with, report_lines, state_with}
+use Rattle.wc_model.specs.Say.Report.{ReportLine, lines_with, report_lines, state_with}
 
 -- the lines of a row are those of the logic that the rows before it left
 at_row : (plate : PlateData) (start : Logic) (brings : RowData) (past : Past) (row : LogRow) →

@@ -1,14 +1,12 @@
-ghost use Rattle.std.specs.Prelude.{◌≡◌, [], ◌∷◌, None, Some, pos, negsuc, false, true};
+ghost use Rattle.std.specs.Prelude.{◌≡◌, [], ◌∷◌, None, Some, pos, false};
 ghost use Rattle.wc_language_examples.specs.CountingBlock.{two_counters};
 ghost use Rattle.wc_language_examples.specs.Refused.{refused, doing, with_timer, with_number, with_counter, two_kinds_at_a_label};
 ghost use Rattle.wc_language_examples.specs.Timers.{on_delay};
 ghost use Rattle.wc_language_examples.specs.Writing.{at, var, dot, num, yes', ld, st, op, jump, call, arg, out, labelled};
 ghost use Rattle.wc_model.specs.Language.Faults.{body_fault};
-ghost use Rattle.wc_model.specs.Language.Tree.{End, Load, Nested, Store as StoreStep};
-ghost use Rattle.wc_model.specs.declared.operator.Condition.TheVariants.{Always, IfTrue};
-ghost use Rattle.wc_model.specs.declared.operator.Operator.TheVariants.{And, Div, Eq, Add};
-ghost use Rattle.wc_model.specs.declared.operator.Storing.TheVariants.{Result};
-ghost use Rattle.std.specs.Prelude.{codes};
+ghost use Rattle.wc_model.specs.Language.Tree.{End, Load, Nested};
+ghost use Rattle.wc_model.specs.declared.operator.Condition.TheVariants.{Always};
+ghost use Rattle.wc_model.specs.declared.operator.Operator.TheVariants.{And, Div, Eq};
 
 /// A label that one way in reaches with a BOOL and another with a DINT has no result.
 pub fn label_kinds_must_agree()

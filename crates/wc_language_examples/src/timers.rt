@@ -1,4 +1,4 @@
-ghost use Rattle.std.specs.Prelude.{◌≡◌, [], ◌∷◌, map, pos, true, false, ℤ};
+ghost use Rattle.std.specs.Prelude.{◌≡◌, [], ◌∷◌, map, pos, true, false};
 ghost use Rattle.wc_language_examples.specs.Timers.{new_tof, tof_run, five_calls, five_told};
 ghost use Rattle.wc_model.specs.Language.Blocks.{TofFields};
 ghost use Rattle.wc_model.specs.Language.Histories.{FitsTof};

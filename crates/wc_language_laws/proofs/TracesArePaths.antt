@@ -7,7 +7,7 @@ use Rattle.wc_model.specs.Language.Names.{Name}
 use Rattle.wc_model.specs.Language.Operators.{apply, negated}
 use Rattle.wc_model.specs.Language.Paths.{Way, Onward, Toward, Back, arriving_way, EndsThere, IsBodyPath, IsCallPath, MayAct, GoesOn, MayStep, MayPass, Joined, IsNestedPath, IsPathFrom, IsBlockPath, IsPath}
 use Rattle.wc_model.specs.Language.Reasons.{Reason}
-use Rattle.wc_model.specs.Language.Scopes.{Scope, type_of}
+use Rattle.wc_model.specs.Language.Scopes.{type_of}
 use Rattle.wc_model.specs.Language.Store.{Store}
 use Rattle.wc_model.specs.Language.Traces.{Item, At, StandardBody, Called}
 use Rattle.wc_model.specs.Language.Tree.{Word, Term, Assignment, inputs_of, outputs_of, Step, Load, Store as StoreStep, Apply, Negate, Jump, Call, Return, Lines, End, Alone, Plain, Nested, ProgramUnit}

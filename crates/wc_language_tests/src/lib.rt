@@ -7,8 +7,6 @@ mod bodies;
 #[cfg(test)]
 mod changes;
 #[cfg(test)]
-mod costs;
-#[cfg(test)]
 mod declarations;
 #[cfg(test)]
 mod flat_lines;
@@ -20,5 +18,3 @@ mod places;
 mod programs;
 #[cfg(test)]
 mod texts;
-#[cfg(test)]
-mod traces;

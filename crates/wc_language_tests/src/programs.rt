@@ -19,7 +19,7 @@ fn image(inputs: u16) -> Image
 }
 
 /// A scan of the inputs where its moment is not before the last: its steps and what stands at the outputs.
-pub(crate) fn scanned<S: Store>(
+fn scanned<S: Store>(
     machine: &mut Machine<'_, S>,
     ms: u64,
     inputs: u16,
@@ -85,37 +85,6 @@ fn both_stores_are_scanned_alike(rt: HostRuntime) {
     assert!(rt; agree(rt.alloc(), OPERATORS, &all));
     assert!(rt; agree(rt.alloc(), BLOCKS, &all));
     assert!(rt; agree(rt.alloc(), INSTANCES, &all));
-}
-
-/// Two scans of a machine of the nested blocks, the second with input 0, leave what they should.
-fn are_nested<S: Store>(machine: &mut Machine<'_, S>) -> bool {
-    let first = Outputs {
-        bits: 0,
-        words: [17, 0, 0, 0],
-    };
-    let second = Outputs {
-        bits: 0,
-        words: [28, 17, 0, 0],
-    };
-    let one = scanned(machine, 0, 0) == Some((Steps(20), first));
-    one && scanned(machine, 1, 1) == Some((Steps(33), second)) && machine.bound() == 33
-}
-
-/// The same over a store.
-fn are_nested_over<S: Store>(alloc: Global) -> bool {
-    match loaded(alloc, INSTANCES) {
-        Ok(loaded) => match Machine::<S>::new(alloc, loaded) {
-            Ok(mut machine) => are_nested(&mut machine),
-            Err(_) => false,
-        },
-        Err(_) => false,
-    }
-}
-
-#[test]
-fn instances_of_user_blocks_keep_their_own_places(rt: HostRuntime) {
-    assert!(rt; are_nested_over::<SlotStore>(rt.alloc()));
-    assert!(rt; are_nested_over::<NamedStore>(rt.alloc()));
 }
 
 /// A machine of a program that copies what it sees of a scale.

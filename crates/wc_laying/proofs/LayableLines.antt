@@ -4,7 +4,7 @@ use Rattle.std.proofs.lemmas.Bool.{and_parts}
 use Rattle.std.specs.List.{flat_map, list_any}
 use Rattle.std.specs.Prelude.{if◌then◌else◌}
 use Rattle.wc_flat.specs.Laid.{flat_length, lines_ahead, step_length}
-use Rattle.wc_model.specs.Language.BodyRules.{actual_checks, argument_checks, call_checks, closing_checks, condition_checks, formal_named, input_named, output_named, inside_rules, is_ahead, is_bit_literal, is_bool, is_instance, is_no_instance, is_of, is_readable, is_writable, label_rules, line_rules, load_checks, members_called, opening_checks, opening_operand_checks, reading_checks, result_checks, divisor_checks, spot_rules, step_rules, store_checks, suits_input, suits_output, suits_result, suits_target, truth_checks, writing_checks}
+use Rattle.wc_model.specs.Language.BodyRules.{actual_checks, argument_checks, call_checks, closing_checks, condition_checks, formal_named, input_named, output_named, inside_rules, is_ahead, is_bit_literal, is_bool, is_instance, is_no_instance, is_of, is_readable, is_writable, label_rules, line_rules, members_called, opening_checks, opening_operand_checks, reading_checks, result_checks, divisor_checks, spot_rules, step_rules, store_checks, suits_input, suits_output, suits_result, suits_target, truth_checks, writing_checks}
 use Rattle.wc_model.specs.Language.Checks.{Spot, asks, spots_behind, spots_of}
 use Rattle.wc_model.specs.Language.DeclarationRules.{body_name_checks, label_checks, operand_checks, step_checks, term_checks}
 use Rattle.wc_model.specs.Language.Declarations.{Member, VariableType, Elementary, Standard, Block, block_named, is_block, member_named, members_of, same_name}
@@ -12,7 +12,7 @@ use Rattle.wc_model.specs.Language.Kinds.{BodyLine, AloneLine, PlainLine, Nested
 use Rattle.wc_model.specs.Language.Meaning.{carries}
 use Rattle.wc_model.specs.Language.Meaning.{takes_truth}
 use Rattle.wc_model.specs.Language.Names.{Name}
-use Rattle.wc_model.specs.Language.Scopes.{Scope, Entity, entity_of, is_input, member_entity, type_of}
+use Rattle.wc_model.specs.Language.Scopes.{Scope, Entity, entity_of, is_input, type_of}
 use Rattle.wc_model.specs.Language.Tree.{Term, Constant, Address, Variable as NameOf, Field, Assignment, ProgramUnit, Step, Load, Store, Apply, Negate, Jump, Call, Return, Lines, End, Alone, Plain, Nested}
 use Rattle.wc_model.specs.declared.kind.Kind.{Kind}
 use Rattle.wc_model.specs.declared.kind.Kind.TheVariants.{Bool as KindBool}

@@ -1,7 +1,7 @@
-ghost use Rattle.std.specs.Prelude.{◌≡◌, ℕ, OnOk, IsOkUnless, map};
-ghost use Rattle.wc_flat.specs.Laid.{IsArgument, IsOutput, IsPlaceOf};
+ghost use Rattle.std.specs.Prelude.{◌≡◌, OnOk, IsOkUnless, map};
+ghost use Rattle.wc_flat.specs.Laid.{IsArgument, IsOutput};
 ghost use Rattle.wc_model.specs.Language.Names.{name_of};
-ghost use Rattle.wc_model.specs.Language.Scopes.{Scope, writable_place};
+ghost use Rattle.wc_model.specs.Language.Scopes.{Scope};
 ghost use Rattle.wc_model.specs.Language.Tree.{Field, goes_in, inputs_of, outputs_of};
 ghost use Rattle.wc_model.specs.Language.Views.{assignment_view, term_view};
 ghost use Rattle.wc_laying.specs.Layable.{ArePassable, IsReadable, IsWritable};

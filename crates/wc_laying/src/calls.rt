@@ -1,4 +1,4 @@
-ghost use Rattle.std.specs.Prelude.{◌≡◌, ◌+◌, ◌<◌, [], ◌∷◌, List, Some, OnOk, IsOkUnless, length, map};
+ghost use Rattle.std.specs.Prelude.{◌≡◌, ◌+◌, ◌<◌, Some, OnOk, IsOkUnless, length, map};
 ghost use Rattle.wc_names.specs.Numbered.{numbered_type};
 ghost use Rattle.wc_flat.specs.FlatPaths.{step_sources};
 ghost use Rattle.wc_flat.specs.Laid.{IsBodyOf, IsStepLaid, first_place};

@@ -1,4 +1,4 @@
-ghost use Rattle.std.specs.Prelude.{◌≡◌, IfOk, OnOk, IsOkUnless, length};
+ghost use Rattle.std.specs.Prelude.{◌≡◌, OnOk, IsOkUnless, length};
 ghost use Rattle.wc_laying.specs.FlatLines.{FlatLines, no_lines, put_line, turned_lines};
 
 use std::alloc::Global;

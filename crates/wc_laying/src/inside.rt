@@ -1,4 +1,4 @@
-ghost use Rattle.std.specs.Prelude.{◌≡◌, Option, OnOk, IsOkUnless, option_map};
+ghost use Rattle.std.specs.Prelude.{Option, OnOk, IsOkUnless, option_map};
 ghost use Rattle.wc_model.specs.Language.Kinds.{NestedLine};
 ghost use Rattle.wc_model.specs.Language.Scopes.{Scope};
 ghost use Rattle.wc_model.specs.Language.Tree.{Lines, Word};

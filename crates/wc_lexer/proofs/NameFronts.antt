@@ -54,11 +54,6 @@ passed_more text rest b count single next h e passed = record {
   judged = ap (λ v. v && has_single_underscores (name_front rest)) e ∙ judged_more single b rest h ∙ passed.judged;
 }
 
--- behind a loose underscore they are not single
-pub is_loosened : (single loose : Bool) → loose ≡ true → false ≡ (single && not loose)
-is_loosened true loose h = sym (ap not h)
-is_loosened false loose h = refl
-
 -- behind any other they are as before
 pub stays_single : (single loose : Bool) → loose ≡ false → single ≡ (single && not loose)
 stays_single true loose h = sym (ap not h)

@@ -1,6 +1,5 @@
 ghost use Rattle.std.specs.Prelude.{◌≡◌, option_map};
 ghost use Rattle.wc_lexer.specs.Views.{shape_view};
-ghost use Rattle.wc_token_laws.specs.Reaches.{is_mark_before, mark_reach};
 ghost use Rattle.wc_model.specs.Text.Lexemes.{may_stand_before};
 ghost use Rattle.wc_model.specs.Text.Shapes.{mark_of};
 

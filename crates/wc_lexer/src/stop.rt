@@ -1,7 +1,7 @@
 use wc_model::Fault;
 
 /// Why a pass over a text stopped, and the piece of the text at which it did.
-#[derive(Clone, Copy, Debug, PartialEq, Eq)]
+#[derive(Clone, Copy, PartialEq, Eq)]
 pub struct Stop {
     /// The number and the line of the fault, or want of memory.
     pub fault: Fault,

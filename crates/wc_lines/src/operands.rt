@@ -106,8 +106,8 @@ fn behind_value<'a>(
         (λ next. (begun : lines.Begun)
         → option_map (in_line_view begun) next
         ≡ lines.behind_name begun
-        (lines.OfArgument (listed_view call.entry) (formal_view formal.entry)) (name_view name.entry)
-        (symbol_view token.entry)) }
+        (lines.OfArgument (listed_view call.entry) (formal_view formal.entry))
+        (name_view name.entry) (symbol_view token.entry)) }
 {
     match token.shape {
         Shape::LineEnd => Ok(Some(InLine::Named(OperandOf::OfArgument(call, formal), name, false))),

@@ -3,8 +3,6 @@
 #![tactic(auto)]
 
 #[cfg(test)]
-mod decoded;
-#[cfg(test)]
 mod lines;
 #[cfg(test)]
 mod logs;

@@ -1,8 +1,8 @@
 //! The lines of the report.
 use std::alloc::Global;
 use std::test::Fail;
-use wc_model::{Fault, Outputs, Steps};
-use wc_report::{path_line, put_answer_line, put_scan_line, refused_line, unit_line};
+use wc_model::{Fault, Outputs, Steps, put_bytes};
+use wc_report::{put_answer_line, put_number, put_scan_line, put_signed};
 
 /// Outputs with these bits and words.
 fn outputs(bits: u16, words: [i32; 4]) -> Outputs {
@@ -83,30 +83,12 @@ fn lines_stand_behind_a_text(rt: HostRuntime) -> Result<(), Fail> {
     let longest = outputs(0xa0f5, [-2147483648; 4]);
     assert!(rt; put_scan_line(&mut text, u64::MAX, Steps(u32::MAX), &longest).is_ok());
     assert!(rt; put_answer_line(&mut text, 7, b"\n?\r").is_ok());
+    assert!(rt; put_bytes(&mut text, b"V ").is_ok());
+    assert!(rt; put_number(&mut text, u64::MAX).is_ok());
+    assert!(rt; put_signed(&mut text, -9).is_ok());
     assert!(rt;
         text.as_slice()
-            == b"L 1 0a\nS 18446744073709551615 4294967295 a0f5 -2147483648 -2147483648 -2147483648 -2147483648\nL 7 0a3f0d\n".as_slice()
+            == b"L 1 0a\nS 18446744073709551615 4294967295 a0f5 -2147483648 -2147483648 -2147483648 -2147483648\nL 7 0a3f0d\nV 18446744073709551615-9".as_slice()
     );
     Ok(())
-}
-
-#[test]
-fn line_of_a_refusal(rt: HostRuntime) {
-    let alloc = rt.alloc();
-    assert!(rt; is_line(refused_line(alloc, 603, 3), b"refused 603 3\n"));
-    assert!(rt; is_line(refused_line(alloc, 702, 0), b"refused 702 0\n"));
-}
-
-#[test]
-fn line_of_a_unit(rt: HostRuntime) {
-    let alloc = rt.alloc();
-    assert!(rt; is_line(unit_line(alloc, b"Cnt", 8), b"unit Cnt cost 8\n"));
-    assert!(rt; is_line(unit_line(alloc, b"", 0), b"unit  cost 0\n"));
-}
-
-#[test]
-fn line_of_a_path(rt: HostRuntime) {
-    let alloc = rt.alloc();
-    assert!(rt; is_line(path_line(alloc, &[3, 4, 1024]), b"path 3 4 1024\n"));
-    assert!(rt; is_line(path_line(alloc, &[]), b"path\n"));
 }

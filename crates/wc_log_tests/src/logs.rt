@@ -43,16 +43,6 @@ fn log_ends(alloc: Global, text: &[u8], count: u32, fault: Option<LogFault>) -> 
     ends_so(alloc, &mut Device::new(text), count, fault)
 }
 
-#[test]
-fn refusals(rt: HostRuntime) {
-    let alloc = rt.alloc();
-    assert!(rt; log_ends(alloc, b"", 0, refused(601, 1)));
-    assert!(rt; log_ends(alloc, b"ms,kind,data", 0, None));
-    assert!(rt; log_ends(alloc, b"\xef\xbb\xbf\"ms\",kind,data\n", 0, None));
-    assert!(rt; log_ends(alloc, b"ms,kind,data\n5,S,\n4,X,\n", 1, refused(603, 3)));
-    assert!(rt; log_ends(alloc, b"ms,kind,data\n5,S,\n5,S,\n", 2, None));
-}
-
 /// A reader that fails behind these bytes gives so many rows; it is asked no further than its fault.
 fn fails_behind(alloc: Global, head: &[u8], count: u32) -> bool {
     let mut device = FuseIn::new(head, b"", 0, true);
@@ -66,18 +56,6 @@ fn a_reader_that_fails(rt: HostRuntime) {
     assert!(rt; fails_behind(alloc, b"ms,kind", 0));
     assert!(rt; fails_behind(alloc, b"ms,kind,data\n", 0));
     assert!(rt; fails_behind(alloc, b"ms,kind,data\n0,S,\n5,C,1", 1));
-}
-
-/// A log of so many scans ends so.
-fn scans_end(alloc: Global, times: u32, count: u32, fault: Option<LogFault>) -> bool {
-    let mut device = FuseIn::new(b"ms,kind,data\n", b"0,S,\n", times, false);
-    ends_so(alloc, &mut device, count, fault)
-}
-
-#[test]
-fn a_million_rows(rt: HostRuntime) {
-    assert!(rt; scans_end(rt.alloc(), 999999, 999999, None));
-    assert!(rt; scans_end(rt.alloc(), u32::MAX, 999999, refused(607, 1000001)));
 }
 
 /// A log of one row that brings so many bytes to the line.

@@ -154,34 +154,3 @@ fn next_section(rt: HostRuntime) {
     let beside = b"@plate\n@program\n @next\n@next \n@log\n@next\n";
     assert!(rt; are_programs(beside, b" @next\n@next \n", None, b"@next\n"));
 }
-
-/// The number by which a job is refused; 0 where it has its sections.
-fn refusal(job: &[u8]) -> u16 {
-    match sections(job) {
-        Ok(_) => 0,
-        Err(number) => number,
-    }
-}
-
-#[test]
-fn missing_headings(rt: HostRuntime) {
-    assert!(rt; refusal(b"@plate\n@log\n@program\n") == 701);
-    assert!(rt; refusal(b"@plate\n@program\n@log\r") == 701);
-}
-
-/// The number by which a job of so many bytes is refused.
-fn refusal_of(alloc: Global, length: usize) -> u16 {
-    let Ok(mut bytes) = b"@plate\n@program\n@log\n".as_slice().to_vec(alloc) else {
-        return 1;
-    };
-    match bytes.resize(length, b'x') {
-        Ok(()) => refusal(&bytes),
-        Err(_) => 1,
-    }
-}
-
-#[test]
-fn too_long_a_job(rt: HostRuntime) {
-    assert!(rt; refusal_of(rt.alloc(), 1048576) == 0);
-    assert!(rt; refusal_of(rt.alloc(), 1048577) == 702);
-}

@@ -1,10 +1,10 @@
 -- The numbers that are carried over are the contents of the store that is carried over.
-use Rattle.std.proofs.Common.{◌≡◌, ℕ, zero, suc, ◌+◌, ◌<◌, ◌≤◌, Bool, true, false, cond, List, [], ◌∷◌, length, Option, Some, None, option_map, ℤ, refl, sym, ap, subst, ◌∙◌, ◌⊎◌, inl, inr, arith}
+use Rattle.std.proofs.Common.{◌≡◌, ℕ, zero, suc, ◌+◌, ◌<◌, ◌≤◌, Bool, true, false, cond, List, [], ◌∷◌, length, Option, Some, None, option_map, ℤ, refl, sym, ap, ◌∙◌, ◌⊎◌, inl, inr, arith}
 use Rattle.std.proofs.lemmas.Bool.{cases_lt}
 use Rattle.std.proofs.lemmas.List.{length-map, length-set}
 use Rattle.std.proofs.lemmas.Option.{slice_get_within}
 use Rattle.std.specs.List.{position_from}
-use Rattle.std.specs.Prelude.{IfSome, if◌then◌else◌, option_and_then, reverse, slice_get, slice_set}
+use Rattle.std.specs.Prelude.{if◌then◌else◌, option_and_then, reverse, slice_get, slice_set}
 use Rattle.wc_cost.proofs.CarriedKinds.{slots_alike}
 use Rattle.wc_flat.proofs.Images.{first_numbers_are_contents}
 use Rattle.wc_flat.proofs.PlaceNumbers.{set_elsewhere, set_here, there_is}
@@ -14,7 +14,7 @@ use Rattle.wc_machine.specs.Carrying.{AreCarried, number_carried}
 use Rattle.wc_machine.specs.Lines.{AreBefore}
 use Rattle.wc_model.specs.Language.Carried.{carried, keeps}
 use Rattle.wc_model.specs.Language.CarriedPlaces.{carried_number, number_if_kept}
-use Rattle.wc_model.specs.Language.Frames.{IsInRange, content_number, first_numbers, place_number}
+use Rattle.wc_model.specs.Language.Frames.{content_number, first_numbers, place_number}
 use Rattle.wc_model.specs.Language.Scans.{initial_of, initial_of_reversed}
 use Rattle.wc_model.specs.Language.Store.{Location, Content, Store, same_place, store_of}
 use Rattle.wc_model.specs.Language.Tree.{ProgramUnit, Text}
@@ -23,7 +23,6 @@ use Rattle.wc_model.specs.declared.kind.SlotKind.{SlotKind}
 use Rattle.wc_soundness.proofs.Carrying.{carried_holds, first_holds, kept_leads}
 use Rattle.wc_soundness.proofs.FramePlaces.{number_within, place_found}
 use Rattle.wc_soundness.specs.Typing.{SameSlots, slot_of}
-use Rattle.wc_store.specs.Slots.{IsInRangeAt}
 
 -- what has no number holds nothing
 lost : (entries : List (Location × Content)) (place : Location) (i : ℕ) → position_from (λ (e : Location × Content). same_place e.0 place) i entries ≡ None → store_of entries place ≡ None
@@ -87,9 +86,6 @@ pub record AreCarriedTo (old new : Text) (numbers first now : List ℤ) (at : �
 pub none_carried : (old new : Text) (numbers first : List ℤ) → AreCarriedTo old new numbers first first 0
 none_carried old new numbers first = record { count = refl; done = λ n below. absurd (omega (arith, below)); rest = λ n from. refl }
 
-pub all_carried : (old new : Text) (numbers first now : List ℤ) (at : ℕ) → length (frame_of_text new) ≤ at → AreCarriedTo old new numbers first now at → AreCarried old new numbers first now
-all_carried old new numbers first now at end so_far = record { count = so_far.count; each = λ n below. so_far.done n (omega (arith, below, end)) }
-
 -- a place that keeps no value
 pub first_stays : (old new : Text) (numbers first now : List ℤ) (at : ℕ) → carried_number old new at ≡ None → AreCarriedTo old new numbers first now at → AreCarriedTo old new numbers first now (at + 1)
 first_stays old new numbers first now at none so_far = record {
@@ -128,10 +124,6 @@ moment_carried last kinds old_kinds now numbers at k number kind there before ol
     | inr old ↦ before.each place m moment old
   ];
 }
-
--- what is carried on is in the range of its slot
-pub carried_in_range : (kinds old_kinds : List SlotKind) (at k : ℕ) (number : ℤ) → slice_get kinds at ≡ slice_get old_kinds k → IsInRangeAt old_kinds k number → IsInRangeAt kinds at number
-carried_in_range kinds old_kinds at k number kind ranged = subst (λ o. IfSome o (λ s. IsInRange s number)) (sym kind) ranged
 
 -- and comes from a place that there is
 pub carried_within : (kinds old_kinds : List SlotKind) (at k : ℕ) → slice_get kinds at ≡ slice_get old_kinds k → at < length kinds → k < length old_kinds

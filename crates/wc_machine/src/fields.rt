@@ -1,4 +1,4 @@
-ghost use Rattle.std.specs.Prelude.{◌≡◌, ◌≤◌, ℕ, Some, pos, true, length, slice_set};
+ghost use Rattle.std.specs.Prelude.{◌≡◌, ◌≤◌, ℕ, Some, pos, true, length};
 ghost use Rattle.wc_flat.specs.NumberBlocks.{is_slot, number_from};
 ghost use Rattle.std.specs.Prelude.{slice_get};
 ghost use Rattle.wc_machine.specs.Lines.{AreBefore};

@@ -13,8 +13,8 @@ use Rattle.wc_findings.specs.declared.refusal.Refusal.{Refusal}
 use Rattle.wc_messages.specs.Explanations.{Explains, Knows, line_text, named_line}
 use Rattle.wc_messages.specs.Locations.{column_text, number_text, place_text}
 use Rattle.wc_messages.specs.Plain.{IsShown, is_plain, shown_text}
-use Rattle.wc_messages.specs.declared.form.Form.{Form}
-use Rattle.wc_messages.specs.declared.form.Form.TheVariants.{Long, Short, Json}
+use Rattle.wc_refusals.specs.declared.form.Form.{Form}
+use Rattle.wc_refusals.specs.declared.form.Form.TheVariants.{Long, Short, Json}
 
 -- no byte is a control of ASCII, a line feed least of all
 abbrev pub HasNoControls : List ℕ → Type 0

@@ -1,4 +1,4 @@
-ghost use Rattle.std.specs.Prelude.{◌≡◌, ◌-◌, ◌++◌, IfOk, OnOk, [], drop, take};
+ghost use Rattle.std.specs.Prelude.{◌≡◌, ◌-◌, ◌++◌, IfOk, OnOk, drop, take};
 ghost use Rattle.wc_messages.specs.Excerpts.{bar_line, excerpt_text, expected_text, first_shown, marked_text, marks, quoted_line, shown_part, spot_start};
 
 use crate::message::{Message, shown};

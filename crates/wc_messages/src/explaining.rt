@@ -1,13 +1,13 @@
 ghost use Rattle.std.specs.Prelude.{IfOk};
 ghost use Rattle.wc_messages.specs.Forms.{IsPlainIn, Tells};
 
-use crate::form::Form;
 use crate::long::long;
 use crate::object::object;
 use crate::parts::parts_of;
 use crate::short::short;
 use std::alloc::{AllocError, Global};
 use wc_findings::Refusal;
+use wc_refusals::Form;
 
 /// What is said of a refusal, in that form; each line of it ends with a line feed. The error is want of memory.
 pub fn explained(alloc: Global, form: Form, refusal: &Refusal<'_>) -> Result<Vec<u8>, AllocError>

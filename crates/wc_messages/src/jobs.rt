@@ -1,4 +1,4 @@
-ghost use Rattle.std.specs.Prelude.{◌≡◌, ◌≤◌, ◌+◌, IfNone, IfSome, length, option_map};
+ghost use Rattle.std.specs.Prelude.{◌≡◌, ◌≤◌, ◌+◌, IfNone, IfSome, option_map};
 ghost use Rattle.wc_messages.specs.Above.{StandsBelow, line_ends};
 ghost use Rattle.wc_messages.specs.Parts.{text_of};
 ghost use Rattle.wc_model.specs.Run.JobSections.{sections_of};

@@ -5,7 +5,6 @@
 
 mod excerpts;
 mod explaining;
-mod form;
 mod jobs;
 mod long;
 mod message;
@@ -16,7 +15,6 @@ mod placing;
 mod short;
 
 pub use explaining::explained;
-pub use form::Form;
 pub use jobs::{Section, section_of};
 pub use message::{Message, shown};
 pub use page::page as page_of;

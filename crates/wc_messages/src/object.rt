@@ -1,7 +1,6 @@
 ghost use Rattle.std.specs.Prelude.{◌≡◌, ◌≤◌, ◌∷◌, ◌++◌, [], IfOk, IfSome, OnOk, length};
 ghost use Rattle.json.specs.Lex.{tokens};
 ghost use Rattle.json.specs.Print.{print};
-ghost use Rattle.std.specs.Str.{IsUtf8};
 ghost use Rattle.wc_messages.specs.Forms.{IsNameOf, TellsInJson, column_behind, first_column, number_if_any, number_member, object_tokens, position_members, text_if_any, text_member, word_members};
 ghost use Rattle.wc_messages.specs.Known.{IsKnown};
 

@@ -7,7 +7,7 @@ use crate::place::Place;
 ///
 /// Places are those of the unit's frame, counted from 0; an instance adds its base. BOOL is 0 or 1.
 /// A jump and a call that is not made pass over the next `skip` lines.
-#[derive(Clone, Copy, PartialEq, Eq)]
+#[derive(Clone, Copy)]
 pub enum Code {
     /// LD of a literal; that of LDN is negated already.
     LoadNumber {

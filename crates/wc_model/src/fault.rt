@@ -1,5 +1,5 @@
 /// Why a library call gave no result.
-#[derive(Clone, Copy, Debug, PartialEq, Eq)]
+#[derive(Clone, Copy, PartialEq, Eq)]
 pub enum Fault {
     /// The input breaks a rule.
     Refused {

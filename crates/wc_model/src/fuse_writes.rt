@@ -1,5 +1,5 @@
 //! What a writer for tests takes.
-ghost use Rattle.std.specs.Prelude.{◌≡◌, [], length, take, Some, IfOk};
+ghost use Rattle.std.specs.Prelude.{◌≡◌, [], length, Some, IfOk};
 ghost use Rattle.wc_model.specs.Run.Fuses.{taken_by};
 
 use crate::byte_out::ByteOut;

@@ -5,7 +5,7 @@ ghost use Rattle.wc_model.specs.Run.Writing.{HasFailedSince, TakesFront};
 use crate::byte_out::ByteOut;
 
 /// The writer failed, or took nothing of what it was given.
-#[derive(Clone, Copy, Debug, PartialEq, Eq)]
+#[derive(Clone, Copy, PartialEq, Eq)]
 pub struct WriteFault;
 
 /// Has the writer take a front of a piece that has bytes, and answers how many.

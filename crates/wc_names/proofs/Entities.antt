@@ -1,13 +1,12 @@
 -- What terms name, by the rows of a unit's table.
 use Rattle.std.proofs.Common.{◌≡◌, ℕ, Bool, true, false, not, List, [], ◌∷◌, Option, Some, None, cond, option_map, refl, sym, ap, ◌∙◌}
 use Rattle.std.specs.Prelude.{find, option_and_then}
-use Rattle.wc_model.specs.Language.Declarations.{Member, Variable, VariableType, Elementary, member_named, members_of, same_name, type_named, variables_of}
-use Rattle.wc_model.specs.Language.DirectVariables.{DirectVariable, is_output, kind_of_direct, variable_at}
+use Rattle.wc_model.specs.Language.Declarations.{Member, Variable, VariableType, member_named, members_of, same_name, type_named, variables_of}
 use Rattle.wc_model.specs.Language.Frames.{frame_of, place_number}
 use Rattle.wc_model.specs.Language.Names.{Name}
 use Rattle.wc_model.specs.Language.Scopes.{Entity, Scope, entity_of, is_input, is_result, member_entity, own_entity, type_of}
-use Rattle.wc_model.specs.Language.Store.{Direct, Path}
-use Rattle.wc_model.specs.Language.Tree.{Address, Field, Variable as NameOf, Word}
+use Rattle.wc_model.specs.Language.Store.{Path}
+use Rattle.wc_model.specs.Language.Tree.{Field, Variable as NameOf}
 use Rattle.wc_model.specs.declared.kind.Kind.{Kind}
 use Rattle.wc_names.specs.Members.{kind_numbered, seen_member}
 use Rattle.wc_names.specs.Numbered.{numbered_entity, numbered_type}
@@ -21,15 +20,6 @@ use Rattle.std.proofs.lemmas.Slice.Eq.{bytes_eq-Decides}
 -- an entity with the number of its place
 abbrev pub made : Option Kind → Bool → Bool → Option ℕ → FoundEntity
 made kind readable writable number = record { kind = kind; readable = readable; writable = writable; place = option_map (λ n. record { 0 = n }) number }
-
-pub address_named : (scope : Scope) (word : Word) (v : DirectVariable) → variable_at word.name ≡ Some v →
-    Some (made (Some (kind_of_direct v)) true (is_output v) (place_number (frame_of scope) (Direct v))) ≡ option_map (numbered_entity scope) (entity_of scope (Address word))
-address_named scope word v e =
-    sym (ap (λ (o : Option DirectVariable). option_map (numbered_entity scope) (elim o as (λ x. Option Entity) [ Some w ↦ Some (record { type = Elementary (kind_of_direct w); readable = true; writable = is_output w; place = Some (Direct w) }) | None ↦ None ])) e)
-
-pub no_address : (scope : Scope) (word : Word) → variable_at word.name ≡ None → None ≡ option_map (numbered_entity scope) (entity_of scope (Address word))
-no_address scope word e =
-    sym (ap (λ (o : Option DirectVariable). option_map (numbered_entity scope) (elim o as (λ x. Option Entity) [ Some w ↦ Some (record { type = Elementary (kind_of_direct w); readable = true; writable = is_output w; place = Some (Direct w) }) | None ↦ None ])) e)
 
 own_named : (scope : Scope) (name : Name) (v : Variable) (row : Row) (o : Option VariableType) → type_named scope.before v.type_name ≡ o → option_and_then (numbered_type scope.before) o ≡ Some row.declared → row.section ≡ v.section → v.name ≡ name →
     Some (made (kind_numbered row.declared) true (not (is_input row.section)) (place_number (frame_of scope) (Path (name ∷ [])))) ≡ option_map (numbered_entity scope) (own_entity scope v)

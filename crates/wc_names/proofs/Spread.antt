@@ -198,13 +198,6 @@ none_finished units frames none = record {
 pub none_first : (frames : List Frame) → frames ≡ [] → EachHoldsFirst frames
 none_first frames none = λ k frame there. absurd (nothing frames frame k none there)
 
--- pieces that are added one behind another
-pub grown_more : (old now new : Frame) (these those : List Content) → IsGrown old now these → IsGrown now new those → IsGrown old new (these ++ those)
-grown_more old now new these those g h = record {
-  kinds = h.kinds ∙ (ap (λ xs. xs ++ map slot_kind_of those) g.kinds ∙ (append_assoc old.kinds.items (map slot_kind_of these) (map slot_kind_of those) ∙ ap (λ xs. old.kinds.items ++ xs) (sym (map-append slot_kind_of these those))));
-  initials = h.initials ∙ (ap (λ xs. xs ++ map content_number those) g.initials ∙ (append_assoc old.initials.items (map content_number these) (map content_number those) ∙ ap (λ xs. old.initials.items ++ xs) (sym (map-append content_number these those))));
-}
-
 -- the whole frame, from one that is begun
 pub frame_spread : (scope : Scope) (begun new : Frame) → IsBegun (is_block scope.unit) begun → IsGrown begun new (contents_of (unit_places scope.before scope.unit)) →
     (new.kinds.items ≡ slot_kinds (frame_of scope)) × (new.initials.items ≡ first_numbers (frame_of scope))

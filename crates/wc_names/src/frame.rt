@@ -169,17 +169,9 @@ pub(crate) fn push_direct(frame: &mut Frame) -> Result<(), Fault>
     ensures first { OnOk result (HoldsFirst frame.old → HoldsFirst frame.new) }
     ensures memory { IsOkUnless result Fault.Memory }
 {
-    if let Err(fault) = push_zeros(frame, &[SlotKind::Bool; 22]) {
-        return Err(fault);
-    }
-    if let Err(fault) = push_zeros(frame, &[SlotKind::Dint; 3]) {
-        return Err(fault);
-    }
-    if let Err(fault) = push_zeros(frame, &[SlotKind::Bool; 16]) {
-        return Err(fault);
-    }
-    if let Err(fault) = push_zeros(frame, &[SlotKind::Dint; 4]) {
-        return Err(fault);
-    }
+    push_zeros(frame, &[SlotKind::Bool; 22])?;
+    push_zeros(frame, &[SlotKind::Dint; 3])?;
+    push_zeros(frame, &[SlotKind::Bool; 16])?;
+    push_zeros(frame, &[SlotKind::Dint; 4])?;
     Ok(())
 }

@@ -9,6 +9,7 @@ ghost use Rattle.wc_model.specs.Language.Store.{Content, Direct, first_content, 
 ghost use Rattle.wc_model.specs.Language.Tree.{ProgramUnit};
 ghost use Rattle.wc_model.specs.declared.kind.Kind.{Kind};
 ghost use Rattle.wc_model.specs.declared.source.Initial.{Initial};
+ghost use Rattle.wc_names.specs.Direct.{direct_at};
 ghost use Rattle.wc_names.specs.StandsFor.{Stands, first_place, row_named};
 ghost use Rattle.wc_names.specs.declared.unit_table.UnitTable.{UnitTable as Table};
 
@@ -226,6 +227,7 @@ pub(crate) fn behind(first: u16, inner: Option<u16>) -> Option<u16>
 }
 
 /// The number of a path's place in a unit's frame.
+#[cycle(numbers)]
 pub(crate) fn number<'a>(units: &[UnitTable<'a>], unit: usize, names: &[&[u8]]) -> Option<u16>
     ensures { (before : List ProgramUnit) (u : ProgramUnit) → Stands units.now before u
         → unit ≡ length before
@@ -240,6 +242,24 @@ pub(crate) fn number<'a>(units: &[UnitTable<'a>], unit: usize, names: &[&[u8]]) 
     let Some(row) = row(units, unit, name) else {
         return None;
     };
+    number_behind(units, row, rest)
+}
+
+/// The number of the place to which the rest of a path leads, behind the variable that its first name names.
+#[cycle(numbers)]
+pub(crate) fn number_behind<'a>(
+    units: &[UnitTable<'a>],
+    row: Variable,
+    rest: &[&[u8]],
+) -> Option<u16>
+    ensures { (before : List ProgramUnit) (u : ProgramUnit) (h : Stands units.now before u)
+        (name : Name)
+        → row_named h.table.names h.table.rows.items name ≡ Some row
+        → result
+        ≡ position_from
+        (λ (e : List Name × Content). same_path e.0 (name ∷ map (λ n. name_of n.now) rest.now))
+        (first_place u) (unit_places before u) }
+{
     match row.declared {
         DeclaredType::Elementary(_) => behind(row.first, plain_at(rest)),
         DeclaredType::Standard(block) => behind(row.first, field_at(block, rest)),
@@ -247,13 +267,11 @@ pub(crate) fn number<'a>(units: &[UnitTable<'a>], unit: usize, names: &[&[u8]]) 
     }
 }
 
-/// The number of an address's place in a unit's frame: a function block has none.
-pub(crate) fn address<'a>(units: &[UnitTable<'a>], unit: usize, text: &[u8]) -> Option<u16>
+/// The number of the place of a directly represented variable in a unit's frame: a function block has none.
+pub(crate) fn direct_number<'a>(units: &[UnitTable<'a>], unit: usize, number: u8) -> Option<u16>
     ensures { (scope : Scope) → Stands units.now scope.before scope.unit
-        → unit ≡ length scope.before
-        → result
-        ≡ option_and_then (place_number (frame_of scope))
-        (option_map Direct (variable_at (name_of text.now))) }
+        → unit ≡ length scope.before → number < 45
+        → result ≡ place_number (frame_of scope) (Direct (direct_at number)) }
 {
     let Some(table) = units.get(unit) else {
         return None;
@@ -261,8 +279,19 @@ pub(crate) fn address<'a>(units: &[UnitTable<'a>], unit: usize, text: &[u8]) -> 
     if table.is_block {
         return None;
     }
+    Some(u16::from(number))
+}
+
+/// The number of an address's place in a unit's frame.
+pub(crate) fn address<'a>(units: &[UnitTable<'a>], unit: usize, text: &[u8]) -> Option<u16>
+    ensures { (scope : Scope) → Stands units.now scope.before scope.unit
+        → unit ≡ length scope.before
+        → result
+        ≡ option_and_then (place_number (frame_of scope))
+        (option_map Direct (variable_at (name_of text.now))) }
+{
     match variable_at(text) {
-        Some(number) => Some(u16::from(number)),
+        Some(number) => direct_number(units, unit, number),
         None => None,
     }
 }

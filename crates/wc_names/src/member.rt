@@ -1,4 +1,4 @@
-ghost use Rattle.std.specs.Prelude.{◌≡◌, ℕ, List, Some, option_map, length, slice_get};
+ghost use Rattle.std.specs.Prelude.{◌≡◌, List, Some, option_map, length, slice_get};
 ghost use Rattle.wc_model.specs.Language.Declarations.{VariableType, member_named, members_of, standard_members};
 ghost use Rattle.wc_model.specs.Language.Names.{name_of};
 ghost use Rattle.wc_model.specs.Language.Tree.{ProgramUnit};

@@ -1,8 +1,8 @@
-ghost use Rattle.std.specs.Prelude.{◌≡◌, ◌<◌, Some, None, true, false, not, option_map, length};
+ghost use Rattle.std.specs.Prelude.{◌≡◌, ◌<◌, Some, None, true, false, option_map, length};
 ghost use Rattle.wc_model.specs.Language.DirectVariables.{is_output, kind_of_direct};
 ghost use Rattle.wc_model.specs.Language.Names.{name_of};
 ghost use Rattle.wc_model.specs.Language.Scopes.{Scope, entity_of, is_input, is_result, kind_of};
-ghost use Rattle.wc_model.specs.Language.Tree.{Address, Constant, Field, Variable as NameOf};
+ghost use Rattle.wc_model.specs.Language.Tree.{Address, Field, Variable as NameOf};
 ghost use Rattle.wc_model.specs.Language.Views.{term_view, word_view};
 ghost use Rattle.wc_names.specs.Direct.{direct_at};
 ghost use Rattle.wc_names.specs.Numbered.{numbered_entity};
@@ -10,7 +10,7 @@ ghost use Rattle.wc_names.specs.StandsFor.{Stands};
 
 use crate::address::variable_at;
 use crate::entity::Entity;
-use crate::lookup::{address, number, row};
+use crate::lookup::{direct_number, number_behind, row};
 use crate::member::{kind_of, member_of};
 use crate::unit_table::UnitTable;
 use wc_model::{Kind, Operand, Place, Section, Value, Word};
@@ -105,7 +105,7 @@ fn address_entity<'a>(units: &[UnitTable<'a>], unit: usize, word: Word<'_>) -> O
             kind: Some(kind_of_direct(number)),
             readable: true,
             writable: is_output(number),
-            place: place_at(address(units, unit, word.text)),
+            place: place_at(direct_number(units, unit, number)),
         }),
         None => None,
     }
@@ -123,7 +123,7 @@ fn name_entity<'a>(units: &[UnitTable<'a>], unit: usize, name: &[u8]) -> Option<
             kind: kind_of(row.declared),
             readable: true,
             writable: !is_input(row.section),
-            place: place_at(number(units, unit, &[name])),
+            place: place_at(number_behind(units, row, &[])),
         }),
         None => None,
     }
@@ -150,7 +150,7 @@ fn field_entity<'a>(
             kind: member.kind,
             readable: is_result(member.section),
             writable: is_input(member.section),
-            place: place_at(number(units, unit, &[instance, field])),
+            place: place_at(number_behind(units, row, &[field])),
         }),
         None => None,
     }

@@ -3,6 +3,5 @@
 
 mod picture;
 mod showing;
-mod unwritten;
 
 pub use showing::show_files;

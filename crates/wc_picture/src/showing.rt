@@ -10,28 +10,10 @@ ghost use Rattle.wc_record.specs.Left.{HasCause};
 ghost use Rattle.wc_record.specs.Told.{fields_told};
 
 use crate::picture::Picture;
-use crate::unwritten::Unwritten;
 use std::alloc::Global;
-use wc_controller::{Ending, Input, RefusedRow, line_files, run_files};
+use wc_controller::{Ending, Input, RefusedRow, end_shown, line_files, run_files};
 use wc_model::{ByteIn, ByteOut, write_whole};
-use wc_report::refused_line;
-
-/// Writes the line of a refusal, and ends with it.
-fn end_refused<W: ByteOut>(alloc: Global, ending: Ending, writer: &mut W) -> Ending
-    ensures { IsEndedBy ending result }
-{
-    let Ending::Refused { number, place, .. } = ending else {
-        return ending;
-    };
-    let line = match refused_line(alloc, number, place) {
-        Ok(line) => line,
-        Err(_) => return Ending::NoMemory,
-    };
-    match write_whole(writer, &line) {
-        Ok(()) => ending,
-        Err(_) => Ending::WriteFault,
-    }
-}
+use wc_run::Unwritten;
 
 /// Whether there is a picture: all rows were done, or those before a row that is refused.
 fn is_drawn(ending: Ending) -> bool {
@@ -55,14 +37,14 @@ fn end_drawn<W: ByteOut>(alloc: Global, picture: &Picture, ending: Ending, write
     ensures { IsEndedBy ending result }
 {
     if !is_drawn(ending) {
-        return end_refused(alloc, ending, writer);
+        return end_shown(alloc, ending, writer);
     }
     let text = match picture.draw(alloc, refusal_of(ending)) {
         Ok(text) => text,
         Err(_) => return Ending::NoMemory,
     };
     match write_whole(writer, text.as_bytes()) {
-        Ok(()) => end_refused(alloc, ending, writer),
+        Ok(()) => end_shown(alloc, ending, writer),
         Err(_) => Ending::WriteFault,
     }
 }

@@ -1,4 +1,4 @@
-ghost use Rattle.std.specs.Prelude.{◌≡◌, ℕ, Bool, IfOk, IfSome, List, OnOk, map, option_map};
+ghost use Rattle.std.specs.Prelude.{◌≡◌, Bool, IfOk, IfSome, List, OnOk, map, option_map};
 ghost use Rattle.wc_grammar_laws.specs.Moves as moves;
 ghost use Rattle.wc_grammar_laws.specs.Words.{found, unit_kinds};
 ghost use Rattle.wc_model.specs.Language.Names.{name_of};

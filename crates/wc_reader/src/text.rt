@@ -1,4 +1,4 @@
-ghost use Rattle.std.specs.Prelude.{◌≡◌, ◌+◌, ◌==◌, ◌≤◌, ◌<◌, ◌∷◌, ℕ, IfErr, IfOk, IfSome, List, None, OnOk, Some, count_by, drop, false, length};
+ghost use Rattle.std.specs.Prelude.{◌≡◌, ◌+◌, ◌==◌, ◌≤◌, ◌<◌, ◌∷◌, IfErr, IfOk, IfSome, List, None, OnOk, Some, count_by, drop, false, length};
 ghost use Rattle.wc_grammar_laws.specs.Moves as moves;
 ghost use Rattle.wc_grammar_laws.specs.Moves.{at_first, colon_next};
 ghost use Rattle.wc_model.specs.Text.Marks.{Mark};

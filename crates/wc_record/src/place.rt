@@ -1,4 +1,4 @@
-ghost use Rattle.std.specs.Prelude.{◌≡◌, ◌≤◌, ◌<◌, ◌+◌, length, min, false, true};
+ghost use Rattle.std.specs.Prelude.{◌≡◌, ◌≤◌, ◌<◌, ◌+◌, length, min, true};
 ghost use Rattle.wc_record.specs.Cutting.{AreUnquotedLines, Cuts, Passes};
 ghost use Rattle.wc_record.specs.Places.{after, after_opening, after_plain, is_cut, is_outside, log_start, record_start};
 

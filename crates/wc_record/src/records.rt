@@ -1,7 +1,6 @@
-ghost use Rattle.std.specs.Prelude.{◌≡◌, ◌∷◌, [], ◌⊎◌, ℕ, List, Some, true, false, IfOk, IsErrOf};
+ghost use Rattle.std.specs.Prelude.{◌≡◌, ℕ, List, Some, true, false, IfOk};
 ghost use Rattle.csv.specs.Records.{fields_of};
 ghost use Rattle.csv.specs.Reading.{reader_source};
-ghost use Rattle.wc_model.specs.Run.Log.{Record};
 ghost use Rattle.wc_record.specs.Reading.{HasRecords, TakesFirst, lent, lent_bytes, records_of};
 
 use crate::bounded::Bounded;

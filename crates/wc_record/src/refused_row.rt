@@ -1,5 +1,5 @@
 ghost use Rattle.std.specs.Prelude.{◌≡◌, [], length, option_map};
-ghost use Rattle.csv.specs.Records.{field_at, fields_of};
+ghost use Rattle.csv.specs.Records.{field_at};
 ghost use Rattle.wc_record.specs.Told.{fields_told};
 
 use csv::ByteRecord;

@@ -25,7 +25,7 @@ pub enum RowKind {
 }
 
 /// Why a log gives no further row.
-#[derive(Clone, Copy, Debug, PartialEq, Eq)]
+#[derive(Clone, Copy, PartialEq, Eq)]
 pub enum LogFault {
     /// A row breaks a rule.
     Refused {

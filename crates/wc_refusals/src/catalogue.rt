@@ -93,7 +93,7 @@ fn reading_entry(number: u16) -> Option<&'static Entry>
         number;
         201 "reader": "the text cannot go on like this"
             at "the line of the first token with which the text can't go on", "x" => 1,
-            help "a line of a body is `label: OPERATOR operand`; declarations end with END_VAR, a unit with END_PROGRAM";
+            help "a line of a body is `label: OPERATOR operand`, a declaration `name : TYPE;`; declarations end with END_VAR, a unit with END_PROGRAM";
         202 "reader": "the text ends inside this unit"
             at "the line of the unit's keyword", "PROGRAM" => 1,
             help "close the unit with END_PROGRAM or END_FUNCTION_BLOCK";
@@ -238,7 +238,7 @@ fn log_entry(number: u16) -> Option<&'static Entry>
         number;
         601 "log": "the row has not three fields, or the first row is not ms,kind,data"
             at "the row", "(the empty log)" => 1,
-            help "the first row is ms,kind,data, and each other has three fields too";
+            help "the first row is ms,kind,data, and each other has three fields too, with no data as in 50,S,";
         602 "log": "the moment is not a number of milliseconds below 2^40"
             at "the row", "row ,S," => 2,
             help "the moment is a whole number of milliseconds, 0 to 1099511627775";

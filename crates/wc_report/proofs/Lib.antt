@@ -1,6 +1,5 @@
 mod Lengths
-mod Made
 mod Placed
 mod ScanText
 mod SpacedNumbers
-mod WrittenDigits
+pub mod WrittenDigits

@@ -1,8 +1,7 @@
 ghost use Rattle.std.specs.Prelude.{◌≡◌, ◌++◌, IsOkUnless, OnOk};
 ghost use Rattle.wc_model.specs.Run.Hex.{hex_of_bytes};
 
-use crate::memory::or_memory;
-use wc_model::Fault;
+use wc_model::{Fault, or_memory};
 
 /// Puts the hexadecimal digits of these bytes, two for each, behind a text. `Memory` is the only fault.
 pub(crate) fn put_digits(text: &mut Vec<u8>, bytes: &[u8]) -> Result<(), Fault>

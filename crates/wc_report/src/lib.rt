@@ -4,7 +4,7 @@
 mod backward;
 mod digits;
 mod lines;
-mod memory;
 mod numbers;
 
 pub use lines::{path_line, put_answer_line, put_scan_line, refused_line, unit_line};
+pub use numbers::{put_number, put_signed};

@@ -5,10 +5,9 @@ ghost use Rattle.wc_model.specs.Say.UnitReport.{path_line, unit_line};
 
 use crate::backward;
 use crate::digits::put_digits;
-use crate::memory::or_memory;
-use crate::numbers::{put_bytes, put_number, spaced_lines};
+use crate::numbers::{put_number, spaced_lines};
 use std::alloc::Global;
-use wc_model::{Fault, Outputs, Steps};
+use wc_model::{Fault, Outputs, Steps, or_memory, put_bytes};
 
 /// Puts the line of a scan behind a text: `S`, its moment in milliseconds, its steps, the bits of `%QX0` in four hexadecimal
 /// digits, and the words `%QD0` to `%QD3`, with a space between and a line feed at the end. Each value of each type can be

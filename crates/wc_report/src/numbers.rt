@@ -1,27 +1,28 @@
 ghost use Rattle.std.specs.Prelude.{◌≡◌, ◌++◌, decimal, IfOk, IsOkUnless, OnOk};
+ghost use Rattle.std.specs.Fmt.{signed_decimal};
 ghost use Rattle.std.specs.String.{string_bytes};
 ghost use Rattle.wc_model.specs.Say.UnitReport.{spaced_lines};
 
-use crate::memory::or_memory;
 use itoa::Buffer;
 use std::alloc::Global;
-use wc_model::Fault;
-
-/// Puts bytes behind a text. `Memory` is the only fault.
-pub(crate) fn put_bytes(text: &mut Vec<u8>, bytes: &[u8]) -> Result<(), Fault>
-    ensures bytes { OnOk result (text.new.items ≡ text.old.items ++ bytes.now) }
-    ensures memory { IsOkUnless result Fault.Memory }
-{
-    or_memory(text.extend_from_slice(bytes))
-}
+use wc_model::{Fault, or_memory, put_bytes};
 
 /// Puts a number in decimal digits behind a text. `Memory` is the only fault.
-pub(crate) fn put_number(text: &mut Vec<u8>, number: u64) -> Result<(), Fault>
+pub fn put_number(text: &mut Vec<u8>, number: u64) -> Result<(), Fault>
     ensures digits { OnOk result (text.new.items ≡ text.old.items ++ decimal number) }
     ensures memory { IsOkUnless result Fault.Memory }
 {
     let mut buffer = Buffer::new();
     put_bytes(text, buffer.format(number).as_bytes())
+}
+
+/// Puts a number in decimal digits behind a text, with a sign before it where it is negative. `Memory` is the only fault.
+pub fn put_signed(text: &mut Vec<u8>, number: i64) -> Result<(), Fault>
+    ensures digits { OnOk result (text.new.items ≡ text.old.items ++ signed_decimal number) }
+    ensures memory { IsOkUnless result Fault.Memory }
+{
+    let mut signed = Buffer::new();
+    put_bytes(text, signed.format(number).as_bytes())
 }
 
 /// The numbers of lines in decimal digits, each after a space. `Memory` is the only fault.

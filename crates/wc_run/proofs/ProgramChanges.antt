@@ -98,23 +98,3 @@ stops_change old machine number ms fault is changes = stops_by old machine numbe
 pub keeps_moment : (machine new : MachineState) (next : Option LoadedText) (place ms : ℕ) → Changes machine next place (Ok new) → machine.last ≤ ms → new.last ≤ ms
 keeps_moment machine new None place ms changes early = absurd (cc)
 keeps_moment machine new (Some next) place ms changes early = subst (λ last. last ≤ ms) (sym changes.0) early
-
--- with no machine a change leaves the scale as it is
-pub passes_change : (old : Scale) (ms : ℕ) → old.machine ≡ None → TakesRow old old ms Change
-passes_change old ms is plate logic past number stands =
-    record {
-      indicator = stands.indicator;
-      line = subst (λ bytes. StandsAfter old.line bytes) (sym (append-nil (line_bytes past))) stands.line;
-      inputs = stands.inputs;
-      machine = subst (λ kept. StandsAt kept old.next (logic_after plate logic (row_at number ms Change ∷ past))) (sym is)
-          (by_logic logic (subst (λ kept. StandsAt kept old.next (logic_after plate logic past)) is stands.machine));
-    } where
-      by_logic : (logic : Option Logic) → StandsAt None old.next (logic_after plate logic past) → StandsAt None old.next (logic_after plate logic (row_at number ms Change ∷ past))
-      by_logic None at = tt
-      by_logic (Some logic) at = absurd at
-
--- and a run with no program passes over the row
-pub runs_past_change : (old : Scale) (number ms : ℕ) → old.machine ≡ None → RunsRow old (row_at number ms Change)
-runs_past_change old number ms is plate None past stands rest = refl
-runs_past_change old number ms is plate (Some logic) past stands rest =
-    absurd (subst (λ kept. StandsAt kept old.next (logic_after plate (Some logic) past)) is stands.machine)

@@ -1,5 +1,5 @@
 -- What is written of a row's output, and what is held of it.
-use Rattle.std.proofs.Common.{◌≡◌, refl, ap, sym, subst, ◌∙◌, ℕ, List, [], ◌∷◌, ◌++◌, length, drop, Option, Some, None, Result, Ok, Err, append-nil}
+use Rattle.std.proofs.Common.{◌≡◌, ap, sym, subst, ◌∙◌, ℕ, List, [], ◌∷◌, ◌++◌, length, drop, Option, Some, None, Result, Ok, append-nil}
 use Rattle.std.proofs.KnownBytes.{Appends-nil}
 use Rattle.std.proofs.lemmas.Grind.{flat_map-append}
 use Rattle.std.proofs.lemmas.List.{drop-map, length-map, map-append, take_more}
@@ -8,67 +8,13 @@ use Rattle.std.proofs.lemmas.Option.{get_or_from_slice_get, slice_get_within}
 use Rattle.std.specs.Io.KnownBytes.{Appends}
 use Rattle.std.specs.Prelude.{◌+◌, ◌-◌, filter, slice_get, take}
 use Rattle.wc_model.specs.Instrument.WeighingHistories.{last_items}
-use Rattle.wc_model.specs.Say.Report.{AnswerLine, ReportLine, is_scan_line, line_text, report_text}
+use Rattle.wc_model.specs.Say.Report.{ReportLine, is_scan_line, line_text, report_text}
 use Rattle.wc_record.specs.Recorders.{RecorderState, HoldsLast}
 use Rattle.wc_record.specs.declared.last_scans.Record.{Record}
 use Rattle.wc_run.specs.Deferring.{HoldsScans, lines_at_end, lines_at_once}
-use Rattle.wc_run.specs.Doing.{IsCutShort, Puts, Writes}
+use Rattle.wc_run.specs.Doing.{Puts, Writes}
 use Rattle.wc_run.specs.Outputs.{line_of_record, lines_of_records}
 use Rattle.wc_run.specs.declared.fault.RunFault.{RunFault}
-
--- where no scan came the same is held
-held_without_scans : (recorder : Option RecorderState) (number : Option ℕ) (before lines : List ReportLine) → filter is_scan_line lines ≡ []
-    → HoldsScans recorder number before → HoldsScans recorder number (before ++ lines)
-held_without_scans None None before lines none holds = tt
-held_without_scans None (Some number) before lines none holds = absurd holds
-held_without_scans (Some recorder) None before lines none holds = absurd holds
-held_without_scans (Some recorder) (Some number) before lines none holds = (
-  holds.0,
-  holds.1,
-  holds.2 ∙ sym (filter-append is_scan_line before lines ∙ ap (λ l. filter is_scan_line before ++ l) none ∙ append-nil (filter is_scan_line before)),
-)
-
--- nothing is written of no lines
-nothing_at_once : (number : Option ℕ) → lines_at_once number [] ≡ []
-nothing_at_once None = refl
-nothing_at_once (Some number) = refl
-
--- the line of an answer is written at once
-answer_at_once : (number : Option ℕ) (ms : ℕ) (bytes : List ℕ) → report_text (lines_at_once number (AnswerLine ms bytes ∷ [])) ≡ line_text (AnswerLine ms bytes)
-answer_at_once None ms bytes = append-nil (line_text (AnswerLine ms bytes))
-answer_at_once (Some number) ms bytes = append-nil (line_text (AnswerLine ms bytes))
-
--- a row of no lines is put
-pub puts_nothing : {X : Type 0} (x : X) (recorder : Option RecorderState) (number : Option ℕ) (before lines : List ReportLine) (taken : Option (List ℕ))
-    → lines ≡ [] → HoldsScans recorder number before → Puts number before lines recorder (Ok x) taken taken
-puts_nothing x recorder number before lines taken none holds = (
-  held_without_scans recorder number before lines (ap (filter is_scan_line) none) holds,
-  subst (λ t. Appends taken taken (report_text t)) (sym (ap (lines_at_once number) none ∙ nothing_at_once number)) (Appends-nil taken),
-)
-
--- a text that is written, or cut short, is put as these lines
-puts_text : {X : Type 0} (answer : Result X RunFault) (recorder : Option RecorderState) (number : Option ℕ) (before lines : List ReportLine) (text : List ℕ)
-    (old new : Option (List ℕ)) → HoldsScans recorder number (before ++ lines) → report_text (lines_at_once number lines) ≡ text
-    → Writes text answer old new → Puts number before lines recorder answer old new
-puts_text (Ok x) recorder number before lines text old new holds same writes = (holds, subst (λ t. Appends old new t) (sym same) writes)
-puts_text (Err fault) recorder number before lines text old new holds same writes = subst (λ t. IsCutShort fault old new t) (sym same) writes
-
--- the line of an answer is put
-pub puts_line : {X : Type 0} (answer : Result X RunFault) (recorder : Option RecorderState) (number : Option ℕ) (before lines : List ReportLine)
-    (ms : ℕ) (bytes text : List ℕ) (old new : Option (List ℕ)) → lines ≡ AnswerLine ms bytes ∷ [] → text ≡ line_text (AnswerLine ms bytes)
-    → HoldsScans recorder number before → Writes text answer old new → Puts number before lines recorder answer old new
-puts_line answer recorder number before lines ms bytes text old new one same holds writes =
-    puts_text answer recorder number before lines text old new
-    (held_without_scans recorder number before lines (ap (filter is_scan_line) one) holds)
-    (ap (λ l. report_text (lines_at_once number l)) one ∙ answer_at_once number ms bytes ∙ sym same) writes
-
--- with no recorder the line of a scan is put at once
-pub puts_scan : {X : Type 0} (answer : Result X RunFault) (number : Option ℕ) (before lines : List ReportLine) (scan : Record)
-    (old new : Option (List ℕ)) → lines ≡ line_of_record scan ∷ [] → HoldsScans None number before
-    → Writes (line_text (line_of_record scan)) answer old new → Puts number before lines None answer old new
-puts_scan answer None before lines scan old new one holds writes =
-    puts_text answer None None before lines (line_text (line_of_record scan)) old new tt (ap report_text one ∙ append-nil (line_text (line_of_record scan))) writes
-puts_scan answer (Some number) before lines scan old new one holds writes = absurd holds
 
 -- a recorder keeps its record
 pub keeps_scan : {X : Type 0} (x : X) (recorder kept : RecorderState) (number : Option ℕ) (before lines : List ReportLine) (scan : Record)
@@ -104,12 +50,6 @@ pub writes_last : {X : Type 0} (answer : Result X RunFault) (recorder : Recorder
 writes_last answer recorder None lines text old new same holds writes = absurd holds
 writes_last answer recorder (Some number) lines text old new same holds writes =
     subst (λ t. Writes t answer old new) (same ∙ ap report_text (last_lines recorder number lines holds)) writes
-
--- with no recorder there is nothing to write at the end
-pub writes_nothing : {X : Type 0} (x : X) (number : Option ℕ) (lines : List ReportLine) (taken : Option (List ℕ)) → HoldsScans None number lines
-    → Writes (report_text (lines_at_end number lines)) (Ok x) taken taken
-writes_nothing x None lines taken holds = Appends-nil taken
-writes_nothing x (Some number) lines taken holds = absurd holds
 
 -- the text of the records up to one is that of those before it, and its line
 pub one_record_more : (scans : List Record) (index : ℕ) (scan : Record) (text line : List ℕ) → slice_get scans index ≡ Some scan

@@ -1,5 +1,5 @@
 -- Where a device failed, that is told.
-use Rattle.std.proofs.Common.{◌≡◌, ◌≤◌, ℕ, true, false}
+use Rattle.std.proofs.Common.{◌≡◌, ℕ, true, false}
 use Rattle.std.specs.Prelude.{Result, Ok, Err}
 use Rattle.wc_run.specs.Doing.{is_cut_short}
 use Rattle.wc_run.specs.Runs.{HasNotFailed, TellsWrites}
@@ -11,12 +11,6 @@ pub short_says_nothing : (answer : Result ℕ RunFault) (old new : ℕ) → is_c
 short_says_nothing (Ok count) old new short = absurd (cc)
 short_says_nothing (Err (Refused number place)) old new short = absurd (cc)
 short_says_nothing (Err fault) old new short = tt
-
--- whatever the answer, the reader has not failed
-pub has_not_failed : (answer : Result ℕ RunFault) (old new : ℕ) → new ≤ old → HasNotFailed answer old new
-has_not_failed (Ok count) old new few = few
-has_not_failed (Err (Refused number place)) old new few = few
-has_not_failed (Err fault) old new few = tt
 
 -- of a run that was not cut short the writer has not failed
 pub whole_writes : (answer : Result ℕ RunFault) (old new : ℕ) → is_cut_short answer ≡ false → TellsWrites answer old new → new ≡ old

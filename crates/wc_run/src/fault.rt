@@ -1,5 +1,5 @@
 /// Why a run or a check did not end well.
-#[derive(Clone, Copy, Debug, PartialEq, Eq)]
+#[derive(Clone, Copy, PartialEq, Eq)]
 pub enum RunFault {
     /// The input breaks a rule.
     Refused {

@@ -13,8 +13,10 @@ mod running;
 mod scale;
 mod scanner;
 mod scans;
+mod unwritten;
 
 pub use fault::RunFault;
 pub use running::run;
 pub use scanner::{Scanner, Unwatched};
+pub use unwritten::Unwritten;
 pub use wc_record::RefusedRow;

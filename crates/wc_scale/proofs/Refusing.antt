@@ -1,9 +1,9 @@
 -- What is told of a fault is the text's one refusal.
-use Rattle.std.proofs.Common.{◌≡◌, ◌≤◌, inl, ℕ, Bool, false, not, List, Option, Some, None, is_some, sym, subst, arith, refl}
+use Rattle.std.proofs.Common.{◌≡◌, ◌≤◌, ℕ, Bool, false, not, List, Option, Some, None, is_some, sym, subst, arith, refl}
 use Rattle.wc_controller.specs.Loads.{IsRefusedLoad, IsTheOnlyRefusal}
 use Rattle.wc_model.specs.declared.fault.Fault.{Fault}
 use Rattle.wc_model.specs.declared.fault.Fault.TheVariants.{Memory, Refused}
-use Rattle.wc_scale.specs.About.{IsUnitStatus, TellsNoUnit}
+use Rattle.wc_scale.specs.About.{TellsNoUnit}
 use Rattle.wc_scale.specs.Beginning.{IsRefusedAt}
 use Rattle.wc_scale.specs.Programs.{RefusesChange, RefusesLoad}
 use Rattle.wc_scale.specs.Standing.{HasNoProgram, IsClosed}
@@ -24,10 +24,6 @@ refused_at bytes Memory told refused only tells is = absurd (omega arith)
 pub fault_status : (fault : Fault) (told : Refusal) → TellsFault fault told → (told.status ≤ 2) × ¬ (told.status ≡ 0)
 fault_status (Refused number place) told tells = (omega arith, λ none. absurd (omega arith))
 fault_status Memory told tells = (omega arith, λ none. absurd (omega arith))
-
--- so that of no unit, or of no room, is told of the text itself
-pub unit_status : (fault : Fault) (told : Refusal) → TellsFault fault told → IsUnitStatus told.status
-unit_status fault told tells = inl (fault_status fault told tells).0
 
 pub no_unit_told : (bytes : List ℕ) (unit : ℕ) (fault : Fault) (told : Refusal) → TellsFault fault told → TellsNoUnit bytes unit told
 no_unit_told bytes unit fault told tells = λ is. absurd (omega (arith, (fault_status fault told tells).0, is))

@@ -1,4 +1,4 @@
-ghost use Rattle.std.specs.Prelude.{◌≡◌, IfErr, IfOk, Some, None};
+ghost use Rattle.std.specs.Prelude.{Some, None};
 ghost use Rattle.wc_scale.specs.Programs.{RefusesChange, RefusesChangeTo, TakesChange, TakesChangeTo};
 
 use crate::results::{Refusal, of_fault, only};

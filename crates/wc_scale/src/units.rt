@@ -1,4 +1,4 @@
-ghost use Rattle.std.specs.Prelude.{◌≡◌, ◌<◌, ◌≤◌, ◌⊎◌, length, min, replicate, take};
+ghost use Rattle.std.specs.Prelude.{◌≡◌, ◌<◌, ◌⊎◌, length, min, take};
 ghost use Rattle.wc_model.specs.Language.Views.{text_view};
 ghost use Rattle.wc_scale.specs.About.{HasNoUnit, IsPathStatus, IsPathTold, IsTooLong, IsUnitStatus, IsUnitTold, RefusesText, TellsNoRoom, TellsNoUnit, TellsPath, TellsUnit};
 

@@ -12,7 +12,7 @@ use Rattle.wc_lexer.specs.declared.shape.Token.{Token}
 use Rattle.wc_model.specs.Language.Names.{Name, name_of}
 use Rattle.wc_model.specs.Language.Tree.{Assignment, Call, Term}
 use Rattle.wc_model.specs.Text.Grammar.{sign_of}
-use Rattle.wc_model.specs.Text.Marks.{Mark, Symbol, Identifier, Whole, Duration, Truth, Direct, OpeningBracket, ClosingBracket, Comma, Assign, LineEnd}
+use Rattle.wc_model.specs.Text.Marks.{Mark, Identifier, OpeningBracket, ClosingBracket, Comma, LineEnd}
 use Rattle.wc_model.specs.Text.Positions.{Position}
 use Rattle.wc_model.specs.Text.Reading.{mark_of_token, symbol_of}
 use Rattle.wc_model.specs.declared.operator.Condition.{Condition}
@@ -20,7 +20,7 @@ use Rattle.wc_model.specs.declared.operator.Direction.{Direction}
 use Rattle.wc_model.specs.declared.operator.Direction.TheVariants.{Into, OutOf}
 use Rattle.wc_short_lines.proofs.ShortLines.{one_on}
 use Rattle.wc_short_lines.specs.Walks.{walk}
-use Rattle.wc_short_lines.specs.Several.{Begins, BeginsCall, GoesOn, IsArgument, ListEnds, ListsOn, name_or_truth, operand_of}
+use Rattle.wc_short_lines.specs.Several.{Begins, BeginsCall, GoesOn, IsArgument, ListEnds, ListsOn, name_or_truth}
 use Rattle.wc_lines.specs.Words.{marks_of}
 
 -- an input or output and its sign, an operand, and what stands behind it
@@ -30,10 +30,6 @@ argument_marks way bytes line sign operand rest = record { symbol = Identifier b
 -- the formal parameter of this name
 abbrev named_formal : Direction → List ℕ → Formal
 named_formal way bytes = record { direction = way; name = name_of bytes }
-
--- a comma, and what stands behind it
-abbrev and_comma : ℕ → List Mark → List Mark
-and_comma comma behind = record { symbol = Comma; line = comma } ∷ behind
 
 -- the list's end and the line's, and what stands behind them
 abbrev and_ends : (close end : ℕ) → List Mark → List Mark
@@ -46,13 +42,6 @@ named : (way : Direction) (p : Position) (begun : Begun) (call : Listed) (bytes 
 named Into p begun call bytes value line assign at last next behind = refl
 named OutOf p begun call bytes value line assign at last next behind = refl
 
--- a comma behind a name, or behind TRUE or FALSE
-name_goes_on : (p : Position) (begun : Begun) (call : Listed) (input : Formal) (name : Name) (truth : Option Bool) (comma last : ℕ) (behind : List Mark)
-    → walk (on_line p (name_or_literal begun (OfArgument call input) name truth)) (and_comma comma behind) last
-    ≡ walk (OnLine p (Listing begun (with_argument call input (name_or_truth name truth)) AtNext)) behind last
-name_goes_on p begun call input name None comma last behind = refl
-name_goes_on p begun call input name (Some value) comma last behind = refl
-
 -- the list's end behind a name, or behind TRUE or FALSE
 name_ends : (p : Position) (begun : Begun) (call : Listed) (input : Formal) (name : Name) (truth : Option Bool) (close end last : ℕ) (behind : List Mark)
     → walk (on_line p (name_or_literal begun (OfArgument call input) name truth)) (and_ends close end behind) last
@@ -60,69 +49,11 @@ name_ends : (p : Position) (begun : Begun) (call : Listed) (input : Formal) (nam
 name_ends p begun call input name None close end last behind = refl
 name_ends p begun call input name (Some value) close end last behind = refl
 
--- where an argument and a comma lead
-abbrev GoesOnAs : Direction → Listed → List ℕ → (line assign : ℕ) → Mark → ℕ → List Mark → Option Term → Type 0
-GoesOnAs way call bytes line assign operand comma behind None = Unit {0}
-GoesOnAs way call bytes line assign operand comma behind (Some term) =
-    ListsOn call (argument_marks way bytes line assign operand (and_comma comma behind)) (with_argument call (named_formal way bytes) term) behind
-
-any_goes_on : (way : Direction) (call : Listed) (bytes : List ℕ) (line assign : ℕ) (symbol : Symbol) (at comma : ℕ) (behind : List Mark)
-    → GoesOnAs way call bytes line assign (record { symbol = symbol; line = at }) comma behind (operand_of symbol at)
-any_goes_on way call bytes line assign (Identifier value) at comma behind = record {
-  same = λ p begun. record {
-    same = λ last. named way p begun call bytes value line assign at last (record { symbol = Comma; line = comma }) behind
-        ∙ name_goes_on p begun call (named_formal way bytes) (name_of value) (found truths (name_of value)) comma last behind;
-  };
-}
-any_goes_on Into call bytes line assign (Direct value) at comma behind = record { same = λ p begun. record { same = λ last. refl } }
-any_goes_on OutOf call bytes line assign (Direct value) at comma behind = record { same = λ p begun. record { same = λ last. refl } }
-any_goes_on Into call bytes line assign (Whole value) at comma behind = record { same = λ p begun. record { same = λ last. refl } }
-any_goes_on OutOf call bytes line assign (Whole value) at comma behind = record { same = λ p begun. record { same = λ last. refl } }
-any_goes_on Into call bytes line assign (Duration value) at comma behind = record { same = λ p begun. record { same = λ last. refl } }
-any_goes_on OutOf call bytes line assign (Duration value) at comma behind = record { same = λ p begun. record { same = λ last. refl } }
-any_goes_on Into call bytes line assign (Truth value) at comma behind = record { same = λ p begun. record { same = λ last. refl } }
-any_goes_on OutOf call bytes line assign (Truth value) at comma behind = record { same = λ p begun. record { same = λ last. refl } }
-any_goes_on way call bytes line assign symbol at comma behind = tt
-
 -- where an argument, the list's end and the line's lead
 abbrev EndsAs : Direction → Listed → List ℕ → (line assign : ℕ) → Mark → (close end : ℕ) → List Mark → Option Term → Type 0
 EndsAs way call bytes line assign operand close end behind None = Unit {0}
 EndsAs way call bytes line assign operand close end behind (Some term) =
     ListEnds call (argument_marks way bytes line assign operand (and_ends close end behind)) (with_argument call (named_formal way bytes) term) behind
-
-any_ends : (way : Direction) (call : Listed) (bytes : List ℕ) (line assign : ℕ) (symbol : Symbol) (at close end : ℕ) (behind : List Mark)
-    → EndsAs way call bytes line assign (record { symbol = symbol; line = at }) close end behind (operand_of symbol at)
-any_ends way call bytes line assign (Identifier value) at close end behind = record {
-  same = λ p begun. record {
-    same = λ last. named way p begun call bytes value line assign at last (record { symbol = ClosingBracket; line = close }) (record { symbol = LineEnd; line = end } ∷ behind)
-        ∙ name_ends p begun call (named_formal way bytes) (name_of value) (found truths (name_of value)) close end last behind;
-  };
-}
-any_ends Into call bytes line assign (Direct value) at close end behind = record { same = λ p begun. record { same = λ last. refl } }
-any_ends OutOf call bytes line assign (Direct value) at close end behind = record { same = λ p begun. record { same = λ last. refl } }
-any_ends Into call bytes line assign (Whole value) at close end behind = record { same = λ p begun. record { same = λ last. refl } }
-any_ends OutOf call bytes line assign (Whole value) at close end behind = record { same = λ p begun. record { same = λ last. refl } }
-any_ends Into call bytes line assign (Duration value) at close end behind = record { same = λ p begun. record { same = λ last. refl } }
-any_ends OutOf call bytes line assign (Duration value) at close end behind = record { same = λ p begun. record { same = λ last. refl } }
-any_ends Into call bytes line assign (Truth value) at close end behind = record { same = λ p begun. record { same = λ last. refl } }
-any_ends OutOf call bytes line assign (Truth value) at close end behind = record { same = λ p begun. record { same = λ last. refl } }
-any_ends way call bytes line assign symbol at close end behind = tt
-
--- an input or output, its sign and an operand
-is_argument : (way : Direction) (bytes : List ℕ) (line assign : ℕ) (operand : Mark) (term : Term) → operand_of operand.symbol operand.line ≡ Some term
-    → IsArgument (record { symbol = Identifier bytes; line = line }) (record { symbol = sign_of way; line = assign }) operand (record { direction = way; formal = name_of bytes; actual = term })
-is_argument way bytes line assign operand term e = record {
-  goes_on = λ call comma behind. subst (GoesOnAs way call bytes line assign operand comma behind) e (any_goes_on way call bytes line assign operand.symbol operand.line comma behind);
-  ends = λ call close end behind. subst (EndsAs way call bytes line assign operand close end behind) e (any_ends way call bytes line assign operand.symbol operand.line close end behind);
-}
-
--- three tokens that are an argument
-pub is_argument_of : (input assign : Token) (way : Direction) (operand : Mark) (term : Term) → input.shape ≡ Shape.Identifier → (mark_of_token (token_view assign)).symbol ≡ sign_of way → operand_of operand.symbol operand.line ≡ Some term
-    → IsArgument (mark_of_token (token_view input)) (mark_of_token (token_view assign)) operand (record { direction = way; formal = name_of input.text.now; actual = term })
-is_argument_of input assign way operand term a b e =
-    subst (λ s. IsArgument (record { symbol = symbol_of (shape_view s) input.text.now; line = input.line }) (mark_of_token (token_view assign)) operand (record { direction = way; formal = name_of input.text.now; actual = term })) (sym a)
-    (subst (λ s. IsArgument (record { symbol = Identifier input.text.now; line = input.line }) (record { symbol = s; line = assign.line }) operand (record { direction = way; formal = name_of input.text.now; actual = term })) (sym b)
-    (is_argument way input.text.now input.line assign.line operand term e))
 
 -- an argument and a comma at the front of the tokens that are left
 pub takes_argument : (call more : Listed) (tokens : List Token) (other : Token) (argument : Assignment) → 4 ≤ length tokens → (get_or tokens 3 other).shape ≡ Shape.Comma

@@ -11,9 +11,9 @@ use Rattle.wc_model.specs.Language.Declarations.{same_name}
 use Rattle.wc_model.specs.Language.Names.{Name, name_of}
 use Rattle.wc_model.specs.Language.Tree as tree
 use Rattle.wc_model.specs.Language.Tree.{Term}
-use Rattle.wc_model.specs.Text.Keywords.{end_var, end_word}
-use Rattle.wc_model.specs.Text.Marks.{Mark, Symbol, Identifier, Whole, Duration, Truth, Direct, Colon, Semicolon, LineEnd}
-use Rattle.wc_model.specs.Text.Positions.{Opening, Position}
+use Rattle.wc_model.specs.Text.Keywords.{end_word}
+use Rattle.wc_model.specs.Text.Marks.{Mark, Symbol, Identifier, Whole, Duration, Truth, Direct, Colon, LineEnd}
+use Rattle.wc_model.specs.Text.Positions.{Position}
 use Rattle.wc_model.specs.Text.ReadingFaults.{TooMany}
 use Rattle.wc_lexer.specs.Views.{shape_view, token_view}
 use Rattle.wc_lexer.specs.declared.shape.Shape.TheVariants as Shape
@@ -21,8 +21,6 @@ use Rattle.wc_lexer.specs.declared.shape.Token.{Token}
 use Rattle.wc_model.specs.Text.Reading.{mark_of_token, symbol_of}
 use Rattle.wc_short_lines.proofs.WalkSteps.{at_move}
 use Rattle.wc_short_lines.specs.Walks.{walk}
-use Rattle.wc_model.specs.declared.operator.Condition.{Condition}
-use Rattle.wc_model.specs.declared.source.Section.{Section}
 use Rattle.wc_short_lines.specs.Several.{Begins, GoesOn, IsLine, Makes, name_or_truth, operand_of}
 use Rattle.wc_bodies.specs.BodyViews.{fault_of}
 use Rattle.wc_lines.specs.Words.{marks_of, operation_view, symbol_view}
@@ -125,12 +123,6 @@ then_on a b c tokens behind n m e g h =
     subst (λ xs. GoesOn a (marks_of tokens) c (marks_of xs)) (drop-drop m n tokens)
     (and_on a b c (marks_of tokens) (marks_of (drop n tokens)) (marks_of (drop m (drop n tokens))) g (subst (λ xs. GoesOn b (marks_of xs) c (marks_of (drop m xs))) e h))
 
--- a jump with its label
-pub makes_jump : (condition : Condition) (token : Token) → token.shape ≡ Shape.Identifier → Makes (words.Jumps condition) (mark_of_token (token_view token)) (tree.Jump condition (name_of token.text.now))
-makes_jump condition token e =
-    subst (λ s. Makes (words.Jumps condition) (record { symbol = symbol_of (shape_view s) token.text.now; line = token.line }) (tree.Jump condition (name_of token.text.now))) (sym e)
-    (record { no_colon = refl; ends = λ p first end behind. record { same = λ last. refl } })
-
 -- an operator with its operand
 pub makes_operated : (operating : Operating) (mark : Mark) (term : Term) → operand_of mark.symbol mark.line ≡ Some term → Makes (words.Operates operating) mark (step_of operating term)
 makes_operated operating mark term e = record {
@@ -188,87 +180,6 @@ takes_step p next [] other step le end h n = absurd (omega (arith, le))
 takes_step p next (first ∷ []) other step le end h n = absurd (omega (arith, le))
 takes_step p next (first ∷ second ∷ []) other step le end h n = absurd (omega (arith, le))
 takes_step p next (first ∷ second ∷ third ∷ behind) other step le end h n = three_taken p next first second third behind step end h n
-
--- the tokens of a declaration of one name
-declared_on : (units : List tree.ProgramUnit) (unit : tree.ProgramUnit) (section : Section) (bytes kind : List ℕ) (line colon type_line semicolon : ℕ) (behind : List Mark)
-    → same_name (name_of bytes) end_var ≡ false
-    → GoesOn (moves.Declaring units unit section moves.Undeclared)
-    (record { symbol = Identifier bytes; line = line } ∷ record { symbol = Colon; line = colon } ∷ record { symbol = Identifier kind; line = type_line }
-    ∷ record { symbol = Semicolon; line = semicolon } ∷ behind)
-    (moves.Declaring units (moves.with_declaration unit section (record { line = line; name = name_of bytes } ∷ []) (record { line = type_line; name = name_of kind }) None) section moves.Undeclared) behind
-declared_on units unit section bytes kind line colon type_line semicolon behind more =
-    let word : tree.Word = record { line = line; name = name_of bytes } in
-    let named : moves.at_first_name units unit section word ≡ moves.Declaring units unit section (moves.BehindNames (word ∷ [])) = rw more refl in
-    record {
-      same = λ last.
-          (one_on (moves.Declaring units unit section moves.Undeclared) (moves.Declaring units unit section (moves.BehindNames (word ∷ []))) (record { symbol = Identifier bytes; line = line })
-          (record { symbol = Colon; line = colon } ∷ record { symbol = Identifier kind; line = type_line } ∷ record { symbol = Semicolon; line = semicolon } ∷ behind)
-          true refl refl (ap (λ s. Some s) named)).same
-          last
-          ∙ refl;
-    }
-
--- a declaration of one name
-four_taken : (units : List tree.ProgramUnit) (unit next : tree.ProgramUnit) (section : Section) (name colon type_name semicolon : Token) (behind : List Token)
-    → symbol_view name ≡ Identifier name.text.now → same_name (name_of name.text.now) end_var ≡ false → symbol_view colon ≡ Colon → symbol_view type_name ≡ Identifier type_name.text.now
-    → symbol_view semicolon ≡ Semicolon
-    → next ≡ moves.with_declaration unit section (record { line = name.line; name = name_of name.text.now } ∷ []) (record { line = type_name.line; name = name_of type_name.text.now }) None
-    → GoesOn (moves.Declaring units unit section moves.Undeclared) (marks_of (name ∷ colon ∷ type_name ∷ semicolon ∷ behind)) (moves.Declaring units next section moves.Undeclared) (marks_of behind)
-four_taken units unit next section name colon type_name semicolon behind a more b c d n =
-    let marked : Symbol → Symbol → Symbol → Symbol → List Mark =
-    λ x y z v. record { symbol = x; line = name.line } ∷ record { symbol = y; line = colon.line } ∷ record { symbol = z; line = type_name.line } ∷ record { symbol = v; line = semicolon.line } ∷ marks_of behind in
-    let start : State = moves.Declaring units unit section moves.Undeclared in
-    let after : State = moves.Declaring units (moves.with_declaration unit section (record { line = name.line; name = name_of name.text.now } ∷ []) (record { line = type_name.line; name = name_of type_name.text.now }) None) section moves.Undeclared in
-    rw n (subst (λ x. GoesOn start (marked x (symbol_view colon) (symbol_view type_name) (symbol_view semicolon)) after (marks_of behind)) (sym a)
-    (subst (λ y. GoesOn start (marked (Identifier name.text.now) y (symbol_view type_name) (symbol_view semicolon)) after (marks_of behind)) (sym b)
-    (subst (λ z. GoesOn start (marked (Identifier name.text.now) Colon z (symbol_view semicolon)) after (marks_of behind)) (sym c)
-    (subst (λ v. GoesOn start (marked (Identifier name.text.now) Colon (Identifier type_name.text.now) v) after (marks_of behind)) (sym d)
-    (declared_on units unit section name.text.now type_name.text.now name.line colon.line type_name.line semicolon.line (marks_of behind) more)))))
-
--- a declaration of one name at the front of the tokens that are left
-pub takes_declaration : (units : List tree.ProgramUnit) (unit next : tree.ProgramUnit) (section : Section) (tokens : List Token) (other : Token) → 4 ≤ length tokens
-    → symbol_view (get_or tokens 0 other) ≡ Identifier (get_or tokens 0 other).text.now → same_name (name_of (get_or tokens 0 other).text.now) end_var ≡ false
-    → symbol_view (get_or tokens 1 other) ≡ Colon → symbol_view (get_or tokens 2 other) ≡ Identifier (get_or tokens 2 other).text.now
-    → symbol_view (get_or tokens 3 other) ≡ Semicolon
-    → next ≡ moves.with_declaration unit section (record { line = (get_or tokens 0 other).line; name = name_of (get_or tokens 0 other).text.now } ∷ [])
-    (record { line = (get_or tokens 2 other).line; name = name_of (get_or tokens 2 other).text.now }) None
-    → GoesOn (moves.Declaring units unit section moves.Undeclared) (marks_of tokens) (moves.Declaring units next section moves.Undeclared) (marks_of (drop 4 tokens))
-takes_declaration units unit next section [] other le = absurd (omega (arith, le))
-takes_declaration units unit next section (name ∷ []) other le = absurd (omega (arith, le))
-takes_declaration units unit next section (name ∷ colon ∷ []) other le = absurd (omega (arith, le))
-takes_declaration units unit next section (name ∷ colon ∷ type_name ∷ []) other le = absurd (omega (arith, le))
-takes_declaration units unit next section (name ∷ colon ∷ type_name ∷ semicolon ∷ behind) other le = four_taken units unit next section name colon type_name semicolon behind
-
--- a line end at the start of a line is none of the faults
-end_passes : (p : Position) (os : List Opening) (line : ℕ) (colon : Bool) → judge_line p os LineEnd line colon ≡ None
-end_passes p [] line colon = refl
-end_passes p (innermost ∷ outer) line colon = refl
-
--- a line end at the start of a line of a body
-end_at_line : (p : Position) (line : ℕ) (others : List Mark) → GoesOn (moves.AtLine p) (record { symbol = LineEnd; line = line } ∷ others) (moves.AtLine p) others
-end_at_line p line others =
-    one_on (moves.AtLine p) (moves.AtLine p) (record { symbol = LineEnd; line = line }) others (colon_next others false) refl (end_passes p p.openings line (colon_next others false)) refl
-
--- a line end where nothing has begun
-end_taken : (state : State) (first : Token) (behind : List Token) → first.shape ≡ Shape.LineEnd
-    → ((line : ℕ) (others : List Mark) → GoesOn state (record { symbol = LineEnd; line = line } ∷ others) state others)
-    → GoesOn state (marks_of (first ∷ behind)) state (marks_of behind)
-end_taken state first behind end h =
-    subst (λ s. GoesOn state (record { symbol = symbol_of (shape_view s) first.text.now; line = first.line } ∷ marks_of behind) state (marks_of behind)) (sym end) (h first.line (marks_of behind))
-
--- an empty line of a body
-pub takes_end_of_line : (p : Position) (tokens : List Token) (other : Token) → 1 ≤ length tokens → (get_or tokens 0 other).shape ≡ Shape.LineEnd
-    → GoesOn (moves.AtLine p) (marks_of tokens) (moves.AtLine p) (marks_of (drop 1 tokens))
-takes_end_of_line p [] other le end = absurd (omega (arith, le))
-takes_end_of_line p (first ∷ behind) other le end = end_taken (moves.AtLine p) first behind end (end_at_line p)
-
--- a line's end in a section
-pub takes_end_in_section : (units : List tree.ProgramUnit) (unit : tree.ProgramUnit) (section : Section) (tokens : List Token) (other : Token) → 1 ≤ length tokens
-    → (get_or tokens 0 other).shape ≡ Shape.LineEnd
-    → GoesOn (moves.Declaring units unit section moves.Undeclared) (marks_of tokens) (moves.Declaring units unit section moves.Undeclared) (marks_of (drop 1 tokens))
-takes_end_in_section units unit section [] other le end = absurd (omega (arith, le))
-takes_end_in_section units unit section (first ∷ behind) other le end =
-    end_taken (moves.Declaring units unit section moves.Undeclared) first behind end (λ line others. record { same = λ last. refl })
 
 -- a label is no line too many
 unasked : (p : Position) (line : ℕ) (o : Option Operation) → met_if (is_some o && not true && is_full p) TooMany line ≡ None

@@ -54,7 +54,8 @@ fn argument_of<'a>(name: Token<'a>, sign: Token<'a>, operand: Token<'a>) -> Opti
 fn add_argument<'a>(call: &mut Listed<'a>, argument: Argument<'a>) -> Result<(), AllocError>
     ensures { OnOk result
         (listed_view call.new
-        ≡ lines.with_argument (listed_view call.old) (lines.formal_of (assignment_view argument.entry))
+        ≡ lines.with_argument (listed_view call.old)
+        (lines.formal_of (assignment_view argument.entry))
         (assignment_view argument.entry).actual) }
 {
     call.arguments.push(argument)?;

@@ -1,4 +1,4 @@
-ghost use Rattle.std.specs.Prelude.{◌≡◌, ◌∷◌, []};
+ghost use Rattle.std.specs.Prelude.{◌∷◌, []};
 ghost use Rattle.wc_model.specs.Instrument.Answers as told;
 ghost use Rattle.wc_indicator.specs.Kept.{Tells};
 ghost use Rattle.wc_sma.specs.Asking.{mode_view, asked_view};

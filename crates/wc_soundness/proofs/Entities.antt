@@ -10,7 +10,7 @@ use Rattle.wc_model.specs.Language.Kinds.{elementary_kind, term_kind}
 use Rattle.wc_model.specs.Language.Meaning.{Context, value_of, stored_value, written_to}
 use Rattle.wc_model.specs.Language.Names.{Name}
 use Rattle.wc_model.specs.Language.Reasons.{Reason, NoSuchPlace}
-use Rattle.wc_model.specs.Language.Scopes.{Scope, Entity, kind_of, own_entity, type_of, member_entity, field_entity, entity_of, readable_place, writable_place, within}
+use Rattle.wc_model.specs.Language.Scopes.{Scope, Entity, kind_of, own_entity, type_of, member_entity, entity_of, within}
 use Rattle.wc_model.specs.Language.Store.{Location, Direct, Path, Content, Store, same_direct, value_at, written, below, variable_places, unit_places, block_places, first_content, standard_fields}
 use Rattle.wc_model.specs.Language.Tree.{Word, Term, Constant, Address, Variable as NameOf, Field, ProgramUnit}
 use Rattle.wc_model.specs.declared.block.StandardBlock.{StandardBlock}
@@ -21,7 +21,7 @@ use Rattle.wc_model.specs.declared.kind.SlotKind.{SlotKind}
 use Rattle.wc_model.specs.declared.kind.SlotKind.TheVariants.{Bool as SlotBool, Dint as SlotDint, Time as SlotTime}
 use Rattle.wc_model.specs.declared.value.Value.{Value}
 use Rattle.wc_soundness.proofs.Places.{value_there, written-there, content_at-below, content_at-beside, Some-same, places_of, own_content, first_content-slot, plain_slot, block_places-found}
-use Rattle.wc_soundness.proofs.Tests.{same_name-sound, same_name-refl, same_direct-refl}
+use Rattle.wc_soundness.proofs.Tests.{same_name-sound, same_direct-refl}
 use Rattle.wc_soundness.specs.Typing.{slot_of_kind, slot_of, slot_at, SameSlots, content_at, FitsScope}
 
 -- a direct variable that an address names is one of those that there are

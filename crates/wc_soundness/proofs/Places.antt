@@ -6,7 +6,7 @@ use Rattle.wc_model.specs.Language.Declarations.{Variable, Elementary, same_name
 use Rattle.wc_model.specs.Language.Names.{Name}
 use Rattle.wc_model.specs.Language.Reasons.{Reason, NoSuchPlace, WrongKind}
 use Rattle.wc_model.specs.Language.Scopes.{Scope, kind_of}
-use Rattle.wc_model.specs.Language.Store.{Location, Direct, Path, Content, Plain, Moment, Phase, Store, same_path, same_place, with_content, value_at, same_kind, written, below, variable_places, places_declared, unit_places, block_places, first_content, zero_of}
+use Rattle.wc_model.specs.Language.Store.{Location, Direct, Path, Content, Plain, Moment, Phase, Store, same_path, same_place, with_content, value_at, same_kind, written, below, variable_places, places_declared, unit_places, block_places, first_content}
 use Rattle.wc_model.specs.Language.Tree.{ProgramUnit}
 use Rattle.wc_model.specs.declared.kind.Kind.{Kind}
 use Rattle.wc_model.specs.declared.kind.Kind.TheVariants.{Bool as KindBool, Dint as KindDint, Time as KindTime}

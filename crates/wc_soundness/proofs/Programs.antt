@@ -1,8 +1,8 @@
 -- A program whose bodies break no rule is never stuck.
 use Rattle.std.proofs.Common.{◌≡◌, ℕ, Bool, true, false, ◌||◌, List, [], ◌∷◌, ◌++◌, map, Option, Some, None, refl, sym, ap, subst, ◌∙◌}
-use Rattle.std.specs.List.{flat_map, list_any, list_all, AllByRecursion}
+use Rattle.std.specs.List.{flat_map, list_any, list_all}
 use Rattle.std.specs.Option.{option_map}
-use Rattle.std.specs.Prelude.{MatchOption, if◌then◌else◌, reverse, slice_index_or, pos}
+use Rattle.std.specs.Prelude.{MatchOption, if◌then◌else◌, slice_index_or, pos}
 use Rattle.wc_model.specs.Language.BodyRules.{step_rules, label_rules, spot_rules, body_rules, opening_checks, closing_checks, inside_rules}
 use Rattle.wc_model.specs.Language.Checks.{Check, Spot, spots_behind}
 use Rattle.wc_model.specs.Language.Declarations.{same_name, block_named, is_block}

@@ -3,7 +3,7 @@ use Rattle.std.proofs.Common.{◌≡◌, ℕ, zero, suc, Bool, true, false, not,
 use Rattle.std.proofs.lemmas.Bool.{leb-true}
 use Rattle.std.specs.Prelude.{if◌then◌else◌, is_some}
 use Rattle.wc_model.specs.Language.BodyRules.{is_readable, is_writable, is_of, is_bool, takes, divides, is_divisor, is_bit_literal, suits_result, load_checks, store_checks, apply_checks, is_ahead, truth_checks, condition_checks}
-use Rattle.wc_model.specs.Language.Checks.{Check, Spot, spots_behind, spots_of}
+use Rattle.wc_model.specs.Language.Checks.{Check}
 use Rattle.wc_model.specs.Language.Kinds.{BodyLine, is_kind, term_kind, step_leaves}
 use Rattle.wc_model.specs.Language.Meaning.{Mode, Running, Seeking, Returned, Effect, Goes, Context, as_truth, takes_truth, beside, value_of, written_to, given, from_value, from_store, acts, chosen, stored, set_where, store_effect, next, step_effect}
 use Rattle.wc_model.specs.Language.Names.{Name}

@@ -1,5 +1,5 @@
 -- A text that is read by places, before the costs.
-use Rattle.std.proofs.Common.{◌≡◌, ℕ, List, [], None, Err, length, map, arith}
+use Rattle.std.proofs.Common.{◌≡◌, ℕ, List, [], None, Err, map, arith}
 use Rattle.std.proofs.lemmas.List.{length-map}
 use Rattle.wc_cost.specs.Faultless.{IsFaultless, Measures}
 use Rattle.wc_flat.proofs.Shortness.{tokens_fit}
@@ -9,7 +9,7 @@ use Rattle.wc_model.specs.Language.Faults.{body_fault, declaration_fault}
 use Rattle.wc_model.specs.Language.Tree.{Text}
 use Rattle.wc_model.specs.declared.fault.Fault.{Fault}
 use Rattle.wc_model.specs.declared.fault.Fault.TheVariants.{Memory, Refused}
-use Rattle.wc_spots.specs.LaterSpots.{IsTokenFault, at_costs}
+use Rattle.wc_spots.specs.LaterSpots.{at_costs}
 use Rattle.wc_spots.specs.Spotting.{IsNamed}
 use Rattle.wc_stops.specs.ReadingSpots.{AreReadByPlaces, place_mark, place_marks}
 

@@ -1,5 +1,5 @@
 -- Which tokens of an instruction a refusal of pass 4 means. (The profile's own.)
-use Rattle.std.specs.Prelude.{◌≡◌, ◌==◌, ℕ, ◌+◌, ◌-◌, ◌≤◌, Bool, true, false, not, List, drop, length, option_map, Option, Some, None, slice_get, take, if◌then◌else◌, ◌⊎◌}
+use Rattle.std.specs.Prelude.{◌≡◌, ◌==◌, ℕ, ◌+◌, ◌-◌, ◌≤◌, Bool, true, false, List, drop, length, Option, slice_get, take, if◌then◌else◌, ◌⊎◌}
 use Rattle.std.specs.List.{position_or_len}
 use Rattle.std.specs.Option.{option_map_or}
 use Rattle.wc_lexer.specs.declared.shape.Shape.{Shape}

@@ -25,7 +25,7 @@ use wc_stops::Placed;
 use wc_verify::judge_bodies;
 
 /// Why a pass behind reading refuses a text, the piece of the text that is meant, and what is known of it.
-#[derive(Clone, Copy, PartialEq, Eq)]
+#[derive(Clone, Copy)]
 pub struct LaterSpot {
     /// The number and the line of the fault, or want of memory.
     pub fault: Fault,

@@ -13,7 +13,7 @@ use wc_lines::{InLine, InList, LineForm, LineState, OperandOf, Operating};
 use wc_reader::{LinePlace, Reading, TextState, has_program};
 
 /// What could stand where a token is refused.
-#[derive(Clone, Copy, Debug, PartialEq, Eq)]
+#[derive(Clone, Copy, PartialEq, Eq)]
 pub enum Awaits {
     /// Nothing, or that is not what is wrong.
     Nothing,

@@ -21,7 +21,7 @@ use wc_reader::{Reading, at_text_end, last_line, read_at, reading_start, take_li
 
 /// Why the reading of a text stopped, the piece of the text at which it did, and what could stand
 /// there.
-#[derive(Clone, Copy, Debug, PartialEq, Eq)]
+#[derive(Clone, Copy)]
 pub struct Stop {
     /// The number and the line of the fault, or want of memory.
     pub fault: Fault,

@@ -1,11 +1,11 @@
-ghost use Rattle.std.specs.Prelude.{◌≡◌, pos, IsTrue, ◌↔◌};
+ghost use Rattle.std.specs.Prelude.{◌≡◌, pos};
 ghost use Rattle.wc_model.specs.Language.Frames.{IsInRange};
 ghost use Rattle.wc_store.specs.Inside.{number_view, tag_view};
 
 use wc_model::SlotKind;
 
 /// A number with its kind.
-#[derive(Clone, Copy, PartialEq, Eq)]
+#[derive(Clone, Copy)]
 pub(crate) enum TaggedNumber {
     /// FALSE or TRUE.
     Bool(bool),

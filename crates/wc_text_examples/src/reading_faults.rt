@@ -1,5 +1,5 @@
 ghost use Rattle.std.specs.Prelude.{ℕ, ◌≤◌, ◌∷◌, [], ◌++◌, codes};
-ghost use Rattle.wc_text_examples.specs.Texts.{mark, ident, end_of, address, program_p};
+ghost use Rattle.wc_text_examples.specs.Texts.{mark, ident, end_of};
 ghost use Rattle.wc_text_examples.specs.Faulty.{loaded, opened, opened_short, one_program, eight_opened, jmpnc_before, jmpnc_left, bare_load_before, blocks, program_of_loads};
 ghost use Rattle.wc_model.specs.Text.Grammar.{IsFront};
 ghost use Rattle.wc_model.specs.Text.Marks.{OpeningBracket, ClosingBracket, Colon};

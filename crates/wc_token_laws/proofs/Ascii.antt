@@ -1,5 +1,5 @@
 -- The tokens of a text, and the identifiers that the grammar sees in them, are ASCII.
-use Rattle.std.proofs.Common.{◌≡◌, ℕ, zero, suc, ◌<◌, Bool, true, false, cond, ◌&&◌, ◌||◌, nat_le, List, [], ◌∷◌, ◌++◌, map, drop, sym, subst, ⊎_elim, arith, IsTrue}
+use Rattle.std.proofs.Common.{◌≡◌, ℕ, zero, suc, ◌<◌, Bool, true, false, cond, ◌&&◌, nat_le, List, [], ◌∷◌, ◌++◌, map, drop, sym, subst, ⊎_elim, arith, IsTrue}
 use Rattle.std.proofs.lemmas.Bool.{and_parts, or_cases, eqb-true, leb-true}
 use Rattle.std.proofs.lemmas.Str.{IsAscii-append}
 use Rattle.std.proofs.lemmas.Str.Ascii.{IsAscii-nil}

@@ -9,7 +9,6 @@ mod levels;
 mod notes;
 mod rows;
 mod tracing;
-mod unwritten;
 mod values;
 mod watch;
 

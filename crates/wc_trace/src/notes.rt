@@ -1,6 +1,5 @@
-use crate::values::put;
 use std::alloc::Global;
-use wc_model::{Argument, Direction, Fault, Instr, Kind, Line, Operand, Source, Value};
+use wc_model::{Argument, Direction, Fault, Instr, Kind, Line, Operand, Source, Value, put_bytes};
 
 /// What a line of the text names, beside its flat lines: of a load the kind of its literal, of a store its target, of a call
 /// its instance, and behind that note one for each item of its list, the inputs first.
@@ -33,10 +32,10 @@ impl Notes {
         field: &[u8],
     ) -> Result<(), Fault> {
         let start = self.names.len();
-        put(&mut self.names, name)?;
+        put_bytes(&mut self.names, name)?;
         if !field.is_empty() {
-            put(&mut self.names, b".")?;
-            put(&mut self.names, field)?;
+            put_bytes(&mut self.names, b".")?;
+            put_bytes(&mut self.names, field)?;
         }
         let note = Note {
             line,

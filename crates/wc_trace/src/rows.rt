@@ -1,10 +1,11 @@
 use crate::legend::Legend;
 use crate::levels::{Levels, Said};
-use crate::values::{put, put_number, value_of};
+use crate::values::value_of;
 use std::alloc::Global;
 use wc_changes::put_value;
 use wc_machine::SeenLine;
-use wc_model::{Code, Fault, Kind};
+use wc_model::{Code, Fault, Kind, put_bytes};
+use wc_report::put_number;
 
 /// The column at which the result of a row begins, and that of what it writes, each counted from its first.
 const RESULT: usize = 44;
@@ -19,7 +20,7 @@ fn put_gap(text: &mut Vec<u8>, start: usize, column: usize) -> Result<(), Fault>
     let there = text.len().saturating_sub(start);
     let count = column.saturating_sub(there).max(2);
     for _space in 0..count {
-        put(text, b" ")?;
+        put_bytes(text, b" ")?;
     }
     Ok(())
 }
@@ -57,22 +58,22 @@ fn trimmed(line: &[u8]) -> &[u8] {
 fn put_line(text: &mut Vec<u8>, line: &[u8]) -> Result<(), Fault> {
     let line = trimmed(line);
     for byte in line.iter().take(LONGEST) {
-        put(text, &[shown(*byte)])?;
+        put_bytes(text, &[shown(*byte)])?;
     }
     if line.len() > LONGEST {
-        return put(text, b"..");
+        return put_bytes(text, b"..");
     }
     Ok(())
 }
 
 /// Puts a number, with spaces before it up to six columns.
-fn put_aligned(alloc: Global, text: &mut Vec<u8>, number: u32) -> Result<(), Fault> {
+fn put_aligned(text: &mut Vec<u8>, number: u32) -> Result<(), Fault> {
     for least in [100_000, 10_000, 1_000, 100, 10] {
         if number < least {
-            put(text, b" ")?;
+            put_bytes(text, b" ")?;
         }
     }
-    put_number(alloc, text, u64::from(number))
+    put_number(text, u64::from(number))
 }
 
 /// Whether a flat line is a line of the body itself, and no part of a call.
@@ -85,21 +86,16 @@ fn is_body_line(line: &Code) -> bool {
 }
 
 /// Puts the number of the line and its text, or room for them beside a part of a call; deeper calls stand further right.
-fn put_place(
-    alloc: Global,
-    text: &mut Vec<u8>,
-    legend: &Legend,
-    seen: &SeenLine,
-) -> Result<(), Fault> {
+fn put_place(text: &mut Vec<u8>, legend: &Legend, seen: &SeenLine) -> Result<(), Fault> {
     if is_body_line(&seen.line) {
-        put_aligned(alloc, text, seen.source)?;
+        put_aligned(text, seen.source)?;
     } else {
-        put(text, b"      ")?;
+        put_bytes(text, b"      ")?;
     }
     for _call in 0..seen.depth.min(8) {
-        put(text, b"  ")?;
+        put_bytes(text, b"  ")?;
     }
-    put(text, b"  ")?;
+    put_bytes(text, b"  ")?;
     if is_body_line(&seen.line) {
         return put_line(text, legend.line(seen.source));
     }
@@ -129,14 +125,14 @@ fn put_written(
     said: &Said,
 ) -> Result<(), Fault> {
     if let Some(note) = &said.note {
-        put(text, legend.name(note))?;
+        put_bytes(text, legend.name(note))?;
     }
     match seen.written {
         Some(number) => {
-            put(text, b" := ")?;
+            put_bytes(text, b" := ")?;
             put_literal(alloc, text, said.written, number)
         }
-        None => put(text, b"()"),
+        None => put_bytes(text, b"()"),
     }
 }
 
@@ -157,7 +153,7 @@ fn put_row(
     said: &Said,
 ) -> Result<(), Fault> {
     let start = text.len();
-    put_place(alloc, text, legend, seen)?;
+    put_place(text, legend, seen)?;
     if let (Some(number), true) = (seen.result, is_body_line(&seen.line)) {
         put_gap(text, start, RESULT)?;
         put_literal(alloc, text, said.result, number)?;
@@ -166,25 +162,25 @@ fn put_row(
         put_gap(text, start, WRITTEN)?;
         put_written(alloc, text, legend, seen, said)?;
     }
-    put(text, b"\n")
+    put_bytes(text, b"\n")
 }
 
 /// Puts the heading of a scan: its number among those of the run, and its moment.
-fn put_heading(alloc: Global, text: &mut Vec<u8>, number: u32, ms: u64) -> Result<(), Fault> {
-    put(text, b"scan ")?;
-    put_number(alloc, text, u64::from(number))?;
-    put(text, b" at ")?;
-    put_number(alloc, text, ms)?;
-    put(text, b" ms\n")
+fn put_heading(text: &mut Vec<u8>, number: u32, ms: u64) -> Result<(), Fault> {
+    put_bytes(text, b"scan ")?;
+    put_number(text, u64::from(number))?;
+    put_bytes(text, b" at ")?;
+    put_number(text, ms)?;
+    put_bytes(text, b" ms\n")
 }
 
 /// Puts how many steps a scan took, and how many one takes at most.
-fn put_steps(alloc: Global, text: &mut Vec<u8>, steps: usize, bound: u32) -> Result<(), Fault> {
-    put(text, b"steps ")?;
-    put_number(alloc, text, steps as u64)?;
-    put(text, b" of at most ")?;
-    put_number(alloc, text, u64::from(bound))?;
-    put(text, b"\n")
+fn put_steps(text: &mut Vec<u8>, steps: usize, bound: u32) -> Result<(), Fault> {
+    put_bytes(text, b"steps ")?;
+    put_number(text, steps as u64)?;
+    put_bytes(text, b" of at most ")?;
+    put_number(text, u64::from(bound))?;
+    put_bytes(text, b"\n")
 }
 
 /// Puts the rows of a scan behind a text: a heading, a row for each item that was seen of it, in the order of execution, and
@@ -198,11 +194,11 @@ pub(crate) fn put_scan(
     bound: u32,
     lines: &[SeenLine],
 ) -> Result<(), Fault> {
-    put_heading(alloc, text, number, ms)?;
+    put_heading(text, number, ms)?;
     let mut levels = Levels::new(alloc);
     for seen in lines {
         let said = levels.follow(alloc, legend, seen)?;
         put_row(alloc, text, legend, seen, &said)?;
     }
-    put_steps(alloc, text, lines.len(), bound)
+    put_steps(text, lines.len(), bound)
 }

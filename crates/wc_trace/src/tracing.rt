@@ -1,6 +1,6 @@
 ghost use Rattle.std.specs.Prelude.{◌≡◌, ◌+◌, None, is_some};
 ghost use Rattle.wc_controller.specs.Blames.{Blames, RefusesLog, RefusesProgram};
-ghost use Rattle.wc_controller.specs.Endings.{IsAt, RefusesPlate, TellsReadEndings};
+ghost use Rattle.wc_controller.specs.Endings.{IsAt, RefusesPlate};
 ghost use Rattle.wc_controller.specs.Shown.{EndsLikeRun, IsEndedBy};
 ghost use Rattle.wc_controller.specs.TakenLogs.{count_of, known_of, log_beside};
 ghost use Rattle.wc_job.specs.Reads.{TakesAtMost};
@@ -9,29 +9,11 @@ ghost use Rattle.wc_record.specs.Left.{HasCause};
 ghost use Rattle.wc_record.specs.Told.{fields_told};
 
 use crate::chosen::Chosen;
-use crate::unwritten::Unwritten;
 use crate::watch::{Watch, WatchFault};
 use std::alloc::Global;
-use wc_controller::{Ending, Input, RefusedRow, run_files};
-use wc_model::{ByteIn, ByteOut, write_whole};
-use wc_report::refused_line;
-
-/// Writes the line of a refusal, and ends with it.
-fn end_refused<W: ByteOut>(alloc: Global, ending: Ending, writer: &mut W) -> Ending
-    ensures { IsEndedBy ending result }
-{
-    let Ending::Refused { number, place, .. } = ending else {
-        return ending;
-    };
-    let line = match refused_line(alloc, number, place) {
-        Ok(line) => line,
-        Err(_) => return Ending::NoMemory,
-    };
-    match write_whole(writer, &line) {
-        Ok(()) => ending,
-        Err(_) => Ending::WriteFault,
-    }
-}
+use wc_controller::{Ending, Input, RefusedRow, end_shown, run_files};
+use wc_model::{ByteIn, ByteOut};
+use wc_run::Unwritten;
 
 /// How a run ends whose scans could be shown, or could not.
 fn end_watched(ending: Ending, fault: Option<WatchFault>) -> Ending
@@ -106,5 +88,5 @@ pub fn trace_files<P: ByteIn, T: ByteIn, N: ByteIn, L: ByteIn, W: ByteOut>(
     );
     let fault = watch.fault();
     drop(watch);
-    end_refused(alloc, end_watched(ending, fault), writer)
+    end_shown(alloc, end_watched(ending, fault), writer)
 }

@@ -4,7 +4,7 @@ use Rattle.std.proofs.lemmas.List.{map-append}
 use Rattle.std.specs.Prelude.{reverse}
 use Rattle.wc_model.specs.Language.BlockCalls.{standard_called}
 use Rattle.wc_model.specs.Language.Declarations.{VariableType, Elementary, Standard, Block, Member, same_name, members_of}
-use Rattle.wc_model.specs.Language.Meaning.{Outcome, Done, Stuck, Mode, Running, Seeking, Returned, Effect, Goes, Fails, Context, Calls, arriving, after, continued, beside, given, from_value, from_store, chosen, acts, value_of, written_to, stored, set_where, store_effect, next, assigned_one, assigned, given_one, given_out, call_trace, body_outcome, made, called_type, call_effect, step_effect, line_effect, closed, opened, nested_effect, means, called}
+use Rattle.wc_model.specs.Language.Meaning.{Outcome, Done, Stuck, Mode, Running, Seeking, Returned, Effect, Goes, Fails, Context, Calls, arriving, after, continued, beside, given, from_value, from_store, chosen, acts, value_of, written_to, stored, set_where, store_effect, next, assigned_one, assigned, given_one, given_out, call_trace, body_outcome, made, called_type, call_effect, step_effect, line_effect, closed, nested_effect, means, called}
 use Rattle.wc_model.specs.Language.Names.{Name}
 use Rattle.wc_model.specs.Language.Operators.{apply, negated}
 use Rattle.wc_model.specs.Language.Reasons.{Reason, NoSuchPlace}

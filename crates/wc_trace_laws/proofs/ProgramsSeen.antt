@@ -12,7 +12,7 @@ use Rattle.wc_flat.specs.Laid.{IsLaid}
 use Rattle.wc_model.specs.Language.Declarations.{same_name, is_block, block_named}
 use Rattle.wc_model.specs.Language.Frames.{slot_kinds}
 use Rattle.wc_model.specs.Language.Meaning as meaning
-use Rattle.wc_model.specs.Language.Meaning.{Outcome, Running, Context, body_means, means, called}
+use Rattle.wc_model.specs.Language.Meaning.{Outcome, Running, body_means, means, called}
 use Rattle.wc_model.specs.Language.Names.{Name}
 use Rattle.wc_model.specs.Language.Store.{Location, Content, Store}
 use Rattle.wc_model.specs.Language.Tree.{ProgramUnit}

@@ -1,5 +1,5 @@
 -- Texts that give no output out are spelled as they were.
-use Rattle.std.proofs.Common.{◌≡◌, Bool, true, false, List, [], ◌∷◌, Some, if◌then◌else◌, refl, sym, ap, subst}
+use Rattle.std.proofs.Common.{◌≡◌, Bool, true, false, List, [], ◌∷◌, Some, refl, sym, ap, subst}
 use Rattle.std.specs.Prelude.{◌↔◌}
 use Rattle.wc_model.specs.Language.Tree.{Alone, Apply, Assignment, Call, End, Jump, Lines, Load, Negate, Nested, Plain, ProgramUnit, Return, Step, Store, Text, goes_in, outputs_of}
 use Rattle.wc_model.specs.Text.Grammar.{HasContent, InBody, InParentheses, IsOn, IsOperatorOf, MayStand, Setting, Spells, argument, call_list, head, identifier, label_in, line_ends, lines, opening, operand, operands_of, sign_of, symbol, unit_of, units}

@@ -46,12 +46,6 @@ argument_found scope members spot kind r formal new found line rest =
     (λ i. first_broken (asks 409 line (is_some (formal.is i)) ∷ asks 410 line (not (new i)) ∷ actual_checks scope line spot.item.direction (formal.is i) spot.item.actual ++ rest))
     ∙ found formal.member formal.kind_is line rest
 
--- one that is named before
-pub assigned_found : (scope : Scope) (members : List Member) (spot : Spot Assignment) (kind : Kind) (line : ℕ) (rest : List Check) → IsFormal (formal_named spot.item.direction members spot.item.formal) kind →
-    list_any (λ a. same_name a.formal spot.item.formal) spot.before ≡ true → first_broken (argument_checks scope line members spot ++ rest) ≡ Some (record { number = 410; line = line })
-assigned_found scope members spot kind line rest formal old =
-    (λ i. first_broken (asks 409 line (is_some (formal.is i)) ∷ asks 410 line (not (old i)) ∷ actual_checks scope line spot.item.direction (formal.is i) spot.item.actual ++ rest))
-
 or_last : (a b : Bool) → (a || (b || false)) ≡ (b || a)
 or_last true true = refl
 or_last true false = refl

@@ -31,9 +31,5 @@ with_one kind [] = refl
 with_one kind (other ∷ ways) =
     same_first (same_result kind other) (list_all (same_result kind) ways) (list_all (same_result other) ways) kind other (same_result-sound kind other) (λ e. ap (λ k. list_all (same_result k) ways) (same_result-sound kind other e)) refl
 
--- of none or one, and others
-pub none_joined : (ways : List (Option Kind)) → way_of ([] ++ ways) ≡ joined_ways (way_of []) (way_of ways)
-none_joined ways = refl
-
 pub one_joined : (kind : Option Kind) (ways : List (Option Kind)) → way_of (kind ∷ [] ++ ways) ≡ joined_ways (way_of (kind ∷ [])) (way_of ways)
 one_joined kind ways = with_one kind ways

@@ -1,4 +1,4 @@
-ghost use Rattle.std.specs.Prelude.{◌≡◌, ◌<◌, List, OnOk, IfOk, IsOkUnless, option_map, zero, [], false};
+ghost use Rattle.std.specs.Prelude.{◌≡◌, ◌<◌, OnOk, IfOk, IsOkUnless, option_map, []};
 ghost use Rattle.wc_model.specs.Language.Kinds.{lines_of};
 ghost use Rattle.wc_model.specs.Language.Meaning.{carries};
 ghost use Rattle.wc_model.specs.Language.Names.{Name, name_of};

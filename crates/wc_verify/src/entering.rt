@@ -1,8 +1,7 @@
-ghost use Rattle.std.specs.Prelude.{◌≡◌, ◌++◌, Bool, List, Option, OnOk, IfOk, option_map};
+ghost use Rattle.std.specs.Prelude.{◌≡◌, ◌++◌, List, Option, OnOk, IfOk, option_map};
 ghost use Rattle.std.specs.List.{list_any};
 ghost use Rattle.wc_model.specs.Language.BodyRules.{label_rules};
 ghost use Rattle.wc_model.specs.Language.Checks.{Check, first_broken};
-ghost use Rattle.wc_model.specs.Language.Declarations.{same_name};
 ghost use Rattle.wc_model.specs.Language.Judging.{Judges};
 ghost use Rattle.wc_model.specs.Language.Kinds.{BodyLine, label_of};
 ghost use Rattle.wc_model.specs.Language.Meaning.{carries};
@@ -44,9 +43,7 @@ fn enter_label<'a>(
         given: true,
         way: Way::Unseen,
     };
-    if let Err(fault) = labels.set(word.text, entered) {
-        return Err(fault);
-    }
+    labels.set(word.text, entered)?;
     Ok(kind_of(joined(above, row.way)))
 }
 

@@ -1,4 +1,4 @@
-ghost use Rattle.std.specs.Prelude.{◌≡◌, ℕ, List, Option, option_map};
+ghost use Rattle.std.specs.Prelude.{◌≡◌, List, Option, option_map};
 ghost use Rattle.wc_model.specs.Language.Checks.{Check};
 ghost use Rattle.wc_model.specs.Language.Kinds.{BodyLine, NestedLine, opening_kind};
 ghost use Rattle.wc_model.specs.Language.Scopes.{Scope};

@@ -1,4 +1,4 @@
-ghost use Rattle.std.specs.Prelude.{◌≡◌, ℕ, ◌++◌, List, Option, map, Some, if◌then◌else◌};
+ghost use Rattle.std.specs.Prelude.{◌≡◌, ◌++◌, List, Option, map, Some, if◌then◌else◌};
 ghost use Rattle.wc_model.specs.Language.BodyRules.{line_rules};
 ghost use Rattle.wc_model.specs.Language.Checks.{Check, first_broken};
 ghost use Rattle.wc_model.specs.Language.Kinds.{BodyLine, PlainLine, kind_after};

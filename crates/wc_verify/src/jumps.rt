@@ -1,4 +1,4 @@
-ghost use Rattle.std.specs.Prelude.{◌≡◌, ℕ, Bool, List, Option, OnOk, IsOkUnless, option_map};
+ghost use Rattle.std.specs.Prelude.{◌≡◌, Bool, List, Option, OnOk, IsOkUnless, option_map};
 ghost use Rattle.wc_model.specs.Language.Declarations.{same_name};
 ghost use Rattle.wc_model.specs.Language.Kinds.{BodyLine, jumps_to, leaves, step_leaves};
 ghost use Rattle.wc_model.specs.Language.Names.{Name, name_of};

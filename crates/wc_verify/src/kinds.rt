@@ -1,5 +1,5 @@
-ghost use Rattle.std.specs.Prelude.{◌≡◌, is_some};
-ghost use Rattle.wc_model.specs.Language.BodyRules.{is_bool, takes};
+ghost use Rattle.std.specs.Prelude.{◌≡◌};
+ghost use Rattle.wc_model.specs.Language.BodyRules.{is_bool};
 ghost use Rattle.wc_model.specs.Language.Kinds.{is_kind, kind_after_operator, same_result};
 
 use crate::operators::compares;

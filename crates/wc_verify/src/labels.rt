@@ -1,5 +1,5 @@
 ghost use Rattle.std.specs.Prelude.{◌≡◌, [], List, Some, OnOk, IsOkUnless, if◌then◌else◌};
-ghost use Rattle.wc_model.specs.Language.Declarations.{named_in, same_name};
+ghost use Rattle.wc_model.specs.Language.Declarations.{same_name};
 ghost use Rattle.wc_model.specs.Language.Names.{Name, name_of};
 ghost use Rattle.wc_verify.specs.Rows.{named_rows, row_named};
 ghost use Rattle.wc_verify.specs.declared.labels.Row.{Row};

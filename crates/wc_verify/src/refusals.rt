@@ -1,6 +1,6 @@
-ghost use Rattle.std.specs.Prelude.{◌≡◌, ℕ, ◌∷◌, ◌++◌, List};
+ghost use Rattle.std.specs.Prelude.{◌≡◌, ℕ, ◌++◌, List};
 ghost use Rattle.wc_model.specs.Language.BodyRules.{condition_checks, divisor_checks, is_of, takes, reading_checks, result_checks, suits_result, suits_target, truth_checks, writing_checks};
-ghost use Rattle.wc_model.specs.Language.Checks.{Check, asks, first_broken};
+ghost use Rattle.wc_model.specs.Language.Checks.{Check, first_broken};
 ghost use Rattle.wc_model.specs.Language.Kinds.{is_kind};
 ghost use Rattle.wc_model.specs.Language.Scopes.{Scope};
 ghost use Rattle.wc_model.specs.Language.Tree.{Term};

@@ -1,4 +1,4 @@
-ghost use Rattle.std.specs.Prelude.{◌≡◌, ℕ, ◌∷◌, ◌++◌, List, Option, is_some, if◌then◌else◌};
+ghost use Rattle.std.specs.Prelude.{◌≡◌, ℕ, ◌++◌, List, Option, is_some, if◌then◌else◌};
 ghost use Rattle.wc_model.specs.Language.BodyRules.{apply_checks, closing_checks, is_bool, is_no_instance, load_checks, opening_checks, opening_operand_checks, store_checks};
 ghost use Rattle.wc_model.specs.Language.Checks.{Check, first_broken};
 ghost use Rattle.wc_model.specs.Language.Scopes.{Scope};

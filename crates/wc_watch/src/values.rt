@@ -1,42 +1,12 @@
-ghost use Rattle.std.specs.Prelude.{◌≡◌, ◌++◌, decimal, IsOkUnless, OnOk};
-ghost use Rattle.std.specs.Fmt.{signed_decimal};
+ghost use Rattle.std.specs.Prelude.{◌≡◌, ◌++◌, IsOkUnless, OnOk};
 ghost use Rattle.wc_changes.specs.ChangeReport.{content_text};
 ghost use Rattle.wc_model.specs.Language.Frames.{content_number};
 ghost use Rattle.wc_model.specs.Language.Scopes.{kind_of};
 ghost use Rattle.wc_model.specs.Language.Store.{Plain};
 ghost use Rattle.wc_model.specs.declared.value.Value.{Value};
 
-use itoa::Buffer;
-use wc_model::{Fault, Kind};
-
-/// Puts bytes behind a text. `Memory` is the only fault.
-pub(crate) fn put(text: &mut Vec<u8>, bytes: &[u8]) -> Result<(), Fault>
-    ensures bytes { OnOk result (text.new.items ≡ text.old.items ++ bytes.now) }
-    ensures memory { IsOkUnless result Fault.Memory }
-{
-    match text.extend_from_slice(bytes) {
-        Ok(()) => Ok(()),
-        Err(_) => Err(Fault::Memory),
-    }
-}
-
-/// Puts a moment in decimal digits. `Memory` is the only fault.
-pub(crate) fn put_moment(text: &mut Vec<u8>, moment: u64) -> Result<(), Fault>
-    ensures digits { OnOk result (text.new.items ≡ text.old.items ++ decimal moment) }
-    ensures memory { IsOkUnless result Fault.Memory }
-{
-    let mut buffer = Buffer::new();
-    put(text, buffer.format(moment).as_bytes())
-}
-
-/// Puts a number in decimal digits, behind a sign where it is negative. `Memory` is the only fault.
-fn put_number(text: &mut Vec<u8>, number: i64) -> Result<(), Fault>
-    ensures digits { OnOk result (text.new.items ≡ text.old.items ++ signed_decimal number) }
-    ensures memory { IsOkUnless result Fault.Memory }
-{
-    let mut buffer = Buffer::new();
-    put(text, buffer.format(number).as_bytes())
-}
+use wc_model::{Fault, Kind, put_bytes};
+use wc_report::put_signed;
 
 /// Puts a number of milliseconds as a literal. `Memory` is the only fault.
 fn put_time(text: &mut Vec<u8>, number: i64) -> Result<(), Fault>
@@ -45,9 +15,9 @@ fn put_time(text: &mut Vec<u8>, number: i64) -> Result<(), Fault>
         → OnOk result (text.new.items ≡ text.old.items ++ content_text (Plain value)) }
     ensures memory { IsOkUnless result Fault.Memory }
 {
-    put(text, b"T#")?;
-    put_number(text, number)?;
-    put(text, b"ms")
+    put_bytes(text, b"T#")?;
+    put_signed(text, number)?;
+    put_bytes(text, b"ms")
 }
 
 /// Puts a value of a kind, whose number as a store keeps it is this one, as a literal of the language. `Memory` is the only
@@ -59,9 +29,9 @@ pub(crate) fn put_value(text: &mut Vec<u8>, kind: Kind, number: i64) -> Result<(
     ensures memory { IsOkUnless result Fault.Memory }
 {
     match kind {
-        Kind::Bool if number == 0 => put(text, b"FALSE"),
-        Kind::Bool => put(text, b"TRUE"),
-        Kind::Dint => put_number(text, number),
+        Kind::Bool if number == 0 => put_bytes(text, b"FALSE"),
+        Kind::Bool => put_bytes(text, b"TRUE"),
+        Kind::Dint => put_signed(text, number),
         Kind::Time => put_time(text, number),
     }
 }

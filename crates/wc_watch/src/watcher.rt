@@ -1,6 +1,6 @@
 use crate::lines::Lines;
 use crate::names::names_of;
-use crate::values::{put, put_moment, put_value};
+use crate::values::put_value;
 use crate::watched::{Watched, all_watched};
 use std::alloc::Global;
 use std::cell::RefCell;
@@ -8,8 +8,9 @@ use wc_controller::{Scanner, Unwatched};
 use wc_cost::Loaded;
 use wc_indicator::Indicator;
 use wc_machine::Machine;
-use wc_model::{Fault, Image};
+use wc_model::{Fault, Image, put_bytes};
 use wc_record::{Record, Row};
+use wc_report::put_number;
 use wc_store::SlotStore;
 
 /// How many bytes a line has at most beside its names, and beside each of them.
@@ -46,14 +47,14 @@ fn put_line(
     names: &[&[u8]],
     watched: &[Option<Watched>],
 ) -> Result<(), Fault> {
-    put(line, b"V ")?;
-    put_moment(line, ms)?;
+    put_bytes(line, b"V ")?;
+    put_number(line, ms)?;
     for (name, watched) in names.iter().zip(watched.iter()) {
         if let Some(watched) = watched {
             put_named(line, machine, name, watched)?;
         }
     }
-    put(line, b"\n")
+    put_bytes(line, b"\n")
 }
 
 /// Puts a name and its value.
@@ -66,9 +67,9 @@ fn put_named(
     let Some(number) = machine.number(watched.place) else {
         return Ok(());
     };
-    put(line, b" ")?;
-    put(line, name)?;
-    put(line, b"=")?;
+    put_bytes(line, b" ")?;
+    put_bytes(line, name)?;
+    put_bytes(line, b"=")?;
     put_value(line, watched.kind, number)
 }
 

@@ -1,5 +1,5 @@
 -- By numbers: the place of the old text whose value a place of the new text keeps at a change. (The profile's own.)
-use Rattle.std.specs.Prelude.{ℕ, List, [], ◌∷◌, reverse, length, Option, Some, None, option_and_then, slice_get, if◌then◌else◌}
+use Rattle.std.specs.Prelude.{ℕ, List, [], ◌∷◌, reverse, Option, None, option_and_then, slice_get, if◌then◌else◌}
 use Rattle.wc_model.specs.Language.Carried.{Lead, direct_lead, keeps, lead_from, same_lead}
 use Rattle.wc_model.specs.Language.Frames.{frame_of, place_number}
 use Rattle.wc_model.specs.Language.Scopes.{Scope}

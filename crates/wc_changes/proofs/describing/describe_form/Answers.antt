@@ -1,4 +1,4 @@
-use Rattle.std.proofs.Common.{◌≡◌, ◌++◌, [], ◌∷◌, None, false, ap, sym, ◌∙◌}
+use Rattle.std.proofs.Common.{◌++◌, [], ◌∷◌, None, false, ap, sym, ◌∙◌}
 use Rattle.wc_model.specs.Language.Names.{name_of}
 use Rattle.wc_changes.specs.ChangeReport.{line_text}
 use Rattle.wc_changes.specs.Forms.{form_view}

@@ -3,7 +3,7 @@ use Rattle.std.proofs.lemmas.List.{length-map}
 use Rattle.wc_model.specs.Language.Views.{text_view, unit_view}
 use Rattle.wc_model.specs.declared.source.Source.{Source}
 use Rattle.wc_changes.specs.ChangeReport.{change_report}
-use Rattle.wc_changes.proofs.Wholes.{no_report, old_side, told}
+use Rattle.wc_changes.proofs.Wholes.{old_side, told}
 use Rattle.wc_changes.proofs.report.changes.Goals as goal
 
 pub returns-in-Ok-clause-report : goal.returns-in-Ok-clause-report

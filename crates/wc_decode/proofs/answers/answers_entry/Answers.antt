@@ -1,4 +1,4 @@
-use Rattle.std.proofs.Common.{◌≡◌, ◌∙◌, sym, ap, true, false}
+use Rattle.std.proofs.Common.{◌≡◌}
 use Rattle.wc_decode.proofs.ToldRows.{otherwise_none, row_told}
 use Rattle.wc_decode.specs.Entries.{entry_told}
 use Rattle.wc_model.specs.Say.Report.{AnswerLine, line_text}

@@ -1,4 +1,4 @@
-use Rattle.std.proofs.Common.{◌≡◌, ◌∙◌, ◌++◌, ◌∷◌, [], decimal, lit≤, lit<}
+use Rattle.std.proofs.Common.{◌∙◌, ◌++◌, ◌∷◌, [], decimal, lit≤, lit<}
 use Rattle.wc_decode.proofs.CutLines.{answer_fields}
 use Rattle.wc_decode.proofs.Digits.{decimal_is_field, hex_is_field}
 use Rattle.wc_model.specs.Run.Hex.{hex_of_bytes}

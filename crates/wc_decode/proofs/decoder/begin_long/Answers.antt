@@ -1,4 +1,4 @@
-use Rattle.std.proofs.Common.{◌≡◌, ◌∙◌, ◌++◌, ◌∷◌, [], true, false, ap, subst}
+use Rattle.std.proofs.Common.{◌∙◌, ◌++◌, ◌∷◌, [], true, ap, subst}
 use Rattle.wc_decode.proofs.RowTexts.{one_more}
 use Rattle.wc_decode.proofs.Standings.{long_begun}
 use Rattle.wc_decode.proofs.Takings.{behind_text}

@@ -1,6 +1,6 @@
-use Rattle.std.proofs.Common.{◌≡◌, ◌∙◌, ◌++◌, ◌∷◌, [], true, false, ◌<◌, length, ap, sym, subst, arith}
+use Rattle.std.proofs.Common.{◌∙◌, ◌++◌, true, false, ◌<◌, length, ap, subst, arith}
 use Rattle.std.proofs.lemmas.Grind.{common_steps}
-use Rattle.wc_decode.proofs.Standings.{finished_kept, finished_long, finished_none}
+use Rattle.wc_decode.proofs.Standings.{finished_kept, finished_long}
 use Rattle.wc_decode.proofs.Takings.{behind_text, finishes_if}
 use Rattle.wc_decode.specs.Decoding.{Decodes}
 use Rattle.wc_decode.specs.Forms.{unknown}

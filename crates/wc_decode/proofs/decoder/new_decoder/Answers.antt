@@ -1,4 +1,4 @@
-use Rattle.std.proofs.Common.{◌≡◌, sym, subst, false, []}
+use Rattle.std.proofs.Common.{sym, subst, false, []}
 use Rattle.wc_decode.proofs.Standings.{nothing_read}
 use Rattle.wc_decode.specs.Forms.{heading}
 use Rattle.wc_decode.specs.Standing.{StandsIn}

@@ -1,5 +1,4 @@
-use Rattle.std.proofs.Common.{◌≡◌, ◌∙◌, ◌++◌, ◌∷◌, [], take, sym, subst}
-use Rattle.std.proofs.lemmas.List.{append-nil}
+use Rattle.std.proofs.Common.{◌∙◌, ◌++◌, take, subst}
 use Rattle.wc_decode.proofs.Takings.{one_taken_more}
 use Rattle.wc_decode.specs.Standing.{Stands}
 use Rattle.wc_decode.proofs.decoder.take_bytes.Goals as goal

@@ -1,4 +1,4 @@
-use Rattle.std.proofs.Common.{◌≡◌, ◌∙◌, ◌++◌, ◌∷◌, [], true, false, sym, subst}
+use Rattle.std.proofs.Common.{◌++◌, ◌∷◌, [], true, false, subst}
 use Rattle.wc_decode.proofs.Standings.{long_ended, long_more}
 use Rattle.wc_decode.proofs.Takings.{behind_text, takes_if}
 use Rattle.wc_decode.specs.Standing.{StandsIn}

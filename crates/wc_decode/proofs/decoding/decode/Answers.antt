@@ -1,4 +1,4 @@
-use Rattle.std.proofs.Common.{◌≡◌, ◌∙◌, sym, subst}
+use Rattle.std.proofs.Common.{◌∙◌, sym, subst}
 use Rattle.std.specs.Io.KnownBytes.{Appends}
 use Rattle.wc_decode.proofs.Pieces.{all_decoded, heading_unwritten}
 use Rattle.wc_decode.proofs.decoding.decode.Goals as goal

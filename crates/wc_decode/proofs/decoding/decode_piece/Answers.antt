@@ -1,4 +1,3 @@
-use Rattle.std.proofs.Common.{◌≡◌}
 use Rattle.wc_decode.proofs.Pieces.{piece_refused, piece_written}
 use Rattle.wc_decode.proofs.decoding.decode_piece.Goals as goal
 

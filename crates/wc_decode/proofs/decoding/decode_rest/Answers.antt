@@ -1,4 +1,4 @@
-use Rattle.std.proofs.Common.{◌≡◌, ◌∙◌, [], take, sym, subst, arith, rules}
+use Rattle.std.proofs.Common.{◌∙◌, take, sym, subst, arith, rules}
 use Rattle.std.specs.Io.KnownBytes.{Consumes}
 use Rattle.wc_decode.proofs.Pieces.{goes_more, rest_ended, rest_unread, rest_unwritten}
 use Rattle.wc_decode.proofs.decoding.decode_rest.Goals as goal

@@ -1,4 +1,3 @@
-use Rattle.std.proofs.Common.{◌≡◌}
 use Rattle.wc_decode.proofs.Pieces.{end_refused, end_written}
 use Rattle.wc_decode.proofs.decoding.finish_report.Goals as goal
 

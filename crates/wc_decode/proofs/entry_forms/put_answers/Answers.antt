@@ -1,4 +1,4 @@
-use Rattle.std.proofs.Common.{◌≡◌, ◌∙◌, ◌++◌, sym, ap}
+use Rattle.std.proofs.Common.{◌∙◌, ◌++◌, sym, ap}
 use Rattle.wc_decode.proofs.RowTexts.{one_answer_more, one_more}
 use Rattle.wc_decode.proofs.entry_forms.put_answers.Goals as goal
 

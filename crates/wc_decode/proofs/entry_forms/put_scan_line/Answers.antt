@@ -1,4 +1,3 @@
-use Rattle.std.proofs.Common.{◌≡◌}
 use Rattle.wc_decode.proofs.RowTexts.{last_more, one_more}
 use Rattle.wc_decode.proofs.entry_forms.put_scan_line.Goals as goal
 

@@ -1,4 +1,4 @@
-use Rattle.std.proofs.Common.{◌≡◌, ◌∙◌, ◌++◌, codes, ap}
+use Rattle.std.proofs.Common.{◌∙◌, ◌++◌, codes, ap}
 use Rattle.std.specs.Prelude.{decimal}
 use Rattle.wc_decode.proofs.RowTexts.{last_more, one_more}
 use Rattle.wc_decode.proofs.entry_forms.put_scan_row.Goals as goal

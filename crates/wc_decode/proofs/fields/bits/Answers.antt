@@ -1,4 +1,4 @@
-use Rattle.std.proofs.Common.{◌≡◌, ◌∙◌, ap}
+use Rattle.std.proofs.Common.{◌∙◌, ap}
 use Rattle.std.specs.Int.{from_be_bytes}
 use Rattle.wc_decode.proofs.Digits.{word_again, word_decoded}
 use mir.Syntax.{w16}

@@ -1,4 +1,4 @@
-use Rattle.std.proofs.Common.{◌≡◌, ◌∙◌, ◌++◌, ◌∷◌, take, drop, length, nat_lt, sym, ap}
+use Rattle.std.proofs.Common.{◌∙◌, ◌∷◌, take, drop, length, nat_lt, ap}
 use Rattle.std.specs.List.{prefix_len}
 use Rattle.std.proofs.Math.Seq.{take-append_seam, drop-append_seam}
 use Rattle.wc_decode.proofs.Digits.{field_in_front}

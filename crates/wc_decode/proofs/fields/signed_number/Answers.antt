@@ -1,7 +1,6 @@
-use Rattle.std.proofs.Common.{◌≡◌, ◌∙◌, pos, sym, ap, arith}
+use Rattle.std.proofs.Common.{◌≡◌, ◌∙◌, pos, ap, arith}
 use Rattle.std.proofs.lemmas.Fmt.{IsAscii-signed, parse-signed_decimal}
 use Rattle.std.proofs.lemmas.Str.{IsUtf8-from_ascii}
-use Rattle.std.specs.Fmt.{signed_decimal}
 use mir.Syntax.{w32}
 use Rattle.std.proofs.lemmas.Int.{to_z-of_z}
 use Rattle.std.specs.Result.{result_unwrap_or}

@@ -1,6 +1,6 @@
-use Rattle.std.proofs.Common.{◌≡◌, sym, subst}
+use Rattle.std.proofs.Common.{sym, subst}
 use Rattle.wc_decode.proofs.Framed.{reading_length}
-use Rattle.wc_decode.specs.AnswerBytes.{IsAnswer, answer_bytes}
+use Rattle.wc_decode.specs.AnswerBytes.{IsAnswer}
 use Rattle.wc_decode.proofs.frames.answer_length.Goals as goal
 
 pub returns-in-Weight : goal.returns-in-Weight

@@ -1,6 +1,5 @@
-use Rattle.std.proofs.Common.{◌≡◌, ◌∙◌, ◌++◌, ◌∷◌, [], sym, subst, ap, List, length, drop}
+use Rattle.std.proofs.Common.{◌∙◌, ◌++◌, ◌∷◌, [], sym, subst, ap, drop}
 use Rattle.wc_decode.proofs.Several.{LeavesRest, at_end, at_none, is_empty, is_not_empty, one_taken}
-use Rattle.wc_decode.specs.AnswerBytes.{answer_bytes}
 use Rattle.wc_decode.specs.Found.{IsFirstAnswer}
 use Rattle.wc_decode.proofs.frames.answers_of.Goals as goal
 

@@ -1,5 +1,4 @@
-use Rattle.std.proofs.Common.{◌≡◌, ◌++◌, length}
-use Rattle.wc_decode.specs.AnswerBytes.{bytes_of_answers}
+use Rattle.std.proofs.Common.{length}
 use Rattle.wc_decode.proofs.Several.{LeavesRest}
 use Rattle.wc_decode.proofs.frames.answers_of.Given as goal
 

@@ -1,4 +1,4 @@
-use Rattle.std.proofs.Common.{◌≡◌, ◌∙◌}
+use Rattle.std.proofs.Common.{◌∙◌}
 use Rattle.wc_decode.proofs.AnswerFields.{read_back, same_reading, unit_first}
 use Rattle.wc_decode.proofs.frames.reading_of.Goals as goal
 

@@ -1,4 +1,4 @@
-use Rattle.std.proofs.Common.{◌≡◌, ◌∙◌, sym, subst, true}
+use Rattle.std.proofs.Common.{◌≡◌, ◌∙◌, sym, true}
 use Rattle.wc_decode.proofs.Framed.{no_weight, no_reading, only_answer}
 use Rattle.wc_decode.specs.AnswerBytes.{reading_bytes}
 use Rattle.wc_decode.proofs.frames.weight_in.Goals as goal

@@ -1,4 +1,4 @@
-use Rattle.std.proofs.Common.{◌≡◌, ◌∙◌, ◌++◌, ◌∷◌, [], codes, decimal, lit≤, lit<, ap, refl, arith}
+use Rattle.std.proofs.Common.{◌∙◌, ◌++◌, ◌∷◌, [], codes, decimal, lit≤, lit<, refl, arith}
 use Rattle.wc_decode.proofs.CutLines.{refusal_fields}
 use Rattle.wc_decode.proofs.Digits.{decimal_is_field}
 use Rattle.wc_decode.proofs.refusals.refusal_in.Goals as goal

@@ -1,4 +1,4 @@
-use Rattle.std.proofs.Common.{◌≡◌, ◌∙◌, ◌++◌, ◌/◌, ◌%◌, ◌∷◌, [], decimal, lit≤, lit<, ap, refl, arith}
+use Rattle.std.proofs.Common.{◌∙◌, ◌++◌, ◌/◌, ◌%◌, ◌∷◌, [], decimal, lit≤, lit<, refl, arith}
 use Rattle.wc_decode.proofs.CutLines.{scan_fields}
 use Rattle.wc_decode.proofs.Digits.{decimal_is_field, hex_is_field}
 use Rattle.wc_decode.specs.Fields.{words_text}

@@ -1,4 +1,3 @@
-use Rattle.std.proofs.Common.{◌≡◌, ◌∙◌, List, ℤ, [], ◌∷◌}
 use Rattle.std.proofs.lemmas.Int.{to_z-of_z}
 use Rattle.wc_decode.proofs.CutLines.{words_cut}
 use mir.Syntax.{w32}

@@ -1,4 +1,4 @@
-use Rattle.std.proofs.Common.{◌≡◌, ◌∙◌, ◌++◌, sym, ap}
+use Rattle.std.proofs.Common.{◌∙◌, ◌++◌, sym, ap}
 use Rattle.wc_decode.proofs.RowTexts.{one_more, one_passed_more}
 use Rattle.wc_decode.proofs.unknown_lines.put_passed_on.Goals as goal
 

@@ -1,4 +1,4 @@
-use Rattle.wc_devices.proofs.Tries.{kept_by_read, keeps_all, keeps_on, read_behind}
+use Rattle.wc_devices.proofs.Tries.{keeps_all, read_behind}
 use Rattle.wc_devices.proofs.trying.read_again.Goals as goal
 
 pub loop-init : goal.loop-init

@@ -1,4 +1,4 @@
-use Rattle.wc_devices.proofs.Tries.{kept_by_write, keeps_all, keeps_on, write_behind}
+use Rattle.wc_devices.proofs.Tries.{keeps_all, write_behind}
 use Rattle.wc_devices.proofs.trying.write_again.Goals as goal
 
 pub loop-init : goal.loop-init

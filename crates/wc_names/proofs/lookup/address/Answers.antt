@@ -1,23 +1,14 @@
-use Rattle.std.proofs.Common.{Some, refl, ap, sym, ◌∙◌}
-use Rattle.std.specs.Prelude.{slice_get}
-use Rattle.wc_model.specs.Language.DirectVariables.{variable_at}
-use Rattle.wc_model.specs.Language.Names.{name_of}
-use Rattle.wc_names.specs.declared.unit_table.UnitTable.{UnitTable}
-use Rattle.wc_names.proofs.Lists.{not_past, same_found}
-use Rattle.wc_names.proofs.ScopeTables.{address_in_block, address_in_program}
+use Rattle.std.proofs.Common.{ap, ◌∙◌}
+use Rattle.std.specs.Prelude.{option_and_then, option_map}
+use Rattle.wc_model.specs.Language.Frames.{frame_of, place_number}
+use Rattle.wc_model.specs.Language.Store.{Direct}
 use Rattle.wc_names.proofs.lookup.address.Goals as goal
 
-pub returns-in_default : goal.returns-in_default
-returns-in_default c = λ scope h e. absurd (not_past c.args.units.now c.args.units.now c.args.unit h.table refl (ap (slice_get c.args.units.now) e ∙ h.there) c.in_default.ensures.lookup.3)
+pub returns-in-Some : goal.returns-in-Some
+returns-in-Some c = λ scope h e.
+    c.direct_number.ensures scope h e c.in-Some.ensures.small
+    ∙ ap (λ v. option_and_then (place_number (frame_of scope)) (option_map Direct v)) c.in-Some.ensures.variable
 
-pub returns-then-table : goal.returns-then-table
-returns-then-table c = λ scope h e.
-    let same = same_found c.args.units.now c.args.units.now c.args.unit h.table c.in-Some.table.now refl (ap (slice_get c.args.units.now) e ∙ h.there) c.in-Some.ensures.lookup.3.0 c.in-Some.ensures.lookup.1 in
-    sym (address_in_block scope (variable_at (name_of c.args.text.now)) (sym h.is.is_block ∙ sym (ap (λ (t : UnitTable). t.is_block) same) ∙ c.if-table.true))
-
-pub returns-in-Some-variable_at : goal.returns-in-Some-variable_at
-returns-in-Some-variable_at c = λ scope h e.
-    let same = same_found c.args.units.now c.args.units.now c.args.unit h.table c.in-Some.table.now refl (ap (slice_get c.args.units.now) e ∙ h.there) c.in-Some.ensures.lookup.3.0 c.in-Some.ensures.lookup.1 in
-    ap Some c.from.ensures
-    ∙ address_in_program scope c.in-Some-variable_at.number (variable_at (name_of c.args.text.now)) (sym h.is.is_block ∙ sym (ap (λ (t : UnitTable). t.is_block) same) ∙ c.if-table.false) c.in-Some-variable_at.ensures.small
-    c.in-Some-variable_at.ensures.variable
+pub returns-in-None : goal.returns-in-None
+returns-in-None c = λ scope h e.
+    ap (λ v. option_and_then (place_number (frame_of scope)) (option_map Direct v)) c.in-None.ensures.variable

@@ -27,10 +27,11 @@ returns-in-Some-member_of c = λ scope h e.
     let name = name_of c.args.instance.now in
     let field = name_of c.args.field.now in
     let there = ap (slice_get c.args.units.now) e ∙ h.there in
-    let f = from_row c.args.units.now scope.before scope.unit h name [] c.in-Some.row (sym (c.row.ensures h.table there (named_rows c.args.units.now scope.before scope.unit h)) ∙ c.in-Some.is) in
+    let row = sym (c.row.ensures h.table there (named_rows c.args.units.now scope.before scope.unit h)) ∙ c.in-Some.is in
+    let f = from_row c.args.units.now scope.before scope.unit h name [] c.in-Some.row row in
     let k = known scope (type_of scope name) c.in-Some.row.declared (ap (option_and_then (numbered_type scope.before)) (type_at_found scope name f.v f.named) ∙ f.declared) in
     let seen = c.in-Some-member_of.member in
-    let place = c.place_at.ensures.place ∙ ap (option_map (λ n. record { 0 = n })) (c.number.ensures scope.before scope.unit h e ∙ sym (frame_path scope (name ∷ field ∷ []))) in
+    let place = c.place_at.ensures.place ∙ ap (option_map (λ n. record { 0 = n })) (c.number_behind.ensures scope.before scope.unit h name row ∙ sym (frame_path scope (name ∷ field ∷ []))) in
     let found : Entity = record { kind = seen.kind; readable = c.is_result.result; writable = c.is_input.result; place = c.place_at.result } in
     (λ i. Some (record found { readable = c.is_result.ensures i; writable = c.is_input.ensures i; place = place i }))
     ∙ field_named scope name field k.0 seen k.1 (sym c.in-Some-member_of.is ∙ c.member_of.ensures scope.before scope.unit k.0 h k.2)

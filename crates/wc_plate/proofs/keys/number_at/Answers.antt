@@ -3,7 +3,7 @@ use Rattle.std.proofs.lemmas.Int.{ints}
 use Rattle.std.specs.Prelude.{option_and_then}
 use Rattle.toml.proofs.Views.{table_get}
 use Rattle.toml.specs.Data.{as_integer}
-use Rattle.toml.specs.View.{table_view, view}
+use Rattle.toml.specs.View.{table_view}
 use Rattle.wc_plate.proofs.Lookups.{not_there, number_found, there}
 use Rattle.wc_plate.proofs.keys.number_at.Goals as goal
 

@@ -2,7 +2,7 @@ use Rattle.std.proofs.Common.{◌∙◌, refl, sym, ap}
 use Rattle.std.specs.Prelude.{is_some, option_and_then, option_copied}
 use Rattle.toml.proofs.Views.{table_get}
 use Rattle.toml.specs.Data.{as_str}
-use Rattle.toml.specs.View.{table_view, view}
+use Rattle.toml.specs.View.{table_view}
 use Rattle.wc_plate.proofs.Lookups.{not_there, text_found, there}
 use Rattle.wc_plate.proofs.keys.text_at.Goals as goal
 

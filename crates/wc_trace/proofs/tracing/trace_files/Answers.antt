@@ -10,4 +10,4 @@ returns-clause-ends g c =
     let log = g.L.ByteIn.bytes_left c.args.log.now in
     let ran = run_like None table text known c.args.next.now log c.run_files-ending.result _ _ c.run_files-ending.ensures.ends in
     let watched = run_shown None table text known c.args.next.now log c.run_files-ending.result c.end_watched.result c.end_watched.ensures ran in
-    run_shown None table text known c.args.next.now log c.end_watched.result c.end_refused.result c.end_refused.ensures watched
+    run_shown None table text known c.args.next.now log c.end_watched.result c.end_shown.result c.end_shown.ensures watched

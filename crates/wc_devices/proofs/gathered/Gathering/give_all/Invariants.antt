@@ -1,4 +1,4 @@
-use Rattle.std.proofs.Common.{length, ◌-◌, ◌≡◌}
+use Rattle.std.proofs.Common.{length, ◌-◌}
 use Rattle.std.specs.Io.KnownBytes.{Keeps}
 use Rattle.wc_devices.specs.Inside.{taken}
 use Rattle.wc_devices.proofs.gathered.Gathering.give_all.Given as goal

@@ -1,5 +1,5 @@
 -- A new machine stands for the store of the declarations.
-use Rattle.std.proofs.Common.{◌≡◌, ◌+◌, ◌-◌, length, ap, sym, ◌∙◌, subst, arith, rules}
+use Rattle.std.proofs.Common.{◌-◌, length, ap, sym, ◌∙◌, subst, arith, rules}
 use Rattle.wc_flat.proofs.Images.{first_numbers_are_contents}
 use Rattle.wc_flat.specs.Contents.{frame_of_text, AreContents}
 use Rattle.wc_machine.proofs.FirstPlaces.{last_bound}

@@ -1,1 +1,0 @@
--- The greatest and the least of a list.

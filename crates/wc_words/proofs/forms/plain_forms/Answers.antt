@@ -1,0 +1,23 @@
+use Rattle.wc_words.proofs.Plain.{check_form, decode_form, drawn_form, explain_form, job_form, last_form, line_form, next_alone_form, next_form, paths_form, plain, preview_form, redrawn_form, run_form, show_form, table_form, trace_form, watch_form}
+use Rattle.wc_words.proofs.forms.plain_forms.Goals as goal
+
+pub returns : goal.returns
+returns c = record {
+  job = job_form;
+  check = λ name p h. check_form name p (plain p h);
+  paths = λ name p h. paths_form name p (plain p h);
+  preview = preview_form;
+  run = λ name p q l h i j. run_form name p q l (plain p h) (plain q i) (plain l j);
+  last = last_form;
+  next = next_form;
+  watch = watch_form;
+  trace = trace_form;
+  show = show_form;
+  drawn = drawn_form;
+  redrawn = redrawn_form;
+  next_alone = next_alone_form;
+  line = λ name p l h j. line_form name p l (plain p h) (plain l j);
+  decode = decode_form;
+  table = table_form;
+  explain = explain_form;
+}

@@ -1,0 +1,160 @@
+-- Which command is meant by which words, the first of which is the program's own name.
+use Rattle.std.specs.Prelude.{◌≡◌, ◌==◌, ℕ, Bool, true, false, List, [], ◌∷◌, map, Option, Some, None}
+use Rattle.std.specs.Prelude.{codes, if◌then◌else◌, is_some, option_and_then, option_map, unwrap_or}
+use Rattle.std.specs.Prelude.{String}
+use Rattle.std.specs.Prelude.{string_bytes}
+use Rattle.std.specs.declared.alloc.Global.{Global}
+use Rattle.std.specs.Option.{option_map_or, option_or}
+use Rattle.std.specs.Str.{bytes_eq}
+use Rattle.std.specs.Str.Parse.{digits_value, without_leading_plus}
+use Rattle.clap.specs.Words.{Kinds, Row, Text, fault_of, first_of, matches_of, one_of}
+use Rattle.clap.specs.Words.{subcommand_of}
+use Rattle.clap.specs.Kinds.{or_else}
+use Rattle.clap.specs.declared.error.kind.ErrorKind.TheVariants as kind
+use Rattle.wc_refusals.specs.declared.form.Form.{Form}
+use Rattle.wc_refusals.specs.declared.form.Form.TheVariants.{Long, Short, Json}
+use Rattle.clap.specs.ValueTests.{accepts}
+use Rattle.clap.specs.declared.builder.value_parser.ValueParser.TheVariants.{Unsigned}
+use Rattle.wc_words.specs.CommandLine.{command_line}
+use Rattle.wc_words.specs.declared.words.Wanted.{Wanted}
+use Rattle.wc_words.specs.declared.words.Wanted.TheVariants as wanted
+
+-- the words as texts
+abbrev pub texts_of : List (String Global) → List Text
+texts_of = map (λ word. string_bytes word)
+
+-- the file that is given to an option, no name where there is none
+abbrev pub file_in : Text → List Row → Text
+file_in option given = unwrap_or (first_of option given) (codes "")
+
+-- the flag is given
+abbrev pub flag_in : Text → List Row → Bool
+flag_in option given =
+    option_map_or (λ text. bytes_eq text (codes "true")) (one_of option given) false
+
+-- the number of 16 bits that a text's digits spell
+abbrev pub number_of : Text → Option ℕ
+number_of text = if accepts false (Unsigned 0 65535) text
+    then Some (digits_value 10 (without_leading_plus text)) else None
+
+-- the number of 64 bits that a text's digits spell
+abbrev pub wide_number_of : Text → Option ℕ
+wide_number_of text = if accepts false (Unsigned 0 18446744073709551615) text
+    then Some (digits_value 10 (without_leading_plus text)) else None
+
+-- the number of 64 bits that is given to an option
+abbrev pub wide_number_in : Text → List Row → Option ℕ
+wide_number_in option given = option_and_then wide_number_of (one_of option given)
+
+-- the number that is given to an option
+abbrev pub number_in : Text → List Row → Option ℕ
+number_in option given = option_and_then number_of (one_of option given)
+
+-- what the words ask for, with the texts of files in the order of the options
+pub data Asked : Type 0 where
+  job : Asked
+  -- a program's file, that of one that may take its place where it is given, and whether paths are
+  -- wanted
+  check : Text → Option Text → Bool → Asked
+  -- the files of a plate, a program, a next program where one is given, and a log, how many scans
+  -- are wanted, and the names of the variables that are watched
+  run : Text → Text → Option Text → Text → Option ℕ → Option Text → Asked
+  -- the files of a run whose scans are shown, in the same order, and which: the moment, the number of the
+  -- scan, the first moment and the last
+  trace : Text → Text → Option Text → Text → Option ℕ → Option ℕ → Option ℕ → Option ℕ → Asked
+  -- the files of a plate, a program and a next program where they are given, and a log, of whose run a
+  -- picture is wanted
+  show : Text → Option Text → Option Text → Text → Asked
+  -- a report from standard input, and whether a table is wanted
+  decode : Bool → Asked
+  explain : ℕ → Asked
+  -- the files of a plate and a log
+  line : Text → Text → Asked
+
+-- what a word asks for, by what is given to its options
+abbrev pub asked_at : Text → List Row → Asked
+asked_at word given =
+    if bytes_eq word (codes "check")
+    then check (file_in (codes "program") given) (first_of (codes "next") given)
+    (flag_in (codes "path") given)
+    else (if bytes_eq word (codes "run")
+    then run (file_in (codes "plate") given) (file_in (codes "program") given)
+    (first_of (codes "next") given) (file_in (codes "log") given)
+    (number_in (codes "last") given) (first_of (codes "watch") given)
+    else (if bytes_eq word (codes "trace")
+    then trace (file_in (codes "plate") given) (file_in (codes "program") given)
+    (first_of (codes "next") given) (file_in (codes "log") given)
+    (wide_number_in (codes "at") given) (wide_number_in (codes "scan") given)
+    (wide_number_in (codes "from") given) (wide_number_in (codes "to") given)
+    else (if bytes_eq word (codes "show")
+    then show (file_in (codes "plate") given) (first_of (codes "program") given)
+    (first_of (codes "next") given) (file_in (codes "log") given)
+    else (if bytes_eq word (codes "decode") then decode (flag_in (codes "csv") given)
+    else (if bytes_eq word (codes "explain")
+    then explain (unwrap_or (number_in (codes "number") given) 0)
+    else (if bytes_eq word (codes "line")
+    then line (file_in (codes "plate") given) (file_in (codes "log") given) else job))))))
+
+-- what is asked for by the word that was met: a job where none was
+abbrev pub asked_by : Option (Text × List Row) → Asked
+asked_by met = option_map_or (λ at. asked_at at.0 at.1) met job
+
+-- what the words ask for
+abbrev pub asked : List Text → Asked
+asked words = asked_by (subcommand_of command_line words)
+
+-- a command of the code as what is asked for
+abbrev pub view : Wanted → Asked
+view wanted.Job = job
+view (wanted.Check program next paths) =
+    check program.now (option_map (λ path. path.now) next) paths
+view (wanted.Run plate files last watch) =
+    run plate.now files.program.now (option_map (λ next. next.now) files.next) files.log.now last
+    (option_map (λ names. names.now) watch)
+view (wanted.Trace plate files chosen) =
+    trace plate.now files.program.now (option_map (λ next. next.now) files.next) files.log.now
+    chosen.at chosen.scan chosen.from chosen.to
+view (wanted.Show plate program next log) =
+    show plate.now (option_map (λ path. path.now) program) (option_map (λ path. path.now) next)
+    log.now
+view (wanted.Decode table) = decode table
+view (wanted.Explain number) = explain number
+view (wanted.Line plate log) = line plate.now log.now
+
+-- the text of a form that is given behind the word that was met, or else before it
+abbrev pub form_in : Option (Text × List Row) → List Row → Option Text
+form_in met before = option_or (option_and_then (λ at. first_of (codes "message") at.1) met)
+    (first_of (codes "message") before)
+
+-- the form of that name
+abbrev pub form_named : Text → Option Form
+form_named text = if bytes_eq text (codes "long") then Some Long
+    else (if bytes_eq text (codes "short") then Some Short
+    else (if bytes_eq text (codes "json") then Some Json else None))
+
+-- the form in which a refusal is to be told, the long one where none is given; none where it is no
+-- form
+abbrev pub form_asked : List Text → Option Form
+form_asked words = option_map_or form_named
+    (form_in (subcommand_of command_line words) (matches_of command_line words)) (Some Long)
+
+-- a next program is given, and none whose place it could take
+abbrev pub lacks_program : Asked → Bool
+lacks_program (show plate None (Some next) log) = true
+lacks_program this = false
+
+-- the kinds of fault by which the words are refused, those of the first step that fails
+abbrev pub fault_in : List Text → Kinds
+fault_in words = or_else (fault_of command_line words) (if is_some (form_asked words)
+    then (if lacks_program (asked words) then kind.MissingRequiredArgument ∷ [] else [])
+    else kind.InvalidValue ∷ [])
+
+-- the words are not refused, and ask for this, and for refusals in this form
+abbrev pub Ask : List Text → Asked → Form → Type 0
+Ask words this form = (asked words ≡ this) × (form_asked words ≡ Some form)
+    × (fault_of command_line words ≡ []) × (lacks_program this ≡ false)
+
+-- a word that does not begin with a hyphen (45), so that it is no option
+abbrev pub IsPlain : Text → Type 0
+IsPlain [] = Unit
+IsPlain (x ∷ rest) = (x == 45) ≡ false

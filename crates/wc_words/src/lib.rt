@@ -1,0 +1,10 @@
+//! The words of the command line: what they ask the program for, and which of them are refused.
+#![tactic(auto)]
+
+mod forms;
+mod scan_choice;
+mod words;
+
+pub use forms::plain_forms;
+pub use scan_choice::ScanChoice;
+pub use words::{ProgramFiles, Request, Wanted, read_words};

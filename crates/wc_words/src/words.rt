@@ -1,0 +1,612 @@
+ghost use Rattle.std.specs.Prelude.{◌≡◌, IfOk, Some, false, codes, option_map};
+ghost use Rattle.std.specs.Option.{option_map_or};
+ghost use Rattle.clap.specs.Words.{FailsBy, found_of, subcommand_rows_of, rule_of, app_of, rows_of};
+ghost use Rattle.clap.specs.Words.{App, Rule, first_of, with_rule, with_subcommand};
+ghost use Rattle.wc_words.specs.Asked.{asked, asked_at, asked_by, fault_in, file_in, flag_in};
+ghost use Rattle.wc_words.specs.Asked.{form_asked, form_in, form_named, lacks_program, number_in, texts_of, view};
+ghost use Rattle.wc_words.specs.Asked.{wide_number_in};
+ghost use Rattle.wc_words.specs.CommandLine.{Takes, command_line, check_word, run_word, show_word, trace_word, line_word};
+ghost use Rattle.wc_words.specs.CommandLine.{decode_word};
+ghost use Rattle.wc_words.specs.CommandLine.{explain_word, file_option, flag, message_option};
+ghost use Rattle.wc_words.specs.CommandLine.{number_option, number_place, place, value_option};
+ghost use Rattle.wc_words.specs.CommandLine.{wide_number_option};
+
+use crate::scan_choice::ScanChoice;
+use clap::error::ErrorKind;
+use clap::{Arg, ArgAction, ArgMatches, Command, Error, value_parser};
+use std::alloc::{AllocError, Global};
+use wc_refusals::Form;
+
+/// The product's version, the toolchain that its sources are for, and the digest of the legally relevant sources, which
+/// tools/legal_digest computes. Whether a build was proved is not known to the program.
+const VERSION: &str = "0.1.0 (Narbeddo)
+toolchain rattle-kit-13 logic dac8208d650f15bf
+legal part sha256 aedd397f247a532236cb9ac167d41db3a6e0cbc9bfe5977426b412a5f0d6866a";
+
+/// What the program does, with an example of each word.
+const ABOUT: &str =
+    "A legal weighing indicator and, beside it, the customer's logic in Instruction List.
+
+  ./wc check --path program.il
+  ./wc check --next new.il old.il
+  ./wc run --plate plate.toml --program program.il --log log.csv --last 10
+  ./wc run --plate plate.toml --program old.il --next new.il --log log.csv
+  ./wc run --plate plate.toml --program program.il --log log.csv --watch filling,t.ET
+  ./wc trace --plate plate.toml --program program.il --log log.csv --at 650
+  ./wc show --plate plate.toml --program program.il --log log.csv > run.svg
+  ./wc line --plate plate.toml --log log.csv
+  ./wc run --plate plate.toml --program program.il --log log.csv | ./wc decode
+  ./wc explain 403
+  ./wc < job.txt
+
+With no words it reads a job from standard input: a line @plate and the plate, a line
+@program and the program, where there is one a line @next and the next program, a line
+@log and the log. A run prints for each scan
+`S <ms> <steps> <bits> <%QD0> <%QD1> <%QD2> <%QD3>`, and for each row of line bytes that
+was answered `L <ms> <hex>`; a refusal is the last line, `refused <number> <place>`, and
+standard error says why: with --message short on one line, with --message json as an object.
+
+Exit status: 0 done, 1 refused, 2 wrong words, 3 a device failed, 4 no memory";
+
+/// The paths of a program, of the one that takes its place where it is changed, and of the log that is run with them.
+#[derive(Clone, Copy)]
+pub struct ProgramFiles<'a> {
+    pub program: &'a str,
+    pub next: Option<&'a str>,
+    pub log: &'a str,
+}
+
+/// What the words of the command line ask for. Each text is the path of a file.
+#[derive(Clone, Copy)]
+pub enum Wanted<'a> {
+    /// No words: a job from standard input.
+    Job,
+    /// The cost of each unit of a program, and its worst path where `paths` says so; with a next program that one's, and
+    /// what a change to it keeps.
+    Check {
+        program: &'a str,
+        next: Option<&'a str>,
+        paths: bool,
+    },
+    /// A run of a log with a program, which prints every scan or the last so many, and beside each the values of variables, where
+    /// their names are given.
+    Run {
+        plate: &'a str,
+        files: ProgramFiles<'a>,
+        last: Option<u16>,
+        watch: Option<&'a str>,
+    },
+    /// A run of a log with a program, of which the scans that are chosen are shown item by item.
+    Trace {
+        plate: &'a str,
+        files: ProgramFiles<'a>,
+        chosen: ScanChoice,
+    },
+    /// A picture of a run of a log, with a program, and where it is changed with the next one, or with none.
+    Show {
+        plate: &'a str,
+        program: Option<&'a str>,
+        next: Option<&'a str>,
+        log: &'a str,
+    },
+    /// A report from standard input for people, or as a table.
+    Decode {
+        table: bool,
+    },
+    /// The page of a refusal by its number.
+    Explain {
+        number: u16,
+    },
+    /// A run of a log with no program.
+    Line {
+        plate: &'a str,
+        log: &'a str,
+    },
+}
+
+/// What the words ask for, and in which form a refusal is to be told.
+#[derive(Clone, Copy)]
+pub struct Request<'a> {
+    pub wanted: Wanted<'a>,
+    pub form: Form,
+}
+
+/// What is said of a form that there is not.
+const NO_FORM: &str = "the form behind '--message' is none of long, short and json";
+
+/// What is said where a next program is given alone.
+const NO_PROGRAM: &str = "'--next' is given, and no '--program' whose place it could take";
+
+/// An option that must have a file.
+fn file_option<'a>(alloc: Global, name: &'a str, help: &'a str) -> Arg<'a>
+    ensures rule { rule_of result ≡ file_option name.entry.now }
+    ensures local { result.global ≡ false }
+{
+    Arg::new(alloc, name)
+        .long(name)
+        .value_name("FILE")
+        .required(true)
+        .help(help)
+}
+
+/// The plate's option.
+fn plate_option<'a>(alloc: Global) -> Arg<'a>
+    ensures rule { rule_of result ≡ file_option (codes "plate") }
+    ensures local { result.global ≡ false }
+{
+    file_option(
+        alloc,
+        "plate",
+        "The plate: the scale's unit, capacity, interval, counts and window (TOML)",
+    )
+}
+
+/// The log's option.
+fn log_option<'a>(alloc: Global) -> Arg<'a>
+    ensures rule { rule_of result ≡ file_option (codes "log") }
+    ensures local { result.global ≡ false }
+{
+    file_option(
+        alloc,
+        "log",
+        "The log: samples, line bytes, inputs and scans (CSV)",
+    )
+}
+
+/// The program's place.
+fn program_place<'a>(alloc: Global) -> Arg<'a>
+    ensures rule { rule_of result ≡ place (codes "program") }
+    ensures local { result.global ≡ false }
+{
+    Arg::new(alloc, "program")
+        .value_name("PROGRAM")
+        .required(true)
+        .help("The program text (Instruction List)")
+}
+
+/// The option that prints paths.
+fn path_flag<'a>(alloc: Global) -> Arg<'a>
+    ensures rule { rule_of result ≡ flag (codes "path") }
+    ensures local { result.global ≡ false }
+{
+    Arg::new(alloc, "path")
+        .long("path")
+        .action(ArgAction::SetTrue)
+        .help("Print the lines of a longest path behind each unit too")
+}
+
+/// The option of the next program.
+fn next_option<'a>(alloc: Global, help: &'a str) -> Arg<'a>
+    ensures rule { rule_of result ≡ value_option (codes "next") }
+    ensures local { result.global ≡ false }
+{
+    Arg::new(alloc, "next")
+        .long("next")
+        .value_name("FILE")
+        .help(help)
+}
+
+/// An option that may be given, and has a value.
+fn value_option<'a>(alloc: Global, name: &'a str, value: &'a str, help: &'a str) -> Arg<'a>
+    ensures rule { rule_of result ≡ value_option name.entry.now }
+    ensures local { result.global ≡ false }
+{
+    Arg::new(alloc, name)
+        .long(name)
+        .value_name(value)
+        .help(help)
+}
+
+/// The option that chooses in which form a refusal is told.
+fn message_option<'a>(alloc: Global) -> Arg<'a>
+    ensures rule { rule_of result ≡ message_option }
+    ensures local { result.global ≡ false }
+{
+    Arg::new(alloc, "message")
+        .long("message")
+        .value_name("FORM")
+        .help("Tell a refusal in this form: long (else taken), short or json")
+}
+
+/// A word with one more option. As it takes what may have failed, no word has a way out for each of its options.
+fn with_option<'a>(
+    word: Result<Command<'a>, AllocError>,
+    option: Arg<'a>,
+) -> Result<Command<'a>, AllocError>
+    ensures { (app : App) → (rule : Rule) → IfOk word.entry (Takes app)
+        → rule_of option.entry ≡ rule
+        → option.entry.global ≡ false → IfOk result (Takes (with_rule app rule)) }
+{
+    match word {
+        Ok(word) => word.arg(option),
+        Err(error) => Err(error),
+    }
+}
+
+/// A command line with one more word.
+fn with_word<'a>(
+    line: Result<Command<'a>, AllocError>,
+    word: Result<Command<'a>, AllocError>,
+) -> Result<Command<'a>, AllocError>
+    ensures { (app : App) → (named : App) → IfOk line.entry (Takes app)
+        → IfOk word.entry (Takes named)
+        → IfOk result (Takes (with_subcommand app named.top)) }
+{
+    match line {
+        Ok(line) => line.subcommand(word?),
+        Err(error) => Err(error),
+    }
+}
+
+/// The word `check`.
+fn check_command<'a>(alloc: Global) -> Result<Command<'a>, AllocError>
+    ensures { IfOk result (Takes check_word) }
+{
+    let next = "The next program: print its numbers of steps, and what a change to it keeps";
+    let word = Command::new(alloc, "check").about(
+        "Load a program and print the greatest number of steps of each unit",
+    );
+    let word = with_option(Ok(word), program_place(alloc));
+    let word = with_option(word, next_option(alloc, next));
+    let word = with_option(word, path_flag(alloc));
+    with_option(word, message_option(alloc))
+}
+
+/// The option that prints the last scans alone.
+fn last_option<'a>(alloc: Global) -> Arg<'a>
+    ensures rule { rule_of result ≡ number_option (codes "last") 1 1000 }
+    ensures local { result.global ≡ false }
+{
+    Arg::new(alloc, "last")
+        .long("last")
+        .value_name("N")
+        .value_parser(value_parser!(u16).range(1..=1000))
+        .help("Print the last N scans alone, 1 to 1000, behind the answers of the line")
+}
+
+/// The program's option.
+fn program_option<'a>(alloc: Global) -> Arg<'a>
+    ensures rule { rule_of result ≡ file_option (codes "program") }
+    ensures local { result.global ≡ false }
+{
+    file_option(alloc, "program", "The program text (Instruction List)")
+}
+
+/// What is said of the next program of a run.
+const NEXT: &str = "The next program, which a row of kind P takes (Instruction List)";
+
+/// The option that names variables.
+fn watch_option<'a>(alloc: Global) -> Arg<'a>
+    ensures rule { rule_of result ≡ value_option (codes "watch") }
+    ensures local { result.global ≡ false }
+{
+    let help = "Print the values of these variables behind each scan, as filling,t.ET";
+    value_option(alloc, "watch", "NAME,..", help)
+}
+
+/// The word `run`.
+fn run_command<'a>(alloc: Global) -> Result<Command<'a>, AllocError>
+    ensures { IfOk result (Takes run_word) }
+{
+    let word = Command::new(alloc, "run").about(
+        "Run a log with a program: print each scan, and each answer of the line",
+    );
+    let word = with_option(Ok(word), plate_option(alloc));
+    let word = with_option(word, program_option(alloc));
+    let word = with_option(word, next_option(alloc, NEXT));
+    let word = with_option(word, log_option(alloc));
+    let word = with_option(word, last_option(alloc));
+    let word = with_option(word, watch_option(alloc));
+    with_option(word, message_option(alloc))
+}
+
+/// An option that chooses scans by a number.
+fn choosing_option<'a>(alloc: Global, name: &'a str, value: &'a str, help: &'a str) -> Arg<'a>
+    ensures rule { rule_of result ≡ wide_number_option name.entry.now }
+    ensures local { result.global ≡ false }
+{
+    Arg::new(alloc, name)
+        .long(name)
+        .value_name(value)
+        .value_parser(value_parser!(u64))
+        .help(help)
+}
+
+/// The word `trace`.
+fn trace_command<'a>(alloc: Global) -> Result<Command<'a>, AllocError>
+    ensures { IfOk result (Takes trace_word) }
+{
+    let (at, scan) = (
+        "Show the scans at this moment",
+        "Show the scan of this number, from 1",
+    );
+    let (from, to) = (
+        "Show no scan before this moment",
+        "Show no scan behind this moment",
+    );
+    let word = Command::new(alloc, "trace").about(
+        "Run a log with a program, and show its scans line by line",
+    );
+    let word = with_option(Ok(word), plate_option(alloc));
+    let word = with_option(word, program_option(alloc));
+    let word = with_option(word, next_option(alloc, NEXT));
+    let word = with_option(word, log_option(alloc));
+    let word = with_option(word, choosing_option(alloc, "at", "MS", at));
+    let word = with_option(word, choosing_option(alloc, "scan", "N", scan));
+    let word = with_option(word, choosing_option(alloc, "from", "MS", from));
+    let word = with_option(word, choosing_option(alloc, "to", "MS", to));
+    with_option(word, message_option(alloc))
+}
+
+/// The word `show`.
+fn show_command<'a>(alloc: Global) -> Result<Command<'a>, AllocError>
+    ensures { IfOk result (Takes show_word) }
+{
+    let program =
+        "The program text (Instruction List); where none is given the log is run with none";
+    let next = "The next program, which a row of kind P puts in place of that of --program";
+    let word = Command::new(alloc, "show").about("Run a log, and write a picture of it (SVG)");
+    let word = with_option(Ok(word), plate_option(alloc));
+    let word = with_option(word, value_option(alloc, "program", "FILE", program));
+    let word = with_option(word, next_option(alloc, next));
+    let word = with_option(word, log_option(alloc));
+    with_option(word, message_option(alloc))
+}
+
+/// The word `line`.
+fn line_command<'a>(alloc: Global) -> Result<Command<'a>, AllocError>
+    ensures { IfOk result (Takes line_word) }
+{
+    let word = Command::new(alloc, "line").about(
+        "Run a log with no program: print each answer of the line",
+    );
+    let word = with_option(Ok(word), plate_option(alloc));
+    let word = with_option(word, log_option(alloc));
+    with_option(word, message_option(alloc))
+}
+
+/// The option of a table.
+fn table_flag<'a>(alloc: Global) -> Arg<'a>
+    ensures rule { rule_of result ≡ flag (codes "csv") }
+    ensures local { result.global ≡ false }
+{
+    Arg::new(alloc, "csv")
+        .long("csv")
+        .action(ArgAction::SetTrue)
+        .help("Write a table for a spreadsheet (CSV)")
+}
+
+/// The word `decode`.
+fn decode_command<'a>(alloc: Global) -> Result<Command<'a>, AllocError>
+    ensures { IfOk result (Takes decode_word) }
+{
+    let word = Command::new(alloc, "decode").about(
+        "Write a report, as a run prints it, from standard input for people",
+    );
+    with_option(Ok(word), table_flag(alloc))
+}
+
+/// The place of a refusal's number.
+fn number_place<'a>(alloc: Global) -> Arg<'a>
+    ensures rule { rule_of result ≡ number_place (codes "number") }
+    ensures local { result.global ≡ false }
+{
+    Arg::new(alloc, "number")
+        .value_name("NUMBER")
+        .required(true)
+        .value_parser(value_parser!(u16))
+        .help("The number of a refusal, as 403")
+}
+
+/// The word `explain`.
+fn explain_command<'a>(alloc: Global) -> Result<Command<'a>, AllocError>
+    ensures { IfOk result (Takes explain_word) }
+{
+    let word = Command::new(alloc, "explain").about(
+        "Say what a refusal means, where it is met, and how to mend it",
+    );
+    with_option(Ok(word), number_place(alloc))
+}
+
+/// The whole command line.
+fn command<'a>(alloc: Global) -> Result<Command<'a>, AllocError>
+    ensures { IfOk result (λ c. app_of c ≡ command_line) }
+{
+    let line = Command::new(alloc, "wc").version(VERSION).about(ABOUT);
+    let line = with_option(Ok(line), message_option(alloc));
+    let line = with_word(line, check_command(alloc));
+    let line = with_word(line, run_command(alloc));
+    let line = with_word(line, trace_command(alloc));
+    let line = with_word(line, show_command(alloc));
+    let line = with_word(line, line_command(alloc));
+    let line = with_word(line, decode_command(alloc));
+    with_word(line, explain_command(alloc))
+}
+
+/// The file behind an option that must be there.
+fn file<'a>(matches: &ArgMatches<'a>, name: &str) -> &'a str
+    ensures { result.now ≡ file_in name.now (rows_of (found_of matches.now)) }
+{
+    match matches.get_str(name) {
+        Some(path) => path,
+        None => "",
+    }
+}
+
+/// The file behind an option that may be there, or another text.
+fn optional_file<'a>(matches: &ArgMatches<'a>, name: &str) -> Option<&'a str>
+    ensures { option_map (λ path. path.now) result
+        ≡ first_of name.now (rows_of (found_of matches.now)) }
+{
+    matches.get_str(name)
+}
+
+/// Whether a flag is given.
+fn is_given(matches: &ArgMatches<'_>, name: &str) -> bool
+    ensures { result ≡ flag_in name.now (rows_of (found_of matches.now)) }
+{
+    let given = matches.get_one::<bool>(name);
+    given.unwrap_or(false)
+}
+
+/// The number behind an option, where it is given.
+fn number(matches: &ArgMatches<'_>, name: &str) -> Option<u16>
+    ensures { result ≡ number_in name.now (rows_of (found_of matches.now)) }
+{
+    matches.get_one::<u16>(name)
+}
+
+/// The number of 64 bits behind an option, where it is given.
+fn wide_number(matches: &ArgMatches<'_>, name: &str) -> Option<u64>
+    ensures { result ≡ wide_number_in name.now (rows_of (found_of matches.now)) }
+{
+    matches.get_one::<u64>(name)
+}
+
+/// The files of a run.
+fn program_files<'a>(matches: &ArgMatches<'a>) -> ProgramFiles<'a>
+    ensures program { result.program.now
+        ≡ file_in (codes "program") (rows_of (found_of matches.now)) }
+    ensures next { option_map (λ path. path.now) result.next
+        ≡ first_of (codes "next") (rows_of (found_of matches.now)) }
+    ensures log { result.log.now ≡ file_in (codes "log") (rows_of (found_of matches.now)) }
+{
+    ProgramFiles {
+        program: file(matches, "program"),
+        next: optional_file(matches, "next"),
+        log: file(matches, "log"),
+    }
+}
+
+/// Which scans are to be shown.
+fn chosen_scans(matches: &ArgMatches<'_>) -> ScanChoice
+    ensures at { result.at ≡ wide_number_in (codes "at") (rows_of (found_of matches.now)) }
+    ensures scan { result.scan ≡ wide_number_in (codes "scan") (rows_of (found_of matches.now)) }
+    ensures from { result.from ≡ wide_number_in (codes "from") (rows_of (found_of matches.now)) }
+    ensures to { result.to ≡ wide_number_in (codes "to") (rows_of (found_of matches.now)) }
+{
+    ScanChoice {
+        at: wide_number(matches, "at"),
+        scan: wide_number(matches, "scan"),
+        from: wide_number(matches, "from"),
+        to: wide_number(matches, "to"),
+    }
+}
+
+/// What a word asks for.
+fn wanted_by<'a>(word: &str, matches: &ArgMatches<'a>) -> Wanted<'a>
+    ensures { view result ≡ asked_at word.now (rows_of (found_of matches.now)) }
+{
+    match word {
+        "check" => Wanted::Check {
+            program: file(matches, "program"),
+            next: optional_file(matches, "next"),
+            paths: is_given(matches, "path"),
+        },
+        "run" => Wanted::Run {
+            plate: file(matches, "plate"),
+            files: program_files(matches),
+            last: number(matches, "last"),
+            watch: optional_file(matches, "watch"),
+        },
+        "trace" => Wanted::Trace {
+            plate: file(matches, "plate"),
+            files: program_files(matches),
+            chosen: chosen_scans(matches),
+        },
+        "show" => Wanted::Show {
+            plate: file(matches, "plate"),
+            program: optional_file(matches, "program"),
+            next: optional_file(matches, "next"),
+            log: file(matches, "log"),
+        },
+        "decode" => Wanted::Decode {
+            table: is_given(matches, "csv"),
+        },
+        "explain" => Wanted::Explain {
+            number: number(matches, "number").unwrap_or(0),
+        },
+        "line" => Wanted::Line {
+            plate: file(matches, "plate"),
+            log: file(matches, "log"),
+        },
+        _ => Wanted::Job,
+    }
+}
+
+/// What is asked for, and the text of the form that is given behind the word, or else before it.
+fn chosen<'a>(matches: &ArgMatches<'a>) -> (Wanted<'a>, Option<&'a str>)
+    ensures asked { view result.0 ≡ asked_by (subcommand_rows_of matches.now) }
+    ensures form { option_map (λ text. text.now) result.1
+        ≡ form_in (subcommand_rows_of matches.now) (rows_of (found_of matches.now)) }
+{
+    let before = matches.get_str("message");
+    match matches.subcommand() {
+        Some((word, inner)) => match inner.get_str("message") {
+            Some(behind) => (wanted_by(word, inner), Some(behind)),
+            None => (wanted_by(word, inner), before),
+        },
+        None => (Wanted::Job, before),
+    }
+}
+
+/// The form of that name.
+fn form_named(text: &str) -> Option<Form>
+    ensures { result ≡ form_named text.now }
+{
+    match text {
+        "long" => Some(Form::Long),
+        "short" => Some(Form::Short),
+        "json" => Some(Form::Json),
+        _ => None,
+    }
+}
+
+/// The form that a text names, the long one where none is given.
+fn form_of(text: Option<&str>) -> Option<Form>
+    ensures { result ≡ option_map_or form_named
+        (option_map (λ given. given.now) text.entry) (Some Form.Long) }
+{
+    match text {
+        Some(text) => form_named(text),
+        None => Some(Form::Long),
+    }
+}
+
+/// Whether a next program is given, and none whose place it could take.
+fn lacks_program(wanted: &Wanted<'_>) -> bool
+    ensures { result ≡ lacks_program (view wanted.now) }
+{
+    match wanted {
+        Wanted::Show {
+            program: None,
+            next: Some(_),
+            ..
+        } => true,
+        _ => false,
+    }
+}
+
+/// What these words ask for, the first of which is the program's own name; or a fault in them, or help or the version that
+/// was asked for.
+pub fn read_words<'a>(alloc: Global, words: &'a [String]) -> Result<Request<'a>, Error>
+    ensures asked { IfOk result (λ request. view request.wanted ≡ asked (texts_of words.now)) }
+    ensures form { IfOk result (λ request. form_asked (texts_of words.now) ≡ Some request.form) }
+    ensures refused { FailsBy (fault_in (texts_of words.now)) result }
+{
+    let mut command = command(alloc)?;
+    let matches = match command.try_get_matches_from_mut(words) {
+        Ok(matches) => matches,
+        Err(error) => return Err(error),
+    };
+    let (wanted, text) = chosen(&matches);
+    match form_of(text) {
+        Some(form) => {
+            if lacks_program(&wanted) {
+                return Err(command.error(ErrorKind::MissingRequiredArgument, NO_PROGRAM)?);
+            }
+            Ok(Request { wanted, form })
+        }
+        None => Err(command.error(ErrorKind::InvalidValue, NO_FORM)?),
+    }
+}
