@@ -1,9 +1,9 @@
 ghost use Rattle.std.specs.Prelude.{◌≡◌, ◌≤◌, IfSome, Some, None, option_map};
 ghost use Rattle.wc_words.specs.Asked.{asked, check, decode, form_asked, job, line, run, show, texts_of, trace};
 
-use crate::opening::Opening;
+use crate::opening::LateFile;
 use crate::output::{Emptying, Gathered, Sharing};
-use crate::telling::{Met, ReadFile, Sources, end};
+use crate::telling::{CommandEnd, ReadFile, Sources, end};
 use std::cell::RefCell;
 use std::io;
 use std::io::{IsTerminal, Stdin};
@@ -29,20 +29,20 @@ pub(crate) struct Desk<'a> {
 }
 
 /// A file that is read, and before each read the output is emptied.
-type Source<'a> = Device<Emptying<'a, Noting<Opening<'a>>>>;
+type Source<'a> = Device<Emptying<'a, Noting<LateFile<'a>>>>;
 
 /// The same of a file whose bytes are kept, so that a refusal shows those that were read.
-type KeptSource<'a> = Device<Emptying<'a, Keeping<Noting<Opening<'a>>>>>;
+type KeptSource<'a> = Device<Emptying<'a, Keeping<Noting<LateFile<'a>>>>>;
 
 /// A file, which is opened when it is first read.
 fn source<'a>(desk: Desk<'a>, path: &'a str) -> Source<'a> {
-    let noting = Noting::new(Opening::new(desk.rt, path));
+    let noting = Noting::new(LateFile::new(desk.rt, path));
     Device::new(Emptying::new(desk.gathered, noting))
 }
 
 /// The same of a file whose bytes are kept.
 fn kept_source<'a>(desk: Desk<'a>, path: &'a str) -> KeptSource<'a> {
-    let keeping = Keeping::new(desk.rt.alloc(), Noting::new(Opening::new(desk.rt, path)));
+    let keeping = Keeping::new(desk.rt.alloc(), Noting::new(LateFile::new(desk.rt, path)));
     Device::new(Emptying::new(desk.gathered, keeping))
 }
 
@@ -169,7 +169,7 @@ fn finish(
         Ok(mut gathered) => (gathered.empty().is_ok(), gathered.get_ref().cause()),
         Err(_) => (false, None),
     };
-    let met = Met {
+    let met = CommandEnd {
         ending: if written { ending } else { Ending::WriteFault },
         reading,
         writing,

@@ -26,7 +26,7 @@ use std::{env, io};
 use telling::{tell_write_fault, without_memory};
 use wc_controller::RefusedRow;
 use wc_messages::shown;
-use wc_words::{Request, Wanted, read_words};
+use wc_words::{AskedCommand, Wanted, read_words};
 
 /// The exit status where the words are wrong.
 const WRONG_WORDS: u8 = 2;
@@ -157,7 +157,7 @@ fn execute_at(desk: Desk<'_>, words: &[String], row: &mut RefusedRow, wanted: Wa
 }
 
 /// Does what the words ask for, with room for what is gathered for the output: the exit status.
-fn execute(rt: &HostRuntime, words: &[String], request: Request<'_>) -> u8
+fn execute(rt: &HostRuntime, words: &[String], request: AskedCommand<'_>) -> u8
     requires asked { asked (texts_of words.now) ≡ view request.wanted }
     requires form { form_asked (texts_of words.now) ≡ Some request.form }
 {

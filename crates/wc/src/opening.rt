@@ -4,16 +4,16 @@ use std::io::Read;
 
 /// A file that is opened when it is first read, so that files are opened one after the other.
 #[derive(Drop)]
-pub(crate) struct Opening<'a> {
+pub(crate) struct LateFile<'a> {
     rt: &'a HostRuntime,
     path: &'a str,
     file: Option<File>,
 }
 
-impl<'a> Opening<'a> {
+impl<'a> LateFile<'a> {
     /// The file at a path, not opened yet.
-    pub(crate) fn new(rt: &'a HostRuntime, path: &'a str) -> Opening<'a> {
-        Opening {
+    pub(crate) fn new(rt: &'a HostRuntime, path: &'a str) -> LateFile<'a> {
+        LateFile {
             rt,
             path,
             file: None,
@@ -21,7 +21,7 @@ impl<'a> Opening<'a> {
     }
 }
 
-impl Read for Opening<'_> {
+impl Read for LateFile<'_> {
     fn read(&mut self, buffer: &mut [u8]) -> io::Result<usize> {
         if self.file.is_none() {
             match File::open(self.rt, self.path) {

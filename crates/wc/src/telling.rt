@@ -1,13 +1,13 @@
 use std::io;
 use std::io::Write;
 use wc_controller::{Ending, Input, RefusedRow};
-use wc_messages::{Evidence, Part, Refusal, Section, explained, section_of, shown};
+use wc_messages::{Evidence, JobSection, Part, Refusal, explained, section_of, shown};
 use wc_refusals::Form;
 use wc_watch::UnknownName;
 
 /// How a command ended, and what the system said of a read and of a write that failed.
 #[derive(Clone, Copy)]
-pub(crate) struct Met {
+pub(crate) struct CommandEnd {
     pub(crate) ending: Ending,
     pub(crate) reading: Option<io::Error>,
     pub(crate) writing: Option<io::Error>,
@@ -97,10 +97,10 @@ impl<'a> Sources<'a> {
     }
 
     /// The text of an input, where it was kept, and how many lines stand above it in what is named.
-    fn text(&self, input: Input) -> Option<Section<'a>> {
+    fn text(&self, input: Input) -> Option<JobSection<'a>> {
         match self {
             Sources::Job { bytes } => section_of((*bytes)?, part_of(input)),
-            _ => Some(Section {
+            _ => Some(JobSection {
                 text: self.file(input)?.bytes?,
                 above: 0,
             }),
@@ -213,7 +213,7 @@ pub(crate) fn tell_write_fault(rt: &HostRuntime, cause: Option<io::Error>) -> io
 fn tell(
     rt: &HostRuntime,
     form: Form,
-    met: &Met,
+    met: &CommandEnd,
     sources: &Sources<'_>,
     row: &RefusedRow,
 ) -> io::Result<()> {
@@ -237,7 +237,7 @@ pub(crate) fn without_memory(rt: &HostRuntime) -> u8 {
 }
 
 /// The ending, where memory was refused to the system's own calls too.
-fn with_memory(met: &Met) -> Ending {
+fn with_memory(met: &CommandEnd) -> Ending {
     match (met.ending, met.reading) {
         (Ending::ReadFault { input }, Some(error)) => {
             if error.kind() == io::ErrorKind::OutOfMemory {
@@ -254,11 +254,11 @@ fn with_memory(met: &Met) -> Ending {
 pub(crate) fn end(
     rt: &HostRuntime,
     form: Form,
-    met: &Met,
+    met: &CommandEnd,
     sources: &Sources<'_>,
     row: &RefusedRow,
 ) -> u8 {
-    let met = Met {
+    let met = CommandEnd {
         ending: with_memory(met),
         ..*met
     };

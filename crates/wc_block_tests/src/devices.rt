@@ -1,8 +1,8 @@
-//! Readers and writers that count, numbers that wrap, and words without letter case.
+//! Readers and writers that count, numbers that wrap, words without letter case, and what faults say.
 use std::alloc::Global;
 use std::io;
 use std::io::{Read, Write};
-use wc_model::{ByteIn, ByteOut, Device, is_word, wrap32};
+use wc_model::{ByteIn, ByteOut, Device, Fault, is_word, wrap32};
 
 /// A reader and writer whose calls all fail.
 #[derive(Drop)]
@@ -86,6 +86,24 @@ fn failed_writes_are_told() -> bool {
     let mut full = Device::new(Full);
     let none = taken(&mut full, b"a") == Some(0) && taken(&mut full, b"") == Some(0);
     failed && none && ByteOut::failures(&full) == 1
+}
+
+/// Whether a fault says these words of itself.
+fn says(alloc: Global, fault: Fault, words: &str) -> bool {
+    match format!(in alloc; "{fault}") {
+        Ok(said) => said.as_bytes() == words.as_bytes(),
+        Err(_) => false,
+    }
+}
+
+#[test]
+fn faults_say_what_they_are(rt: HostRuntime) {
+    let refused = Fault::Refused {
+        number: 403,
+        place: 6,
+    };
+    assert!(rt; says(rt.alloc(), refused, "refused 403 6"));
+    assert!(rt; says(rt.alloc(), Fault::Memory, "want of memory"));
 }
 
 #[test]

@@ -63,7 +63,7 @@ fn add_declaration<'a>(
 }
 
 /// Behind the `;` of a declaration.
-fn declared<'a>(
+fn end_declaration<'a>(
     unit: &mut Unit<'a>,
     section: Section,
     names: Vec<Word<'a>, Global>,
@@ -267,7 +267,7 @@ fn behind_type<'a>(
         Shape::Assign => Ok(Some(SectionPlace::WithinSection(DeclarationState::BehindAssign(
             names, type_name,
         )))),
-        Shape::Semicolon => declared(unit, section, names, type_name, None),
+        Shape::Semicolon => end_declaration(unit, section, names, type_name, None),
         _ => Ok(None),
     }
 }
@@ -292,7 +292,7 @@ fn behind_value<'a>(
         Shape::LineEnd => Ok(Some(SectionPlace::WithinSection(DeclarationState::BehindValue(
             names, type_name, initial,
         )))),
-        Shape::Semicolon => declared(unit, section, names, type_name, Some(initial)),
+        Shape::Semicolon => end_declaration(unit, section, names, type_name, Some(initial)),
         _ => Ok(None),
     }
 }

@@ -26,10 +26,8 @@ fn longer(alloc: Global, prefix: &[u8], name: &[u8]) -> Result<Vec<u8>, Fault>
     let mut longer = Vec::new(alloc);
     put_bytes(&mut longer, prefix)?;
     put_bytes(&mut longer, name)?;
-    match put_bytes(&mut longer, b".") {
-        Ok(()) => Ok(longer),
-        Err(fault) => Err(fault),
-    }
+    put_bytes(&mut longer, b".")?;
+    Ok(longer)
 }
 
 /// Puts the line of a variable of one place, or of a standard block's instance.
@@ -95,10 +93,8 @@ fn describe_variable(
             if unit <= block || new.tables().size(block) == 0 {
                 return Ok(());
             }
-            match longer(alloc, prefix, name) {
-                Ok(longer) => { describe_unit(alloc, out, &longer, old, unit_of(was), new, block) }
-                Err(fault) => Err(fault),
-            }
+            let longer = longer(alloc, prefix, name)?;
+            describe_unit(alloc, out, &longer, old, unit_of(was), new, block)
         }
     }
 }
@@ -127,11 +123,9 @@ fn describe_declaration(
         None => None,
     };
     for word in &declaration.names {
-        if let Err(fault) = describe_variable(
+        describe_variable(
             alloc, out, prefix, old, old_unit, new, unit, word.text, literal,
-        ) {
-            return Err(fault);
-        }
+        )?;
     }
     Ok(())
 }
@@ -158,18 +152,7 @@ pub(crate) fn describe_unit(
         return Ok(());
     };
     for declaration in &u.declarations {
-        if let Err(fault) = describe_declaration(
-            alloc,
-            out,
-            prefix,
-            old,
-            old_unit,
-            new,
-            unit,
-            declaration,
-        ) {
-            return Err(fault);
-        }
+        describe_declaration(alloc, out, prefix, old, old_unit, new, unit, declaration)?;
     }
     Ok(())
 }

@@ -23,8 +23,6 @@ pub fn changes(alloc: Global, old: &Loaded<'_>, new: &Loaded<'_>) -> Result<Vec<
         return Ok(lines);
     };
     let old_program = old.source().units.len().checked_sub(1);
-    match describe_unit(alloc, &mut lines, b"", old, old_program, new, program) {
-        Ok(()) => Ok(lines),
-        Err(fault) => Err(fault),
-    }
+    describe_unit(alloc, &mut lines, b"", old, old_program, new, program)?;
+    Ok(lines)
 }

@@ -55,10 +55,7 @@ fn answer_sections<W: ByteOut>(
             fault: run_fault_of(fault),
         }),
     };
-    let loaded = match load_input(alloc, &mut Unwatched, Input::Program, sections.program) {
-        Ok(loaded) => loaded,
-        Err(stopped) => return Err(stopped),
-    };
+    let loaded = load_input(alloc, &mut Unwatched, Input::Program, sections.program)?;
     let mut log = Device::new(sections.log);
     match run_loaded(
         alloc,
@@ -118,10 +115,8 @@ fn answer_input<R: ByteIn, W: ByteOut>(
         (W.failure_count writer.new) }
     ensures taken { TakesInput (R.bytes_left reader.old) (R.bytes_left reader.new) }
 {
-    match read_input(alloc, Input::Job, reader) {
-        Ok(bytes) => answer_bytes(alloc, &bytes, writer, told),
-        Err(stopped) => Err(stopped),
-    }
+    let bytes = read_input(alloc, Input::Job, reader)?;
+    answer_bytes(alloc, &bytes, writer, told)
 }
 
 /// Reads a job, of at most 1048576 bytes, and answers it: its plate, its program, its next program,

@@ -118,10 +118,7 @@ pub(crate) fn run_loaded<'a, V: Scanner, L: ByteIn, W: ByteOut>(
     ensures failures { TellsWriteFaults (met result) (W.failure_count writer.old)
         (W.failure_count writer.new) }
 {
-    let next = match load_next(alloc, scanner, text) {
-        Ok(next) => next,
-        Err(stopped) => return Err(stopped),
-    };
+    let next = load_next(alloc, scanner, text)?;
     match Machine::new(alloc, loaded) {
         Ok(machine) => match run(
             alloc,

@@ -1,8 +1,8 @@
 -- What the rows of the code tell.
 use Rattle.wc_decode.specs.Lines.{Told, TellsScan, TellsAnswers, TellsRefusal}
 use Rattle.wc_decode.specs.declared.entry.AnswerRow.{AnswerRow}
-use Rattle.wc_decode.specs.declared.entry.Entry as answer
-use Rattle.wc_decode.specs.declared.entry.Entry.TheVariants.{Scan, Answers, Refusal}
+use Rattle.wc_decode.specs.declared.entry.ReportEntry as answer
+use Rattle.wc_decode.specs.declared.entry.ReportEntry.TheVariants.{Scan, Answers, Refusal}
 use Rattle.wc_decode.specs.declared.entry.RefusalRow.{RefusalRow}
 use Rattle.wc_decode.specs.declared.entry.ScanRow.{ScanRow}
 
@@ -19,7 +19,7 @@ abbrev pub refusal_told : RefusalRow → Told
 refusal_told row = TellsRefusal row.number row.place
 
 -- what an entry tells
-abbrev pub entry_told : answer.Entry → Told
+abbrev pub entry_told : answer.ReportEntry → Told
 entry_told (Scan row) = scan_told row
 entry_told (Answers row) = answers_told row
 entry_told (Refusal row) = refusal_told row

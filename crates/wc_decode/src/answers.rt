@@ -5,7 +5,7 @@ ghost use Rattle.wc_decode.specs.Lines.{AreToldBy, IsToldBy};
 ghost use Rattle.wc_model.specs.Run.Hex.{hex_of_bytes};
 ghost use Rattle.wc_model.specs.Say.Report.{AnswerLine, line_text};
 
-use crate::entry::{AnswerRow, Entry};
+use crate::entry::{AnswerRow, ReportEntry};
 use crate::fields::{cut_field, number};
 use crate::frames::answers_of;
 use crate::same::is_same;
@@ -46,13 +46,11 @@ fn row_in(alloc: Global, line: &[u8]) -> Result<ByteRow, Fault>
     let (_mark, rest) = cut_field(line);
     let (ms, rest) = cut_field(rest);
     let (digits, _end) = cut_field(rest);
-    match bytes_in(alloc, digits) {
-        Ok(bytes) => Ok(ByteRow {
-            ms: number(ms),
-            bytes,
-        }),
-        Err(fault) => Err(fault),
-    }
+    let bytes = bytes_in(alloc, digits)?;
+    Ok(ByteRow {
+        ms: number(ms),
+        bytes,
+    })
 }
 
 /// Whether this is the line of the moment and the bytes.
@@ -62,14 +60,12 @@ fn is_line_of(alloc: Global, row: &ByteRow, line: &[u8]) -> Result<bool, Fault>
     ensures memory { IsOkUnless result Fault.Memory }
 {
     let mut text = Vec::new(alloc);
-    match put_answer_line(&mut text, row.ms, &row.bytes) {
-        Ok(()) => Ok(is_same(&text, line)),
-        Err(fault) => Err(fault),
-    }
+    put_answer_line(&mut text, row.ms, &row.bytes)?;
+    Ok(is_same(&text, line))
 }
 
 /// The answers of a row, if its bytes are answers.
-fn entry_of(alloc: Global, row: &ByteRow) -> Result<Option<Entry>, Fault>
+fn entry_of(alloc: Global, row: &ByteRow) -> Result<Option<ReportEntry>, Fault>
     ensures told { IfOk result (λ found. AreToldBy row.now.ms (option_map entry_told found)
         row.now.bytes.items) }
     ensures memory { IsOkUnless result Fault.Memory }
@@ -79,7 +75,7 @@ fn entry_of(alloc: Global, row: &ByteRow) -> Result<Option<Entry>, Fault>
             if answers.is_empty() {
                 return Ok(None);
             }
-            Ok(Some(Entry::Answers(AnswerRow {
+            Ok(Some(ReportEntry::Answers(AnswerRow {
                 ms: row.ms,
                 answers,
             })))
@@ -90,15 +86,12 @@ fn entry_of(alloc: Global, row: &ByteRow) -> Result<Option<Entry>, Fault>
 }
 
 /// The answers that a line with an L in front tells.
-pub(crate) fn answers_entry(alloc: Global, line: &[u8]) -> Result<Option<Entry>, Fault>
+pub(crate) fn answers_entry(alloc: Global, line: &[u8]) -> Result<Option<ReportEntry>, Fault>
     requires { slice_index line.now 0 ≡ 76 }
     ensures told { IfOk result (λ found. IsToldBy (option_map entry_told found) line.now) }
     ensures memory { IsOkUnless result Fault.Memory }
 {
-    let row = match row_in(alloc, line) {
-        Ok(row) => row,
-        Err(fault) => return Err(fault),
-    };
+    let row = row_in(alloc, line)?;
     match is_line_of(alloc, &row, line) {
         Ok(true) => entry_of(alloc, &row),
         Ok(false) => Ok(None),

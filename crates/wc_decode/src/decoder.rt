@@ -80,12 +80,8 @@ fn end_line(alloc: Global, decoder: &mut Decoder, text: &mut Vec<u8>) -> Result<
         text.new.items }
     ensures memory { IsOkUnless result Fault.Memory }
 {
-    if let Err(fault) = push_byte(&mut decoder.line, b'\n') {
-        return Err(fault);
-    }
-    if let Err(fault) = put_line(alloc, decoder.form, &decoder.line, text) {
-        return Err(fault);
-    }
+    push_byte(&mut decoder.line, b'\n')?;
+    put_line(alloc, decoder.form, &decoder.line, text)?;
     decoder.line.clear();
     Ok(())
 }
@@ -100,15 +96,9 @@ fn begin_long(decoder: &mut Decoder, byte: u8, text: &mut Vec<u8>) -> Result<(),
         text.new.items }
     ensures memory { IsOkUnless result Fault.Memory }
 {
-    if let Err(fault) = put_opening(text, decoder.form) {
-        return Err(fault);
-    }
-    if let Err(fault) = put_passed_on(text, decoder.form, &decoder.line) {
-        return Err(fault);
-    }
-    if let Err(fault) = put_passed(text, decoder.form, byte) {
-        return Err(fault);
-    }
+    put_opening(text, decoder.form)?;
+    put_passed_on(text, decoder.form, &decoder.line)?;
+    put_passed(text, decoder.form, byte)?;
     decoder.line.clear();
     decoder.is_long = true;
     Ok(())
@@ -166,9 +156,7 @@ pub(crate) fn take_bytes(
     ensures memory { IsOkUnless result Fault.Memory }
 {
     for byte in bytes {
-        if let Err(fault) = take_byte(alloc, decoder, *byte, text) {
-            return Err(fault);
-        }
+        take_byte(alloc, decoder, *byte, text)?;
     }
     Ok(())
 }

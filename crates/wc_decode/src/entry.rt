@@ -25,7 +25,7 @@ pub(crate) struct RefusalRow {
 
 /// What a line of a report tells.
 #[derive(Drop)]
-pub(crate) enum Entry {
+pub(crate) enum ReportEntry {
     Scan(ScanRow),
     Answers(AnswerRow),
     Refusal(RefusalRow),

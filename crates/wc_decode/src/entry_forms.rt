@@ -5,7 +5,7 @@ ghost use Rattle.wc_decode.specs.declared.form.DecodeForm.TheVariants.{Table, Te
 
 use crate::answer::Answer;
 use crate::answer_texts::put_answer;
-use crate::entry::{Entry, RefusalRow, ScanRow};
+use crate::entry::{RefusalRow, ReportEntry, ScanRow};
 use crate::form::DecodeForm;
 use crate::row_forms::{put_bit_columns, put_bits, put_word_columns, put_words};
 use wc_model::{Fault, put_bytes};
@@ -102,9 +102,7 @@ fn put_answers(
     ensures memory { IsOkUnless result Fault.Memory }
 {
     for answer in answers {
-        if let Err(fault) = put_one_answer(text, form, ms, answer) {
-            return Err(fault);
-        }
+        put_one_answer(text, form, ms, answer)?;
     }
     Ok(())
 }
@@ -138,14 +136,18 @@ fn put_scan(text: &mut Vec<u8>, form: DecodeForm, row: &ScanRow) -> Result<(), F
 }
 
 /// Puts what a line tells behind a text. `Memory` is the only fault.
-pub(crate) fn put_entry(text: &mut Vec<u8>, form: DecodeForm, entry: &Entry) -> Result<(), Fault>
+pub(crate) fn put_entry(
+    text: &mut Vec<u8>,
+    form: DecodeForm,
+    entry: &ReportEntry,
+) -> Result<(), Fault>
     ensures entry { OnOk result (text.new.items
         ≡ text.old.items ++ decoded form (entry_told entry.now)) }
     ensures memory { IsOkUnless result Fault.Memory }
 {
     match entry {
-        Entry::Scan(row) => put_scan(text, form, row),
-        Entry::Answers(row) => put_answers(text, form, row.ms, &row.answers),
-        Entry::Refusal(row) => put_refusal(text, form, row),
+        ReportEntry::Scan(row) => put_scan(text, form, row),
+        ReportEntry::Answers(row) => put_answers(text, form, row.ms, &row.answers),
+        ReportEntry::Refusal(row) => put_refusal(text, form, row),
     }
 }

@@ -1,3 +1,5 @@
+use thiserror::Error;
+
 /// How a report is written anew.
 #[derive(Clone, Copy, PartialEq, Eq)]
 pub enum DecodeForm {
@@ -8,12 +10,15 @@ pub enum DecodeForm {
 }
 
 /// Why a report was not decoded to its end.
-#[derive(Clone, Copy, PartialEq, Eq)]
+#[derive(Clone, Copy, PartialEq, Eq, Debug, Error)]
 pub enum DecodeFault {
     /// A read failed, or as much was read as may be.
+    #[error("read fault")]
     Read,
     /// A write failed, or took nothing.
+    #[error("write fault")]
     Write,
     /// Memory was refused.
+    #[error("want of memory")]
     Memory,
 }

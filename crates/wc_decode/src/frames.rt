@@ -124,9 +124,7 @@ pub(crate) fn answers_of(alloc: Global, bytes: &[u8]) -> Result<Option<Vec<Answe
             None => return Ok(None),
             Some(answer) => answer,
         };
-        if let Err(fault) = push_answer(&mut answers, answer) {
-            return Err(fault);
-        }
+        push_answer(&mut answers, answer)?;
         rest = behind(rest, answer_length(&answer));
     }
     Ok(Some(answers))

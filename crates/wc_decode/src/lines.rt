@@ -3,14 +3,14 @@ ghost use Rattle.wc_decode.specs.Entries.{entry_told};
 ghost use Rattle.wc_decode.specs.Lines.{IsToldBy};
 
 use crate::answers::answers_entry;
-use crate::entry::Entry;
+use crate::entry::ReportEntry;
 use crate::refusals::refusal_entry;
 use crate::scans::scan_entry;
 use std::alloc::Global;
 use wc_model::Fault;
 
 /// What a line with its line feed tells, or none where it is no line of a report.
-pub(crate) fn line_entry(alloc: Global, line: &[u8]) -> Result<Option<Entry>, Fault>
+pub(crate) fn line_entry(alloc: Global, line: &[u8]) -> Result<Option<ReportEntry>, Fault>
     ensures told { IfOk result (λ found. IsToldBy (option_map entry_told found) line.now) }
     ensures memory { IsOkUnless result Fault.Memory }
 {

@@ -2,7 +2,7 @@ ghost use Rattle.std.specs.Prelude.{◌≡◌, ◌↔◌, ℕ, IfOk, IsOkUnless,
 ghost use Rattle.wc_decode.specs.Entries.{entry_told, refusal_told};
 ghost use Rattle.wc_decode.specs.Lines.{InRange, IsToldBy, TellsRefusal, told_text};
 
-use crate::entry::{Entry, RefusalRow};
+use crate::entry::{RefusalRow, ReportEntry};
 use crate::fields::{cut_field, short_number, small_number};
 use crate::same::is_same;
 use std::alloc::Global;
@@ -31,21 +31,19 @@ fn is_line_of(alloc: Global, row: &RefusalRow, line: &[u8]) -> Result<bool, Faul
         (λ same. IsTrue same ↔ (told_text (refusal_told row.now) ≡ line.now)) }
     ensures memory { IsOkUnless result Fault.Memory }
 {
-    match refused_line(alloc, row.number, row.place) {
-        Ok(text) => Ok(is_same(&text, line)),
-        Err(fault) => Err(fault),
-    }
+    let text = refused_line(alloc, row.number, row.place)?;
+    Ok(is_same(&text, line))
 }
 
 /// The refusal that a line with an r in front tells.
-pub(crate) fn refusal_entry(alloc: Global, line: &[u8]) -> Result<Option<Entry>, Fault>
+pub(crate) fn refusal_entry(alloc: Global, line: &[u8]) -> Result<Option<ReportEntry>, Fault>
     requires { slice_index line.now 0 ≡ 114 }
     ensures told { IfOk result (λ found. IsToldBy (option_map entry_told found) line.now) }
     ensures memory { IsOkUnless result Fault.Memory }
 {
     let row = refusal_in(line);
     match is_line_of(alloc, &row, line) {
-        Ok(true) => Ok(Some(Entry::Refusal(row))),
+        Ok(true) => Ok(Some(ReportEntry::Refusal(row))),
         Ok(false) => Ok(None),
         Err(fault) => Err(fault),
     }

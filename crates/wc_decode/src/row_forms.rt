@@ -37,9 +37,7 @@ pub(crate) fn put_bits(text: &mut Vec<u8>, bits: u16) -> Result<(), Fault>
         return put_bytes(text, b" none");
     }
     for index in 0..16 {
-        if let Err(fault) = put_bit_name(text, bits, index) {
-            return Err(fault);
-        }
+        put_bit_name(text, bits, index)?;
     }
     Ok(())
 }
@@ -64,9 +62,7 @@ pub(crate) fn put_bit_columns(text: &mut Vec<u8>, bits: u16) -> Result<(), Fault
     ensures memory { IsOkUnless result Fault.Memory }
 {
     for index in 0..16 {
-        if let Err(fault) = put_bit_column(text, bits, index) {
-            return Err(fault);
-        }
+        put_bit_column(text, bits, index)?;
     }
     Ok(())
 }

@@ -4,7 +4,7 @@ ghost use Rattle.wc_decode.specs.Fields.{words_text};
 ghost use Rattle.wc_decode.specs.Lines.{AreWords, InRange, IsToldBy, TellsScan, told_text};
 ghost use Rattle.wc_model.specs.declared.image.Outputs.{Outputs};
 
-use crate::entry::{Entry, ScanRow};
+use crate::entry::{ReportEntry, ScanRow};
 use crate::fields::{bits, cut_field, number, signed_number, small_number};
 use crate::same::is_same;
 use std::alloc::Global;
@@ -57,21 +57,19 @@ fn is_line_of(alloc: Global, row: &ScanRow, line: &[u8]) -> Result<bool, Fault>
     ensures memory { IsOkUnless result Fault.Memory }
 {
     let mut text = Vec::new(alloc);
-    match put_scan_line(&mut text, row.ms, row.steps, &row.outputs) {
-        Ok(()) => Ok(is_same(&text, line)),
-        Err(fault) => Err(fault),
-    }
+    put_scan_line(&mut text, row.ms, row.steps, &row.outputs)?;
+    Ok(is_same(&text, line))
 }
 
 /// The scan that a line with an S in front tells.
-pub(crate) fn scan_entry(alloc: Global, line: &[u8]) -> Result<Option<Entry>, Fault>
+pub(crate) fn scan_entry(alloc: Global, line: &[u8]) -> Result<Option<ReportEntry>, Fault>
     requires { slice_index line.now 0 ≡ 83 }
     ensures told { IfOk result (λ found. IsToldBy (option_map entry_told found) line.now) }
     ensures memory { IsOkUnless result Fault.Memory }
 {
     let row = scan_in(line);
     match is_line_of(alloc, &row, line) {
-        Ok(true) => Ok(Some(Entry::Scan(row))),
+        Ok(true) => Ok(Some(ReportEntry::Scan(row))),
         Ok(false) => Ok(None),
         Err(fault) => Err(fault),
     }

@@ -43,9 +43,7 @@ pub(crate) fn put_passed_on(text: &mut Vec<u8>, form: DecodeForm, bytes: &[u8]) 
     ensures memory { IsOkUnless result Fault.Memory }
 {
     for byte in bytes {
-        if let Err(fault) = put_passed(text, form, *byte) {
-            return Err(fault);
-        }
+        put_passed(text, form, *byte)?;
     }
     Ok(())
 }

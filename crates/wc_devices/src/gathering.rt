@@ -48,16 +48,12 @@ impl<D: Write> Gathering<D> {
         ensures more { OnOk result (self.old.given < self.new.given) }
     {
         let (_, rest) = self.gathered.as_slice().split_at(self.given);
-        match self.inner.write(rest) {
-            Ok(count) => {
-                if count == 0 {
-                    return Err(io::Error::from(io::ErrorKind::WriteZero));
-                }
-                self.given += count;
-                Ok(())
-            }
-            Err(error) => Err(error),
+        let count = self.inner.write(rest)?;
+        if count == 0 {
+            return Err(io::Error::from(io::ErrorKind::WriteZero));
         }
+        self.given += count;
+        Ok(())
     }
 
     /// Hands on all that is gathered.

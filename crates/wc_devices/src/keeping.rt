@@ -56,13 +56,9 @@ impl<D: Read> Read for Keeping<D> {
             (D.remaining (keeping_inner self.new)) result buffer.new }
         ensures kept { Keeps (kept self.old) (kept self.new) result buffer.new }
     {
-        match self.inner.read(buffer) {
-            Ok(count) => {
-                let (read, _) = buffer.split_at(count);
-                self.whole = self.whole && self.kept.extend_from_slice(read).is_ok();
-                Ok(count)
-            }
-            Err(error) => Err(error),
-        }
+        let count = self.inner.read(buffer)?;
+        let (read, _) = buffer.split_at(count);
+        self.whole = self.whole && self.kept.extend_from_slice(read).is_ok();
+        Ok(count)
     }
 }

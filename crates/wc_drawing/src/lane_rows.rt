@@ -1,7 +1,7 @@
 use crate::curves::{Curve, Range, put_curve};
 use crate::numbers::Tenths;
 use crate::request_marks::put_requests;
-use crate::steps::Steps;
+use crate::steps::ScanSteps;
 use crate::view::{HEIGHT, LEFT, TOP, View, WIDTH, part};
 use std::alloc::AllocError;
 use std::fmt::Write;
@@ -152,10 +152,10 @@ fn put_bound(out: &mut String, view: &View<'_>, top: u64) -> Result<(), AllocErr
 
 /// Puts the most steps of a scan and the bound, of the first program, and below of the next one.
 fn put_most(out: &mut String, view: &View<'_>, top: u64) -> Result<(), AllocError> {
-    let Steps { most, bound } = view.steps.first;
+    let ScanSteps { most, bound } = view.steps.first;
     put_beside(out, top)?;
     write!(out, "{most} of {bound}</text>\n")?;
-    if let Some(Steps { most, bound }) = view.steps.next {
+    if let Some(ScanSteps { most, bound }) = view.steps.next {
         put_beside(out, top.saturating_add(140))?;
         write!(out, "then {most} of {bound}</text>\n")?;
     }

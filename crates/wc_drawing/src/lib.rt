@@ -15,5 +15,5 @@ mod style;
 mod view;
 
 pub use drawing::draw;
-pub use steps::{RunSteps, Steps};
+pub use steps::{RunSteps, ScanSteps};
 pub use view::View;

@@ -1,5 +1,5 @@
 use crate::numbers::{Moment, Tenths, Weight};
-use crate::view::{Scale, TOP, View};
+use crate::view::{TOP, View, WeightScale};
 use std::alloc::AllocError;
 use std::fmt::Write;
 use wc_columns::{Column, Span, State};
@@ -7,7 +7,7 @@ use wc_columns::{Column, Span, State};
 /// Puts a weight, or from which to which, with a name before it.
 fn put_weight(
     out: &mut String,
-    scale: &Scale,
+    scale: &WeightScale,
     name: &str,
     span: Option<Span>,
 ) -> Result<(), AllocError> {

@@ -1,6 +1,6 @@
 /// The steps of a program's scans.
 #[derive(Clone, Copy)]
-pub struct Steps {
+pub struct ScanSteps {
     /// Of the longest scan.
     pub most: u32,
     /// Of the longest path: no scan takes more.
@@ -10,8 +10,8 @@ pub struct Steps {
 /// The steps of the program with which a run begins, and where it was changed of the next one.
 #[derive(Clone, Copy)]
 pub struct RunSteps {
-    pub first: Steps,
-    pub next: Option<Steps>,
+    pub first: ScanSteps,
+    pub next: Option<ScanSteps>,
 }
 
 impl RunSteps {

@@ -14,23 +14,23 @@ pub(crate) const HEIGHT: u64 = 2400;
 
 /// What a plate says of weights; where no row came, nothing is known of it.
 #[derive(Clone, Copy)]
-pub(crate) struct Scale {
+pub(crate) struct WeightScale {
     pub(crate) max: i64,
     pub(crate) decimals: u32,
     pub(crate) unit: &'static str,
 }
 
-impl Scale {
+impl WeightScale {
     /// The scale of a plate.
-    pub(crate) fn of(plate: Option<Plate>) -> Scale {
+    pub(crate) fn of(plate: Option<Plate>) -> WeightScale {
         let Some(plate) = plate else {
-            return Scale {
+            return WeightScale {
                 max: 1,
                 decimals: 0,
                 unit: "",
             };
         };
-        Scale {
+        WeightScale {
             max: i64::from(plate.max()),
             decimals: plate.decimals().unsigned_abs(),
             unit: unit_text(plate.unit()[0]),
@@ -45,7 +45,7 @@ pub struct View<'p> {
     /// The first moment in milliseconds, and how many a column has.
     pub(crate) start: u64,
     pub(crate) width: u64,
-    pub(crate) scale: Scale,
+    pub(crate) scale: WeightScale,
     pub(crate) steps: RunSteps,
     /// The weights at the lower and the upper edge.
     low: i64,
@@ -84,7 +84,7 @@ impl<'p> View<'p> {
         plate: Option<Plate>,
         steps: RunSteps,
     ) -> View<'p> {
-        let scale = Scale::of(plate);
+        let scale = WeightScale::of(plate);
         let (least, greatest) = match weights(columns) {
             Some(span) => (i64::from(span.least), i64::from(span.greatest)),
             None => (0, 0),

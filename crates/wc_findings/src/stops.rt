@@ -7,7 +7,7 @@ use crate::lines::{behind, column_at, front};
 use crate::pieces::tell_piece;
 use std::alloc::{AllocError, Global};
 use wc_model::Fault;
-use wc_stops::{Awaits, Stop, stop_of};
+use wc_stops::{Awaits, ReadingStop, stop_of};
 
 /// What could stand where a token is unexpected; nothing where it is said otherwise.
 fn words_of(awaits: Awaits) -> &'static str {
@@ -126,7 +126,7 @@ fn point_to_stop(
     finding: &mut Finding,
     text: &[u8],
     number: u16,
-    stop: Stop,
+    stop: ReadingStop,
 ) -> Result<(), AllocError>
     ensures spot { finding.new.spot
         ≡ Some (record { start = column_at text.now stop.start; length = stop.length }) }

@@ -2,12 +2,16 @@ ghost use Rattle.std.specs.Prelude.{◌≡◌};
 ghost use Rattle.wc_model.specs.Instrument.Indication.{refused_unless};
 ghost use Rattle.wc_indicator.specs.Refusals.{told_by};
 
+use thiserror::Error;
+
 /// Why a command was refused.
-#[derive(Clone, Copy, PartialEq, Eq)]
+#[derive(Clone, Copy, PartialEq, Eq, Debug, Error)]
 pub enum Refused {
     /// The scale was not stable.
+    #[error("in motion")]
     Motion,
     /// It was stable, and the load was out of the command's range.
+    #[error("out of range")]
     Range,
 }
 

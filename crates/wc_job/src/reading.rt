@@ -6,16 +6,20 @@ ghost use Rattle.wc_model.specs.Run.JobSections.{longest_job};
 use crate::cutting::LONGEST_JOB;
 use std::alloc::Global;
 use std::io;
+use thiserror::Error;
 use wc_model::ByteIn;
 
 /// Why the bytes of a job are not known.
-#[derive(Clone, Copy)]
+#[derive(Clone, Copy, Debug, Error)]
 pub enum ReadFault {
     /// There are more than 1048576.
+    #[error("more than 1048576 bytes")]
     TooLong,
     /// A read failed.
+    #[error("read fault")]
     Read,
     /// Memory is refused.
+    #[error("want of memory")]
     Memory,
 }
 

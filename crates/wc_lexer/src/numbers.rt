@@ -144,7 +144,7 @@ pub(crate) fn signed(negative: bool, size: u64) -> Option<i32>
 }
 
 /// The number of that size and sign, where there is one and it has 32 bits.
-pub(crate) fn narrowed(negative: bool, size: Option<u64>) -> Option<i32>
+pub(crate) fn number_in_32_bits(negative: bool, size: Option<u64>) -> Option<i32>
     ensures { result
         ≡ option_and_then
         (λ number. within_32_bits (if negative then neg_ℤ (pos number) else pos number)) size }
@@ -160,10 +160,10 @@ pub(crate) fn whole_number(text: &[u8]) -> Option<i32>
     ensures { result ≡ whole_number_of text.now }
 {
     if begins_with(text, b'-') {
-        narrowed(true, digits(10, behind_first(text)))
+        number_in_32_bits(true, digits(10, behind_first(text)))
     } else if begins_with(text, b'+') {
-        narrowed(false, digits(10, behind_first(text)))
+        number_in_32_bits(false, digits(10, behind_first(text)))
     } else {
-        narrowed(false, unsigned(text))
+        number_in_32_bits(false, unsigned(text))
     }
 }

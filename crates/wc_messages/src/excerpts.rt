@@ -76,7 +76,7 @@ fn write_expected(message: &mut Message, words: &Message) -> Result<(), AllocErr
 }
 
 /// The marks under what is meant in a line, and what could stand there.
-fn marked(
+fn marks_under(
     alloc: Global,
     line: &[u8],
     spot: Option<Spot>,
@@ -139,7 +139,7 @@ pub(crate) fn excerpt(
         return Ok(message);
     }
     let margin = margin(alloc, number)?;
-    let marked = marked(alloc, &finding.shown, finding.spot, words)?;
+    let marked = marks_under(alloc, &finding.shown, finding.spot, words)?;
     write_bar(&mut message, &margin, &Message::new(alloc))?;
     write_quoted(
         &mut message,

@@ -8,7 +8,7 @@ use wc_job::sections;
 
 /// A section of a job.
 #[derive(Clone, Copy)]
-pub struct Section<'a> {
+pub struct JobSection<'a> {
     /// Its bytes.
     pub text: &'a [u8],
     /// How many lines of the job stand above them.
@@ -44,7 +44,7 @@ fn above_log(above: u32, next: Option<&[u8]>) -> u32
 }
 
 /// The section of a job that is this part, where the job has its headings.
-pub fn section_of(job: &[u8], part: Part) -> Option<Section<'_>>
+pub fn section_of(job: &[u8], part: Part) -> Option<JobSection<'_>>
     ensures text { option_map (λ section. section.text.now) result
         ≡ text_of part (sections_of job.now) }
     ensures above { IfSome result (λ section. StandsBelow job.now part section.above) }
@@ -56,19 +56,19 @@ pub fn section_of(job: &[u8], part: Part) -> Option<Section<'_>>
     let next = behind_heading(program, found.program);
     match part {
         Part::Job => None,
-        Part::Plate => Some(Section {
+        Part::Plate => Some(JobSection {
             text: found.plate,
             above: 1,
         }),
-        Part::Program => Some(Section {
+        Part::Program => Some(JobSection {
             text: found.program,
             above: program,
         }),
         Part::Next => match found.next {
-            Some(text) => Some(Section { text, above: next }),
+            Some(text) => Some(JobSection { text, above: next }),
             None => None,
         },
-        Part::Log => Some(Section {
+        Part::Log => Some(JobSection {
             text: found.log,
             above: above_log(next, found.next),
         }),

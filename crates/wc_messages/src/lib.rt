@@ -15,7 +15,7 @@ mod placing;
 mod short;
 
 pub use explaining::explained;
-pub use jobs::{Section, section_of};
+pub use jobs::{JobSection, section_of};
 pub use message::{Message, shown};
 pub use page::page as page_of;
 pub use wc_findings::{Evidence, Part, Refusal};

@@ -6,7 +6,7 @@ ghost use Rattle.wc_messages.specs.Known.{IsKnown};
 
 use crate::message::{Message, shown};
 use crate::parts::Parts;
-use crate::placing::counted;
+use crate::placing::place_words;
 use json::Writer;
 use std::alloc::{AllocError, Global};
 use wc_findings::{Finding, Refusal};
@@ -93,7 +93,7 @@ fn write_position(
         ≡ writer.old.tokens
         ++ position_members refusal.now parts.now.line parts.now.finding) }
 {
-    let place = counted(alloc, refusal)?;
+    let place = place_words(alloc, refusal)?;
     write_number_if_any(writer, "line", parts.line as usize)?;
     write_number_if_any(writer, "column", first_column(&parts.finding))?;
     write_number_if_any(writer, "endColumn", column_behind(&parts.finding))?;

@@ -69,7 +69,7 @@ fn write_answer(message: &mut Message, number: u16, place: u32) -> Result<(), Al
 }
 
 /// The page of a refusal, as it is printed.
-fn printed(alloc: Global, entry: &Entry) -> Result<Message, AllocError>
+fn page_message(alloc: Global, entry: &Entry) -> Result<Message, AllocError>
     ensures { IfOk result (λ message. TellsPage entry.now.number message.bytes.items) }
 {
     let plate = plate_a();
@@ -90,7 +90,7 @@ pub fn page(alloc: Global, number: u16) -> Result<Option<Message>, AllocError>
         (λ page. IfSome page (λ message. TellsPage number message.bytes.items)) }
 {
     match entry_of(number) {
-        Some(entry) => match printed(alloc, entry) {
+        Some(entry) => match page_message(alloc, entry) {
             Ok(message) => Ok(Some(message)),
             Err(error) => Err(error),
         },

@@ -79,7 +79,7 @@ fn write_detail(message: &mut Message, detail: &str) -> Result<(), AllocError>
 }
 
 /// What is said of what is quoted.
-fn said(alloc: Global, number: u16, finding: &Finding) -> Result<Message, AllocError>
+fn statement_of(alloc: Global, number: u16, finding: &Finding) -> Result<Message, AllocError>
     ensures { IfOk result (λ message. IsShown message.bytes.items) }
 {
     let mut message = Message::new(alloc);
@@ -89,7 +89,7 @@ fn said(alloc: Global, number: u16, finding: &Finding) -> Result<Message, AllocE
 }
 
 /// What is wrong: what is quoted, and what is said of it.
-fn told(alloc: Global, finding: &Finding, said: &Message) -> Result<Message, AllocError>
+fn what_is_wrong(alloc: Global, finding: &Finding, said: &Message) -> Result<Message, AllocError>
     ensures { IfOk result (λ message. message.bytes.items
         ≡ quoted_text finding.now.subject.items ++ said.now.bytes.items) }
 {
@@ -109,7 +109,7 @@ fn words(alloc: Global, words: &str) -> Result<Message, AllocError>
 }
 
 /// What to write instead, as a text.
-fn advised<'a>(number: u16, finding: &'a Finding) -> &'a str {
+fn advice_of<'a>(number: u16, finding: &'a Finding) -> &'a str {
     if finding.advice.is_empty() {
         return finding.help.unwrap_or(hint(number));
     }
@@ -121,10 +121,10 @@ pub(crate) fn parts_of(alloc: Global, refusal: &Refusal<'_>) -> Result<Parts, Al
     ensures { IfOk result (λ parts. IsKnown refusal.now parts) }
 {
     let finding = find(alloc, refusal)?;
-    let said = said(alloc, refusal.number, &finding)?;
-    let told = told(alloc, &finding, &said)?;
+    let said = statement_of(alloc, refusal.number, &finding)?;
+    let told = what_is_wrong(alloc, &finding, &said)?;
     let expected = words(alloc, finding.expected)?;
-    let advice = words(alloc, advised(refusal.number, &finding))?;
+    let advice = words(alloc, advice_of(refusal.number, &finding))?;
     Ok(Parts {
         line: named_line(refusal, finding.line),
         told,

@@ -136,7 +136,7 @@ fn write_row(message: &mut Message, part: Part, place: u32) -> Result<(), AllocE
 }
 
 /// The place by which the refusal is counted, where it is not the line that is named.
-pub(crate) fn counted(alloc: Global, refusal: &Refusal<'_>) -> Result<Message, AllocError>
+pub(crate) fn place_words(alloc: Global, refusal: &Refusal<'_>) -> Result<Message, AllocError>
     ensures { IfOk result (λ message. message.bytes.items
         ≡ place_text refusal.now.in_job refusal.now.part refusal.now.place) }
 {
@@ -172,7 +172,7 @@ pub(crate) fn beside(
     ensures { IfOk result (λ message. message.bytes.items
         ≡ beside_text refusal.now finding.now.spot) }
 {
-    let counted = counted(alloc, refusal)?;
+    let counted = place_words(alloc, refusal)?;
     let mut message = Message::new(alloc);
     write_column(&mut message, finding)?;
     write_in_brackets(&mut message, &counted)?;

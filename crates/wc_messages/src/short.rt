@@ -4,7 +4,7 @@ ghost use Rattle.wc_messages.specs.Known.{IsKnown};
 
 use crate::message::Message;
 use crate::parts::Parts;
-use crate::placing::{counted, write_column, write_line};
+use crate::placing::{place_words, write_column, write_line};
 use std::alloc::{AllocError, Global};
 use wc_findings::Refusal;
 
@@ -34,7 +34,7 @@ fn write_position(
         ++ position_text refusal.now parts.now.line parts.now.finding.spot) }
 {
     if parts.line == 0 {
-        let place = counted(alloc, refusal)?;
+        let place = place_words(alloc, refusal)?;
         return write_behind_colon(message, &place);
     }
     write_line(message, parts.line)?;

@@ -1,7 +1,10 @@
+use thiserror::Error;
+
 /// Why a library call gave no result.
-#[derive(Clone, Copy, PartialEq, Eq)]
+#[derive(Clone, Copy, PartialEq, Eq, Debug, Error)]
 pub enum Fault {
     /// The input breaks a rule.
+    #[error("refused {number} {place}")]
     Refused {
         /// The rule's number, by the list of refusals.
         number: u16,
@@ -9,5 +12,6 @@ pub enum Fault {
         place: u32,
     },
     /// A growth was refused for want of memory.
+    #[error("want of memory")]
     Memory,
 }

@@ -3,9 +3,11 @@ ghost use Rattle.std.specs.Io.KnownBytes.{Appends, Keeps};
 ghost use Rattle.wc_model.specs.Run.Writing.{HasFailedSince, TakesFront};
 
 use crate::byte_out::ByteOut;
+use thiserror::Error;
 
 /// The writer failed, or took nothing of what it was given.
-#[derive(Clone, Copy, PartialEq, Eq)]
+#[derive(Clone, Copy, PartialEq, Eq, Debug, Error)]
+#[error("write fault")]
 pub struct WriteFault;
 
 /// Has the writer take a front of a piece that has bytes, and answers how many.

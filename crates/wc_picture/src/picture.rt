@@ -2,7 +2,7 @@ use std::alloc::{AllocError, Global};
 use wc_columns::{Column, Events, State, TimeLine, Tracker};
 use wc_controller::{Scanner, Unwatched};
 use wc_cost::Loaded;
-use wc_drawing::{RunSteps, Steps, View, draw};
+use wc_drawing::{RunSteps, ScanSteps, View, draw};
 use wc_indicator::Indicator;
 use wc_machine::Machine;
 use wc_model::{Image, Outputs};
@@ -21,9 +21,9 @@ pub(crate) struct Picture {
     /// The steps of the last scan; none where no program does any.
     steps: Option<u32>,
     /// The steps of the program that runs; none where none does.
-    running: Option<Steps>,
+    running: Option<ScanSteps>,
     /// The steps of the one whose place it took.
-    before: Option<Steps>,
+    before: Option<ScanSteps>,
     /// The bound of the one that may take its place.
     next_bound: u32,
     tracker: Tracker,
@@ -97,8 +97,8 @@ impl Picture {
     /// Counts the steps of a scan.
     fn count(&mut self, steps: u32) {
         self.steps = Some(steps);
-        if let Some(Steps { most, bound }) = self.running {
-            self.running = Some(Steps {
+        if let Some(ScanSteps { most, bound }) = self.running {
+            self.running = Some(ScanSteps {
                 most: most.max(steps),
                 bound,
             });
@@ -107,7 +107,7 @@ impl Picture {
 
     /// The steps of the programs that ran.
     fn run_steps(&self) -> RunSteps {
-        let running = self.running.unwrap_or(Steps { most: 0, bound: 0 });
+        let running = self.running.unwrap_or(ScanSteps { most: 0, bound: 0 });
         match self.before {
             Some(before) => RunSteps {
                 first: before,
@@ -149,7 +149,7 @@ impl Scanner for Picture {
     fn know(&mut self, _text: &[u8], loaded: &Loaded<'_>) -> bool {
         let bound = program_bound(loaded);
         if self.running.is_none() {
-            self.running = Some(Steps { most: 0, bound });
+            self.running = Some(ScanSteps { most: 0, bound });
         } else {
             self.next_bound = bound;
         }
@@ -159,7 +159,7 @@ impl Scanner for Picture {
     fn change(&mut self) {
         if self.running.is_some() {
             self.before = self.running;
-            self.running = Some(Steps {
+            self.running = Some(ScanSteps {
                 most: 0,
                 bound: self.next_bound,
             });

@@ -108,7 +108,7 @@ fn count(max: i64, e: u32) -> Option<u32>
 }
 
 /// The plate of what is written, or the first rule that it breaks.
-pub(crate) fn judged(written: &Written) -> Result<Plate, BrokenRule<'static>>
+pub(crate) fn judge_written(written: &Written) -> Result<Plate, BrokenRule<'static>>
     ensures { Judges (written_seen written.now) result }
 {
     let Some(unit) = line_unit(written.unit) else {

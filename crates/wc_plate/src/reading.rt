@@ -5,7 +5,7 @@ ghost use Rattle.wc_plate.specs.TomlTable.{entries_of};
 ghost use Rattle.wc_plate.specs.Verdict.{IsVerdictOn, JudgesTable};
 
 use crate::broken::BrokenRule;
-use crate::judging::judged;
+use crate::judging::judge_written;
 use crate::kept::Plate;
 use crate::keys::written_in;
 use std::alloc::Global;
@@ -16,13 +16,8 @@ use wc_model::Fault;
 pub fn plate_of(table: &Table) -> Result<Plate, BrokenRule<'_>>
     ensures { JudgesTable (entries_of (table_view table.now)) result }
 {
-    match written_in(table) {
-        Ok(written) => match judged(&written) {
-            Ok(plate) => Ok(plate),
-            Err(rule) => Err(rule),
-        },
-        Err(rule) => Err(rule),
-    }
+    let written = written_in(table)?;
+    judge_written(&written)
 }
 
 /// Reads a plate. A text that is no TOML is refused by 501, keys that are not the seven by 502, and by 503 to 508

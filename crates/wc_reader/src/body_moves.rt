@@ -286,10 +286,8 @@ fn along_line<'a>(
         (symbol_view token.entry) token.entry.line colon) }
     ensures counted { IfOk result (λ next. IfSome next (λ place. IsCounted body.new)) }
 {
-    match line_move(alloc, line, token) {
-        Ok(line) => on_line(alloc, body, line),
-        Err(error) => Err(error),
-    }
+    let line = line_move(alloc, line, token)?;
+    on_line(alloc, body, line)
 }
 
 /// Behind the token after a `)`: the line's end.

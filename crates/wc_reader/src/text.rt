@@ -278,9 +278,7 @@ fn read_on<'a>(
 {
     let mut place = 0;
     while place < tokens.len() {
-        if let Err(fault) = read_at(alloc, reading, tokens, place) {
-            return Err(fault);
-        }
+        read_at(alloc, reading, tokens, place)?;
         place = match take_lines(alloc, reading, tokens, place + 1) {
             Ok(next) => next,
             Err(_) => return Err(Fault::Memory),
@@ -339,8 +337,6 @@ pub fn read<'a>(alloc: Global, text: &'a [u8]) -> Result<Source<'a>, Fault>
     ensures read { IfOk result (λ source. IsRead text.now (text_view source)) }
     ensures refused { IfErr result (λ fault. IsRefusedAs text.now fault) }
 {
-    match tokens(alloc, text) {
-        Ok(tokens) => read_tokens(alloc, &tokens, last_line(text)),
-        Err(fault) => Err(fault),
-    }
+    let tokens = tokens(alloc, text)?;
+    read_tokens(alloc, &tokens, last_line(text))
 }

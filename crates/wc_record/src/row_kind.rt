@@ -1,3 +1,5 @@
+use thiserror::Error;
+
 /// A row of a log.
 #[derive(Clone, Copy)]
 pub struct Row {
@@ -25,9 +27,10 @@ pub enum RowKind {
 }
 
 /// Why a log gives no further row.
-#[derive(Clone, Copy, PartialEq, Eq)]
+#[derive(Clone, Copy, PartialEq, Eq, Debug, Error)]
 pub enum LogFault {
     /// A row breaks a rule.
+    #[error("refused {number} {place}")]
     Refused {
         /// The number of the rule, 601 to 608.
         number: u16,
@@ -35,7 +38,9 @@ pub enum LogFault {
         place: u32,
     },
     /// The reader failed, or as much was read as may be.
+    #[error("read fault")]
     Read,
     /// Memory was refused.
+    #[error("want of memory")]
     Memory,
 }

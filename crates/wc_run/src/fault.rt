@@ -1,7 +1,10 @@
+use thiserror::Error;
+
 /// Why a run or a check did not end well.
-#[derive(Clone, Copy, PartialEq, Eq)]
+#[derive(Clone, Copy, PartialEq, Eq, Debug, Error)]
 pub enum RunFault {
     /// The input breaks a rule.
+    #[error("refused {number} {place}")]
     Refused {
         /// The rule's number, by the list of refusals.
         number: u16,
@@ -9,9 +12,12 @@ pub enum RunFault {
         place: u32,
     },
     /// The reader failed, or as much was read as may be.
+    #[error("read fault")]
     Read,
     /// The writer failed, or took nothing.
+    #[error("write fault")]
     Write,
     /// Memory was refused.
+    #[error("want of memory")]
     Memory,
 }

@@ -16,10 +16,8 @@ fn indicator_of(alloc: Global, text: &[u8]) -> Result<Indicator, Fault>
     ensures plate { IfOk result (λ indicator. ShowsPlate text.now indicator) }
     ensures refused { IfErr result (λ fault. IsRefusedPlate text.now fault) }
 {
-    match plate(alloc, text) {
-        Ok(plate) => Indicator::new(alloc, plate),
-        Err(fault) => Err(fault),
-    }
+    let plate = plate(alloc, text)?;
+    Indicator::new(alloc, plate)
 }
 
 impl Scale {

@@ -39,7 +39,7 @@ pub fn operand_of<'a>(token: Token<'a>) -> Option<Operand<'a>>
 }
 
 /// The instruction of the operator with the token as its whole operand.
-fn operated<'a>(operating: Operating, token: Token<'a>) -> Option<Step<'a>>
+fn operation_with<'a>(operating: Operating, token: Token<'a>) -> Option<Step<'a>>
     ensures { IfSome result
         (λ step.
         Makes (words.Operates (operating_view operating)) (mark_of_token (token_view token.entry))
@@ -52,7 +52,7 @@ fn operated<'a>(operating: Operating, token: Token<'a>) -> Option<Step<'a>>
 }
 
 /// The jump to the label that the token is.
-fn jumped<'a>(condition: Condition, token: Token<'a>) -> Option<Step<'a>>
+fn jump_to<'a>(condition: Condition, token: Token<'a>) -> Option<Step<'a>>
     ensures { IfSome result
         (λ step.
         Makes (words.Jumps condition) (mark_of_token (token_view token.entry)) (step_view step)) }
@@ -71,8 +71,8 @@ fn step_with<'a>(operation: Operation, token: Token<'a>) -> Option<Step<'a>>
         (step_view step)) }
 {
     match operation {
-        Operation::Operates(operating) => operated(operating, token),
-        Operation::Jumps(condition) => jumped(condition, token),
+        Operation::Operates(operating) => operation_with(operating, token),
+        Operation::Jumps(condition) => jump_to(condition, token),
         _ => None,
     }
 }

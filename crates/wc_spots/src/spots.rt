@@ -195,14 +195,12 @@ fn found_in<'a, 't>(
     if !is_listed(tokens) {
         return Ok(found_plain(tables, unit, tokens, number));
     }
-    match meant_in_call(alloc, tables, unit, tokens, number) {
-        Ok(call) => Ok(Found {
-            piece: piece_of_call(tokens, call),
-            meant: call.meant,
-            first: call.first,
-        }),
-        Err(fault) => Err(fault),
-    }
+    let call = meant_in_call(alloc, tables, unit, tokens, number)?;
+    Ok(Found {
+        piece: piece_of_call(tokens, call),
+        meant: call.meant,
+        first: call.first,
+    })
 }
 
 /// What is known of a piece, if it begins on the line of its instruction.

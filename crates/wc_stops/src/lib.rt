@@ -9,4 +9,4 @@ mod stops;
 
 pub use awaits::Awaits;
 pub use placed::{Placed, read_by_places};
-pub use stops::{Stop, stop_of};
+pub use stops::{ReadingStop, stop_of};

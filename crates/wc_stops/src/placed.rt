@@ -43,12 +43,7 @@ pub fn read_by_places<'a>(alloc: Global, text: &'a [u8]) -> Result<Placed<'a>, F
     ensures { IfOk result
         (λ placed. AreReadByPlaces text.now placed.tokens.items (text_view placed.source)) }
 {
-    let mut tokens = match tokens(alloc, text) {
-        Ok(tokens) => tokens,
-        Err(fault) => return Err(fault),
-    };
-    match read_placed(alloc, text, &mut tokens) {
-        Ok(source) => Ok(Placed { tokens, source }),
-        Err(fault) => Err(fault),
-    }
+    let mut tokens = tokens(alloc, text)?;
+    let source = read_placed(alloc, text, &mut tokens)?;
+    Ok(Placed { tokens, source })
 }

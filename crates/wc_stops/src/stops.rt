@@ -22,7 +22,7 @@ use wc_reader::{Reading, at_text_end, last_line, read_at, reading_start, take_li
 /// Why the reading of a text stopped, the piece of the text at which it did, and what could stand
 /// there.
 #[derive(Clone, Copy)]
-pub struct Stop {
+pub struct ReadingStop {
     /// The number and the line of the fault, or want of memory.
     pub fault: Fault,
     /// Where the piece starts.
@@ -35,23 +35,23 @@ pub struct Stop {
 
 /// A fault that is met, and what could stand there.
 #[derive(Clone, Copy)]
-struct Met {
+struct MetFault {
     fault: Fault,
     awaits: Awaits,
 }
 
 /// Want of memory, of which nothing stands there.
-fn met_memory() -> Met
+fn met_memory() -> MetFault
     ensures { result.fault ≡ Fault.Memory }
 {
-    Met {
+    MetFault {
         fault: Fault::Memory,
         awaits: Awaits::Nothing,
     }
 }
 
 /// What is met at the end of the tokens; nothing where the text is read.
-fn met_at_end<'a>(alloc: Global, reading: &mut Reading<'a>, last: u32) -> Option<Met>
+fn met_at_end<'a>(alloc: Global, reading: &mut Reading<'a>, last: u32) -> Option<MetFault>
     ensures read { IfNone result (ReadsText (walk (reading_view reading.old) [] last)) }
     ensures stopped { IfSome result
         (λ met. TellsMet (walk (reading_view reading.old) [] last) met.fault met.awaits) }
@@ -61,7 +61,7 @@ fn met_at_end<'a>(alloc: Global, reading: &mut Reading<'a>, last: u32) -> Option
     let awaits = awaits_at(reading);
     match at_text_end(alloc, reading, last) {
         Ok(_) => None,
-        Err(fault) => Some(Met { fault, awaits }),
+        Err(fault) => Some(MetFault { fault, awaits }),
     }
 }
 
@@ -72,7 +72,7 @@ fn met_on<'a>(
     reading: &mut Reading<'a>,
     tokens: &[Token<'a>],
     last: u32,
-) -> Option<Met>
+) -> Option<MetFault>
     requires { IsStateCounted reading.old.state }
     ensures read { IfNone result
         (ReadsText (walk (reading_view reading.old) (marks_of tokens.now) last)) }
@@ -87,7 +87,7 @@ fn met_on<'a>(
     while place < tokens.len() {
         let awaits = awaits_at(reading);
         if let Err(fault) = read_at(alloc, reading, tokens, place) {
-            return Some(Met { fault, awaits });
+            return Some(MetFault { fault, awaits });
         }
         place = match take_lines(alloc, reading, tokens, place + 1) {
             Ok(next) => next,
@@ -98,7 +98,7 @@ fn met_on<'a>(
 }
 
 /// Where the reading of these tokens stops from the start of a text; nothing where they are read.
-fn met_in<'a>(alloc: Global, tokens: &[Token<'a>], last: u32) -> Option<Met>
+fn met_in<'a>(alloc: Global, tokens: &[Token<'a>], last: u32) -> Option<MetFault>
     ensures read { IfNone result (ReadsText (walk at_first (marks_of tokens.now) last)) }
     ensures stopped { IfSome result
         (λ met. TellsMet (walk at_first (marks_of tokens.now) last) met.fault met.awaits) }
@@ -116,7 +116,7 @@ fn token_at<'a, 't>(tokens: &'t [Token<'a>], start: u32) -> Option<&'t Token<'a>
 }
 
 /// Want of memory, which no piece is the cause of.
-fn stop_for_memory() -> Stop
+fn stop_for_memory() -> ReadingStop
     ensures { result ≡ record {
       fault = Fault.Memory;
       start = 0;
@@ -124,7 +124,7 @@ fn stop_for_memory() -> Stop
       awaits = Awaits.Nothing;
     } }
 {
-    Stop {
+    ReadingStop {
         fault: Fault::Memory,
         start: 0,
         length: 0,
@@ -206,13 +206,19 @@ fn piece_of(text: &[u8], meant: Option<&Token<'_>>) -> (usize, usize)
 }
 
 /// The fault of that number at that place, with its line and its piece.
-fn stop_at(text: &[u8], tokens: &[Token<'_>], number: u16, place: u32, awaits: Awaits) -> Stop
+fn stop_at(
+    text: &[u8],
+    tokens: &[Token<'_>],
+    number: u16,
+    place: u32,
+    awaits: Awaits,
+) -> ReadingStop
     requires { length text.now ≤ most_bytes }
     ensures { IsPieceAt text.now tokens.now number place awaits result }
 {
     let awaits = told_awaits(number, awaits);
     let (start, length) = piece_of(text, meant_at(tokens, place, awaits));
-    Stop {
+    ReadingStop {
         fault: Fault::Refused {
             number,
             place: line_at(text, tokens, place),
@@ -224,7 +230,7 @@ fn stop_at(text: &[u8], tokens: &[Token<'_>], number: u16, place: u32, awaits: A
 }
 
 /// What is met in these tokens, with its line and its piece.
-fn stop_met(text: &[u8], tokens: &[Token<'_>], met: Met) -> Stop
+fn stop_met(text: &[u8], tokens: &[Token<'_>], met: MetFault) -> ReadingStop
     requires { length text.now ≤ most_bytes }
     ensures { IsStopAt text.now tokens.now met.fault met.awaits result }
 {
@@ -235,7 +241,7 @@ fn stop_met(text: &[u8], tokens: &[Token<'_>], met: Met) -> Stop
 }
 
 /// Where the reading of a text with these tokens stops; nothing where it is read.
-fn stop_in(alloc: Global, text: &[u8], tokens: &mut [Token<'_>]) -> Option<Stop>
+fn stop_in(alloc: Global, text: &[u8], tokens: &mut [Token<'_>]) -> Option<ReadingStop>
     requires short { length text.now ≤ most_bytes }
     requires cut { IsCut text.now (map token_view tokens.old) }
     ensures stopped { IfSome result
@@ -254,7 +260,7 @@ fn stop_in(alloc: Global, text: &[u8], tokens: &mut [Token<'_>]) -> Option<Stop>
 
 /// Where the reading of a text stops, and what could stand there; nothing where it is read. It is the
 /// same pass as that of `read`, over tokens that have their places for their lines.
-pub fn stop_of(alloc: Global, text: &[u8]) -> Option<Stop>
+pub fn stop_of(alloc: Global, text: &[u8]) -> Option<ReadingStop>
     ensures stopped { IfSome result
         (λ stop. StopsReading text.now stop.fault stop.start stop.length stop.awaits) }
     ensures awaited { IfSome result (λ stop. IsAwaitedAs stop.fault stop.awaits) }
@@ -265,7 +271,7 @@ pub fn stop_of(alloc: Global, text: &[u8]) -> Option<Stop>
             let mut tokens = tokens;
             stop_in(alloc, text, &mut tokens)
         }
-        Err(stop) => Some(Stop {
+        Err(stop) => Some(ReadingStop {
             fault: stop.fault,
             start: stop.start as usize,
             length: stop.length as usize,

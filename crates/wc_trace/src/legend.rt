@@ -29,7 +29,7 @@ fn line_starts(alloc: Global, text: &[u8]) -> Result<Vec<usize>, Fault> {
 }
 
 /// A copy, since the text and the program are lent for the time of a call.
-fn copied<T: Copy>(alloc: Global, items: &[T]) -> Result<Vec<T>, Fault> {
+fn copy_of<T: Copy>(alloc: Global, items: &[T]) -> Result<Vec<T>, Fault> {
     match Vec::from_slice(alloc, items) {
         Ok(items) => Ok(items),
         Err(_) => Err(Fault::Memory),
@@ -41,8 +41,8 @@ impl Legend {
     pub(crate) fn new(alloc: Global, text: &[u8], loaded: &Loaded<'_>) -> Result<Legend, Fault> {
         let starts = line_starts(alloc, text)?;
         let notes = notes_of(alloc, loaded.checked().source())?;
-        let kinds = copied(alloc, loaded.kinds())?;
-        let text = copied(alloc, text)?;
+        let kinds = copy_of(alloc, loaded.kinds())?;
+        let text = copy_of(alloc, text)?;
         Ok(Legend {
             text,
             starts,

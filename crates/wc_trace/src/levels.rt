@@ -8,7 +8,7 @@ use wc_model::{Code, Fault, Kind};
 /// What is known of a body while its lines are gone through: the kind of its result, the kinds of those that are put by, and
 /// how many items of the list of its last call were passed.
 #[derive(Drop)]
-struct Level {
+struct BodyLevel {
     kind: Option<Kind>,
     put_by: Vec<Option<Kind>>,
     items: usize,
@@ -17,7 +17,7 @@ struct Level {
 /// The bodies that are being executed, the program first.
 #[derive(Drop)]
 pub(crate) struct Levels {
-    levels: Vec<Level>,
+    levels: Vec<BodyLevel>,
 }
 
 /// What is said of a row beside its numbers: the kind of the result, the kind of what is written, and the note of the place
@@ -29,10 +29,10 @@ pub(crate) struct Said {
     pub(crate) note: Option<Note>,
 }
 
-impl Level {
+impl BodyLevel {
     /// A body of which no line is passed.
-    fn new(alloc: Global) -> Level {
-        Level {
+    fn new(alloc: Global) -> BodyLevel {
+        BodyLevel {
             kind: None,
             put_by: Vec::new(alloc),
             items: 0,
@@ -118,7 +118,7 @@ impl Levels {
     fn go_to(&mut self, alloc: Global, depth: usize) -> Result<(), Fault> {
         self.levels.truncate(depth.saturating_add(1));
         for _level in self.levels.len()..depth.saturating_add(1) {
-            if self.levels.push(Level::new(alloc)).is_err() {
+            if self.levels.push(BodyLevel::new(alloc)).is_err() {
                 return Err(Fault::Memory);
             }
         }

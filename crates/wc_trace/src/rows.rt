@@ -26,7 +26,7 @@ fn put_gap(text: &mut Vec<u8>, start: usize, column: usize) -> Result<(), Fault>
 }
 
 /// A byte as it is shown: what a terminal would act on is not.
-fn shown(byte: u8) -> u8 {
+fn printable(byte: u8) -> u8 {
     match byte {
         b'\t' => b' ',
         0..32 | 127 => b'?',
@@ -40,7 +40,7 @@ fn is_blank(byte: u8) -> bool {
 }
 
 /// A line without the blanks at its ends.
-fn trimmed(line: &[u8]) -> &[u8] {
+fn without_blanks(line: &[u8]) -> &[u8] {
     let before = line.iter().take_while(|byte| is_blank(**byte)).count();
     let behind = line
         .iter()
@@ -56,9 +56,9 @@ fn trimmed(line: &[u8]) -> &[u8] {
 
 /// Puts a line of the text, or the first part of one that is long.
 fn put_line(text: &mut Vec<u8>, line: &[u8]) -> Result<(), Fault> {
-    let line = trimmed(line);
+    let line = without_blanks(line);
     for byte in line.iter().take(LONGEST) {
-        put_bytes(text, &[shown(*byte)])?;
+        put_bytes(text, &[printable(*byte)])?;
     }
     if line.len() > LONGEST {
         return put_bytes(text, b"..");

@@ -9,19 +9,19 @@ ghost use Rattle.wc_record.specs.Left.{HasCause};
 ghost use Rattle.wc_record.specs.Told.{fields_told};
 
 use crate::chosen::Chosen;
-use crate::watch::{Watch, WatchFault};
+use crate::watch::{TraceFault, Watch};
 use std::alloc::Global;
 use wc_controller::{Ending, Input, RefusedRow, end_shown, run_files};
 use wc_model::{ByteIn, ByteOut};
 use wc_run::Unwritten;
 
 /// How a run ends whose scans could be shown, or could not.
-fn end_watched(ending: Ending, fault: Option<WatchFault>) -> Ending
+fn end_watched(ending: Ending, fault: Option<TraceFault>) -> Ending
     ensures { IsEndedBy ending result }
 {
     match fault {
-        Some(WatchFault::Write) => Ending::WriteFault,
-        Some(WatchFault::Memory) => Ending::NoMemory,
+        Some(TraceFault::Write) => Ending::WriteFault,
+        Some(TraceFault::Memory) => Ending::NoMemory,
         None => ending,
     }
 }

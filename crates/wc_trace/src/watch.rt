@@ -12,7 +12,7 @@ use wc_store::SlotStore;
 
 /// Why scans are no longer shown.
 #[derive(Clone, Copy, PartialEq, Eq)]
-pub(crate) enum WatchFault {
+pub(crate) enum TraceFault {
     /// The writer failed, or took nothing.
     Write,
     /// Memory was refused.
@@ -29,7 +29,7 @@ pub(crate) struct Watch<'w, W> {
     next: Option<Legend>,
     scans: u32,
     text: Vec<u8>,
-    fault: Option<WatchFault>,
+    fault: Option<TraceFault>,
 }
 
 impl<'w, W: ByteOut> Watch<'w, W> {
@@ -48,7 +48,7 @@ impl<'w, W: ByteOut> Watch<'w, W> {
     }
 
     /// Why scans are no longer shown, where they are not.
-    pub(crate) fn fault(&self) -> Option<WatchFault> {
+    pub(crate) fn fault(&self) -> Option<TraceFault> {
         self.fault
     }
 
@@ -72,15 +72,15 @@ impl<'w, W: ByteOut> Watch<'w, W> {
     /// Shows a scan.
     fn show(&mut self, ms: u64, bound: u32, lines: Result<Vec<SeenLine>, Fault>) {
         let Ok(lines) = lines else {
-            self.fault = Some(WatchFault::Memory);
+            self.fault = Some(TraceFault::Memory);
             return;
         };
         if self.make_rows(ms, bound, &lines).is_err() {
-            self.fault = Some(WatchFault::Memory);
+            self.fault = Some(TraceFault::Memory);
             return;
         }
         if write_whole(self.writer, &self.text).is_err() {
-            self.fault = Some(WatchFault::Write);
+            self.fault = Some(TraceFault::Write);
         }
     }
 }

@@ -102,7 +102,7 @@ impl<'n> Watcher<'n> {
     }
 
     /// The number of the first name that no program has, counted from 0.
-    fn unknown(&self) -> Option<usize> {
+    fn unknown_in(&self) -> Option<usize> {
         for index in 0..self.names.len() {
             let is_watched = match self.watched.get(index) {
                 Some(watched) => watched.is_some(),

@@ -122,7 +122,7 @@ fn refuse<W: ByteOut>(
 }
 
 /// The number of the name that is unknown, where a run did not begin for that.
-fn unknown(fault: Option<WatchFault>) -> Option<usize> {
+fn unknown_in(fault: Option<WatchFault>) -> Option<usize> {
     match fault {
         Some(WatchFault::Unknown(index)) => Some(index),
         _ => None,
@@ -210,7 +210,7 @@ pub fn watch_files<P: ByteIn, T: ByteIn, N: ByteIn, L: ByteIn, W: ByteOut, B: By
     );
     let fault = watcher.fault();
     drop(watcher);
-    match unknown(fault) {
+    match unknown_in(fault) {
         Some(index) if log.spent() == before => refuse(alloc, name_at(names, index), writer),
         _ => Ok(end_watched(ending, fault, has_failed)),
     }

@@ -15,13 +15,13 @@ pub(crate) struct Weaving<'w, W, B> {
     pub(crate) writer: &'w mut W,
     beside: &'w mut B,
     lines: &'w RefCell<Lines>,
-    place: LinePlace,
+    place: LinePosition,
     has_failed: bool,
 }
 
 /// Where the bytes so far end in their line.
 #[derive(Clone, Copy, PartialEq, Eq)]
-enum LinePlace {
+enum LinePosition {
     /// Before its first byte.
     Front,
     /// In the line of a scan.
@@ -55,10 +55,10 @@ fn write_front<W: ByteOut>(writer: &mut W, piece: &[u8], end: usize) -> io::Resu
 }
 
 /// Where bytes of one line end that begin there.
-fn place_behind(place: LinePlace, bytes: &[u8]) -> LinePlace {
+fn place_behind(place: LinePosition, bytes: &[u8]) -> LinePosition {
     match (place, bytes.first()) {
-        (LinePlace::Front, Some(b'S')) => LinePlace::Scan,
-        (LinePlace::Front, Some(_)) => LinePlace::Other,
+        (LinePosition::Front, Some(b'S')) => LinePosition::Scan,
+        (LinePosition::Front, Some(_)) => LinePosition::Other,
         (place, _) => place,
     }
 }
@@ -76,7 +76,7 @@ impl<'w, W: ByteOut, B: ByteOut> Weaving<'w, W, B> {
             writer,
             beside,
             lines,
-            place: LinePlace::Front,
+            place: LinePosition::Front,
             has_failed: false,
         }
     }
@@ -107,10 +107,10 @@ impl<'w, W: ByteOut, B: ByteOut> Weaving<'w, W, B> {
     {
         self.place = place_behind(self.place, bytes);
         if bytes.last() == Some(&b'\n') {
-            if self.place == LinePlace::Scan {
+            if self.place == LinePosition::Scan {
                 self.write_beside();
             }
-            self.place = LinePlace::Front;
+            self.place = LinePosition::Front;
         }
     }
 }

@@ -7,4 +7,4 @@ mod words;
 
 pub use forms::plain_forms;
 pub use scan_choice::ScanChoice;
-pub use words::{ProgramFiles, Request, Wanted, read_words};
+pub use words::{AskedCommand, ProgramFiles, Wanted, read_words};

@@ -106,7 +106,7 @@ pub enum Wanted<'a> {
 
 /// What the words ask for, and in which form a refusal is to be told.
 #[derive(Clone, Copy)]
-pub struct Request<'a> {
+pub struct AskedCommand<'a> {
     pub wanted: Wanted<'a>,
     pub form: Form,
 }
@@ -217,10 +217,8 @@ fn with_option<'a>(
         → rule_of option.entry ≡ rule
         → option.entry.global ≡ false → IfOk result (Takes (with_rule app rule)) }
 {
-    match word {
-        Ok(word) => word.arg(option),
-        Err(error) => Err(error),
-    }
+    let word = word?;
+    word.arg(option)
 }
 
 /// A command line with one more word.
@@ -232,10 +230,8 @@ fn with_word<'a>(
         → IfOk word.entry (Takes named)
         → IfOk result (Takes (with_subcommand app named.top)) }
 {
-    match line {
-        Ok(line) => line.subcommand(word?),
-        Err(error) => Err(error),
-    }
+    let line = line?;
+    line.subcommand(word?)
 }
 
 /// The word `check`.
@@ -535,7 +531,7 @@ fn wanted_by<'a>(word: &str, matches: &ArgMatches<'a>) -> Wanted<'a>
 }
 
 /// What is asked for, and the text of the form that is given behind the word, or else before it.
-fn chosen<'a>(matches: &ArgMatches<'a>) -> (Wanted<'a>, Option<&'a str>)
+fn asked_in<'a>(matches: &ArgMatches<'a>) -> (Wanted<'a>, Option<&'a str>)
     ensures asked { view result.0 ≡ asked_by (subcommand_rows_of matches.now) }
     ensures form { option_map (λ text. text.now) result.1
         ≡ form_in (subcommand_rows_of matches.now) (rows_of (found_of matches.now)) }
@@ -589,23 +585,20 @@ fn lacks_program(wanted: &Wanted<'_>) -> bool
 
 /// What these words ask for, the first of which is the program's own name; or a fault in them, or help or the version that
 /// was asked for.
-pub fn read_words<'a>(alloc: Global, words: &'a [String]) -> Result<Request<'a>, Error>
+pub fn read_words<'a>(alloc: Global, words: &'a [String]) -> Result<AskedCommand<'a>, Error>
     ensures asked { IfOk result (λ request. view request.wanted ≡ asked (texts_of words.now)) }
     ensures form { IfOk result (λ request. form_asked (texts_of words.now) ≡ Some request.form) }
     ensures refused { FailsBy (fault_in (texts_of words.now)) result }
 {
     let mut command = command(alloc)?;
-    let matches = match command.try_get_matches_from_mut(words) {
-        Ok(matches) => matches,
-        Err(error) => return Err(error),
-    };
-    let (wanted, text) = chosen(&matches);
+    let matches = command.try_get_matches_from_mut(words)?;
+    let (wanted, text) = asked_in(&matches);
     match form_of(text) {
         Some(form) => {
             if lacks_program(&wanted) {
                 return Err(command.error(ErrorKind::MissingRequiredArgument, NO_PROGRAM)?);
             }
-            Ok(Request { wanted, form })
+            Ok(AskedCommand { wanted, form })
         }
         None => Err(command.error(ErrorKind::InvalidValue, NO_FORM)?),
     }

@@ -1,6 +1,6 @@
 use Rattle.std.proofs.Common.{refl}
 use Rattle.wc_messages.proofs.Assembled.{five_pieces}
-use Rattle.wc_messages.proofs.page.printed.Goals as goal
+use Rattle.wc_messages.proofs.page.page_message.Goals as goal
 
 pub returns : goal.returns
 returns c =

@@ -2,7 +2,7 @@ use Rattle.std.proofs.Common.{◌∙◌, Some, None, codes}
 use Rattle.clap.specs.Words.{found_of, rows_of}
 use Rattle.clap.proofs.WalkLemmas.{first_value-rows}
 use Rattle.wc_words.proofs.FormWords.{asked_of_word, behind_word, no_word}
-use Rattle.wc_words.proofs.words.chosen.Goals as goal
+use Rattle.wc_words.proofs.words.asked_in.Goals as goal
 
 pub returns-in-Some-get_str-clause-asked : goal.returns-in-Some-get_str-clause-asked
 returns-in-Some-get_str-clause-asked c =

@@ -4,7 +4,7 @@ use Rattle.std.specs.Prelude.{int_div, pos, ◌*ℤ◌}
 use Rattle.wc_model.specs.Instrument.PlateTable.{Written, is_between}
 use Rattle.wc_plate.specs.Seen.{written_seen}
 use Rattle.wc_plate.proofs.Judged.{judged_is_plate, refused_507}
-use Rattle.wc_plate.proofs.judging.judged.Goals as goal
+use Rattle.wc_plate.proofs.judging.judge_written.Goals as goal
 
 pub invariant_of-result : goal.invariant_of-result
 invariant_of-result c = judged_is_plate (written_seen c.args.written.now) _ (search rules)

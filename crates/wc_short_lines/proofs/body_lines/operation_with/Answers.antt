@@ -4,7 +4,7 @@ use Rattle.wc_model.specs.Language.Views.{term_view}
 use Rattle.wc_model.specs.Text.Reading.{mark_of_token}
 use Rattle.wc_short_lines.proofs.ShortLines.{makes_operated}
 use Rattle.wc_lines.specs.Words.{operating_view}
-use Rattle.wc_short_lines.proofs.body_lines.operated.Goals as goal
+use Rattle.wc_short_lines.proofs.body_lines.operation_with.Goals as goal
 
 pub returns-in-Some : goal.returns-in-Some
 returns-in-Some c =
