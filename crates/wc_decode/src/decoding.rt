@@ -130,12 +130,17 @@ fn decode_rest<R: ByteIn, W: ByteOut>(
     let start = input.spent();
     let mut buffer = [0; PIECE];
     'pieces: loop {
-        let count = read_piece(input, start, &mut buffer)?;
+        let count = match read_piece(input, start, &mut buffer) {
+            Ok(count) => count,
+            Err(fault) => return Err(fault),
+        };
         if count == 0 {
             return finish_report(alloc, decoder, output);
         }
         let piece = first_bytes(&buffer, count);
-        decode_piece(alloc, decoder, piece, output)?;
+        if let Err(fault) = decode_piece(alloc, decoder, piece, output) {
+            return Err(fault);
+        }
     }
 }
 
@@ -176,6 +181,8 @@ pub fn decode<R: ByteIn, W: ByteOut>(
         → W.failure_count output.new ≡ W.failure_count output.old }
 {
     let mut decoder = new_decoder(alloc, form);
-    write_text(output, heading(form))?;
+    if let Err(fault) = write_text(output, heading(form)) {
+        return Err(fault);
+    }
     decode_rest(alloc, &mut decoder, input, output)
 }

@@ -5,8 +5,8 @@ use Rattle.wc_decode.proofs.decoder.take_bytes.Goals as goal
 
 pub loop-byte-preserved : goal.loop-byte-preserved
 loop-byte-preserved c = record {
-  form = c.in_default.ensures.form ∙ c.loop-byte.invariant.form;
+  form = c.in_ok-take_byte.ensures.form ∙ c.loop-byte.invariant.form;
   takes = λ read text stands.
       subst (λ r. Stands c.take_byte.new.decoder r (text ++ c.take_byte.new.text.items)) (one_taken_more read c.args.bytes.now c.loop-byte.byte-index _ c.loop-byte-test.true)
-      (c.in_default.ensures.takes (read ++ take c.loop-byte.byte-index c.args.bytes.now) text (c.loop-byte.invariant.takes read text stands));
+      (c.in_ok-take_byte.ensures.takes (read ++ take c.loop-byte.byte-index c.args.bytes.now) text (c.loop-byte.invariant.takes read text stands));
 }

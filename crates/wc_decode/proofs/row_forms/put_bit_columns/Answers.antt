@@ -6,5 +6,5 @@ use Rattle.wc_decode.proofs.row_forms.put_bit_columns.Goals as goal
 pub loop-index-preserved : goal.loop-index-preserved
 loop-index-preserved c =
     let next : c.loop-index.index + 1 ≡ suc c.loop-index.index = omega arith in
-    rw next (c.in_default.ensures.column ∙ ap (λ t. t ++ bit_column c.args.bits c.loop-index.index) c.loop-index.invariant
+    rw next (c.in_ok-put_bit_column.ensures.column ∙ ap (λ t. t ++ bit_column c.args.bits c.loop-index.index) c.loop-index.invariant
     ∙ append_assoc c.args.text.now.items (bit_columns c.args.bits c.loop-index.index) (bit_column c.args.bits c.loop-index.index))
