@@ -152,7 +152,18 @@ pub(crate) fn describe_unit(
         return Ok(());
     };
     for declaration in &u.declarations {
-        describe_declaration(alloc, out, prefix, old, old_unit, new, unit, declaration)?;
+        if let Err(fault) = describe_declaration(
+            alloc,
+            out,
+            prefix,
+            old,
+            old_unit,
+            new,
+            unit,
+            declaration,
+        ) {
+            return Err(fault);
+        }
     }
     Ok(())
 }

@@ -278,7 +278,9 @@ fn read_on<'a>(
 {
     let mut place = 0;
     while place < tokens.len() {
-        read_at(alloc, reading, tokens, place)?;
+        if let Err(fault) = read_at(alloc, reading, tokens, place) {
+            return Err(fault);
+        }
         place = match take_lines(alloc, reading, tokens, place + 1) {
             Ok(next) => next,
             Err(_) => return Err(Fault::Memory),
@@ -337,6 +339,8 @@ pub fn read<'a>(alloc: Global, text: &'a [u8]) -> Result<Source<'a>, Fault>
     ensures read { IfOk result (λ source. IsRead text.now (text_view source)) }
     ensures refused { IfErr result (λ fault. IsRefusedAs text.now fault) }
 {
-    let tokens = tokens(alloc, text)?;
-    read_tokens(alloc, &tokens, last_line(text))
+    match tokens(alloc, text) {
+        Ok(tokens) => read_tokens(alloc, &tokens, last_line(text)),
+        Err(fault) => Err(fault),
+    }
 }

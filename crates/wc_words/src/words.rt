@@ -591,7 +591,10 @@ pub fn read_words<'a>(alloc: Global, words: &'a [String]) -> Result<AskedCommand
     ensures refused { FailsBy (fault_in (texts_of words.now)) result }
 {
     let mut command = command(alloc)?;
-    let matches = command.try_get_matches_from_mut(words)?;
+    let matches = match command.try_get_matches_from_mut(words) {
+        Ok(matches) => matches,
+        Err(error) => return Err(error),
+    };
     let (wanted, text) = asked_in(&matches);
     match form_of(text) {
         Some(form) => {

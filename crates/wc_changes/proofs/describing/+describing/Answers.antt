@@ -31,7 +31,7 @@ describe_declaration-loop-word-preserved t c = λ side before u h at.
       | describe_declaration-in-None w ↦ w.literal-is ∙ ap (option_map (λ (i : Initial). i.value)) (sym w.in-None.is)
     ]
     in
-    let said = c.in_default.ensures.lines side before u c.args.declaration.now.initial h at literal in
+    let said = c.in_ok-describe_variable.ensures.lines side before u c.args.declaration.now.initial h at literal in
     let so = c.loop-word.invariant side before u h at in
     grind (arith, common_steps)
 
@@ -110,8 +110,8 @@ describe_variable-returns-in-Standard-clause-lines t c =
     ∙ ap (λ x. start ++ x) (instance_line side before u c.args.prefix.now c.args.name.now initial c.in-Standard.block typed))
     c.describe_form-in-Standard.ensures.line
 
-pub describe_variable-returns-in-Ok-clause-lines : goal.describe_variable-returns-in-Ok-clause-lines
-describe_variable-returns-in-Ok-clause-lines t c =
+pub describe_variable-returns-in_ok-longer-in-Block-clause-lines : goal.describe_variable-returns-in_ok-longer-in-Block-clause-lines
+describe_variable-returns-in_ok-longer-in-Block-clause-lines t c =
     on_ok c.describe_unit.result _ _
     (λ w side before u initial h at literal.
     let source = c.args.new.now.source in
@@ -123,6 +123,6 @@ describe_variable-returns-in-Ok-clause-lines t c =
     let i = into source c.args.unit c.in-Block.block before u n at (ap Some (sym c.in-Block.is) ∙ c.in-Some.ensures.declared text (seen before u) tables (seen_unit source c.args.unit before u at)) in
     let old_at = subst (λ k. IsSide (text_view c.args.old.now.source) k behind) (sym (c.unit_of.ensures ∙ ap unit_numbered (c.old_type-was.ensures side h))) (side_is (text_view c.args.old.now.source) c.args.old_unit side n h) in
     w behind i.code.earlier i.code.unit old_at i.at
-    ∙ ap (λ p. start ++ lines_between behind i.code.earlier i.code.unit p (declared_of i.code.unit)) (c.deref.ensures.value ∙ c.in-Ok.ensures.longer)
+    ∙ ap (λ p. start ++ lines_between behind i.code.earlier i.code.unit p (declared_of i.code.unit)) (c.deref.ensures.value ∙ c.in_ok-longer-in-Block.ensures.longer)
     ∙ ap (λ x. start ++ x) (block_lines source c.args.unit c.in-Block.block side before u c.args.prefix.now c.args.name.now initial i))
     c.describe_unit.ensures.lines

@@ -6,8 +6,8 @@ use Rattle.wc_changes.specs.ChangeReport.{change_report}
 use Rattle.wc_changes.proofs.Wholes.{old_side, told}
 use Rattle.wc_changes.proofs.report.changes.Goals as goal
 
-pub returns-in-Ok-clause-report : goal.returns-in-Ok-clause-report
-returns-in-Ok-clause-report c =
+pub returns-clause-report : goal.returns-clause-report
+returns-clause-report c =
     let old = c.checked-old.result.now.source in
     let new = c.checked-new.result.now.source in
     let v : vec_len c.source.result.now.units ≡ length c.source.result.now.units.items = search rules in
@@ -19,5 +19,5 @@ returns-in-Ok-clause-report c =
     length-map old.units.items unit_view ∙ ap (λ (s : Source). length s.units.items) (sym c.source-2.ensures.source) ∙ sym w ∙ sym c.len-2.ensures
     in
     told (text_view old) new c.in-Some.program c.checked_sub-old_program.result c.new-lines.result.items c.describe_unit.new.out.items counted
-    (old_side (text_view old) c.len-2.result c.checked_sub-old_program.result old_counted c.checked_sub-old_program.ensures) c.new-lines.ensures.items c.in-Ok.ensures.lines
+    (old_side (text_view old) c.len-2.result c.checked_sub-old_program.result old_counted c.checked_sub-old_program.ensures) c.new-lines.ensures.items c.in_ok-describe_unit.ensures.lines
     ∙ ap (λ (s : Source). change_report (text_view s) new) c.checked-old.ensures ∙ ap (change_report (text_view c.args.old.now.source)) c.checked-new.ensures

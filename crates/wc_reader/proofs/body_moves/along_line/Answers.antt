@@ -5,7 +5,7 @@ use Rattle.wc_lines.proofs.Outcomes.{ok-map}
 use Rattle.wc_bodies.specs.BodyViews.{position_view, openings_view}
 use Rattle.wc_reader.proofs.body_moves.along_line.Goals as goal
 
-pub returns-in-Ok-clause-behind : goal.returns-in-Ok-clause-behind
-returns-in-Ok-clause-behind c =
+pub returns-clause-behind : goal.returns-clause-behind
+returns-clause-behind c =
     ok-map c.on_line.result (λ next h units colon.
-    h units ∙ ap (begun_line (position_view units c.args.body.now)) (c.in-Ok.ensures (setting_in (openings_view [] c.args.body.now.openings.items)) colon)) c.on_line.ensures.behind
+    h units ∙ ap (begun_line (position_view units c.args.body.now)) (c.in_ok-line.ensures (setting_in (openings_view [] c.args.body.now.openings.items)) colon)) c.on_line.ensures.behind
