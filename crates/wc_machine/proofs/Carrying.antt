@@ -9,9 +9,9 @@ use Rattle.wc_cost.proofs.CarriedKinds.{slots_alike}
 use Rattle.wc_flat.proofs.Images.{first_numbers_are_contents}
 use Rattle.wc_flat.proofs.PlaceNumbers.{set_elsewhere, set_here, there_is}
 use Rattle.wc_flat.specs.Contents.{AreContents, frame_of_reversed, frame_of_text}
-use Rattle.wc_machine.proofs.Moments.{written_moment}
+use Rattle.wc_execution.proofs.Moments.{written_moment}
 use Rattle.wc_machine.specs.Carrying.{AreCarried, number_carried}
-use Rattle.wc_machine.specs.Lines.{AreBefore}
+use Rattle.wc_execution.specs.Lines.{AreBefore}
 use Rattle.wc_model.specs.Language.Carried.{carried, keeps}
 use Rattle.wc_model.specs.Language.CarriedPlaces.{carried_number, number_if_kept}
 use Rattle.wc_model.specs.Language.Frames.{content_number, first_numbers, place_number}

@@ -1,7 +1,9 @@
 -- The numbers that slots may hold before the first scan, one by one.
 use Rattle.std.proofs.Common.{◌≡◌, ◌<◌, ℕ, zero, suc, List, [], ◌∷◌, length, get_or, Some, ℤ, pos, refl, ap, sym, subst, arith}
 use Rattle.std.proofs.lemmas.Int.{ints}
-use Rattle.std.specs.Prelude.{IfSome, slice_get}
+use Rattle.std.specs.Prelude.{IfSome, slice_get, slice_set}
+use Rattle.wc_execution.proofs.Moments.{set_keeps, set_moment_keeps}
+use Rattle.wc_execution.specs.Lines.{AreBefore}
 use Rattle.wc_model.specs.Language.Frames.{IsInRange}
 use Rattle.wc_model.specs.declared.kind.SlotKind.{SlotKind}
 use Rattle.wc_model.specs.declared.kind.SlotKind.TheVariants as slots
@@ -39,3 +41,11 @@ first_at (kind ∷ kinds) (n ∷ numbers) (suc at) h below =
 
 pub first_fits : (kinds : List SlotKind) (at : ℕ) (n : ℤ) → FirstAt kinds at n → IsInRangeAt kinds at n
 first_fits kinds at n found = subst (λ o. IfSome o (λ kind. IsInRange kind n)) (sym found.there) (in_range found.kind n found.first)
+
+-- a number that a slot may hold before the first scan
+pub first_keeps : (kinds : List SlotKind) (numbers : List ℤ) (at : ℕ) (kind : SlotKind) (n : ℤ) → slice_get kinds at ≡ Some kind → IsFirst kind n → AreBefore 0 kinds numbers → AreBefore 0 kinds (slice_set numbers at n)
+first_keeps kinds numbers at slots.Moment n is first before = subst (λ m. AreBefore 0 kinds (slice_set numbers at m)) (sym first) (set_moment_keeps 0 kinds numbers at 0 (omega arith) before)
+first_keeps kinds numbers at slots.Bool n is first before = set_keeps 0 kinds numbers at n (λ m. cc (is, m)) before
+first_keeps kinds numbers at slots.Dint n is first before = set_keeps 0 kinds numbers at n (λ m. cc (is, m)) before
+first_keeps kinds numbers at slots.Time n is first before = set_keeps 0 kinds numbers at n (λ m. cc (is, m)) before
+first_keeps kinds numbers at slots.Phase n is first before = set_keeps 0 kinds numbers at n (λ m. cc (is, m)) before

@@ -7,7 +7,7 @@ use Rattle.wc_flat.proofs.Held.{below_next}
 use Rattle.wc_flat.proofs.Texts.{Newest, newest}
 use Rattle.wc_flat.specs.Contents.{frame_of_reversed, frame_of_text}
 use Rattle.wc_flat.specs.NumberBlocks.{is_slot}
-use Rattle.wc_machine.specs.Lines.{AreAll}
+use Rattle.wc_execution.specs.Lines.{AreAll}
 use Rattle.wc_model.specs.Language.Checks.{Spot, spots_of, spots_behind}
 use Rattle.wc_model.specs.Language.DirectVariables.{direct_variables, kind_of_direct}
 use Rattle.wc_model.specs.Language.Frames.{slot_kinds, slot_kind_of}

@@ -1,12 +1,3 @@
-pub mod Quotients
-pub mod Moments
-pub mod Kept
-pub mod BlockCalls
-pub mod BlockSlots
-pub mod Filling
-pub mod Lefts
-pub mod BodyLines
-pub mod Behind
 pub mod FirstNumbers
 pub mod FirstPlaces
 pub mod Scanning

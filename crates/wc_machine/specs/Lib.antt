@@ -1,7 +1,3 @@
-pub mod Lines
-pub mod Courses
-pub mod Logic
-pub mod Running
 pub mod Machines
 pub mod Carrying
 pub mod Seeing

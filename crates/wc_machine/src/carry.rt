@@ -1,7 +1,7 @@
 ghost use Rattle.std.specs.Prelude.{◌≡◌, ◌≤◌, ℕ, length};
 ghost use Rattle.wc_flat.specs.Contents.{frame_of_text};
 ghost use Rattle.wc_machine.specs.Carrying.{AreCarried};
-ghost use Rattle.wc_machine.specs.Lines.{AreBefore};
+ghost use Rattle.wc_execution.specs.Lines.{AreBefore};
 ghost use Rattle.wc_model.specs.Language.Frames.{slot_kinds};
 ghost use Rattle.wc_model.specs.Language.Views.{text_view};
 

@@ -1,5 +1,5 @@
 ghost use Rattle.std.specs.Prelude.{◌≡◌, ◌≤◌, IfOk, IsOkUnless, length};
-ghost use Rattle.wc_machine.specs.Lines.{AreBefore};
+ghost use Rattle.wc_execution.specs.Lines.{AreBefore};
 ghost use Rattle.wc_soundness.specs.FirstNumbers.{AreFirst};
 
 use std::alloc::Global;

@@ -13,14 +13,12 @@ ghost use Rattle.wc_model.specs.Language.Views.{text_view};
 use crate::body::run;
 use crate::carry::carried_over;
 use crate::first::first_store;
-use crate::image::copy_image;
-use crate::outputs::outputs;
-use crate::reading::number_at;
 use crate::seen::{SeenLine, Sight};
 use crate::tracing::{Instance, run_seen};
 use std::alloc::Global;
 use std::marker::Model;
 use wc_cost::Loaded;
+use wc_execution::{copy_image, number_at, read_outputs};
 use wc_model::{Fault, Image, Outputs, Place, Steps};
 use wc_store::Store;
 
@@ -167,7 +165,7 @@ impl<'a, S: Store> Machine<'a, S> {
         ensures { (text : Text) (store : Contents) → StandsFor self.now text store
             → result ≡ outputs_of store }
     {
-        outputs(&self.store)
+        read_outputs(&self.store)
     }
 
     /// The number of what stands at a place of the program's frame: 0 or 1, a DINT, or milliseconds. There is none where the

@@ -3,7 +3,7 @@ use Rattle.std.proofs.Common.{◌≡◌, ◌+◌, ◌<◌, length, option_map, s
 use Rattle.wc_machine.proofs.Carrying.{AreCarriedTo, first_stays, moment_carried, one_carried}
 use Rattle.wc_machine.proofs.carry.carried_over.Goals as goal
 use Rattle.wc_machine.proofs.carry.carried_over.Goals.{in-Some, in_default}
-use Rattle.wc_machine.specs.Lines.{AreBefore}
+use Rattle.wc_execution.specs.Lines.{AreBefore}
 use Rattle.wc_model.specs.Language.Views.{text_view}
 use Rattle.std.specs.Prelude.{slice_get, slice_set}
 

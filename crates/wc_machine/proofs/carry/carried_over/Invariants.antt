@@ -2,7 +2,7 @@
 use Rattle.std.proofs.Common.{◌≡◌, ℕ}
 use Rattle.wc_machine.proofs.Carrying.{AreCarriedTo}
 use Rattle.wc_machine.proofs.carry.carried_over.Given as goal
-use Rattle.wc_machine.specs.Lines.{AreBefore}
+use Rattle.wc_execution.specs.Lines.{AreBefore}
 use Rattle.wc_model.specs.Language.Views.{text_view}
 
 abbrev pub invariant-loop-at : goal.invariant-loop-at

@@ -1,7 +1,7 @@
 -- The first numbers so far, and the rest as it was.
 use Rattle.std.proofs.Common.{◌≡◌, ◌++◌, take, drop}
 use Rattle.wc_machine.proofs.first.filled.Given as goal
-use Rattle.wc_machine.specs.Lines.{AreBefore}
+use Rattle.wc_execution.specs.Lines.{AreBefore}
 
 abbrev pub invariant-loop-at : goal.invariant-loop-at
 invariant-loop-at g l = record {

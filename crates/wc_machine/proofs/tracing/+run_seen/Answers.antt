@@ -2,13 +2,13 @@
 use Rattle.std.proofs.Common.{◌≡◌, ◌+◌, ◌≤◌, ◌++◌, List, map, drop, get_or, length, pos, Some, refl, sym, ap, ◌∙◌, subst, arith, rules, to_z, of_z, w32}
 use Rattle.std.proofs.lemmas.List.{map-append}
 use Rattle.wc_flat.specs.FlatMeaning.{State, Skips, runs, calls_below, unit_runs}
-use Rattle.wc_machine.proofs.Lefts.{callee_short, steps_fit}
-use Rattle.wc_machine.proofs.BodyLines.{is_own, own_there}
+use Rattle.wc_execution.proofs.Lefts.{callee_short, steps_fit}
+use Rattle.wc_execution.proofs.BodyLines.{is_own, own_there}
 use Rattle.wc_machine.proofs.SeenLines.{so_far_on, called_real, called_done, called_left, real_done, real_seen}
 use Rattle.wc_machine.proofs.tracing.+run_seen.Goals as goal
-use Rattle.wc_machine.specs.Courses.{course_view, line_at}
-use Rattle.wc_machine.specs.Lines.{here_at, no_calls, AreBefore}
-use Rattle.wc_machine.specs.Running.{IsLeft, IsRan, IsShort}
+use Rattle.wc_execution.specs.Courses.{course_view, line_at}
+use Rattle.wc_execution.specs.Lines.{here_at, no_calls, AreBefore}
+use Rattle.wc_execution.specs.Running.{IsLeft, IsRan, IsShort}
 use Rattle.wc_machine.specs.Seeing.{Keeps, kept_at, left_real, real_state}
 use Rattle.wc_machine.specs.declared.seen.SeenLine.{SeenLine}
 use Rattle.wc_model.specs.Language.Views.{text_view}
@@ -158,15 +158,15 @@ loop-at-preserved g t c =
     let deferred = c.see_line-moved.new.deferred.items in
     let after = g.S.Store.numbers c.see_line-moved.new.store in
     let own = is_own line c.in_default.not-Body in
-    let left = real_done base now kinds kinds_now calls items at (LoadNumber (pos 0)) c.loop-at.present s whole c.loop-at.steps said deferred after c.next-at.result c.loop-at-test.true own c.loop-at.invariant.kinds c.see_line-moved.ensures.leaves c.next-at.ensures.line c.loop-at.invariant.left in
-    let seen = real_seen base now kinds kinds_now calls flats sources items at (LoadNumber (pos 0)) c.loop-at.present s said deferred after c.next-at.result c.loop-at-test.true own c.loop-at.invariant.kinds c.see_line-moved.ensures.leaves c.next-at.ensures.line in
+    let left = real_done base now kinds kinds_now calls items at (LoadNumber (pos 0)) c.loop-at.present s whole c.loop-at.steps said deferred after c.next_line-at.result c.loop-at-test.true own c.loop-at.invariant.kinds c.see_line-moved.ensures.leaves c.next_line-at.ensures.line c.loop-at.invariant.left in
+    let seen = real_seen base now kinds kinds_now calls flats sources items at (LoadNumber (pos 0)) c.loop-at.present s said deferred after c.next_line-at.result c.loop-at-test.true own c.loop-at.invariant.kinds c.see_line-moved.ensures.leaves c.next_line-at.ensures.line in
     let bits : to_z w32 (of_z w32 said.current) ≡ said.current = search rules in
     let behind : (left_real c.loop-at.present line said deferred after).state ≡ real_state c.has_result-present.result (to_z w32 (of_z w32 said.current)) deferred after =
     ap (λ b. real_state b said.current deferred after) (sym c.has_result-present.ensures) ∙ ap (λ n. real_state c.has_result-present.result n deferred after) (sym bits) in
     let lines : List SeenLine = map (kept_at depth) (seen_moved (here_at base now kinds_now no_calls) c.source_at-source.result s line (Some (left_real c.loop-at.present line said deferred after))) in
-    let rest : State → List FlatSeen = λ state. flat_seen here flats (drop c.next-at.result sources) (drop c.next-at.result items) (Skips 0) state in
+    let rest : State → List FlatSeen = λ state. flat_seen here flats (drop c.next_line-at.result sources) (drop c.next_line-at.result items) (Skips 0) state in
     record {
-      left = subst (λ (state : State). IsLeft whole (c.loop-at.steps + 1) (runs here (drop c.next-at.result items) (Skips 0) state)) behind left;
+      left = subst (λ (state : State). IsLeft whole (c.loop-at.steps + 1) (runs here (drop c.next_line-at.result items) (Skips 0) state)) behind left;
       seen = so_far_on c.args.sight.now c.loop-at.sight c.see_line-moved.new.sight _ _ lines _ c.loop-at.invariant.seen
           (ap (λ (l : List FlatSeen). map (kept_at depth) l) seen
           ∙ (map-append (kept_at depth) (seen_moved (here_at base now kinds_now no_calls) (first_source (drop at sources)) s line (Some (left_real c.loop-at.present line said deferred after))) (rest (left_real c.loop-at.present line said deferred after).state)

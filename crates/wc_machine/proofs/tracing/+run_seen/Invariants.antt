@@ -2,8 +2,8 @@
 use Rattle.std.proofs.Common.{◌≡◌, length, map, ◌-◌, drop}
 use Rattle.wc_flat.specs.FlatMeaning.{Skips, runs, calls_below, unit_runs}
 use Rattle.wc_machine.proofs.SeenLines.{SoFar}
-use Rattle.wc_machine.specs.Lines.{here_at, AreBefore}
-use Rattle.wc_machine.specs.Running.{IsLeft}
+use Rattle.wc_execution.specs.Lines.{here_at, AreBefore}
+use Rattle.wc_execution.specs.Running.{IsLeft}
 use Rattle.wc_machine.specs.Seeing.{kept_at, real_state}
 use Rattle.wc_model.specs.Language.Views.{text_view}
 use Rattle.wc_trace_laws.specs.FlatSeen.{flat_seen, flat_seen_below, flat_seen_of_unit}

@@ -11,13 +11,13 @@ use Rattle.wc_model.specs.Language.Store.{Direct, value_at}
 use Rattle.wc_model.specs.Language.Views.{text_view}
 use Rattle.wc_soundness.specs.Typing.{SameSlots}
 
-pub outputs-requires-clause-bits : goal.outputs-requires-clause-bits
-outputs-requires-clause-bits g c =
+pub read_outputs-requires-clause-bits : goal.read_outputs-requires-clause-bits
+read_outputs-requires-clause-bits g c =
     let inv = c.self.invariant in
     (subst (λ k. AreFirst k) (sym inv.kinds_are) (first_places inv.sound.read.0 (text_view c.self.inside.loaded.source) inv.sound.read.1)).bits
 
-pub outputs-requires-clause-words : goal.outputs-requires-clause-words
-outputs-requires-clause-words g c =
+pub read_outputs-requires-clause-words : goal.read_outputs-requires-clause-words
+read_outputs-requires-clause-words g c =
     let inv = c.self.invariant in
     (subst (λ k. AreFirst k) (sym inv.kinds_are) (first_places inv.sound.read.0 (text_view c.self.inside.loaded.source) inv.sound.read.1)).words
 
@@ -30,6 +30,6 @@ returns g c = λ text store stands.
     let contents : AreContents (frame_of_text here) store (g.S.Store.numbers c.self.inside.store) =
     subst (λ ns. AreContents (frame_of_text here) store ns) (ap (λ (m : MachineState). m.numbers) (sym c.self.view_is)) (subst (λ t. AreContents (frame_of_text t) store c.args.self.now.numbers) same stands.contents) in
     let both = outputs_are_numbers inv.sound.read.0 here inv.sound.read.1 store slots (g.S.Store.numbers c.self.inside.store) contents in
-    let bits = c.outputs.ensures.bits (λ i. bit_of (value_at store (Direct (OutputBit i)))) both.0 in
-    let words = c.outputs.ensures.words (λ i. word_of (value_at store (Direct (OutputWord i)))) both.1 in
-    same_outputs c.outputs.result (output_bits store) (output_words store) bits words
+    let bits = c.read_outputs.ensures.bits (λ i. bit_of (value_at store (Direct (OutputBit i)))) both.0 in
+    let words = c.read_outputs.ensures.words (λ i. word_of (value_at store (Direct (OutputWord i)))) both.1 in
+    same_outputs c.read_outputs.result (output_bits store) (output_words store) bits words

@@ -1,0 +1,9 @@
+pub mod Quotients
+pub mod Moments
+pub mod Kept
+pub mod BlockCalls
+pub mod BlockSlots
+pub mod Behind
+pub mod Filling
+pub mod Lefts
+pub mod BodyLines

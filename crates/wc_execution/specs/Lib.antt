@@ -1,0 +1,5 @@
+pub mod Lines
+pub mod Courses
+pub mod Logic
+pub mod Running
+pub mod Writing

@@ -1,0 +1,66 @@
+ghost use Rattle.std.specs.Prelude.{◌≡◌, ◌≤◌, ℕ, Some, pos, true, length};
+ghost use Rattle.wc_flat.specs.NumberBlocks.{is_slot, number_from};
+ghost use Rattle.std.specs.Prelude.{slice_get};
+ghost use Rattle.wc_execution.specs.Lines.{AreBefore};
+ghost use Rattle.wc_model.specs.Language.Frames.{bit_number};
+ghost use Rattle.wc_model.specs.declared.kind.SlotKind.TheVariants as slots;
+
+use wc_model::Place;
+use wc_store::Store;
+
+/// A BOOL of a block.
+#[inline(always)]
+pub(crate) fn truth_at<S: Store>(store: &S, at: usize) -> bool
+    requires room { length (S.slot_kinds store.now) ≤ 65536 }
+    requires kind { is_slot slots.Bool (slice_get (S.slot_kinds store.now) at) ≡ true }
+    ensures { number_from slots.Bool (S.slot_kinds store.now) (S.numbers store.now) at 0
+        ≡ Some (bit_number result) }
+{
+    store.get(Place(at as u16)) == 1
+}
+
+/// A DINT of a block.
+#[inline(always)]
+pub(crate) fn count_at<S: Store>(store: &S, at: usize) -> i32
+    requires room { length (S.slot_kinds store.now) ≤ 65536 }
+    requires kind { is_slot slots.Dint (slice_get (S.slot_kinds store.now) at) ≡ true }
+    ensures { number_from slots.Dint (S.slot_kinds store.now) (S.numbers store.now) at 0
+        ≡ Some result }
+{
+    store.get(Place(at as u16)) as i32
+}
+
+/// A TIME of a block, in milliseconds.
+#[inline(always)]
+pub(crate) fn time_at<S: Store>(store: &S, at: usize) -> i32
+    requires room { length (S.slot_kinds store.now) ≤ 65536 }
+    requires kind { is_slot slots.Time (slice_get (S.slot_kinds store.now) at) ≡ true }
+    ensures { number_from slots.Time (S.slot_kinds store.now) (S.numbers store.now) at 0
+        ≡ Some result }
+{
+    store.get(Place(at as u16)) as i32
+}
+
+/// The moment that a timer keeps, in milliseconds.
+#[inline(always)]
+pub(crate) fn moment_at<S: Store>(store: &S, at: usize) -> u64
+    requires room { length (S.slot_kinds store.now) ≤ 65536 }
+    requires kind { is_slot slots.Moment (slice_get (S.slot_kinds store.now) at) ≡ true }
+    ensures number { number_from slots.Moment (S.slot_kinds store.now) (S.numbers store.now) at 0
+        ≡ Some (pos result) }
+    ensures before { (now : ℕ) → AreBefore now (S.slot_kinds store.now) (S.numbers store.now)
+        → result ≤ now }
+{
+    store.get(Place(at as u16)) as u64
+}
+
+/// The phase that a timer keeps, 0 to 2.
+#[inline(always)]
+pub(crate) fn phase_at<S: Store>(store: &S, at: usize) -> u8
+    requires room { length (S.slot_kinds store.now) ≤ 65536 }
+    requires kind { is_slot slots.Phase (slice_get (S.slot_kinds store.now) at) ≡ true }
+    ensures { number_from slots.Phase (S.slot_kinds store.now) (S.numbers store.now) at 0
+        ≡ Some (pos result) }
+{
+    store.get(Place(at as u16)) as u8
+}

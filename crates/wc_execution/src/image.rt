@@ -1,0 +1,78 @@
+ghost use Rattle.std.specs.Prelude.{◌≡◌, ◌+◌, ◌<◌, ◌≤◌, ℕ, ℤ, List, ◌++◌, map, drop, pos, length, slice_index_or};
+ghost use Rattle.wc_flat.specs.Contents.{with_image_numbers};
+ghost use Rattle.wc_execution.specs.Lines.{AreAll, AreBefore};
+ghost use Rattle.wc_model.specs.Language.DirectVariables.{numbers_below};
+ghost use Rattle.wc_model.specs.Language.Frames.{bit_number};
+ghost use Rattle.wc_model.specs.Language.Scans.{is_bit_set};
+ghost use Rattle.wc_model.specs.declared.kind.SlotKind.TheVariants as slots;
+
+use crate::written::{set_count, set_truth};
+use wc_model::Image;
+use wc_store::Store;
+
+/// Whether a bit is 1.
+fn is_set(bits: u16, bit: u8) -> bool
+    requires { bit < 16 }
+    ensures { result ≡ is_bit_set bits bit }
+{
+    (bits >> bit) % 2 == 1
+}
+
+/// Copies the lowest bits to the places from `first` on.
+fn copy_bits<S: Store>(store: &mut S, first: usize, count: u8, bits: u16)
+    requires few { count ≤ 16 }
+    requires slots { AreAll slots.Bool (S.slot_kinds store.old) first count }
+    requires within { first + count ≤ length (S.numbers store.old) }
+    requires room { length (S.slot_kinds store.old) ≤ 65536 }
+    requires near { first < 64 }
+    ensures numbers { (front rest : List ℤ) → length front ≡ first
+        → S.numbers store.old ≡ front ++ rest
+        → S.numbers store.new
+        ≡ front ++ map (λ i. bit_number (is_bit_set bits i)) (numbers_below count)
+        ++ drop count rest }
+    ensures size { length (S.numbers store.new) ≡ length (S.numbers store.old) }
+    ensures kinds { S.slot_kinds store.new ≡ S.slot_kinds store.old }
+    ensures moments { (now : ℕ) → AreBefore now (S.slot_kinds store.old) (S.numbers store.old)
+        → AreBefore now (S.slot_kinds store.new) (S.numbers store.new) }
+{
+    for bit in 0..count {
+        set_truth(store, first + usize::from(bit), is_set(bits, bit));
+    }
+}
+
+/// Copies the weights to the places from `first` on.
+fn copy_weights<S: Store>(store: &mut S, first: usize, weights: &[i32; 3])
+    requires slots { AreAll slots.Dint (S.slot_kinds store.old) first 3 }
+    requires within { first + 3 ≤ length (S.numbers store.old) }
+    requires room { length (S.slot_kinds store.old) ≤ 65536 }
+    requires near { first < 64 }
+    ensures numbers { (front rest : List ℤ) → length front ≡ first
+        → S.numbers store.old ≡ front ++ rest
+        → S.numbers store.new
+        ≡ front ++ map (λ i. slice_index_or weights.now i (pos 0)) (numbers_below 3)
+        ++ drop 3 rest }
+    ensures size { length (S.numbers store.new) ≡ length (S.numbers store.old) }
+    ensures kinds { S.slot_kinds store.new ≡ S.slot_kinds store.old }
+    ensures moments { (now : ℕ) → AreBefore now (S.slot_kinds store.old) (S.numbers store.old)
+        → AreBefore now (S.slot_kinds store.new) (S.numbers store.new) }
+{
+    for number in 0..3 {
+        set_count(store, first + number, weights[number]);
+    }
+}
+
+/// Copies the process image to the places of the inputs, which are the first.
+pub fn copy_image<S: Store>(store: &mut S, image: &Image)
+    requires inputs { AreAll slots.Bool (S.slot_kinds store.old) 0 22 }
+    requires weights { AreAll slots.Dint (S.slot_kinds store.old) 22 3 }
+    requires within { 25 ≤ length (S.numbers store.old) }
+    requires room { length (S.slot_kinds store.old) ≤ 65536 }
+    ensures numbers { S.numbers store.new ≡ with_image_numbers image.now (S.numbers store.old) }
+    ensures kinds { S.slot_kinds store.new ≡ S.slot_kinds store.old }
+    ensures moments { (now : ℕ) → AreBefore now (S.slot_kinds store.old) (S.numbers store.old)
+        → AreBefore now (S.slot_kinds store.new) (S.numbers store.new) }
+{
+    copy_bits(store, 0, 16, image.inputs);
+    copy_bits(store, 16, 6, u16::from(image.status));
+    copy_weights(store, 22, &image.weights);
+}

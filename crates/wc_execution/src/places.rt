@@ -1,0 +1,126 @@
+ghost use Rattle.std.specs.Prelude.{◌≡◌, ◌≤◌, ℕ, Some, IsSome, false, length, true};
+ghost use Rattle.wc_flat.specs.NumberOperators.{flipped};
+ghost use Rattle.wc_model.specs.declared.operator.Storing.TheVariants as stores;
+ghost use Rattle.wc_execution.specs.Lines.{held, loaded, negated_if, passed, stored, written, AreBefore};
+
+use crate::operators::truth;
+use wc_model::{Place, Storing};
+use wc_store::Store;
+
+/// The negation of a number that is 0 or 1.
+#[inline(always)]
+pub(crate) fn flipped(number: i32) -> i32
+    requires { IsSome (flipped number) }
+    ensures { flipped number ≡ Some result }
+{
+    i32::from(!truth(number))
+}
+
+/// The number, or the negation of one that is 0 or 1, with no branch.
+#[inline(always)]
+fn negated_where(negated: bool, number: i32) -> i32
+    requires { IsSome (negated_if negated number) }
+    ensures { negated_if negated number ≡ Some result }
+{
+    number ^ i32::from(negated)
+}
+
+/// The number at a place of the instance that begins at `base`.
+#[inline(always)]
+pub(crate) fn read<S: Store>(store: &S, base: usize, place: Place) -> i32
+    requires room { length (S.slot_kinds store.now) ≤ 65536 }
+    requires there { IsSome (held base (S.slot_kinds store.now) (S.numbers store.now) place) }
+    ensures { held base (S.slot_kinds store.now) (S.numbers store.now) place ≡ Some result }
+{
+    store.get(Place((base + place.0 as usize) as u16)) as i32
+}
+
+/// Writes a number to a place of the instance that begins at `base`.
+#[inline(always)]
+pub(crate) fn write<S: Store>(store: &mut S, base: usize, place: Place, number: i32)
+    requires room { length (S.slot_kinds store.old) ≤ 65536 }
+    requires there { IsSome
+        (written base (S.slot_kinds store.old) (S.numbers store.old) place number) }
+    ensures numbers { written base (S.slot_kinds store.old) (S.numbers store.old) place number
+        ≡ Some (S.numbers store.new) }
+    ensures kinds { S.slot_kinds store.new ≡ S.slot_kinds store.old }
+    ensures moments { (now : ℕ) → AreBefore now (S.slot_kinds store.old) (S.numbers store.old)
+        → AreBefore now (S.slot_kinds store.new) (S.numbers store.new) }
+{
+    store.set(Place((base + place.0 as usize) as u16), i64::from(number));
+}
+
+/// LD and LDN of a place.
+#[inline(always)]
+pub(crate) fn load<S: Store>(store: &S, base: usize, negated: bool, place: Place) -> i32
+    requires room { length (S.slot_kinds store.now) ≤ 65536 }
+    requires there { IsSome
+        (loaded base (S.slot_kinds store.now) (S.numbers store.now) negated place) }
+    ensures { loaded base (S.slot_kinds store.now) (S.numbers store.now) negated place
+        ≡ Some result }
+{
+    negated_where(negated, read(store, base, place))
+}
+
+/// Whether it is the negation that is stored.
+#[inline(always)]
+fn negates(storing: Storing) -> bool
+    ensures plain { storing ≡ stores.Result → result ≡ false }
+    ensures negated { storing ≡ stores.Negation → result ≡ true }
+{
+    match storing {
+        Storing::Negation => true,
+        _ => false,
+    }
+}
+
+/// ST, STN, S and R.
+#[inline(always)]
+pub(crate) fn put<S: Store>(
+    store: &mut S,
+    base: usize,
+    storing: Storing,
+    place: Place,
+    current: i32,
+)
+    requires room { length (S.slot_kinds store.old) ≤ 65536 }
+    requires there { IsSome
+        (stored base (S.slot_kinds store.old) (S.numbers store.old) storing place current) }
+    ensures numbers { stored base (S.slot_kinds store.old) (S.numbers store.old) storing place
+        current ≡ Some (S.numbers store.new) }
+    ensures kinds { S.slot_kinds store.new ≡ S.slot_kinds store.old }
+    ensures moments { (now : ℕ) → AreBefore now (S.slot_kinds store.old) (S.numbers store.old)
+        → AreBefore now (S.slot_kinds store.new) (S.numbers store.new) }
+{
+    match storing {
+        Storing::Result | Storing::Negation => {
+            write(store, base, place, negated_where(negates(storing), current));
+        }
+        Storing::Set => {
+            if truth(current) {
+                write(store, base, place, 1);
+            }
+        }
+        Storing::Reset => {
+            if truth(current) {
+                write(store, base, place, 0);
+            }
+        }
+    }
+}
+
+/// An argument that stands at a place.
+#[inline(always)]
+pub(crate) fn pass<S: Store>(store: &mut S, base: usize, place: Place, target: Place)
+    requires room { length (S.slot_kinds store.old) ≤ 65536 }
+    requires there { IsSome
+        (passed base (S.slot_kinds store.old) (S.numbers store.old) place target) }
+    ensures numbers { passed base (S.slot_kinds store.old) (S.numbers store.old) place target
+        ≡ Some (S.numbers store.new) }
+    ensures kinds { S.slot_kinds store.new ≡ S.slot_kinds store.old }
+    ensures moments { (now : ℕ) → AreBefore now (S.slot_kinds store.old) (S.numbers store.old)
+        → AreBefore now (S.slot_kinds store.new) (S.numbers store.new) }
+{
+    let number = read(store, base, place);
+    write(store, base, target, number);
+}

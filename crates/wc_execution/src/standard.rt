@@ -1,0 +1,30 @@
+ghost use Rattle.std.specs.Prelude.{◌≡◌, ◌≤◌, Some, IsSome, length};
+ghost use Rattle.wc_flat.specs.NumberBlocks.{block_called};
+ghost use Rattle.wc_execution.specs.Lines.{AreBefore};
+
+use crate::{ctu, r_trig, rs, sr, tof, ton, tp};
+use wc_model::StandardBlock;
+use wc_store::Store;
+
+/// Calls the standard block whose places begin there, at a moment in milliseconds.
+pub(crate) fn call<S: Store>(store: &mut S, block: StandardBlock, at: usize, now: u64)
+    requires room { length (S.slot_kinds store.old) ≤ 65536 }
+    requires there { IsSome
+        (block_called block now (S.slot_kinds store.old) (S.numbers store.old) at) }
+    requires moment { now ≤ 1099511627775 }
+    requires forward { AreBefore now (S.slot_kinds store.old) (S.numbers store.old) }
+    ensures called { block_called block now (S.slot_kinds store.old) (S.numbers store.old) at
+        ≡ Some (S.numbers store.new) }
+    ensures kinds { S.slot_kinds store.new ≡ S.slot_kinds store.old }
+    ensures moments { AreBefore now (S.slot_kinds store.new) (S.numbers store.new) }
+{
+    match block {
+        StandardBlock::RTrig => r_trig::call(store, at),
+        StandardBlock::Sr => sr::call(store, at),
+        StandardBlock::Rs => rs::call(store, at),
+        StandardBlock::Ctu => ctu::call(store, at),
+        StandardBlock::Ton => ton::call(store, at, now),
+        StandardBlock::Tof => tof::call(store, at, now),
+        StandardBlock::Tp => tp::call(store, at, now),
+    }
+}
