@@ -21,10 +21,13 @@ pub judges_err : (X Y : Type 0) (found other rest behind : Option Refusal) (faul
 judges_err X Y found other rest behind (Refused number place) e h = e ∙ h
 judges_err X Y found other rest behind Memory e h = tt
 
--- a fault that is handed on
-pub judges_on : (X Y : Type 0) (found other rest behind : Option Refusal) (fault : Fault) (handed : Result Y Fault) → IsErr handed × IsErrAnd handed (λ e. e ≡ fault) → found ≡ other → Judges {X = X} other rest (Err fault) → Judges found behind handed
-judges_on X Y found other rest behind fault (Ok y) gives e h = absurd gives.1
-judges_on X Y found other rest behind fault (Err f) gives e h = subst (λ x. Judges {X = Y} found behind (Err x)) (sym gives.1) (judges_err X Y found other rest behind fault e h)
+-- what is so of a fault is so of it where it is handed on
+pub handed_on : {Y : Type 0} (holds : Result Y Fault → Type 0) (fault : Fault) (result : Result Y Fault) → IsErr result × IsErrAnd result (λ e. e ≡ fault) → holds (Err fault) → holds result
+handed_on holds fault (Ok y) gives h = absurd gives.1
+handed_on holds fault (Err f) gives h = subst (λ x. holds (Err x)) (sym gives.1) h
+
+pub judges_on : (X Y : Type 0) (found other rest behind : Option Refusal) (fault : Fault) (result : Result Y Fault) → IsErr result × IsErrAnd result (λ e. e ≡ fault) → found ≡ other → Judges {X = X} other rest (Err fault) → Judges found behind result
+judges_on X Y found other rest behind fault result gives e h = handed_on (λ r. Judges {X = Y} found behind r) fault result gives (judges_err X Y found other rest behind fault e h)
 
 pub judges_ok : {X : Type 0} (found rest : Option Refusal) (r : Result X Fault) (x : X) → r ≡ Ok x → Judges found rest r → found ≡ rest
 judges_ok found rest r x e h = subst (λ y. Judges found rest y) e h
