@@ -1,6 +1,7 @@
 -- What is found first, piece by piece.
-use Rattle.std.proofs.Common.{◌≡◌, ℕ, Bool, true, false, List, ◌∷◌, ◌++◌, Option, Some, Result, Ok, Err, append_assoc, refl, subst, ap, ◌∙◌}
+use Rattle.std.proofs.Common.{◌≡◌, ℕ, Bool, true, false, List, ◌∷◌, ◌++◌, Option, Some, Result, Ok, Err, append_assoc, refl, sym, subst, ap, ◌∙◌}
 use Rattle.std.specs.Prelude.{OnOk}
+use Rattle.std.specs.Result.{IsErr, IsErrAnd}
 use Rattle.wc_model.specs.Language.Checks.{Check, Refusal, asks, first_broken}
 use Rattle.wc_model.specs.Language.DeclarationRules.{Taken, declaration_checks, initial_checks, names_are_new, places_of_type, room_checks, type_checks}
 use Rattle.wc_model.specs.Language.Names.{Name}
@@ -19,6 +20,14 @@ judges_same found other rest (Err Memory) e h = tt
 pub judges_err : (X Y : Type 0) (found other rest behind : Option Refusal) (fault : Fault) → found ≡ other → Judges {X = X} other rest (Err fault) → Judges {X = Y} found behind (Err fault)
 judges_err X Y found other rest behind (Refused number place) e h = e ∙ h
 judges_err X Y found other rest behind Memory e h = tt
+
+-- what is so of a fault is so of it where it is handed on
+pub handed_on : {Y : Type 0} (holds : Result Y Fault → Type 0) (fault : Fault) (result : Result Y Fault) → IsErr result × IsErrAnd result (λ e. e ≡ fault) → holds (Err fault) → holds result
+handed_on holds fault (Ok y) gives h = absurd gives.1
+handed_on holds fault (Err f) gives h = subst (λ x. holds (Err x)) (sym gives.1) h
+
+pub judges_on : (X Y : Type 0) (found other rest behind : Option Refusal) (fault : Fault) (result : Result Y Fault) → IsErr result × IsErrAnd result (λ e. e ≡ fault) → found ≡ other → Judges {X = X} other rest (Err fault) → Judges found behind result
+judges_on X Y found other rest behind fault result gives e h = handed_on (λ r. Judges {X = Y} found behind r) fault result gives (judges_err X Y found other rest behind fault e h)
 
 pub judges_ok : {X : Type 0} (found rest : Option Refusal) (r : Result X Fault) (x : X) → r ≡ Ok x → Judges found rest r → found ≡ rest
 judges_ok found rest r x e h = subst (λ y. Judges found rest y) e h

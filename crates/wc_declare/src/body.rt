@@ -9,8 +9,8 @@ ghost use Rattle.wc_model.specs.Language.Judging.{Judges};
 
 use crate::reserved::is_reserved;
 use crate::word::refused;
+use wc_built_in::variable_at;
 use wc_model::{Argument, Fault, Instr, Line, Operand, Word};
-use wc_names::variable_at;
 
 /// Judges a label by 307.
 fn judge_label<'a>(label: Option<Word<'a>>) -> Result<(), Fault>
@@ -63,9 +63,7 @@ fn judge_arguments<'a>(in_block: bool, arguments: &[Argument<'a>]) -> Result<(),
     ensures refuses { IfErr result (λ fault. fault ≡ Fault.Memory → ⊥) }
 {
     for argument in arguments {
-        if let Err(fault) = judge_operand(in_block, &argument.value) {
-            return Err(fault);
-        }
+        judge_operand(in_block, &argument.value)?;
     }
     Ok(())
 }
@@ -93,9 +91,7 @@ fn judge_line<'a>(in_block: bool, line: &Line<'a>) -> Result<(), Fault>
     // It takes no memory, so a refusal is not told as want of it.
     ensures refuses { IfErr result (λ fault. fault ≡ Fault.Memory → ⊥) }
 {
-    if let Err(fault) = judge_label(line.label) {
-        return Err(fault);
-    }
+    judge_label(line.label)?;
     let Some(instr) = &line.instr else {
         return Ok(());
     };
@@ -109,13 +105,9 @@ fn judge_line<'a>(in_block: bool, line: &Line<'a>) -> Result<(), Fault>
             inside,
             ..
         } => {
-            if let Err(fault) = judge_first(in_block, operand) {
-                return Err(fault);
-            }
+            judge_first(in_block, operand)?;
             for inner in inside {
-                if let Err(fault) = judge_line(in_block, inner) {
-                    return Err(fault);
-                }
+                judge_line(in_block, inner)?;
             }
             Ok(())
         }
@@ -132,9 +124,7 @@ pub(crate) fn judge_body<'a>(in_block: bool, lines: &[Line<'a>]) -> Result<(), F
     ensures refuses { IfErr result (λ fault. fault ≡ Fault.Memory → ⊥) }
 {
     for line in lines {
-        if let Err(fault) = judge_line(in_block, line) {
-            return Err(fault);
-        }
+        judge_line(in_block, line)?;
     }
     Ok(())
 }

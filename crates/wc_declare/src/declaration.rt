@@ -39,15 +39,10 @@ pub(crate) fn declare_name<'a>(names: &mut Names<'a>, word: Word<'a>) -> Result<
     if is_reserved(word.text) {
         return Err(refused(307, word.line));
     }
-    match names.add(word.text) {
-        Ok(new) => {
-            if new {
-                Ok(())
-            } else {
-                Err(refused(301, word.line))
-            }
-        }
-        Err(fault) => Err(fault),
+    if names.add(word.text)? {
+        Ok(())
+    } else {
+        Err(refused(301, word.line))
     }
 }
 
@@ -62,9 +57,7 @@ fn declare_names<'a>(names: &mut Names<'a>, declaration: &Decl<'a>) -> Result<()
     ensures different { OnOk result (AreDifferent names.old → AreDifferent names.new) }
 {
     for word in &declaration.names {
-        if let Err(fault) = declare_name(names, *word) {
-            return Err(fault);
-        }
+        declare_name(names, *word)?;
     }
     Ok(())
 }
@@ -222,9 +215,7 @@ fn declare_variables<'a>(
             first: table.size,
             initial,
         };
-        if let Err(fault) = add_variable(table, *word, variable, width) {
-            return Err(fault);
-        }
+        add_variable(table, *word, variable, width)?;
     }
     Ok(())
 }
@@ -261,16 +252,9 @@ fn judge_declaration<'a>(
     ensures different { OnOk result (AreDifferent table.old.names → AreDifferent table.new.names) }
     ensures is_block { OnOk result (table.new.is_block ≡ table.old.is_block) }
 {
-    if let Err(fault) = declare_names(&mut table.names, declaration) {
-        return Err(fault);
-    }
-    let declared = match judge_type(units, declaration) {
-        Ok(declared) => declared,
-        Err(fault) => return Err(fault),
-    };
-    if let Err(fault) = judge_initial(declaration, declared) {
-        return Err(fault);
-    }
+    declare_names(&mut table.names, declaration)?;
+    let declared = judge_type(units, declaration)?;
+    judge_initial(declaration, declared)?;
     declare_variables(table, declaration, declared, width(units, declared))
 }
 
@@ -292,9 +276,7 @@ pub(crate) fn judge_declarations<'a>(
         (spelled_in_table table.new ≡ spelled_in_table table.old ++ spelled_of_unit unit.now) }
 {
     for declaration in &unit.declarations {
-        if let Err(fault) = judge_declaration(units, table, declaration) {
-            return Err(fault);
-        }
+        judge_declaration(units, table, declaration)?;
     }
     Ok(())
 }

@@ -28,9 +28,7 @@ fn add_block<'a>(names: &mut Names<'a>, unit: &Unit<'a>) -> Result<(), Fault>
     if !is_block(unit) {
         return Ok(());
     }
-    if let Err(fault) = names.add(unit.name.text) {
-        return Err(fault);
-    }
+    names.add(unit.name.text)?;
     Ok(())
 }
 
@@ -43,9 +41,7 @@ fn block_names<'a>(alloc: Global, source: &Source<'a>) -> Result<Names<'a>, Faul
 {
     let mut names = Names::new(alloc);
     for unit in &source.units {
-        if let Err(fault) = add_block(&mut names, unit) {
-            return Err(fault);
-        }
+        add_block(&mut names, unit)?;
     }
     Ok(names)
 }
@@ -63,13 +59,8 @@ fn judge_units<'a>(alloc: Global, units: &mut Units<'a>, source: &Source<'a>) ->
         ++ map spelled_of_unit source.now.units.items) }
 {
     for unit in &source.units {
-        let table = match judge_unit(alloc, units, unit) {
-            Ok(table) => table,
-            Err(fault) => return Err(fault),
-        };
-        if let Err(fault) = add_unit(units, unit.name, table) {
-            return Err(fault);
-        }
+        let table = judge_unit(alloc, units, unit)?;
+        add_unit(units, unit.name, table)?;
     }
     Ok(())
 }
@@ -80,14 +71,12 @@ fn no_units<'a>(alloc: Global, source: &Source<'a>) -> Result<Units<'a>, Fault>
     ensures none { IfOk result (λ units. units.tables.items ≡ []) }
     ensures memory { IsOkUnless result Fault.Memory }
 {
-    match block_names(alloc, source) {
-        Ok(blocks) => Ok(Units {
-            blocks,
-            names: Names::new(alloc),
-            tables: Vec::new(alloc),
-        }),
-        Err(fault) => Err(fault),
-    }
+    let blocks = block_names(alloc, source)?;
+    Ok(Units {
+        blocks,
+        names: Names::new(alloc),
+        tables: Vec::new(alloc),
+    })
 }
 
 /// The tables of a text, or the first of the refusals 301 to 308, at its line.
@@ -97,12 +86,7 @@ pub fn tables<'a>(alloc: Global, source: &Source<'a>) -> Result<Tables<'a>, Faul
     ensures spelled { IfOk result (λ tables. AreSpelledAs tables source.now) }
     ensures judged { Judges (declaration_fault (text_view source.now)) None result }
 {
-    let mut units = match no_units(alloc, source) {
-        Ok(units) => units,
-        Err(fault) => return Err(fault),
-    };
-    if let Err(fault) = judge_units(alloc, &mut units, source) {
-        return Err(fault);
-    }
+    let mut units = no_units(alloc, source)?;
+    judge_units(alloc, &mut units, source)?;
     Ok(Tables::new(units.tables))
 }

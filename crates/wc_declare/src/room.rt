@@ -52,10 +52,8 @@ fn push_field<'a>(
         kind,
         place: Place(variable.first),
     };
-    match fields.push(field) {
-        Ok(()) => Ok(()),
-        Err(_) => Err(Fault::Memory),
-    }
+    fields.push(field).map_err(|_| Fault::Memory)?;
+    Ok(())
 }
 
 /// Adds a variable, named already, behind the others: 306 where there is no room.
@@ -87,9 +85,7 @@ pub(crate) fn add_variable<'a>(
     let Some(end) = room(table.rows.len(), table.size, width) else {
         return Err(refused(306, word.line));
     };
-    if table.rows.push(variable).is_err() {
-        return Err(Fault::Memory);
-    }
+    table.rows.push(variable).map_err(|_| Fault::Memory)?;
     push_field(&mut table.fields, word, variable)?;
     table.size = end;
     Ok(())

@@ -10,6 +10,7 @@ ghost use Rattle.wc_declare.specs.SoFar.{AreUnitsOf};
 
 use crate::type_names::{elementary, standard};
 use crate::units::Units;
+use wc_built_in::standard_fields;
 use wc_model::StandardBlock;
 use wc_names::DeclaredType;
 
@@ -51,10 +52,7 @@ pub(crate) fn type_at<'a>(units: &Units<'a>, name: &[u8]) -> Option<DeclaredType
 pub(crate) fn standard_size(block: StandardBlock) -> u16
     ensures { result ≡ length (standard_fields block) }
 {
-    match block {
-        StandardBlock::RTrig | StandardBlock::Sr | StandardBlock::Rs => 3,
-        StandardBlock::Ctu | StandardBlock::Ton | StandardBlock::Tof | StandardBlock::Tp => 6,
-    }
+    standard_fields(block).len() as u16
 }
 
 /// How many places a variable of a type has.

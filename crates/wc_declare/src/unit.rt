@@ -66,17 +66,11 @@ pub(crate) fn judge_unit<'a>(
     ensures spelled { IfOk result (λ table. spelled_in_table table ≡ spelled_of_unit unit.now) }
     ensures new { OnOk result (is_among units.now.names (name_view unit.now.name) ≡ false) }
 {
-    if let Err(fault) = judge_name(&units.names, unit.name) {
-        return Err(fault);
-    }
+    judge_name(&units.names, unit.name)?;
     let in_block = is_block(unit);
     let mut table = UnitTable::new(alloc, in_block);
-    if let Err(fault) = judge_declarations(units, &mut table, unit) {
-        return Err(fault);
-    }
-    if let Err(fault) = judge_body(in_block, &unit.body) {
-        return Err(fault);
-    }
+    judge_declarations(units, &mut table, unit)?;
+    judge_body(in_block, &unit.body)?;
     Ok(table)
 }
 
@@ -95,11 +89,7 @@ pub(crate) fn add_unit<'a>(
         (units.new.tables.items ≡ units.old.tables.items ++ table.entry ∷ []) }
     ensures memory { IsOkUnless result Fault.Memory }
 {
-    if let Err(fault) = units.names.add(name.text) {
-        return Err(fault);
-    }
-    if let Err(_) = units.tables.push(table) {
-        return Err(Fault::Memory);
-    }
+    units.names.add(name.text)?;
+    units.tables.push(table).map_err(|_| Fault::Memory)?;
     Ok(())
 }

@@ -17,7 +17,7 @@ use Rattle.wc_model.specs.Language.Store.{Location, Direct, Path, Content, progr
 use Rattle.wc_model.specs.declared.kind.Kind.{Kind}
 use Rattle.wc_model.specs.declared.kind.Kind.TheVariants.{Bool as KindBool, Dint as KindDint, Time as KindTime}
 use Rattle.wc_names.specs.Carrying.{kept_from}
-use Rattle.wc_names.specs.Direct.{direct_at}
+use Rattle.wc_built_in.specs.Direct.{direct_at}
 use Rattle.wc_names.specs.StandsFor.{Stands, first_place}
 use Rattle.wc_names.specs.declared.unit_table.UnitTable.{UnitTable}
 use Rattle.wc_names.proofs.OwnPlaces.{unit_own}

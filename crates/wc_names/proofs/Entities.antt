@@ -8,9 +8,9 @@ use Rattle.wc_model.specs.Language.Scopes.{Entity, Scope, entity_of, is_input, i
 use Rattle.wc_model.specs.Language.Store.{Path}
 use Rattle.wc_model.specs.Language.Tree.{Field, Variable as NameOf}
 use Rattle.wc_model.specs.declared.kind.Kind.{Kind}
-use Rattle.wc_names.specs.Members.{kind_numbered, seen_member}
+use Rattle.wc_built_in.specs.Fields.{Seen, member_seen}
+use Rattle.wc_names.specs.Members.{kind_numbered}
 use Rattle.wc_names.specs.Numbered.{numbered_entity, numbered_type}
-use Rattle.wc_names.specs.declared.member.Member.{Member as Seen}
 use Rattle.wc_names.specs.declared.entity.Entity.{Entity as FoundEntity}
 use Rattle.wc_names.specs.declared.variable.Variable.{Variable as Row}
 use Rattle.wc_names.proofs.MemberTables.{kind_case}
@@ -47,29 +47,29 @@ found_name (x ∷ ms) name m e = by (same_name x.name name) refl e (found_name m
     by true s f rest = let same : x ≡ m = cc in sym (ap (λ (y : Member). y.name) same) ∙ (bytes_eq-Decides x.name name).0 s
     by false s f rest = rest f
 
-field_by : (scope : Scope) (instance field : Name) (seen : Seen) (o : Option Member) → ((m : Member) → o ≡ Some m → m.name ≡ field) → Some seen ≡ option_map seen_member o →
+field_by : (scope : Scope) (instance field : Name) (seen : Seen) (o : Option Member) → ((m : Member) → o ≡ Some m → m.name ≡ field) → Some seen ≡ option_map member_seen o →
     Some (made seen.kind (is_result seen.section) (is_input seen.section) (place_number (frame_of scope) (Path (instance ∷ field ∷ []))))
     ≡ option_map (numbered_entity scope) (elim o as (λ x. Option Entity) [ Some m ↦ Some (member_entity instance m) | None ↦ None ])
 field_by scope instance field seen None n e = cc
 field_by scope instance field seen (Some m) n e =
-    let same : seen ≡ seen_member m = cc in
+    let same : seen ≡ member_seen m = cc in
     (λ i. Some (made (same i).kind (is_result (same i).section) (is_input (same i).section) (place_number (frame_of scope) (Path (instance ∷ sym (n m refl) i ∷ [])))))
 
 abbrev through : Scope → Name → Name → Option VariableType → Option FoundEntity
 through scope instance field o =
     option_map (numbered_entity scope) (elim o as (λ x. Option Entity) [ Some type ↦ elim (member_named (members_of scope.before type) field) as (λ x. Option Entity) [ Some m ↦ Some (member_entity instance m) | None ↦ None ] | None ↦ None ])
 
-pub field_named : (scope : Scope) (instance field : Name) (type : VariableType) (seen : Seen) → type_of scope instance ≡ Some type → Some seen ≡ option_map seen_member (member_named (members_of scope.before type) field) →
+pub field_named : (scope : Scope) (instance field : Name) (type : VariableType) (seen : Seen) → type_of scope instance ≡ Some type → Some seen ≡ option_map member_seen (member_named (members_of scope.before type) field) →
     Some (made seen.kind (is_result seen.section) (is_input seen.section) (place_number (frame_of scope) (Path (instance ∷ field ∷ [])))) ≡ option_map (numbered_entity scope) (entity_of scope (Field instance field))
 field_named scope instance field type seen t e =
     field_by scope instance field seen (member_named (members_of scope.before type) field) (λ m f. found_name (members_of scope.before type) field m f) e
     ∙ sym (ap (through scope instance field) t)
 
-none_by : (scope : Scope) (instance : Name) (o : Option Member) → None ≡ option_map seen_member o → None ≡ option_map (numbered_entity scope) (elim o as (λ x. Option Entity) [ Some m ↦ Some (member_entity instance m) | None ↦ None ])
+none_by : (scope : Scope) (instance : Name) (o : Option Member) → None ≡ option_map member_seen o → None ≡ option_map (numbered_entity scope) (elim o as (λ x. Option Entity) [ Some m ↦ Some (member_entity instance m) | None ↦ None ])
 none_by scope instance None e = refl
 none_by scope instance (Some m) e = cc
 
-pub no_field_named : (scope : Scope) (instance field : Name) (type : VariableType) → type_of scope instance ≡ Some type → None ≡ option_map seen_member (member_named (members_of scope.before type) field) →
+pub no_field_named : (scope : Scope) (instance field : Name) (type : VariableType) → type_of scope instance ≡ Some type → None ≡ option_map member_seen (member_named (members_of scope.before type) field) →
     None ≡ option_map (numbered_entity scope) (entity_of scope (Field instance field))
 no_field_named scope instance field type t e = none_by scope instance (member_named (members_of scope.before type) field) e ∙ sym (ap (through scope instance field) t)
 

@@ -3,6 +3,8 @@ use Rattle.std.proofs.Common.{◌≡◌, List, [], ◌∷◌, ◌++◌, ℤ, pos
 use Rattle.std.proofs.lemmas.Int.{ints}
 use Rattle.wc_model.specs.declared.kind.SlotKind.{SlotKind}
 use Rattle.wc_model.specs.declared.kind.SlotKind.TheVariants as slots
+use Rattle.wc_model.specs.Language.Frames.{content_number, slot_kind_of}
+use Rattle.wc_built_in.specs.Fields.{zero_content}
 use Rattle.wc_soundness.specs.FirstNumbers.{AreFirst, IsFirst}
 
 -- each may hold 0
@@ -12,6 +14,15 @@ zero_is_first slots.Dint = search (arith, ints)
 zero_is_first slots.Time = search (arith, ints)
 zero_is_first slots.Moment = refl
 zero_is_first slots.Phase = search (arith, ints)
+
+-- the slot of what holds 0, and its number
+pub slot_of_zero : (kind : SlotKind) → slot_kind_of (zero_content kind) ≡ kind
+slot_of_zero slots.Bool = refl
+slot_of_zero kind = refl
+
+pub zero_number : (kind : SlotKind) → content_number (zero_content kind) ≡ pos 0
+zero_number slots.Bool = refl
+zero_number kind = refl
 
 -- one more slot
 one_more : (kinds : List SlotKind) (numbers : List ℤ) (kind : SlotKind) (n : ℤ) → AreFirst kinds numbers → IsFirst kind n → AreFirst (kinds ++ kind ∷ []) (numbers ++ n ∷ [])

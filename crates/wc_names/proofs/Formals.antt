@@ -15,13 +15,13 @@ use Rattle.wc_model.specs.declared.operator.Direction.{Direction}
 use Rattle.wc_model.specs.declared.operator.Direction.TheVariants.{Into, OutOf}
 use Rattle.wc_model.specs.declared.source.Section.{Section}
 use Rattle.wc_model.specs.declared.source.Section.TheVariants.{Input, Output, Own}
-use Rattle.wc_names.specs.Members.{kind_numbered, row_member, seen_member}
+use Rattle.wc_built_in.specs.Fields.{Seen, member_seen}
+use Rattle.wc_names.specs.Members.{kind_numbered, row_seen}
 use Rattle.wc_names.specs.Numbered.{number_within, numbered_formal, numbered_type, stands_in}
 use Rattle.wc_names.specs.StandsFor.{Stands, row_named}
 use Rattle.wc_names.specs.declared.declared_type.DeclaredType.{DeclaredType}
 use Rattle.wc_names.specs.declared.declared_type.DeclaredType.TheVariants as numbered
 use Rattle.wc_names.specs.declared.formal.Formal.{Formal as FoundFormal}
-use Rattle.wc_names.specs.declared.member.Member.{Member as Seen}
 use Rattle.wc_names.specs.declared.unit_table.UnitTable.{UnitTable}
 use Rattle.wc_names.specs.declared.variable.Variable.{Variable as Row}
 use Rattle.wc_names.proofs.Entities.{found_name}
@@ -34,34 +34,34 @@ abbrev pub as_formal : Direction → Option Member → Option Member
 as_formal d o = elim o as (λ x. Option Member) [ Some m ↦ (if passes d m.section then Some m else None) | None ↦ None ]
 
 -- no member is no input
-pub no_member : (d : Direction) (before : List ProgramUnit) (type : VariableType) (o : Option Member) → None ≡ option_map seen_member o → None ≡ option_and_then (numbered_formal before type) (as_formal d o)
+pub no_member : (d : Direction) (before : List ProgramUnit) (type : VariableType) (o : Option Member) → None ≡ option_map member_seen o → None ≡ option_and_then (numbered_formal before type) (as_formal d o)
 no_member d before type None e = refl
 no_member d before type (Some m) e = cc
 
-pub no_input : (d : Direction) (before : List ProgramUnit) (type : VariableType) (o : Option Member) (seen : Seen) → Some seen ≡ option_map seen_member o → passes d seen.section ≡ false → None ≡ option_and_then (numbered_formal before type) (as_formal d o)
+pub no_input : (d : Direction) (before : List ProgramUnit) (type : VariableType) (o : Option Member) (seen : Seen) → Some seen ≡ option_map member_seen o → passes d seen.section ≡ false → None ≡ option_and_then (numbered_formal before type) (as_formal d o)
 no_input d before type None seen e i = cc
 no_input d before type (Some m) seen e i =
-    let same : seen ≡ seen_member m = cc in
+    let same : seen ≡ member_seen m = cc in
     let not_in : passes d m.section ≡ false = sym (ap (λ (s : Seen). passes d s.section) same) ∙ i in
     sym (ap (λ b. option_and_then (numbered_formal before type) (if b then Some m else None)) not_in)
 
 -- an instance is no numbered input
-pub no_kind : (d : Direction) (before : List ProgramUnit) (type : VariableType) (o : Option Member) (seen : Seen) → Some seen ≡ option_map seen_member o → passes d seen.section ≡ true → seen.kind ≡ None → None ≡ option_and_then (numbered_formal before type) (as_formal d o)
+pub no_kind : (d : Direction) (before : List ProgramUnit) (type : VariableType) (o : Option Member) (seen : Seen) → Some seen ≡ option_map member_seen o → passes d seen.section ≡ true → seen.kind ≡ None → None ≡ option_and_then (numbered_formal before type) (as_formal d o)
 no_kind d before type None seen e i k = cc
 no_kind d before type (Some m) seen e i k =
-    let same : seen ≡ seen_member m = cc in
+    let same : seen ≡ member_seen m = cc in
     let in_is : passes d m.section ≡ true = sym (ap (λ (s : Seen). passes d s.section) same) ∙ i in
     let kind : elementary_kind m.type ≡ None = sym (ap (λ (s : Seen). s.kind) same) ∙ k in
     sym (ap (λ b. option_and_then (numbered_formal before type) (if b then Some m else None)) in_is
     ∙ ap (λ o. option_and_then (λ (x : Kind). option_map (λ n. record { kind = x; place = n }) (number_within before type (m.name ∷ []))) o) kind)
 
 -- an input with its kind and place
-pub input_by : (d : Direction) (before : List ProgramUnit) (type : VariableType) (name : Name) (o : Option Member) (seen : Seen) (kind : Kind) (place : Option ℕ) → ((m : Member) → o ≡ Some m → m.name ≡ name) → Some seen ≡ option_map seen_member o →
+pub input_by : (d : Direction) (before : List ProgramUnit) (type : VariableType) (name : Name) (o : Option Member) (seen : Seen) (kind : Kind) (place : Option ℕ) → ((m : Member) → o ≡ Some m → m.name ≡ name) → Some seen ≡ option_map member_seen o →
     passes d seen.section ≡ true → seen.kind ≡ Some kind → place ≡ number_within before type (name ∷ []) →
     ◌≡◌ {A = Option FoundFormal} (option_map (λ n. record { kind = kind; place = n }) place) (option_and_then (numbered_formal before type) (as_formal d o))
 input_by d before type name None seen kind place n e i k p = cc
 input_by d before type name (Some m) seen kind place n e i k p =
-    let same : seen ≡ seen_member m = cc in
+    let same : seen ≡ member_seen m = cc in
     let in_is : passes d m.section ≡ true = sym (ap (λ (s : Seen). passes d s.section) same) ∙ i in
     let kind_is : elementary_kind m.type ≡ Some kind = sym (ap (λ (s : Seen). s.kind) same) ∙ k in
     let there : place ≡ number_within before type (m.name ∷ []) = p ∙ ap (λ x. number_within before type (x ∷ [])) (sym (n m refl)) in
@@ -73,16 +73,7 @@ input_by d before type name (Some m) seen kind place n e i k p =
 pub member_spelled : (ms : List Member) (name : Name) (m : Member) → member_named ms name ≡ Some m → m.name ≡ name
 member_spelled ms name m e = found_name ms name m e
 
--- the number of a place within what has no member
-pub within_plain : (before : List ProgramUnit) (type : VariableType) (kind : Kind) (name : Name) → numbered_type before type ≡ Some (numbered.Elementary kind) → None ≡ number_within before type (name ∷ [])
-within_plain before type kind name e = by (type_case before (Some type) (numbered.Elementary kind) e)
-  where
-    by : TypeCase before (Some type) (numbered.Elementary kind) → None ≡ number_within before type (name ∷ [])
-    by (of_elementary k t d) = let same : Elementary k ≡ type = cc in ap (λ x. number_within before x (name ∷ [])) same
-    by (of_standard b t d) = cc
-    by (of_block n u us t f d) = cc
-
--- and among the fields of a standard block
+-- the number of a place among the fields of a standard block
 pub within_fields : (before : List ProgramUnit) (type : VariableType) (block : StandardBlock) (name : Name) → numbered_type before type ≡ Some (numbered.Standard block) →
     position_from (λ f. same_name f.0 name) 0 (standard_fields block) ≡ number_within before type (name ∷ [])
 within_fields before type block name e = by (type_case before (Some type) (numbered.Standard block) e)
@@ -116,7 +107,7 @@ plain_formal d Output (numbered.Block number) i s = cc
 plain_formal Into Own (numbered.Block number) i s = cc
 plain_formal OutOf Own (numbered.Block number) i s = cc
 
-row_there : (o : Option Row) (seen : Seen) → option_map row_member o ≡ Some seen → (row : Row) × (o ≡ Some row) × (row_member row ≡ seen)
+row_there : (o : Option Row) (seen : Seen) → option_map row_seen o ≡ Some seen → (row : Row) × (o ≡ Some row) × (row_seen row ≡ seen)
 row_there None seen e = cc
 row_there (Some row) seen e = (row, refl, cc)
 
@@ -124,7 +115,7 @@ block_formal : (d : Direction) (units : List UnitTable) (before : List ProgramUn
     (m : Member) → member_named (members_of before type) name ≡ Some m → passes d m.section ≡ true → is_some (numbered_formal before type m) ≡ true
 block_formal d units before u h type number name e m found i =
     let b = members_by units before u h type number name e in
-    let r = row_there (row_named b.stands.table.names b.stands.table.rows.items name) (seen_member m) (b.members ∙ ap (option_map seen_member) found) in
+    let r = row_there (row_named b.stands.table.names b.stands.table.rows.items name) (member_seen m) (b.members ∙ ap (option_map member_seen) found) in
     let row = r.0 in
     let section : row.section ≡ m.section = ap (λ (s : Seen). s.section) r.2 in
     let kind_is : kind_numbered row.declared ≡ elementary_kind m.type = ap (λ (s : Seen). s.kind) r.2 in

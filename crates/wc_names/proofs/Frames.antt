@@ -12,7 +12,7 @@ use Rattle.wc_model.specs.Language.Tree.{ProgramUnit}
 use Rattle.wc_names.specs.Keys.{same_name_laws}
 use Rattle.wc_names.specs.StandsFor.{AreDifferent, AreRows, IsRow, end_of, row_named}
 use Rattle.wc_names.specs.declared.variable.Variable.{Variable as Row}
-use Rattle.wc_names.proofs.KeyNames.{position_from-map}
+use Rattle.wc_built_in.proofs.FieldTables.{position_from-map}
 use Rattle.wc_names.proofs.Places.{same_count}
 use Rattle.wc_names.proofs.Positions.{or_else, position_append, position_none, position_on}
 

@@ -8,10 +8,6 @@ use Rattle.wc_model.specs.Language.Names.{Name}
 use Rattle.wc_names.specs.Keys.{name_of_key, names_of_keys, same_key, same_name_laws}
 use Rattle.wc_names.specs.declared.key.Key.{Key}
 
-pub position_from-map : {X Y : Type 0} (f : X → Y) (p : Y → Bool) (i : ℕ) (xs : List X) → position_from p i (map f xs) ≡ position_from (λ x. p (f x)) i xs
-position_from-map f p i [] = refl
-position_from-map f p i (x ∷ xs) = ap (λ o. cond (p (f x)) (Some i) o) (position_from-map f p (i + 1) xs)
-
 pub keys_any : (k : Key) (keys : List Key) → list_any (same_key k) keys ≡ is_among (names_of_keys keys) (name_of_key k)
 keys_any k [] = refl
 keys_any k (x ∷ keys) = λ i. same_name_laws.symm (name_of_key x) (name_of_key k) i || keys_any k keys i

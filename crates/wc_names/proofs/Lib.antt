@@ -1,8 +1,6 @@
 pub mod KeyNames
 pub mod Lists
 pub mod Places
-pub mod Below
-pub mod Addresses
 pub mod Positions
 pub mod Frames
 pub mod Lookups

@@ -20,7 +20,7 @@ use Rattle.wc_names.specs.declared.variable.Variable.{Variable as Row}
 use Rattle.wc_names.proofs.Frames.{Leads, into, leads, nothing, own_places, places_of, rows_length}
 use Rattle.wc_names.proofs.Places.{TypeCase, found_block, of_block, of_elementary, of_standard, stands_more, type_case}
 use Rattle.wc_names.proofs.Positions.{or_else, position_alike, position_append, position_none, position_within}
-use Rattle.wc_names.proofs.KeyNames.{position_from-map}
+use Rattle.wc_built_in.proofs.FieldTables.{position_from-map}
 use Rattle.wc_model.specs.Language.Declarations.{type_named}
 
 -- there are as many names as rows

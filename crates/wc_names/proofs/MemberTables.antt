@@ -8,7 +8,8 @@ use Rattle.wc_model.specs.Language.Kinds.{elementary_kind}
 use Rattle.wc_model.specs.Language.Names.{Name}
 use Rattle.wc_model.specs.Language.Store.{same_path, unit_places}
 use Rattle.wc_model.specs.Language.Tree.{ProgramUnit}
-use Rattle.wc_names.specs.Members.{kind_numbered, row_member, seen_member}
+use Rattle.wc_built_in.specs.Fields.{Seen, member_seen}
+use Rattle.wc_names.specs.Members.{kind_numbered, row_seen}
 use Rattle.wc_names.specs.Numbered.{number_within, numbered_type}
 use Rattle.wc_names.specs.StandsFor.{AreRows, Stands, first_place, row_named}
 use Rattle.wc_names.specs.declared.declared_type.DeclaredType.{DeclaredType}
@@ -24,23 +25,23 @@ kind_case before type declared (of_elementary k t d) = let e : type ≡ Elementa
 kind_case before type declared (of_standard b t d) = let e : type ≡ Standard b = cc in ap elementary_kind e ∙ sym (ap kind_numbered d)
 kind_case before type declared (of_block n u us t f d) = let e : type ≡ Block n = cc in ap elementary_kind e ∙ sym (ap kind_numbered d)
 
-first_or : (b : Bool) (m : Member) (row : Row) (rest : Option Member) (other : Option Row) → seen_member m ≡ row_member row → option_map seen_member rest ≡ option_map row_member other →
-    option_map seen_member (cond b (Some m) rest) ≡ option_map row_member (if b then Some row else other)
+first_or : (b : Bool) (m : Member) (row : Row) (rest : Option Member) (other : Option Row) → member_seen m ≡ row_seen row → option_map member_seen rest ≡ option_map row_seen other →
+    option_map member_seen (cond b (Some m) rest) ≡ option_map row_seen (if b then Some row else other)
 first_or true m row rest other e h = ap Some e
 first_or false m row rest other e h = h
 
 -- a variable of a known type is one member
 one_member : (before : List ProgramUnit) (v : Variable) (row : Row) (more : List Member) (name : Name) (other : Option Row) (o : Option VariableType) → type_named before v.type_name ≡ o → option_and_then (numbered_type before) o ≡ Some row.declared → row.section ≡ v.section →
-    option_map seen_member (find (λ m. same_name m.name name) more) ≡ option_map row_member other →
-    option_map seen_member (find (λ m. same_name m.name name) (as_member before v ++ more)) ≡ option_map row_member (if same_name v.name name then Some row else other)
+    option_map member_seen (find (λ m. same_name m.name name) more) ≡ option_map row_seen other →
+    option_map member_seen (find (λ m. same_name m.name name) (as_member before v ++ more)) ≡ option_map row_seen (if same_name v.name name then Some row else other)
 one_member before v row more name other None t e s h = cc
 one_member before v row more name other (Some type) t e s h =
     let k = kind_case before type row.declared (type_case before (Some type) row.declared e) in
-    ap (λ (x : Option VariableType). option_map seen_member (find (λ m. same_name m.name name) ((elim x as (λ y. List Member) [ Some ty ↦ record { name = v.name; section = v.section; type = ty } ∷ [] | None ↦ [] ]) ++ more))) t
+    ap (λ (x : Option VariableType). option_map member_seen (find (λ m. same_name m.name name) ((elim x as (λ y. List Member) [ Some ty ↦ record { name = v.name; section = v.section; type = ty } ∷ [] | None ↦ [] ]) ++ more))) t
     ∙ first_or (same_name v.name name) (record { name = v.name; section = v.section; type = type }) row (find (λ m. same_name m.name name) more) other (λ i. record { section = sym s i; kind = k i }) h
 
 pub members_of_rows : (before : List ProgramUnit) (first : ℕ) (vs : List Variable) (rows : List Row) (name : Name) → AreRows before first vs rows →
-    option_map seen_member (find (λ m. same_name m.name name) (flat_map (as_member before) vs)) ≡ option_map row_member (row_named (map (λ v. v.name) vs) rows name)
+    option_map member_seen (find (λ m. same_name m.name name) (flat_map (as_member before) vs)) ≡ option_map row_seen (row_named (map (λ v. v.name) vs) rows name)
 members_of_rows before first [] [] name h = refl
 members_of_rows before first [] (r ∷ rows) name h = absurd h
 members_of_rows before first (v ∷ vs) [] name h = absurd h
@@ -54,7 +55,7 @@ pub record MembersOf (units : List UnitTable) (before : List ProgramUnit) (type 
   pub unit : ProgramUnit
   pub stands : Stands units earlier unit
   pub counted : number ≡ length earlier
-  pub members : option_map row_member (row_named stands.table.names stands.table.rows.items name) ≡ option_map seen_member (member_named (members_of before type) name)
+  pub members : option_map row_seen (row_named stands.table.names stands.table.rows.items name) ≡ option_map member_seen (member_named (members_of before type) name)
   pub places : (ns : List Name) → place_from earlier unit ns ≡ number_within before type ns
 
 pub members_by : (units : List UnitTable) (before : List ProgramUnit) (u : ProgramUnit) (h : Stands units before u) (type : VariableType) (number : ℕ) (name : Name) → numbered_type before type ≡ Some (numbered.Block number) →
@@ -74,9 +75,9 @@ members_by units before u h type number name e = by (type_case before (Some type
           unit = unit;
           stands = stands;
           counted = cc;
-          members = ap (λ ns. option_map row_member (row_named ns stands.table.rows.items name)) stands.is.names ∙ sym (members_of_rows us _ (variables_of unit) stands.table.rows.items name stands.is.rows)
-              ∙ sym (ap (λ x. option_map seen_member (member_named (members_of before x) name)) same
-              ∙ ap (λ (o : Option (ProgramUnit × List ProgramUnit)). option_map seen_member (member_named (elim o as (λ x. List Member) [ Some g ↦ flat_map (as_member g.1) (variables_of g.0) | None ↦ [] ]) name)) f);
+          members = ap (λ ns. option_map row_seen (row_named ns stands.table.rows.items name)) stands.is.names ∙ sym (members_of_rows us _ (variables_of unit) stands.table.rows.items name stands.is.rows)
+              ∙ sym (ap (λ x. option_map member_seen (member_named (members_of before x) name)) same
+              ∙ ap (λ (o : Option (ProgramUnit × List ProgramUnit)). option_map member_seen (member_named (elim o as (λ x. List Member) [ Some g ↦ flat_map (as_member g.1) (variables_of g.0) | None ↦ [] ]) name)) f);
           places = λ ns. ap (λ first. position_from (λ e. same_path e.0 ns) first (unit_places us unit)) zero_first ∙ ap (position_from (λ e. same_path e.0 ns) 0) (sym found.places)
               ∙ ap (λ x. number_within before x ns) (sym same);
         }

@@ -12,10 +12,10 @@ use Rattle.wc_model.specs.Language.Names.{Name}
 use Rattle.wc_model.specs.Language.Scopes.{Scope}
 use Rattle.wc_model.specs.Language.Store.{Content, Location, Direct, Path, same_path, same_place, unit_places, zero_of}
 use Rattle.wc_model.specs.Language.Tree.{ProgramUnit, Text}
-use Rattle.wc_names.specs.Direct.{direct_at}
+use Rattle.wc_built_in.specs.Direct.{direct_at}
 use Rattle.wc_names.specs.StandsFor.{AreUnits, Stands, first_place, onto}
 use Rattle.wc_names.specs.declared.unit_table.UnitTable.{UnitTable}
-use Rattle.wc_names.proofs.KeyNames.{position_from-map}
+use Rattle.wc_built_in.proofs.FieldTables.{position_from-map}
 use Rattle.wc_names.proofs.Lists.{get_more}
 use Rattle.wc_names.proofs.Lookups.{place_from}
 use Rattle.wc_names.proofs.Places.{places_end, stands_front, stands_more}

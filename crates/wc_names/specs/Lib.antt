@@ -2,7 +2,6 @@ pub mod Numbered
 pub mod StandsFor
 pub mod Keys
 pub mod Slots
-pub mod Direct
 pub mod Members
 pub mod Spelled
 pub mod Carrying

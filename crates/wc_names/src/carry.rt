@@ -23,7 +23,7 @@ struct Named<'a> {
 }
 
 /// How many of some variables begin at a place or before it, where they stand in the order of their places.
-fn begun(rows: &[Variable], number: u16) -> usize
+fn count_begun(rows: &[Variable], number: u16) -> usize
     ensures before { IsNonDecreasingBy (λ (row : Row). row.first) rows.now
         → (k : ℕ) (d : Row) → k < result → (slice_index_or rows.now k d).first ≤ number }
     ensures behind { IsNonDecreasingBy (λ (row : Row). row.first) rows.now
@@ -42,7 +42,7 @@ fn variable_with<'a>(table: &UnitTable<'a>, number: u16) -> Option<Named<'a>>
         → MatchOption result ⊥
         (λ found. HasPlace before u number entry (name_of found.name.now) found.row) }
 {
-    let Some(at) = begun(&table.rows, number).checked_sub(1) else {
+    let Some(at) = count_begun(&table.rows, number).checked_sub(1) else {
         return None;
     };
     let Some(name) = table.names.at(at) else {

@@ -53,19 +53,13 @@ fn push_unit<'a>(
     for row in &table.rows {
         match row.declared {
             DeclaredType::Elementary(kind) => {
-                if let Err(fault) = push(frame, slot_of(kind), first_number(kind, row.initial)) {
-                    return Err(fault);
-                }
+                push(frame, slot_of(kind), first_number(kind, row.initial))?;
             }
             DeclaredType::Standard(block) => {
-                if let Err(fault) = push_standard(frame, block) {
-                    return Err(fault);
-                }
+                push_standard(frame, block)?;
             }
             DeclaredType::Block(block) => {
-                if let Err(fault) = push_finished(frame, finished, block) {
-                    return Err(fault);
-                }
+                push_finished(frame, finished, block)?;
             }
         }
     }
@@ -87,12 +81,8 @@ fn finish<'a>(
     ensures memory { IsOkUnless result Fault.Memory }
 {
     let mut frame = no_slots(alloc);
-    if let Err(fault) = push_unit(&mut frame, finished, units, unit) {
-        return Err(fault);
-    }
-    if let Err(_) = finished.push(frame) {
-        return Err(Fault::Memory);
-    }
+    push_unit(&mut frame, finished, units, unit)?;
+    finished.push(frame).map_err(|_| Fault::Memory)?;
     Ok(())
 }
 
@@ -109,15 +99,13 @@ fn finish_before<'a>(
 {
     let mut finished = Vec::new(alloc);
     for number in 0..unit {
-        if let Err(fault) = finish(alloc, &mut finished, units, number) {
-            return Err(fault);
-        }
+        finish(alloc, &mut finished, units, number)?;
     }
     Ok(finished)
 }
 
 /// The slots that stand before those of a unit's variables.
-fn begun(alloc: Global, is_block: bool) -> Result<Frame, Fault>
+fn first_slots(alloc: Global, is_block: bool) -> Result<Frame, Fault>
     ensures begins { IfOk result (IsBegun is_block) }
     ensures first { IfOk result HoldsFirst }
     ensures memory { IsOkUnless result Fault.Memory }
@@ -126,10 +114,8 @@ fn begun(alloc: Global, is_block: bool) -> Result<Frame, Fault>
     if is_block {
         return Ok(frame);
     }
-    match push_direct(&mut frame) {
-        Ok(()) => Ok(frame),
-        Err(fault) => Err(fault),
-    }
+    push_direct(&mut frame)?;
+    Ok(frame)
 }
 
 /// Whether a unit is a function block.
@@ -155,16 +141,8 @@ pub(crate) fn slots<'a>(alloc: Global, units: &[UnitTable<'a>], unit: usize) -> 
     ensures first { IfOk result HoldsFirst }
     ensures memory { IsOkUnless result Fault.Memory }
 {
-    let finished = match finish_before(alloc, units, unit) {
-        Ok(finished) => finished,
-        Err(fault) => return Err(fault),
-    };
-    let mut frame = match begun(alloc, is_function_block(units, unit)) {
-        Ok(frame) => frame,
-        Err(fault) => return Err(fault),
-    };
-    match push_unit(&mut frame, &finished, units, unit) {
-        Ok(()) => Ok(frame),
-        Err(fault) => Err(fault),
-    }
+    let finished = finish_before(alloc, units, unit)?;
+    let mut frame = first_slots(alloc, is_function_block(units, unit))?;
+    push_unit(&mut frame, &finished, units, unit)?;
+    Ok(frame)
 }

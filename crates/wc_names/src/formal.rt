@@ -7,7 +7,6 @@ ghost use Rattle.wc_names.specs.Numbered.{number_within, numbered_formal, number
 ghost use Rattle.wc_names.specs.StandsFor.{Stands};
 
 use crate::declared_type::DeclaredType;
-use crate::lookup::{field_named, number};
 use crate::member::member_of;
 use crate::naming::{is_input, is_result};
 use crate::unit_table::UnitTable;
@@ -20,20 +19,6 @@ pub struct Formal {
     pub kind: Kind,
     /// Its place, counted from the first place of the instance.
     pub place: u16,
-}
-
-/// The number of a member's place among those of an instance of this type.
-fn number_within<'a>(units: &[UnitTable<'a>], declared: DeclaredType, name: &[u8]) -> Option<u16>
-    ensures { (before : List ProgramUnit) (u : ProgramUnit) (type : VariableType)
-        → Stands units.now before u
-        → numbered_type before type ≡ Some declared
-        → result ≡ number_within before type (name_of name.now ∷ []) }
-{
-    match declared {
-        DeclaredType::Elementary(_) => None,
-        DeclaredType::Standard(block) => field_named(block, name),
-        DeclaredType::Block(block) => number(units, block, &[name]),
-    }
 }
 
 /// Whether a call's list may name a variable of a section: as an input or as an output.
@@ -68,7 +53,7 @@ pub(crate) fn formal_of<'a>(
     let Some(kind) = member.kind else {
         return None;
     };
-    match number_within(units, declared, name) {
+    match member.place {
         Some(place) => Some(Formal { kind, place }),
         None => None,
     }

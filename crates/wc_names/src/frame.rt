@@ -8,7 +8,8 @@ ghost use Rattle.wc_soundness.specs.Typing.{slot_of_kind};
 ghost use Rattle.wc_names.specs.Slots.{HoldsFirst, IsGrown};
 
 use std::alloc::Global;
-use wc_model::{Fault, Kind, SlotKind, StandardBlock, Value};
+use wc_built_in::standard_fields;
+use wc_model::{Fault, Kind, SlotKind, StandardBlock, Value, or_memory};
 
 /// The slots of a unit's frame, in the order of its places.
 #[derive(Drop)]
@@ -29,12 +30,8 @@ pub(crate) fn push(frame: &mut Frame, kind: SlotKind, number: i64) -> Result<(),
         (IsFirst kind number → HoldsFirst frame.old → HoldsFirst frame.new) }
     ensures memory { IsOkUnless result Fault.Memory }
 {
-    if frame.kinds.push(kind).is_err() {
-        return Err(Fault::Memory);
-    }
-    if frame.initials.push(number).is_err() {
-        return Err(Fault::Memory);
-    }
+    frame.kinds.push(kind).map_err(|_| Fault::Memory)?;
+    frame.initials.push(number).map_err(|_| Fault::Memory)?;
     Ok(())
 }
 
@@ -49,9 +46,7 @@ fn push_zeros(frame: &mut Frame, kinds: &[SlotKind]) -> Result<(), Fault>
     ensures memory { IsOkUnless result Fault.Memory }
 {
     for kind in kinds {
-        if let Err(fault) = push(frame, *kind, 0) {
-            return Err(fault);
-        }
+        push(frame, *kind, 0)?;
     }
     Ok(())
 }
@@ -91,44 +86,10 @@ pub(crate) fn push_standard(frame: &mut Frame, block: StandardBlock) -> Result<(
     ensures first { OnOk result (HoldsFirst frame.old → HoldsFirst frame.new) }
     ensures memory { IsOkUnless result Fault.Memory }
 {
-    match block {
-        StandardBlock::RTrig | StandardBlock::Sr | StandardBlock::Rs => {
-            push_zeros(frame, &[SlotKind::Bool; 3])
-        }
-        StandardBlock::Ctu => push_zeros(
-            frame,
-            &[
-                SlotKind::Bool,
-                SlotKind::Bool,
-                SlotKind::Dint,
-                SlotKind::Bool,
-                SlotKind::Dint,
-                SlotKind::Bool,
-            ],
-        ),
-        StandardBlock::Ton => push_zeros(
-            frame,
-            &[
-                SlotKind::Bool,
-                SlotKind::Time,
-                SlotKind::Bool,
-                SlotKind::Time,
-                SlotKind::Bool,
-                SlotKind::Moment,
-            ],
-        ),
-        StandardBlock::Tof | StandardBlock::Tp => push_zeros(
-            frame,
-            &[
-                SlotKind::Bool,
-                SlotKind::Time,
-                SlotKind::Bool,
-                SlotKind::Time,
-                SlotKind::Phase,
-                SlotKind::Moment,
-            ],
-        ),
+    for field in standard_fields(block) {
+        push(frame, field.slot, 0)?;
     }
+    Ok(())
 }
 
 /// Adds the slots of another frame.
@@ -141,12 +102,8 @@ pub(crate) fn append(frame: &mut Frame, more: &Frame) -> Result<(), Fault>
         (HoldsFirst more.now → HoldsFirst frame.old → HoldsFirst frame.new) }
     ensures memory { IsOkUnless result Fault.Memory }
 {
-    if frame.kinds.extend_from_slice(&more.kinds).is_err() {
-        return Err(Fault::Memory);
-    }
-    if frame.initials.extend_from_slice(&more.initials).is_err() {
-        return Err(Fault::Memory);
-    }
+    or_memory(frame.kinds.extend_from_slice(&more.kinds))?;
+    or_memory(frame.initials.extend_from_slice(&more.initials))?;
     Ok(())
 }
 

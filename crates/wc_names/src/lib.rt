@@ -2,7 +2,6 @@
 //! the slots of a frame hold at first.
 #![tactic(auto)]
 
-mod address;
 mod carry;
 mod declared_type;
 mod entity;
@@ -20,7 +19,6 @@ mod naming;
 mod unit_table;
 mod variable;
 
-pub use address::variable_at;
 pub use declared_type::DeclaredType;
 pub use entity::Entity;
 pub use field::Field;

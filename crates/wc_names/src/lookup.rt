@@ -1,6 +1,5 @@
 ghost use Rattle.std.specs.Prelude.{◌≡◌, ◌<◌, ◌+◌, None, Option, [], ◌∷◌, ℕ, List, Some, map, length, slice_get, option_map, option_and_then};
 ghost use Rattle.std.specs.List.{position_from};
-ghost use Rattle.wc_model.specs.Language.Declarations.{same_name};
 ghost use Rattle.wc_model.specs.Language.DirectVariables.{variable_at};
 ghost use Rattle.wc_model.specs.Language.Frames.{frame_of, place_number};
 ghost use Rattle.wc_model.specs.Language.Names.{Name, name_of};
@@ -9,15 +8,15 @@ ghost use Rattle.wc_model.specs.Language.Store.{Content, Direct, first_content, 
 ghost use Rattle.wc_model.specs.Language.Tree.{ProgramUnit};
 ghost use Rattle.wc_model.specs.declared.kind.Kind.{Kind};
 ghost use Rattle.wc_model.specs.declared.source.Initial.{Initial};
-ghost use Rattle.wc_names.specs.Direct.{direct_at};
+ghost use Rattle.wc_built_in.specs.Direct.{direct_at};
 ghost use Rattle.wc_names.specs.StandsFor.{Stands, first_place, row_named};
 ghost use Rattle.wc_names.specs.declared.unit_table.UnitTable.{UnitTable as Table};
 
-use crate::address::variable_at;
 use crate::declared_type::DeclaredType;
 use crate::unit_table::UnitTable;
 use crate::variable::Variable;
-use wc_model::{StandardBlock, is_word};
+use wc_built_in::{field_named, variable_at};
+use wc_model::StandardBlock;
 
 /// The variable of that name of a unit.
 pub(crate) fn row<'a>(units: &[UnitTable<'a>], unit: usize, name: &[u8]) -> Option<Variable>
@@ -37,156 +36,6 @@ pub(crate) fn row<'a>(units: &[UnitTable<'a>], unit: usize, name: &[u8]) -> Opti
     }
 }
 
-/// The number of a field of R_TRIG.
-fn r_trig_field(name: &[u8]) -> Option<u16>
-    ensures { result
-        ≡ position_from (λ f. same_name f.0 (name_of name.now)) 0
-        (standard_fields StandardBlock.RTrig) }
-{
-    if is_word(b"clk", name) {
-        return Some(0);
-    }
-    if is_word(b"q", name) {
-        return Some(1);
-    }
-    if is_word(b"m", name) {
-        return Some(2);
-    }
-    None
-}
-
-/// The number of a field of SR.
-fn sr_field(name: &[u8]) -> Option<u16>
-    ensures { result
-        ≡ position_from (λ f. same_name f.0 (name_of name.now)) 0
-        (standard_fields StandardBlock.Sr) }
-{
-    if is_word(b"s1", name) {
-        return Some(0);
-    }
-    if is_word(b"r", name) {
-        return Some(1);
-    }
-    if is_word(b"q1", name) {
-        return Some(2);
-    }
-    None
-}
-
-/// The number of a field of RS.
-fn rs_field(name: &[u8]) -> Option<u16>
-    ensures { result
-        ≡ position_from (λ f. same_name f.0 (name_of name.now)) 0
-        (standard_fields StandardBlock.Rs) }
-{
-    if is_word(b"s", name) {
-        return Some(0);
-    }
-    if is_word(b"r1", name) {
-        return Some(1);
-    }
-    if is_word(b"q1", name) {
-        return Some(2);
-    }
-    None
-}
-
-/// The number of a field of CTU.
-fn ctu_field(name: &[u8]) -> Option<u16>
-    ensures { result
-        ≡ position_from (λ f. same_name f.0 (name_of name.now)) 0
-        (standard_fields StandardBlock.Ctu) }
-{
-    if is_word(b"cu", name) {
-        return Some(0);
-    }
-    if is_word(b"r", name) {
-        return Some(1);
-    }
-    if is_word(b"pv", name) {
-        return Some(2);
-    }
-    if is_word(b"q", name) {
-        return Some(3);
-    }
-    if is_word(b"cv", name) {
-        return Some(4);
-    }
-    if is_word(b"m", name) {
-        return Some(5);
-    }
-    None
-}
-
-/// The number of a field of TON.
-fn ton_field(name: &[u8]) -> Option<u16>
-    ensures { result
-        ≡ position_from (λ f. same_name f.0 (name_of name.now)) 0
-        (standard_fields StandardBlock.Ton) }
-{
-    if is_word(b"in", name) {
-        return Some(0);
-    }
-    if is_word(b"pt", name) {
-        return Some(1);
-    }
-    if is_word(b"q", name) {
-        return Some(2);
-    }
-    if is_word(b"et", name) {
-        return Some(3);
-    }
-    if is_word(b"run", name) {
-        return Some(4);
-    }
-    if is_word(b"start", name) {
-        return Some(5);
-    }
-    None
-}
-
-/// The number of a field of TOF and of TP, which have the same.
-fn phased_timer_field(name: &[u8]) -> Option<u16>
-    ensures { result
-        ≡ position_from (λ f. same_name f.0 (name_of name.now)) 0
-        (standard_fields StandardBlock.Tof) }
-{
-    if is_word(b"in", name) {
-        return Some(0);
-    }
-    if is_word(b"pt", name) {
-        return Some(1);
-    }
-    if is_word(b"q", name) {
-        return Some(2);
-    }
-    if is_word(b"et", name) {
-        return Some(3);
-    }
-    if is_word(b"phase", name) {
-        return Some(4);
-    }
-    if is_word(b"start", name) {
-        return Some(5);
-    }
-    None
-}
-
-/// The number of a field of a standard function block.
-pub(crate) fn field_named(block: StandardBlock, name: &[u8]) -> Option<u16>
-    ensures { result
-        ≡ position_from (λ f. same_name f.0 (name_of name.now)) 0 (standard_fields block) }
-{
-    match block {
-        StandardBlock::RTrig => r_trig_field(name),
-        StandardBlock::Sr => sr_field(name),
-        StandardBlock::Rs => rs_field(name),
-        StandardBlock::Ctu => ctu_field(name),
-        StandardBlock::Ton => ton_field(name),
-        StandardBlock::Tof | StandardBlock::Tp => phased_timer_field(name),
-    }
-}
-
 /// The number of a path's place within a standard function block.
 fn field_at(block: StandardBlock, names: &[&[u8]]) -> Option<u16>
     ensures { result
@@ -200,7 +49,10 @@ fn field_at(block: StandardBlock, names: &[&[u8]]) -> Option<u16>
     if let Some(_) = rest.split_first() {
         return None;
     }
-    field_named(block, name)
+    match field_named(block, name) {
+        Some(found) => Some(found.number),
+        None => None,
+    }
 }
 
 /// The number of a path's place within a variable of an elementary type.

@@ -1,16 +1,19 @@
-ghost use Rattle.std.specs.Prelude.{◌≡◌, List, Some, option_map, length, slice_get};
-ghost use Rattle.wc_model.specs.Language.Declarations.{VariableType, member_named, members_of, standard_members};
+ghost use Rattle.std.specs.Prelude.{◌≡◌, List, [], ◌∷◌, IfSome, option_map, length};
+ghost use Rattle.std.specs.List.{position_from};
+ghost use Rattle.wc_model.specs.Language.Declarations.{VariableType, member_named, members_of, same_name, standard_members};
 ghost use Rattle.wc_model.specs.Language.Names.{name_of};
 ghost use Rattle.wc_model.specs.Language.Tree.{ProgramUnit};
-ghost use Rattle.wc_names.specs.Members.{kind_numbered, row_member, seen_member};
-ghost use Rattle.wc_names.specs.Numbered.{numbered_type};
-ghost use Rattle.wc_names.specs.StandsFor.{Stands, row_named};
-ghost use Rattle.wc_names.specs.declared.unit_table.UnitTable.{UnitTable as Table};
+ghost use Rattle.wc_model.specs.Language.Store.{same_path, standard_fields, unit_places};
+ghost use Rattle.wc_built_in.specs.Fields.{is_named, member_seen, value_kind};
+ghost use Rattle.wc_names.specs.Members.{found_seen, kind_numbered, row_seen};
+ghost use Rattle.wc_names.specs.Numbered.{number_within, numbered_type};
+ghost use Rattle.wc_names.specs.StandsFor.{Stands, first_place, row_named};
 
 use crate::declared_type::DeclaredType;
-use crate::lookup::row;
+use crate::lookup::{number_behind, row};
 use crate::unit_table::UnitTable;
-use wc_model::{Kind, Section, StandardBlock, is_word};
+use wc_built_in::field_named;
+use wc_model::{Kind, Section, SlotKind, StandardBlock};
 
 /// A name that can stand behind an instance and a dot.
 #[derive(Clone, Copy)]
@@ -19,6 +22,8 @@ pub(crate) struct Member {
     pub(crate) section: Section,
     /// Its kind; an instance has none.
     pub(crate) kind: Option<Kind>,
+    /// Its place, counted from the first of the instance; an instance has none.
+    pub(crate) place: Option<u16>,
 }
 
 /// The kind of what has this type.
@@ -31,137 +36,67 @@ pub(crate) fn kind_of(declared: DeclaredType) -> Option<Kind>
     }
 }
 
-/// A member of an elementary type.
-fn plain(section: Section, kind: Kind) -> Member
-    ensures { result ≡ record { section = section; kind = Some kind } }
+/// The kind of what a slot of a standard function block holds for a text to read.
+fn value_kind(slot: SlotKind) -> Option<Kind>
+    ensures { result ≡ value_kind slot }
 {
-    Member {
-        section,
-        kind: Some(kind),
+    match slot {
+        SlotKind::Bool => Some(Kind::Bool),
+        SlotKind::Dint => Some(Kind::Dint),
+        SlotKind::Time => Some(Kind::Time),
+        SlotKind::Moment | SlotKind::Phase => None,
     }
 }
 
-/// The input or output of that name of R_TRIG.
-fn r_trig_member(name: &[u8]) -> Option<Member>
-    ensures { result
-        ≡ option_map seen_member
-        (member_named (standard_members StandardBlock.RTrig) (name_of name.now)) }
+/// Whether a text can name a field of a standard function block that stands in this section.
+fn is_named(section: Section) -> bool
+    ensures { result ≡ is_named section }
 {
-    if is_word(b"clk", name) {
-        return Some(plain(Section::Input, Kind::Bool));
+    match section {
+        Section::Input | Section::Output => true,
+        Section::Own => false,
     }
-    if is_word(b"q", name) {
-        return Some(plain(Section::Output, Kind::Bool));
-    }
-    None
-}
-
-/// The input or output of that name of SR.
-fn sr_member(name: &[u8]) -> Option<Member>
-    ensures { result
-        ≡ option_map seen_member
-        (member_named (standard_members StandardBlock.Sr) (name_of name.now)) }
-{
-    if is_word(b"s1", name) {
-        return Some(plain(Section::Input, Kind::Bool));
-    }
-    if is_word(b"r", name) {
-        return Some(plain(Section::Input, Kind::Bool));
-    }
-    if is_word(b"q1", name) {
-        return Some(plain(Section::Output, Kind::Bool));
-    }
-    None
-}
-
-/// The input or output of that name of RS.
-fn rs_member(name: &[u8]) -> Option<Member>
-    ensures { result
-        ≡ option_map seen_member
-        (member_named (standard_members StandardBlock.Rs) (name_of name.now)) }
-{
-    if is_word(b"s", name) {
-        return Some(plain(Section::Input, Kind::Bool));
-    }
-    if is_word(b"r1", name) {
-        return Some(plain(Section::Input, Kind::Bool));
-    }
-    if is_word(b"q1", name) {
-        return Some(plain(Section::Output, Kind::Bool));
-    }
-    None
-}
-
-/// The input or output of that name of CTU.
-fn ctu_member(name: &[u8]) -> Option<Member>
-    ensures { result
-        ≡ option_map seen_member
-        (member_named (standard_members StandardBlock.Ctu) (name_of name.now)) }
-{
-    if is_word(b"cu", name) {
-        return Some(plain(Section::Input, Kind::Bool));
-    }
-    if is_word(b"r", name) {
-        return Some(plain(Section::Input, Kind::Bool));
-    }
-    if is_word(b"pv", name) {
-        return Some(plain(Section::Input, Kind::Dint));
-    }
-    if is_word(b"q", name) {
-        return Some(plain(Section::Output, Kind::Bool));
-    }
-    if is_word(b"cv", name) {
-        return Some(plain(Section::Output, Kind::Dint));
-    }
-    None
-}
-
-/// The input or output of that name of TON, TOF and TP, which have the same.
-fn timer_member(name: &[u8]) -> Option<Member>
-    ensures { result
-        ≡ option_map seen_member
-        (member_named (standard_members StandardBlock.Ton) (name_of name.now)) }
-{
-    if is_word(b"in", name) {
-        return Some(plain(Section::Input, Kind::Bool));
-    }
-    if is_word(b"pt", name) {
-        return Some(plain(Section::Input, Kind::Time));
-    }
-    if is_word(b"q", name) {
-        return Some(plain(Section::Output, Kind::Bool));
-    }
-    if is_word(b"et", name) {
-        return Some(plain(Section::Output, Kind::Time));
-    }
-    None
 }
 
 /// The input or output of that name of a standard function block.
 fn standard_member(block: StandardBlock, name: &[u8]) -> Option<Member>
-    ensures { result
-        ≡ option_map seen_member (member_named (standard_members block) (name_of name.now)) }
+    ensures seen { option_map found_seen result
+        ≡ option_map member_seen (member_named (standard_members block) (name_of name.now)) }
+    ensures place { IfSome result
+        (λ m. m.place
+        ≡ position_from (λ f. same_name f.0 (name_of name.now)) 0 (standard_fields block)) }
 {
-    match block {
-        StandardBlock::RTrig => r_trig_member(name),
-        StandardBlock::Sr => sr_member(name),
-        StandardBlock::Rs => rs_member(name),
-        StandardBlock::Ctu => ctu_member(name),
-        StandardBlock::Ton | StandardBlock::Tof | StandardBlock::Tp => timer_member(name),
+    let Some(found) = field_named(block, name) else {
+        return None;
+    };
+    if !is_named(found.field.section) {
+        return None;
     }
+    Some(Member {
+        section: found.field.section,
+        kind: value_kind(found.field.slot),
+        place: Some(found.number),
+    })
 }
 
 /// The member of that name of a function block of the text.
 fn block_member<'a>(units: &[UnitTable<'a>], block: usize, name: &[u8]) -> Option<Member>
-    ensures { (table : Table) → slice_get units.now block ≡ Some table
-        → length table.names ≡ length table.rows.items
-        → result
-        ≡ option_map row_member (row_named table.names table.rows.items (name_of name.now)) }
+    ensures seen { (before : List ProgramUnit) (u : ProgramUnit) (h : Stands units.now before u)
+        → block ≡ length before
+        → option_map found_seen result
+        ≡ option_map row_seen (row_named h.table.names h.table.rows.items (name_of name.now)) }
+    ensures place { (before : List ProgramUnit) (u : ProgramUnit) → Stands units.now before u
+        → block ≡ length before
+        → IfSome result
+        (λ m. m.place
+        ≡ position_from (λ e. same_path e.0 (name_of name.now ∷ [])) (first_place u)
+        (unit_places before u)) }
 {
     match row(units, block, name) {
         Some(row) => Some(Member {
             section: row.section,
             kind: kind_of(row.declared),
+            place: number_behind(units, row, &[]),
         }),
         None => None,
     }
@@ -173,10 +108,14 @@ pub(crate) fn member_of<'a>(
     declared: DeclaredType,
     name: &[u8],
 ) -> Option<Member>
-    ensures { (before : List ProgramUnit) (u : ProgramUnit) (type : VariableType)
+    ensures seen { (before : List ProgramUnit) (u : ProgramUnit) (type : VariableType)
         → Stands units.now before u → numbered_type before type ≡ Some declared
-        → result
-        ≡ option_map seen_member (member_named (members_of before type) (name_of name.now)) }
+        → option_map found_seen result
+        ≡ option_map member_seen (member_named (members_of before type) (name_of name.now)) }
+    ensures place { (before : List ProgramUnit) (u : ProgramUnit) (type : VariableType)
+        → Stands units.now before u → numbered_type before type ≡ Some declared
+        → IfSome result
+        (λ m. m.place ≡ number_within before type (name_of name.now ∷ [])) }
 {
     match declared {
         DeclaredType::Elementary(_) => None,

@@ -4,15 +4,15 @@ ghost use Rattle.wc_model.specs.Language.Names.{name_of};
 ghost use Rattle.wc_model.specs.Language.Scopes.{Scope, entity_of, is_input, is_result, kind_of};
 ghost use Rattle.wc_model.specs.Language.Tree.{Address, Field, Variable as NameOf};
 ghost use Rattle.wc_model.specs.Language.Views.{term_view, word_view};
-ghost use Rattle.wc_names.specs.Direct.{direct_at};
+ghost use Rattle.wc_built_in.specs.Direct.{direct_at};
 ghost use Rattle.wc_names.specs.Numbered.{numbered_entity};
 ghost use Rattle.wc_names.specs.StandsFor.{Stands};
 
-use crate::address::variable_at;
 use crate::entity::Entity;
-use crate::lookup::{direct_number, number_behind, row};
+use crate::lookup::{behind, direct_number, number_behind, row};
 use crate::member::{kind_of, member_of};
 use crate::unit_table::UnitTable;
+use wc_built_in::variable_at;
 use wc_model::{Kind, Operand, Place, Section, Value, Word};
 
 /// A number as a place.
@@ -150,7 +150,7 @@ fn field_entity<'a>(
             kind: member.kind,
             readable: is_result(member.section),
             writable: is_input(member.section),
-            place: place_at(number_behind(units, row, &[field])),
+            place: place_at(behind(row.first, member.place)),
         }),
         None => None,
     }

@@ -1,10 +1,9 @@
 -- What is known of the unit that is looked at, and of what its operands name. (No rule of the language.)
-use Rattle.std.specs.Prelude.{◌≡◌, ℕ, ℤ, Option, Some, None, is_some}
+use Rattle.std.specs.Prelude.{◌≡◌, ℕ, Option, Some, None, is_some}
 use Rattle.wc_model.specs.Language.BodyRules.{is_readable, is_writable}
 use Rattle.wc_model.specs.Language.Kinds.{term_kind}
 use Rattle.wc_model.specs.Language.Scopes.{Scope, entity_of}
-use Rattle.wc_model.specs.Language.Tree.{Term, Constant, Text}
-use Rattle.wc_model.specs.declared.value.Value.TheVariants.{Dint}
+use Rattle.wc_model.specs.Language.Tree.{Term, Text}
 use Rattle.wc_names.specs.Numbered.{IsUnit}
 use Rattle.wc_names.specs.StandsFor.{AreTables}
 use Rattle.wc_names.specs.declared.kept.Tables.{Tables}
@@ -29,8 +28,3 @@ IsSeenIfAny scope None None = Unit {0}
 IsSeenIfAny scope (Some term) (Some seen) = IsSeen scope term seen
 IsSeenIfAny scope None (Some seen) = ⊥
 IsSeenIfAny scope (Some term) None = ⊥
-
--- the whole number that a term is
-abbrev pub whole_number : Term → Option ℤ
-whole_number (Constant (Dint n)) = Some n
-whole_number term = None

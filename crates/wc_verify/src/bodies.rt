@@ -66,13 +66,8 @@ fn judge_step<'a>(
 {
     let target = target(instr);
     let is_ahead = is_ahead(labels, target);
-    let after = match judge_instr(alloc, tables, unit, instr, is_ahead, kind) {
-        Ok(after) => after,
-        Err(fault) => return Err(fault),
-    };
-    if let Err(fault) = note(labels, target, kind) {
-        return Err(fault);
-    }
+    let after = judge_instr(alloc, tables, unit, instr, is_ahead, kind)?;
+    note(labels, target, kind)?;
     Ok(handed_on(instr, after))
 }
 
@@ -101,10 +96,7 @@ fn judge_line<'a>(
         → GoesTo scope before (lines_of (line_view line.now rest)) (lines_of rest)
         labels.new result }
 {
-    let kind = match enter(labels, &line.label, above) {
-        Ok(kind) => kind,
-        Err(fault) => return Err(fault),
-    };
+    let kind = enter(labels, &line.label, above)?;
     match &line.instr {
         Some(instr) => judge_step(alloc, tables, unit, labels, instr, kind),
         None => Ok(handed_by_label(&line.label, above, kind)),
@@ -122,16 +114,10 @@ pub(crate) fn judge_body<'a>(
         → scope.unit.body ≡ lines_view lines.now.items
         → Judges (first_broken (body_rules scope ++ more)) (first_broken more) result }
 {
-    let mut labels = match count_labels(alloc, lines) {
-        Ok(labels) => labels,
-        Err(fault) => return Err(fault),
-    };
+    let mut labels = count_labels(alloc, lines)?;
     let mut above = Way::Agreed(None);
     for line in lines {
-        match judge_line(alloc, tables, unit, &mut labels, line, above) {
-            Ok(next) => above = next,
-            Err(fault) => return Err(fault),
-        }
+        above = judge_line(alloc, tables, unit, &mut labels, line, above)?;
     }
     Ok(())
 }

@@ -15,11 +15,10 @@ ghost use Rattle.wc_verify.specs.Calls.{HoldsNames, is_numbered_instance};
 ghost use Rattle.wc_verify.specs.Seeing.{IsScope, IsSeen};
 
 use crate::first::{first_of, refuse, refused, unless};
-use crate::kinds::is_kind;
-use crate::operands::is_bit_literal;
 use crate::refusals::{is_of_kind, judge_condition, judge_reading, judge_writing};
 use crate::seen::{Seen, see};
 use std::alloc::Global;
+use wc_kinds::{is_bit_literal, is_kind};
 use wc_model::{Argument, Condition, Direction, Fault, Kind, Operand};
 use wc_names::{DeclaredType, Names, Tables};
 
@@ -101,10 +100,7 @@ fn judge_argument<'a>(
     let Some(formal) = tables.formal(declared, argument.direction, argument.name) else {
         return Err(refused(409, line));
     };
-    let new = match names.add(argument.name) {
-        Ok(new) => new,
-        Err(fault) => return Err(fault),
-    };
+    let new = names.add(argument.name)?;
     if !new {
         return Err(refused(410, line));
     }
@@ -133,9 +129,7 @@ fn judge_arguments<'a>(
 {
     let mut names = Names::new(alloc);
     for argument in arguments {
-        if let Err(fault) = judge_argument(tables, unit, declared, &mut names, argument, line) {
-            return Err(fault);
-        }
+        judge_argument(tables, unit, declared, &mut names, argument, line)?;
     }
     Ok(())
 }

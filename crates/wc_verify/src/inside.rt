@@ -8,11 +8,11 @@ ghost use Rattle.wc_verify.specs.Instructions.{GoesInside, GoesOn, SaysAhead, in
 ghost use Rattle.wc_verify.specs.Seeing.{IsScope, IsSeenIfAny};
 
 use crate::first::refuse;
-use crate::instructions::{apply, call, followed, jump, leave, load, negate, store};
-use crate::kinds::kind_after_operator;
+use crate::instructions::{apply, call, jump, kind_behind, leave, load, negate, store};
 use crate::seen::{Seen, see};
 use crate::steps::{judge_closing, judge_opening};
 use std::alloc::Global;
+use wc_kinds::kind_after_operator;
 use wc_model::{Fault, Instr, Kind, Line, Operand, Operator};
 use wc_names::Tables;
 
@@ -58,16 +58,12 @@ fn judge_nested<'a>(
         (lines_view inside.now.items) close) behind kind more result }
 {
     let seen = see_if_any(tables, unit, operand);
-    if let Err(fault) = refuse(judge_opening(operator, seen, kind), line) {
-        return Err(fault);
-    }
-    match judge_inside(alloc, tables, unit, inside, opening_kind(seen)) {
-        Ok(inner) => followed(
-            refuse(judge_closing(kind, inner), close),
-            kind_after_operator(operator, kind),
-        ),
-        Err(fault) => Err(fault),
-    }
+    refuse(judge_opening(operator, seen, kind), line)?;
+    let inner = judge_inside(alloc, tables, unit, inside, opening_kind(seen))?;
+    kind_behind(
+        refuse(judge_closing(kind, inner), close),
+        kind_after_operator(operator, kind),
+    )
 }
 
 /// Judges an instruction, from the kind of the result before it.
@@ -159,10 +155,7 @@ fn judge_inside<'a>(
 {
     let mut kind = first;
     for line in lines {
-        match judge_inside_line(alloc, tables, unit, line, kind) {
-            Ok(after) => kind = after,
-            Err(fault) => return Err(fault),
-        }
+        kind = judge_inside_line(alloc, tables, unit, line, kind)?;
     }
     Ok(kind)
 }

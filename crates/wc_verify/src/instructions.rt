@@ -12,16 +12,16 @@ ghost use Rattle.wc_verify.specs.Seeing.{IsScope};
 
 use crate::calls::judge_call;
 use crate::first::{first_of, refuse, unless};
-use crate::kinds::kind_after_operator;
 use crate::refusals::{judge_condition, judge_truth};
 use crate::seen::see;
 use crate::steps::{judge_apply, judge_load, judge_store};
 use std::alloc::Global;
+use wc_kinds::kind_after_operator;
 use wc_model::{Argument, Condition, Fault, Kind, Operand, Operator, Storing};
 use wc_names::Tables;
 
 /// What follows a line that is judged: the kind of the result behind it.
-pub(crate) fn followed(
+pub(crate) fn kind_behind(
     judged: Result<(), Fault>,
     after: Option<Kind>,
 ) -> Result<Option<Kind>, Fault>
@@ -31,10 +31,8 @@ pub(crate) fn followed(
         (first_broken more) judged → after ≡ kind_after scope line kind
         → GoesOn scope line behind kind more result }
 {
-    match judged {
-        Ok(()) => Ok(after),
-        Err(fault) => Err(fault),
-    }
+    judged?;
+    Ok(after)
 }
 
 /// The kind of the result behind LD or LDN.
@@ -59,7 +57,7 @@ pub(crate) fn load<'a>(
 {
     let seen = see(tables, unit, operand);
     let after = kind_loaded(negated, seen.kind);
-    followed(refuse(judge_load(negated, seen), line), after)
+    kind_behind(refuse(judge_load(negated, seen), line), after)
 }
 
 /// ST, STN, S and R.
@@ -77,7 +75,7 @@ pub(crate) fn store<'a>(
         (PlainLine label line (Store storing (term_view target.now))) behind kind more result }
 {
     let seen = see(tables, unit, target);
-    followed(refuse(judge_store(storing, seen, kind), line), kind)
+    kind_behind(refuse(judge_store(storing, seen, kind), line), kind)
 }
 
 /// An operator with its operand.
@@ -96,7 +94,7 @@ pub(crate) fn apply<'a>(
 {
     let seen = see(tables, unit, operand);
     let after = kind_after_operator(operator, kind);
-    followed(
+    kind_behind(
         refuse(judge_apply(operator, operand, seen, kind), line),
         after,
     )
@@ -107,7 +105,7 @@ pub(crate) fn negate(line: u32, kind: Option<Kind>) -> Result<Option<Kind>, Faul
     ensures { (scope : Scope) (label : Option Word) (behind : List BodyLine) (more : List Check)
         → GoesOn scope (PlainLine label line Negate) behind kind more result }
 {
-    followed(refuse(judge_truth(kind), line), kind)
+    kind_behind(refuse(judge_truth(kind), line), kind)
 }
 
 /// A jump: 406 where its label is not ahead, and then the condition.
@@ -125,7 +123,7 @@ pub(crate) fn jump(
 {
     let _label = label;
     let broken = first_of(unless(is_ahead, 406), judge_condition(condition, kind));
-    followed(refuse(broken, line), kind)
+    kind_behind(refuse(broken, line), kind)
 }
 
 /// A call.
@@ -149,7 +147,7 @@ pub(crate) fn call<'a>(
     let judged = judge_call(
         alloc, tables, unit, condition, instance, arguments, line, kind,
     );
-    followed(judged, kind)
+    kind_behind(judged, kind)
 }
 
 /// A return.
@@ -161,5 +159,5 @@ pub(crate) fn leave(
     ensures { (scope : Scope) (label : Option Word) (behind : List BodyLine) (more : List Check)
         → GoesOn scope (PlainLine label line (Return condition)) behind kind more result }
 {
-    followed(refuse(judge_condition(condition, kind), line), kind)
+    kind_behind(refuse(judge_condition(condition, kind), line), kind)
 }

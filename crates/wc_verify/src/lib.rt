@@ -10,10 +10,7 @@ mod first;
 mod inside;
 mod instructions;
 mod jumps;
-mod kinds;
 mod labels;
-mod operands;
-mod operators;
 mod refusals;
 mod seen;
 mod steps;
@@ -21,5 +18,4 @@ mod verifying;
 mod ways;
 
 pub use checked::Checked;
-pub use operators::{takes, takes_truth};
 pub use verifying::{judge_bodies, verify};

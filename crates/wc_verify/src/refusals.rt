@@ -9,10 +9,8 @@ ghost use Rattle.wc_verify.specs.Found.{first_at};
 ghost use Rattle.wc_verify.specs.Seeing.{IsSeen};
 
 use crate::first::{first_of, unless};
-use crate::kinds::{is_bool, is_kind};
-use crate::operands::{is_bit_literal, is_divisor};
-use crate::operators::{divides, takes, takes_truth};
 use crate::seen::Seen;
+use wc_kinds::{divides, is_bit_literal, is_bool, is_divisor, is_kind, takes, takes_truth};
 use wc_model::{Condition, Kind, Operand, Operator};
 
 /// What is read: 401, 405.

@@ -8,13 +8,12 @@ ghost use Rattle.wc_verify.specs.Found.{first_at};
 ghost use Rattle.wc_verify.specs.Seeing.{IsSeen, IsSeenIfAny};
 
 use crate::first::{first_of, unless};
-use crate::kinds::{is_bool, same_result};
-use crate::operators::divides;
 use crate::refusals::{
     judge_divisor, judge_reading, judge_result, judge_truth, judge_writing, suits_result,
     suits_target,
 };
 use crate::seen::Seen;
+use wc_kinds::{divides, is_bool, same_result};
 use wc_model::{Kind, Operand, Operator, Storing};
 
 /// Whether LD or LDN takes an operand of the kind.

@@ -22,9 +22,7 @@ pub fn judge_bodies<'a>(
         → Judges (body_fault (text_view source.now)) None result }
 {
     for (number, unit) in source.units.iter().enumerate() {
-        if let Err(fault) = judge_body(alloc, tables, number, &unit.body) {
-            return Err(fault);
-        }
+        judge_body(alloc, tables, number, &unit.body)?;
     }
     Ok(())
 }
@@ -42,8 +40,6 @@ pub fn verify<'a>(
     ensures tables { IfOk result (λ checked. checked.tables ≡ tables.entry) }
     ensures judged { Judges (body_fault (text_view source.entry)) None result }
 {
-    match judge_bodies(alloc, &source, &tables) {
-        Ok(()) => Ok(Checked { source, tables }),
-        Err(fault) => Err(fault),
-    }
+    judge_bodies(alloc, &source, &tables)?;
+    Ok(Checked { source, tables })
 }

@@ -1,7 +1,7 @@
 ghost use Rattle.std.specs.Prelude.{◌≡◌};
 ghost use Rattle.wc_verify.specs.Ways.{joined_ways, kind_of_way, with_way};
 
-use crate::kinds::same_result;
+use wc_kinds::same_result;
 use wc_model::Kind;
 
 /// What the ways in to a line agree on.

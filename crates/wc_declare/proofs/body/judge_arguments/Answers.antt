@@ -9,7 +9,7 @@ use Rattle.wc_model.specs.declared.operand.Operand.TheVariants.{Literal}
 use Rattle.wc_model.specs.declared.operator.Direction.TheVariants.{Into}
 use Rattle.wc_model.specs.declared.tree.Argument.{Argument}
 use Rattle.wc_model.specs.declared.value.Value.TheVariants.{Bool as Truth}
-use Rattle.wc_declare.proofs.Judging.{judges_err, judges_ok}
+use Rattle.wc_declare.proofs.Judging.{judges_on, judges_ok}
 use Rattle.wc_names.proofs.Lists.{from_index_or}
 use Rattle.wc_declare.proofs.body.judge_arguments.Goals as goal
 
@@ -20,17 +20,17 @@ asked unit args = flat_map (λ a. term_checks unit a.actual) args
 abbrev no_argument : Argument
 no_argument = record { direction = Into; name = record { ref_ptr = (0, 0); now = [] }; value = Literal (Truth false) }
 
-pub returns-in-Err-clause-judged : goal.returns-in-Err-clause-judged
-returns-in-Err-clause-judged c = λ unit rest block.
+pub returns-in_err-judge_operand-clause-judged : goal.returns-in_err-judge_operand-clause-judged
+returns-in_err-judge_operand-clause-judged c = λ unit rest block.
     let i = c.loop-argument.argument-index in
     let items = c.args.arguments.now in
     let argument = get_or items i no_argument in
     let left = map assignment_view (drop (i + 1) items) in
     let behind = asked unit left ++ rest in
     let cut = from_index_or items i no_argument c.loop-argument-test.true in
-    judges_err (Unit {0}) (Unit {0}) (first_broken (asked unit (map assignment_view items) ++ rest)) (first_broken (term_checks unit (term_view argument.value) ++ behind)) (first_broken behind) (first_broken rest) c.in-Err.fault
+    judges_on (Unit {0}) (Unit {0}) (first_broken (asked unit (map assignment_view items) ++ rest)) (first_broken (term_checks unit (term_view argument.value) ++ behind)) (first_broken behind) (first_broken rest) c.in_err-judge_operand.field-0.0 c.from_residual.result c.from_residual.ensures
     (c.loop-argument.invariant unit rest block ∙ ap (λ xs. first_broken (asked unit (map assignment_view xs) ++ rest)) cut ∙ ap first_broken (append_assoc (term_checks unit (term_view argument.value)) (asked unit left) rest))
-    (c.in-Err.ensures.judged unit behind block)
+    (c.in_err-judge_operand.ensures.judged unit behind block)
 
 pub loop-argument-preserved : goal.loop-argument-preserved
 loop-argument-preserved c = λ unit rest block.
@@ -41,7 +41,7 @@ loop-argument-preserved c = λ unit rest block.
     let behind = asked unit left ++ rest in
     let cut = from_index_or items i no_argument c.loop-argument-test.true in
     c.loop-argument.invariant unit rest block ∙ ap (λ xs. first_broken (asked unit (map assignment_view xs) ++ rest)) cut ∙ ap first_broken (append_assoc (term_checks unit (term_view argument.value)) (asked unit left) rest)
-    ∙ judges_ok (first_broken (term_checks unit (term_view argument.value) ++ behind)) (first_broken behind) c.judge_operand.result c.in_default.field-0 c.in_default.is (c.judge_operand.ensures.judged unit behind block)
+    ∙ judges_ok (first_broken (term_checks unit (term_view argument.value) ++ behind)) (first_broken behind) c.judge_operand.result c.in_ok-judge_operand.field-0 c.in_ok-judge_operand.was (c.judge_operand.ensures.judged unit behind block)
 
 pub returns-clause-judged : goal.returns-clause-judged
 returns-clause-judged c = λ unit rest block.

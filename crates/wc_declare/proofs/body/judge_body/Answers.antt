@@ -3,18 +3,18 @@ use Rattle.std.proofs.lemmas.List.{drop_all}
 use Rattle.wc_model.specs.Language.Checks.{first_broken}
 use Rattle.wc_model.specs.Language.DeclarationRules.{body_name_checks}
 use Rattle.wc_model.specs.Language.Views.{line_view, lines_view}
-use Rattle.wc_declare.proofs.Judging.{judges_err, judges_ok}
+use Rattle.wc_declare.proofs.Judging.{judges_on, judges_ok}
 use Rattle.wc_names.proofs.Lists.{from_index}
 use Rattle.wc_declare.proofs.body.judge_body.Goals as goal
 
-pub returns-in-Err-clause-judged : goal.returns-in-Err-clause-judged
-returns-in-Err-clause-judged c = λ unit rest block.
+pub returns-in_err-judge_line-clause-judged : goal.returns-in_err-judge_line-clause-judged
+returns-in_err-judge_line-clause-judged c = λ unit rest block.
     let i = c.loop-line.line-index in
     let items = c.args.lines.now in
     let left = lines_view (drop (i + 1) items) in
     let cut = from_index items i c.line-item.result c.loop-line-test.true c.line-item.is in
-    judges_err (Unit {0}) (Unit {0}) (first_broken (body_name_checks unit (lines_view items) ++ rest)) (first_broken (body_name_checks unit (line_view c.line-item.result left) ++ rest)) (first_broken (body_name_checks unit left ++ rest)) (first_broken rest) c.in-Err.fault
-    (c.loop-line.invariant unit rest block ∙ ap (λ xs. first_broken (body_name_checks unit (lines_view xs) ++ rest)) cut) (c.in-Err.ensures.judged unit left rest block)
+    judges_on (Unit {0}) (Unit {0}) (first_broken (body_name_checks unit (lines_view items) ++ rest)) (first_broken (body_name_checks unit (line_view c.line-item.result left) ++ rest)) (first_broken (body_name_checks unit left ++ rest)) (first_broken rest) c.in_err-judge_line.field-0.0 c.from_residual.result c.from_residual.ensures
+    (c.loop-line.invariant unit rest block ∙ ap (λ xs. first_broken (body_name_checks unit (lines_view xs) ++ rest)) cut) (c.in_err-judge_line.ensures.judged unit left rest block)
 
 pub loop-line-preserved : goal.loop-line-preserved
 loop-line-preserved c = λ unit rest block.
@@ -23,7 +23,7 @@ loop-line-preserved c = λ unit rest block.
     let left = lines_view (drop (i + 1) items) in
     let cut = from_index items i c.line-item.result c.loop-line-test.true c.line-item.is in
     c.loop-line.invariant unit rest block ∙ ap (λ xs. first_broken (body_name_checks unit (lines_view xs) ++ rest)) cut
-    ∙ judges_ok (first_broken (body_name_checks unit (line_view c.line-item.result left) ++ rest)) (first_broken (body_name_checks unit left ++ rest)) c.judge_line.result c.in_default.field-0 c.in_default.is (c.judge_line.ensures.judged unit left rest block)
+    ∙ judges_ok (first_broken (body_name_checks unit (line_view c.line-item.result left) ++ rest)) (first_broken (body_name_checks unit left ++ rest)) c.judge_line.result c.in_ok-judge_line.field-0 c.in_ok-judge_line.was (c.judge_line.ensures.judged unit left rest block)
 
 pub returns-clause-judged : goal.returns-clause-judged
 returns-clause-judged c = λ unit rest block.

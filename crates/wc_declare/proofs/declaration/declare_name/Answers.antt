@@ -7,5 +7,5 @@ negated : (a b : Bool) → b ≡ true → b ≡ not a → a ≡ false
 negated true b e f = let g : true ≡ false = sym e ∙ f in cc
 negated false b e f = refl
 
-pub returns-then-new-clause-new : goal.returns-then-new-clause-new
-returns-then-new-clause-new c = negated (is_among c.args.names.now (name_view c.args.word)) c.in-Ok.new c.if-new.true c.in-Ok.ensures.new
+pub returns-then-branch-clause-new : goal.returns-then-branch-clause-new
+returns-then-branch-clause-new c = negated (is_among c.args.names.now (name_view c.args.word)) c.in_ok-add.field-0 c.if-branch.true c.in_ok-add.ensures.new

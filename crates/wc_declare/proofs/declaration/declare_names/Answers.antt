@@ -9,7 +9,7 @@ use Rattle.wc_model.specs.Language.Views.{word_view}
 use Rattle.wc_model.specs.declared.operand.Word.{Word}
 use Rattle.wc_names.proofs.Lists.{from_index_or}
 use Rattle.wc_declare.proofs.NamesSoFar.{StandsBehind, at_first, one_behind, name_checks}
-use Rattle.wc_declare.proofs.Judging.{judges_err, judges_ok}
+use Rattle.wc_declare.proofs.Judging.{judges_on, judges_ok}
 use Rattle.wc_declare.proofs.declaration.declare_names.Goals as goal
 
 -- the words that are left begin with this one
@@ -20,8 +20,8 @@ begin start own all items i below h = subst (λ xs. StandsBehind start own all (
 pub loop-word-init : goal.loop-word-init
 loop-word-init c = at_first c.args.names.now (map word_view c.deref-word-items.result.now)
 
-pub returns-in-Err-clause-judged : goal.returns-in-Err-clause-judged
-returns-in-Err-clause-judged c = λ known rest same.
+pub returns-in_err-declare_name-clause-judged : goal.returns-in_err-declare_name-clause-judged
+returns-in_err-declare_name-clause-judged c = λ known rest same.
     let i = c.loop-word.word-index in
     let items = c.deref-word-items.result.now in
     let word : Word = get_or items i (record { text = record { ref_ptr = (0, 0); now = [] }; line = 0 }) in
@@ -29,10 +29,10 @@ returns-in-Err-clause-judged c = λ known rest same.
     let left = map word_view (drop (i + 1) items) in
     let h = begin c.args.names.now c.loop-word.names all items i c.loop-word-test.true c.loop-word.invariant in
     let more = flat_map (name_checks known) (spots_behind (word_view word ∷ h.before) left) ++ rest in
-    judges_err (Unit {0}) (Unit {0}) (first_broken (names_are_new known (map word_view c.args.declaration.now.names.items) ++ rest))
-    (first_broken (not_reserved (word_view word) ∷ is_new (map name_of_word h.before ++ known) (word_view word) ∷ more)) (first_broken more) (first_broken rest) c.in-Err.fault
+    judges_on (Unit {0}) (Unit {0}) (first_broken (names_are_new known (map word_view c.args.declaration.now.names.items) ++ rest))
+    (first_broken (not_reserved (word_view word) ∷ is_new (map name_of_word h.before ++ known) (word_view word) ∷ more)) (first_broken more) (first_broken rest) c.in_err-declare_name.field-0.0 c.from_residual.result c.from_residual.ensures
     (ap (λ xs. first_broken (names_are_new known (map word_view xs) ++ rest)) (sym c.deref-word-items.ensures.value) ∙ h.found known rest same)
-    (c.in-Err.ensures.judged (map name_of_word h.before ++ known) more (h.held known same))
+    (c.in_err-declare_name.ensures.judged (map name_of_word h.before ++ known) more (h.held known same))
 
 pub loop-word-preserved : goal.loop-word-preserved
 loop-word-preserved c =
@@ -41,9 +41,9 @@ loop-word-preserved c =
     let word : Word = get_or items i (record { text = record { ref_ptr = (0, 0); now = [] }; line = 0 }) in
     let h = begin c.args.names.now c.loop-word.names (map word_view items) items i c.loop-word-test.true c.loop-word.invariant in
     one_behind c.args.names.now c.loop-word.names c.declare_name.new.names (map word_view items) (word_view word) (map word_view (drop (i + 1) items)) h
-    (λ known rest same. judges_ok (first_broken (not_reserved (word_view word) ∷ is_new known (word_view word) ∷ rest)) (first_broken rest) c.declare_name.result c.in_default.field-0 c.in_default.is
+    (λ known rest same. judges_ok (first_broken (not_reserved (word_view word) ∷ is_new known (word_view word) ∷ rest)) (first_broken rest) c.declare_name.result c.in_ok-declare_name.field-0 c.in_ok-declare_name.was
     (c.declare_name.ensures.judged known rest same))
-    c.in_default.ensures.added c.in_default.ensures.new
+    c.in_ok-declare_name.ensures.added c.in_ok-declare_name.ensures.new
 
 pub returns-clause-judged : goal.returns-clause-judged
 returns-clause-judged c = λ known rest same.

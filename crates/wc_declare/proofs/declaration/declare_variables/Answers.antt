@@ -9,7 +9,7 @@ use Rattle.wc_declare.specs.Rows.{HasTaken, HoldsRows}
 use Rattle.wc_names.specs.declared.declared_type.DeclaredType.{DeclaredType}
 use Rattle.wc_names.specs.declared.unit_table.UnitTable.{UnitTable}
 use Rattle.wc_names.proofs.Lists.{from_index_or}
-use Rattle.wc_declare.proofs.Judging.{judges_err, judges_ok}
+use Rattle.wc_declare.proofs.Judging.{judges_on, judges_ok}
 use Rattle.wc_declare.proofs.RowsSoFar.{RoomBehind, as_variable, one_further, room_first, room_more, room_of}
 use Rattle.wc_names.specs.Spelled.{is_elementary, spelled_in_table, spelled_where}
 use Rattle.wc_declare.proofs.SpelledSoFar.{spelled_all, spelled_on, where_more, where_none}
@@ -23,8 +23,8 @@ begin start own d declared width all items i below h = subst (λ xs. RoomBehind 
 pub loop-word-init : goal.loop-word-init
 loop-word-init c = (room_first c.args.table.now (declaration_view c.args.declaration.now) c.args.declared c.args.width (map word_view c.deref-word-items.result.now), refl)
 
-pub returns-in-Err-clause-judged : goal.returns-in-Err-clause-judged
-returns-in-Err-clause-judged c = λ t rest taken.
+pub returns-in_err-add_variable-clause-judged : goal.returns-in_err-add_variable-clause-judged
+returns-in_err-add_variable-clause-judged c = λ t rest taken.
     let i = c.loop-word.word-index in
     let items = c.deref-word-items.result.now in
     let word : Word = get_or items i (record { text = record { ref_ptr = (0, 0); now = [] }; line = 0 }) in
@@ -32,10 +32,10 @@ returns-in-Err-clause-judged c = λ t rest taken.
     let h = begin c.args.table.now c.loop-word.table (declaration_view c.args.declaration.now) c.args.declared c.args.width (map word_view items) items i c.loop-word-test.true c.loop-word.invariant.0 in
     let more = map (room_of t c.args.width) (spots_behind (word_view word ∷ h.before) left) ++ rest in
     let now = and_more t (length h.before) c.args.width in
-    judges_err (Unit {0}) (Unit {0}) (first_broken (room_checks t c.args.width (map word_view c.args.declaration.now.names.items) ++ rest))
-    (first_broken (asks 306 word.line (has_room (and_more now 1 c.args.width)) ∷ more)) (first_broken more) (first_broken rest) c.in-Err.fault
+    judges_on (Unit {0}) (Unit {0}) (first_broken (room_checks t c.args.width (map word_view c.args.declaration.now.names.items) ++ rest))
+    (first_broken (asks 306 word.line (has_room (and_more now 1 c.args.width)) ∷ more)) (first_broken more) (first_broken rest) c.in_err-add_variable.field-0.0 c.from_residual.result c.from_residual.ensures
     (ap (λ xs. first_broken (room_checks t c.args.width (map word_view xs) ++ rest)) (sym c.deref-word-items.ensures.value) ∙ h.found t rest taken ∙ ap (λ x. first_broken (asks 306 word.line (has_room x) ∷ more)) (one_further t (length h.before) c.args.width))
-    (c.in-Err.ensures.judged now more (h.taken t taken))
+    (c.in_err-add_variable.ensures.judged now more (h.taken t taken))
 
 pub loop-word-preserved : goal.loop-word-preserved
 loop-word-preserved c =
@@ -46,11 +46,11 @@ loop-word-preserved c =
     let h = begin c.args.table.now c.loop-word.table d c.args.declared c.args.width (map word_view items) items i c.loop-word-test.true c.loop-word.invariant.0 in (
       room_more c.args.table.now c.loop-word.table c.add_variable.new.table d c.args.declared c.args.width (map word_view items) (word_view word) (map word_view (drop (i + 1) items))
           (record { section = c.args.declaration.now.section; declared = c.args.declared; first = c.loop-word.table.size; initial = c.literal-initial.result }) h
-          (λ t rest taken. judges_ok (first_broken (asks 306 word.line (has_room (and_more t 1 c.args.width)) ∷ rest)) (first_broken rest) c.add_variable.result c.in_default.field-0 c.in_default.is (c.add_variable.ensures.judged t rest taken))
-          refl refl refl c.literal-initial.ensures c.in_default.ensures.rows c.in_default.ensures.size c.in_default.ensures.fields c.in_default.ensures.names c.in_default.ensures.small c.in_default.ensures.is_block,
+          (λ t rest taken. judges_ok (first_broken (asks 306 word.line (has_room (and_more t 1 c.args.width)) ∷ rest)) (first_broken rest) c.add_variable.result c.in_ok-add_variable.field-0 c.in_ok-add_variable.was (c.add_variable.ensures.judged t rest taken))
+          refl refl refl c.literal-initial.ensures c.in_ok-add_variable.ensures.rows c.in_ok-add_variable.ensures.size c.in_ok-add_variable.ensures.fields c.in_ok-add_variable.ensures.names c.in_ok-add_variable.ensures.small c.in_ok-add_variable.ensures.is_block,
       spelled_on (spelled_in_table c.args.table.now) (spelled_in_table c.loop-word.table) (spelled_in_table c.add_variable.new.table) (spelled_where (is_elementary c.args.declared) (word ∷ [])) (spelled_where (is_elementary c.args.declared) (drop (i + 1) items)) (spelled_where (is_elementary c.args.declared) items)
           (ap (λ xs. spelled_in_table c.loop-word.table ++ xs) (sym (ap (spelled_where (is_elementary c.args.declared)) (from_index_or items i (record { text = record { ref_ptr = (0, 0); now = [] }; line = 0 }) c.loop-word-test.true) ∙ where_more (is_elementary c.args.declared) word (drop (i + 1) items))) ∙ c.loop-word.invariant.1)
-          c.in_default.ensures.spelled,
+          c.in_ok-add_variable.ensures.spelled,
     )
 
 pub returns-clause-judged : goal.returns-clause-judged

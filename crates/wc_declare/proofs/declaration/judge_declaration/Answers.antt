@@ -4,38 +4,38 @@ use Rattle.wc_model.specs.Language.DeclarationRules.{and_more, declaration_check
 use Rattle.wc_model.specs.Language.Views.{declaration_view, name_view, word_view}
 use Rattle.wc_declare.specs.Rows.{HasTaken}
 use Rattle.wc_names.specs.declared.declared_type.DeclaredType.{DeclaredType}
-use Rattle.wc_declare.proofs.Judging.{judges_err, judges_ok, judges_same, on_ok, pieces}
+use Rattle.wc_declare.proofs.Judging.{judges_on, judges_ok, judges_same, on_ok, pieces}
 use Rattle.wc_names.specs.Spelled.{spelled_in_table, spelled_where}
 use Rattle.wc_declare.proofs.declaration.judge_declaration.Goals as goal
 
-pub returns-in-Err-clause-judged : goal.returns-in-Err-clause-judged
-returns-in-Err-clause-judged c = λ text before known t rest units same taken.
+pub returns-in_err-declare_names-clause-judged : goal.returns-in_err-declare_names-clause-judged
+returns-in_err-declare_names-clause-judged c = λ text before known t rest units same taken.
     let d = declaration_view c.args.declaration.now in
     let behind_names = type_checks text before d ++ (initial_checks before d ++ (room_checks t (places_of_type before d.type_name.name) d.names ++ rest)) in
-    judges_err (Unit {0}) (Unit {0}) (first_broken (declaration_checks text before known t d ++ rest)) (first_broken (names_are_new known d.names ++ behind_names)) (first_broken behind_names) (first_broken rest) c.in-Err.fault
-    (pieces text before known t d rest) (c.in-Err.ensures.judged known behind_names same)
+    judges_on (Unit {0}) (Unit {0}) (first_broken (declaration_checks text before known t d ++ rest)) (first_broken (names_are_new known d.names ++ behind_names)) (first_broken behind_names) (first_broken rest) c.in_err-declare_names.field-0.0 c.from_residual.result c.from_residual.ensures
+    (pieces text before known t d rest) (c.in_err-declare_names.ensures.judged known behind_names same)
 
-pub returns-in-Err-judge_type-clause-judged : goal.returns-in-Err-judge_type-clause-judged
-returns-in-Err-judge_type-clause-judged c = λ text before known t rest units same taken.
+pub returns-in_err-declared-clause-judged : goal.returns-in_err-declared-clause-judged
+returns-in_err-declared-clause-judged c = λ text before known t rest units same taken.
     let d = declaration_view c.args.declaration.now in
     let behind_type = initial_checks before d ++ (room_checks t (places_of_type before d.type_name.name) d.names ++ rest) in
     let behind_names = type_checks text before d ++ behind_type in
-    judges_err DeclaredType (Unit {0}) (first_broken (declaration_checks text before known t d ++ rest)) (first_broken behind_names) (first_broken behind_type) (first_broken rest) c.in-Err-judge_type.fault
+    judges_on DeclaredType (Unit {0}) (first_broken (declaration_checks text before known t d ++ rest)) (first_broken behind_names) (first_broken behind_type) (first_broken rest) c.in_err-declared.field-0.0 c.from_residual-in_err-declared.result c.from_residual-in_err-declared.ensures
     (pieces text before known t d rest
-    ∙ judges_ok (first_broken (names_are_new known d.names ++ behind_names)) (first_broken behind_names) c.declare_names.result c.in_default.field-0 c.in_default.is (c.declare_names.ensures.judged known behind_names same))
-    (c.in-Err-judge_type.ensures.judged text before behind_type units)
+    ∙ judges_ok (first_broken (names_are_new known d.names ++ behind_names)) (first_broken behind_names) c.declare_names.result c.in_ok-declare_names.field-0 c.in_ok-declare_names.was (c.declare_names.ensures.judged known behind_names same))
+    (c.in_err-declared.ensures.judged text before behind_type units)
 
-pub returns-in-Err-judge_initial-clause-judged : goal.returns-in-Err-judge_initial-clause-judged
-returns-in-Err-judge_initial-clause-judged c = λ text before known t rest units same taken.
+pub returns-in_err-judge_initial-clause-judged : goal.returns-in_err-judge_initial-clause-judged
+returns-in_err-judge_initial-clause-judged c = λ text before known t rest units same taken.
     let d = declaration_view c.args.declaration.now in
     let behind_initial = room_checks t (places_of_type before d.type_name.name) d.names ++ rest in
     let behind_type = initial_checks before d ++ behind_initial in
     let behind_names = type_checks text before d ++ behind_type in
-    judges_err (Unit {0}) (Unit {0}) (first_broken (declaration_checks text before known t d ++ rest)) (first_broken behind_type) (first_broken behind_initial) (first_broken rest) c.in-Err-judge_initial.fault
+    judges_on (Unit {0}) (Unit {0}) (first_broken (declaration_checks text before known t d ++ rest)) (first_broken behind_type) (first_broken behind_initial) (first_broken rest) c.in_err-judge_initial.field-0.0 c.from_residual-in_err-judge_initial.result c.from_residual-in_err-judge_initial.ensures
     (pieces text before known t d rest
-    ∙ judges_ok (first_broken (names_are_new known d.names ++ behind_names)) (first_broken behind_names) c.declare_names.result c.in_default.field-0 c.in_default.is (c.declare_names.ensures.judged known behind_names same)
-    ∙ judges_ok (first_broken behind_names) (first_broken behind_type) c.judge_type.result c.in-Ok.declared c.in-Ok.is (c.judge_type.ensures.judged text before behind_type units))
-    (c.in-Err-judge_initial.ensures.judged before behind_initial (c.in-Ok.ensures.declared text before units))
+    ∙ judges_ok (first_broken (names_are_new known d.names ++ behind_names)) (first_broken behind_names) c.declare_names.result c.in_ok-declare_names.field-0 c.in_ok-declare_names.was (c.declare_names.ensures.judged known behind_names same)
+    ∙ judges_ok (first_broken behind_names) (first_broken behind_type) c.judge_type.result c.in_ok-declared.declared c.in_ok-declared.was (c.judge_type.ensures.judged text before behind_type units))
+    (c.in_err-judge_initial.ensures.judged before behind_initial (c.in_ok-declared.ensures.declared text before units))
 
 pub returns-clause-judged : goal.returns-clause-judged
 returns-clause-judged c = λ text before known t rest units same taken.
@@ -43,27 +43,27 @@ returns-clause-judged c = λ text before known t rest units same taken.
     let behind_initial = room_checks t (places_of_type before d.type_name.name) d.names ++ rest in
     let behind_type = initial_checks before d ++ behind_initial in
     let behind_names = type_checks text before d ++ behind_type in
-    let typed = c.in-Ok.ensures.declared text before units in
+    let typed = c.in_ok-declared.ensures.declared text before units in
     judges_same (first_broken (declaration_checks text before known t d ++ rest)) (first_broken (room_checks t c.width.result d.names ++ rest)) (first_broken rest) c.declare_variables.result
     (pieces text before known t d rest
-    ∙ judges_ok (first_broken (names_are_new known d.names ++ behind_names)) (first_broken behind_names) c.declare_names.result c.in_default.field-0 c.in_default.is (c.declare_names.ensures.judged known behind_names same)
-    ∙ judges_ok (first_broken behind_names) (first_broken behind_type) c.judge_type.result c.in-Ok.declared c.in-Ok.is (c.judge_type.ensures.judged text before behind_type units)
-    ∙ judges_ok (first_broken behind_type) (first_broken behind_initial) c.judge_initial.result c.in_default-judge_initial.field-0 c.in_default-judge_initial.is (c.judge_initial.ensures.judged before behind_initial typed)
+    ∙ judges_ok (first_broken (names_are_new known d.names ++ behind_names)) (first_broken behind_names) c.declare_names.result c.in_ok-declare_names.field-0 c.in_ok-declare_names.was (c.declare_names.ensures.judged known behind_names same)
+    ∙ judges_ok (first_broken behind_names) (first_broken behind_type) c.judge_type.result c.in_ok-declared.declared c.in_ok-declared.was (c.judge_type.ensures.judged text before behind_type units)
+    ∙ judges_ok (first_broken behind_type) (first_broken behind_initial) c.judge_initial.result c.in_ok-judge_initial.field-0 c.in_ok-judge_initial.was (c.judge_initial.ensures.judged before behind_initial typed)
     ∙ ap (λ w. first_broken (room_checks t w d.names ++ rest)) (sym (c.width.ensures text before d.type_name.name units typed)))
     (c.declare_variables.ensures.judged t rest (record { variables = taken.variables; places = taken.places }))
 
 pub returns-clause-taken : goal.returns-clause-taken
 returns-clause-taken c = on_ok c.declare_variables.result c.declare_variables.ensures.taken (λ holds text before t units taken.
     let name = name_view c.args.declaration.now.type_name in
-    subst (λ w. HasTaken (and_more t (length (map word_view c.args.declaration.now.names.items)) w) c.declare_variables.new.table) (c.width.ensures text before name units (c.in-Ok.ensures.declared text before units))
+    subst (λ w. HasTaken (and_more t (length (map word_view c.args.declaration.now.names.items)) w) c.declare_variables.new.table) (c.width.ensures text before name units (c.in_ok-declared.ensures.declared text before units))
     (holds t (record { variables = taken.variables; places = taken.places })))
 
 pub returns-clause-held : goal.returns-clause-held
 returns-clause-held c = on_ok c.declare_variables.result c.declare_variables.ensures.held (λ holds text before first vs units h.
     let name = name_view c.args.declaration.now.type_name in
-    let typed = c.in-Ok.ensures.declared text before units in
-    holds before first vs typed (sym (c.width.ensures text before name units typed)) c.in-Ok.ensures.stands (record { rows = h.rows; size = h.size; fields = h.fields }))
+    let typed = c.in_ok-declared.ensures.declared text before units in
+    holds before first vs typed (sym (c.width.ensures text before name units typed)) c.in_ok-declared.ensures.stands (record { rows = h.rows; size = h.size; fields = h.fields }))
 
 pub returns-clause-spelled : goal.returns-clause-spelled
 returns-clause-spelled c = on_ok c.declare_variables.result c.declare_variables.ensures.spelled (λ holds.
-    holds ∙ ap (λ plain. spelled_in_table c.args.table.now ++ spelled_where plain c.args.declaration.now.names.items) c.in-Ok.ensures.plain)
+    holds ∙ ap (λ plain. spelled_in_table c.args.table.now ++ spelled_where plain c.args.declaration.now.names.items) c.in_ok-declared.ensures.plain)

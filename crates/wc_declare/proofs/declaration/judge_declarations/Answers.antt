@@ -6,7 +6,7 @@ use Rattle.wc_model.specs.Language.DeclarationRules.{declaration_checks, names_d
 use Rattle.wc_model.specs.Language.Tree.{Declaration, ProgramUnit}
 use Rattle.wc_model.specs.Language.Views.{declaration_view, unit_view}
 use Rattle.wc_declare.proofs.DeclaredSoFar.{Declares, all_declared, asked_of, none_declared, one_declared}
-use Rattle.wc_declare.proofs.Judging.{judges_err, judges_ok}
+use Rattle.wc_declare.proofs.Judging.{judges_on, judges_ok}
 use Rattle.wc_names.proofs.Lists.{from_index}
 use Rattle.wc_names.specs.Spelled.{spelled_in, spelled_in_table}
 use Rattle.wc_declare.proofs.SpelledSoFar.{spelled_all, spelled_on}
@@ -15,8 +15,8 @@ use Rattle.wc_declare.proofs.declaration.judge_declarations.Goals as goal
 pub loop-declaration-init : goal.loop-declaration-init
 loop-declaration-init c = ((λ text before units empty. none_declared text before (unit_view c.args.unit.now) c.args.table.now (map declaration_view c.deref-declaration-items.result.now) empty), refl)
 
-pub returns-in-Err-clause-judged : goal.returns-in-Err-clause-judged
-returns-in-Err-clause-judged c = λ text before rest units empty.
+pub returns-in_err-judge_declaration-clause-judged : goal.returns-in_err-judge_declaration-clause-judged
+returns-in_err-judge_declaration-clause-judged c = λ text before rest units empty.
     let i = c.loop-declaration.declaration-index in
     let items = c.deref-declaration-items.result.now in
     let d : Declaration = declaration_view c.declaration-item.result in
@@ -27,10 +27,10 @@ returns-in-Err-clause-judged c = λ text before rest units empty.
     subst (λ xs. Declares text before unit c.loop-declaration.table (map declaration_view items) (map declaration_view xs)) cut (c.loop-declaration.invariant.0 text before units empty) in
     let checks = declaration_checks text before (names_declared h.passed) (taken_by before (taken_at_first unit) h.passed) d in
     let more = flat_map (asked_of text before (taken_at_first unit)) (spots_behind (d ∷ h.passed) left) ++ rest in
-    judges_err (Unit {0}) (Unit {0}) _ (first_broken (checks ++ more)) (first_broken more) (first_broken rest) c.in-Err.fault
+    judges_on (Unit {0}) (Unit {0}) _ (first_broken (checks ++ more)) (first_broken more) (first_broken rest) c.in_err-judge_declaration.field-0.0 c.from_residual.result c.from_residual.ensures
     (ap (λ xs. first_broken (flat_map (asked_of text before (taken_at_first unit)) (spots_behind [] (map declaration_view xs)) ++ rest)) (sym c.deref-declaration-items.ensures.value) ∙ h.found rest
     ∙ ap first_broken (append_assoc checks (flat_map (asked_of text before (taken_at_first unit)) (spots_behind (d ∷ h.passed) left)) rest))
-    (c.in-Err.ensures.judged text before (names_declared h.passed) (taken_by before (taken_at_first unit) h.passed) more units h.names h.taken)
+    (c.in_err-judge_declaration.ensures.judged text before (names_declared h.passed) (taken_by before (taken_at_first unit) h.passed) more units h.names h.taken)
 
 pub loop-declaration-preserved : goal.loop-declaration-preserved
 loop-declaration-preserved c = (
@@ -46,16 +46,16 @@ loop-declaration-preserved c = (
       let known = names_declared h.passed in
       let t = taken_by before (taken_at_first unit) h.passed in
       one_declared text before unit c.loop-declaration.table c.judge_declaration.new.table (map declaration_view items) d left h
-      (λ rest. judges_ok (first_broken (declaration_checks text before known t d ++ rest)) (first_broken rest) c.judge_declaration.result c.in_default.field-0 c.in_default.is
+      (λ rest. judges_ok (first_broken (declaration_checks text before known t d ++ rest)) (first_broken rest) c.judge_declaration.result c.in_ok-judge_declaration.field-0 c.in_ok-judge_declaration.was
       (c.judge_declaration.ensures.judged text before known t rest units h.names h.taken))
-      (c.in_default.ensures.taken text before t units h.taken)
-      (c.in_default.ensures.held text before _ h.vs units h.held)
-      c.in_default.ensures.names (c.in_default.ensures.different h.different) (c.in_default.ensures.small h.small) c.in_default.ensures.is_block),
+      (c.in_ok-judge_declaration.ensures.taken text before t units h.taken)
+      (c.in_ok-judge_declaration.ensures.held text before _ h.vs units h.held)
+      c.in_ok-judge_declaration.ensures.names (c.in_ok-judge_declaration.ensures.different h.different) (c.in_ok-judge_declaration.ensures.small h.small) c.in_ok-judge_declaration.ensures.is_block),
   (let items = c.deref-declaration-items.result.now in
       let left = flat_map spelled_in (drop (c.loop-declaration.declaration-index + 1) items) in
       spelled_on (spelled_in_table c.args.table.now) (spelled_in_table c.loop-declaration.table) (spelled_in_table c.judge_declaration.new.table) (spelled_in c.declaration-item.result) left (flat_map spelled_in items)
       (ap (λ xs. spelled_in_table c.loop-declaration.table ++ flat_map spelled_in xs) (sym (from_index items c.loop-declaration.declaration-index c.declaration-item.result c.loop-declaration-test.true c.declaration-item.is)) ∙ c.loop-declaration.invariant.1)
-      c.in_default.ensures.spelled),
+      c.in_ok-judge_declaration.ensures.spelled),
 )
 
 pub returns-clause-judged : goal.returns-clause-judged

@@ -11,5 +11,5 @@ returns-then-not-is_block-clause-added c = λ name.
 
 pub returns-clause-added : goal.returns-clause-added
 returns-clause-added c = λ name.
-    block_added c.args.names.now c.add.new.self (name_view c.args.unit.now.name) c.in_default.field-0 (is_block (unit_view c.args.unit.now)) name (sym c.is_block.ensures ∙ c.if-not-is_block.false)
-    (is_among c.args.names.now (name_view c.args.unit.now.name)) refl c.in_default.ensures.new c.in_default.ensures.names
+    block_added c.args.names.now c.add.new.self (name_view c.args.unit.now.name) c.in_ok-add.field-0 (is_block (unit_view c.args.unit.now)) name (sym c.is_block.ensures ∙ c.if-not-is_block.false)
+    (is_among c.args.names.now (name_view c.args.unit.now.name)) refl c.in_ok-add.ensures.new c.in_ok-add.ensures.names

@@ -18,7 +18,7 @@ loop-unit-preserved c = λ name.
     let unit = unit_view c.unit-item.result in
     let cut = from_index items i c.unit-item.result c.loop-unit-test.true c.unit-item.is in
     let left = names_block_of (map unit_view (drop (i + 1) items)) name in
-    ap (λ b. b || left) (c.in_default.ensures.added name) ∙ block_more (is_among c.loop-unit.names name) (is_block unit && same_name unit.name.name name) left
+    ap (λ b. b || left) (c.in_ok-add_block.ensures.added name) ∙ block_more (is_among c.loop-unit.names name) (is_block unit && same_name unit.name.name name) left
     ∙ sym (ap (λ xs. is_among c.loop-unit.names name || names_block_of (map unit_view xs) name) cut) ∙ c.loop-unit.invariant name
 
 pub returns-clause-names : goal.returns-clause-names

@@ -8,7 +8,7 @@ use Rattle.wc_model.specs.Language.Views.{unit_view}
 use Rattle.wc_names.specs.StandsFor.{AreUnits, onto}
 use Rattle.wc_declare.specs.SoFar.{AreUnitsOf}
 use Rattle.wc_names.specs.declared.unit_table.UnitTable.{UnitTable}
-use Rattle.wc_declare.proofs.Judging.{judges_err, judges_ok}
+use Rattle.wc_declare.proofs.Judging.{judges_on, judges_ok}
 use Rattle.wc_names.proofs.Lists.{from_index}
 use Rattle.wc_declare.proofs.UnitsSoFar.{Reads, none_read, one_read}
 use Rattle.wc_names.specs.Spelled.{spelled_in_table, spelled_of_unit}
@@ -18,8 +18,8 @@ use Rattle.wc_declare.proofs.declaring.judge_units.Goals as goal
 pub loop-unit-init : goal.loop-unit-init
 loop-unit-init c = ((λ units. none_read (map unit_view c.deref-unit-items.result.now) c.args.units.now units), refl)
 
-pub returns-in-Err-clause-judged : goal.returns-in-Err-clause-judged
-returns-in-Err-clause-judged c = λ start.
+pub returns-in_err-table-clause-judged : goal.returns-in_err-table-clause-judged
+returns-in_err-table-clause-judged c = λ start.
     let i = c.loop-unit.unit-index in
     let items = c.deref-unit-items.result.now in
     let text = map unit_view items in
@@ -28,8 +28,8 @@ returns-in-Err-clause-judged c = λ start.
     let cut = from_index items i c.unit-item.result c.loop-unit-test.true c.unit-item.is in
     let h = subst (λ xs. Reads text (map unit_view xs) c.loop-unit.units) cut (c.loop-unit.invariant.0 (subst (λ xs. AreUnitsOf (map unit_view xs) [] c.args.units.now) (sym c.deref-unit-items.ensures.value) start)) in
     let more = flat_map (λ spot. unit_checks text spot.before spot.item) (spots_behind (unit ∷ h.before) left) in
-    judges_err UnitTable (Unit {0}) _ (first_broken (unit_checks text h.before unit ++ more)) (first_broken more) None c.in-Err.fault
-    (ap (λ xs. declaration_fault (map unit_view xs)) (sym c.deref-unit-items.ensures.value) ∙ h.found) (c.in-Err.ensures.judged text h.before more h.are)
+    judges_on UnitTable (Unit {0}) _ (first_broken (unit_checks text h.before unit ++ more)) (first_broken more) None c.in_err-table.field-0.0 c.from_residual.result c.from_residual.ensures
+    (ap (λ xs. declaration_fault (map unit_view xs)) (sym c.deref-unit-items.ensures.value) ∙ h.found) (c.in_err-table.ensures.judged text h.before more h.are)
 
 pub loop-unit-preserved : goal.loop-unit-preserved
 loop-unit-preserved c = (
@@ -43,14 +43,14 @@ loop-unit-preserved c = (
       let h = subst (λ xs. Reads text (map unit_view xs) c.loop-unit.units) cut (c.loop-unit.invariant.0 start) in
       let more = flat_map (λ spot. unit_checks text spot.before spot.item) (spots_behind (unit ∷ h.before) left) in
       one_read text unit left c.loop-unit.units c.add_unit.new.units h
-      (judges_ok (first_broken (unit_checks text h.before unit ++ more)) (first_broken more) c.judge_unit.result c.in-Ok.table c.in-Ok.is (c.judge_unit.ensures.judged text h.before more h.are))
-      (c.in_default.ensures.added text h.before unit h.are refl c.in-Ok.ensures.new (c.in-Ok.ensures.table text h.before h.are))),
+      (judges_ok (first_broken (unit_checks text h.before unit ++ more)) (first_broken more) c.judge_unit.result c.in_ok-table.table c.in_ok-table.was (c.judge_unit.ensures.judged text h.before more h.are))
+      (c.in_ok-add_unit.ensures.added text h.before unit h.are refl c.in_ok-table.ensures.new (c.in_ok-table.ensures.table text h.before h.are))),
   (let items = c.deref-unit-items.result.now in
       let old = c.loop-unit.units.tables.items in
       let left = map spelled_of_unit (drop (c.loop-unit.unit-index + 1) items) in
       named_on (map spelled_in_table c.args.units.now.tables.items) (map spelled_in_table old) (map spelled_in_table c.add_unit.new.units.tables.items) (spelled_of_unit c.unit-item.result) left (map spelled_of_unit items)
       (ap (λ xs. map spelled_in_table old ++ map spelled_of_unit xs) (sym (from_index items c.loop-unit.unit-index c.unit-item.result c.loop-unit-test.true c.unit-item.is)) ∙ c.loop-unit.invariant.1)
-      (ap (map spelled_in_table) c.in_default.ensures.tables ∙ map-append spelled_in_table old (c.in-Ok.table ∷ []) ∙ ap (λ names. map spelled_in_table old ++ names ∷ []) c.in-Ok.ensures.spelled)),
+      (ap (map spelled_in_table) c.in_ok-add_unit.ensures.tables ∙ map-append spelled_in_table old (c.in_ok-table.table ∷ []) ∙ ap (λ names. map spelled_in_table old ++ names ∷ []) c.in_ok-table.ensures.spelled)),
 )
 
 pub returns-clause-judged : goal.returns-clause-judged

@@ -1,4 +1,4 @@
-use Rattle.std.proofs.Common.{◌++◌, ◌∷◌, [], not, refl, ap, ◌∙◌}
+use Rattle.std.proofs.Common.{◌≡◌, ◌++◌, ◌∷◌, [], not, refl, rules, ap, ◌∙◌}
 use Rattle.std.specs.Prelude.{if◌then◌else◌}
 use Rattle.wc_model.specs.Language.Views.{name_view}
 use Rattle.wc_declare.proofs.UnitsSoFar.{units_more}
@@ -8,6 +8,7 @@ pub returns-clause-added : goal.returns-clause-added
 returns-clause-added c = λ text before unit units named fresh is.
     let old = c.args.units.now in
     let name = name_view c.args.name in
+    let more : c.push.new.self.items ≡ old.tables.items ++ c.args.table ∷ [] = search rules in
     units_more text before unit old (record { blocks = old.blocks; names = c.add.new.self; tables = c.push.new.self }) c.args.table name units named fresh is refl
-    (c.in_default.ensures.names ∙ ap (λ b. if b then old.names ++ name ∷ [] else old.names) (c.in_default.ensures.new ∙ ap not fresh))
-    c.in_default-push.ensures.items
+    (c.in_ok-add.ensures.names ∙ ap (λ b. if b then old.names ++ name ∷ [] else old.names) (c.in_ok-add.ensures.new ∙ ap not fresh))
+    more

@@ -7,7 +7,7 @@ use Rattle.wc_model.specs.Language.Views.{lines_view, unit_view}
 use Rattle.wc_model.specs.Language.Tree.{ProgramUnit}
 use Rattle.wc_declare.specs.Rows.{IsEmptyOf}
 use Rattle.wc_names.specs.declared.unit_table.UnitTable.{UnitTable}
-use Rattle.wc_declare.proofs.Judging.{judges_err, judges_ok}
+use Rattle.wc_declare.proofs.Judging.{judges_on, judges_ok}
 use Rattle.wc_names.specs.Spelled.{spelled, spelled_of_unit}
 use Rattle.wc_declare.proofs.unit.judge_unit.Goals as goal
 
@@ -22,35 +22,35 @@ empty unit in_block table same block names rows fields size = record {
   size = size ∙ ap (λ b. if b then 0 else 45) same;
 }
 
-pub returns-in-Err-clause-judged : goal.returns-in-Err-clause-judged
-returns-in-Err-clause-judged c = λ text before rest units.
+pub returns-in_err-judge_name-clause-judged : goal.returns-in_err-judge_name-clause-judged
+returns-in_err-judge_name-clause-judged c = λ text before rest units.
     let unit = unit_view c.args.unit.now in
     let behind = (unit_declaration_checks text before unit ++ body_name_checks unit unit.body) ++ rest in
-    judges_err (Unit {0}) UnitTable (first_broken (unit_checks text before unit ++ rest)) (first_broken (unit_checks text before unit ++ rest)) (first_broken behind) (first_broken rest) c.in-Err.fault refl
-    (c.in-Err.ensures.judged _ behind units.among)
+    judges_on (Unit {0}) UnitTable (first_broken (unit_checks text before unit ++ rest)) (first_broken (unit_checks text before unit ++ rest)) (first_broken behind) (first_broken rest) c.in_err-judge_name.field-0.0 c.from_residual.result c.from_residual.ensures refl
+    (c.in_err-judge_name.ensures.judged _ behind units.among)
 
-pub returns-in-Err-judge_declarations-clause-judged : goal.returns-in-Err-judge_declarations-clause-judged
-returns-in-Err-judge_declarations-clause-judged c = λ text before rest units.
+pub returns-in_err-judge_declarations-clause-judged : goal.returns-in_err-judge_declarations-clause-judged
+returns-in_err-judge_declarations-clause-judged c = λ text before rest units.
     let unit = unit_view c.args.unit.now in
     let behind = (unit_declaration_checks text before unit ++ body_name_checks unit unit.body) ++ rest in
     let body = body_name_checks unit unit.body ++ rest in
-    judges_err (Unit {0}) UnitTable (first_broken (unit_checks text before unit ++ rest)) (first_broken (unit_declaration_checks text before unit ++ body)) (first_broken body) (first_broken rest) c.in-Err-judge_declarations.fault
-    (judges_ok (first_broken (unit_checks text before unit ++ rest)) (first_broken behind) c.judge_name.result c.in_default.field-0 c.in_default.is (c.judge_name.ensures.judged _ behind units.among)
+    judges_on (Unit {0}) UnitTable (first_broken (unit_checks text before unit ++ rest)) (first_broken (unit_declaration_checks text before unit ++ body)) (first_broken body) (first_broken rest) c.in_err-judge_declarations.field-0.0 c.from_residual-in_err-judge_declarations.result c.from_residual-in_err-judge_declarations.ensures
+    (judges_ok (first_broken (unit_checks text before unit ++ rest)) (first_broken behind) c.judge_name.result c.in_ok-judge_name.field-0 c.in_ok-judge_name.was (c.judge_name.ensures.judged _ behind units.among)
     ∙ ap first_broken (append_assoc (unit_declaration_checks text before unit) (body_name_checks unit unit.body) rest))
-    (c.in-Err-judge_declarations.ensures.judged text before body units (empty unit c.is_block-in_block.result c.new-table.result c.is_block-in_block.ensures c.new-table.ensures.is_block c.new-table.ensures.names c.new-table.ensures.rows c.new-table.ensures.fields c.new-table.ensures.size))
+    (c.in_err-judge_declarations.ensures.judged text before body units (empty unit c.is_block-in_block.result c.new-table.result c.is_block-in_block.ensures c.new-table.ensures.is_block c.new-table.ensures.names c.new-table.ensures.rows c.new-table.ensures.fields c.new-table.ensures.size))
 
-pub returns-in-Err-judge_body-clause-judged : goal.returns-in-Err-judge_body-clause-judged
-returns-in-Err-judge_body-clause-judged c = λ text before rest units.
+pub returns-in_err-judge_body-clause-judged : goal.returns-in_err-judge_body-clause-judged
+returns-in_err-judge_body-clause-judged c = λ text before rest units.
     let unit = unit_view c.args.unit.now in
     let behind = (unit_declaration_checks text before unit ++ body_name_checks unit unit.body) ++ rest in
     let body = body_name_checks unit unit.body ++ rest in
     let none = empty unit c.is_block-in_block.result c.new-table.result c.is_block-in_block.ensures c.new-table.ensures.is_block c.new-table.ensures.names c.new-table.ensures.rows c.new-table.ensures.fields c.new-table.ensures.size in
-    judges_err (Unit {0}) UnitTable (first_broken (unit_checks text before unit ++ rest)) (first_broken (body_name_checks unit (lines_view c.deref.result.now) ++ rest)) (first_broken rest) (first_broken rest) c.in-Err-judge_body.fault
-    (judges_ok (first_broken (unit_checks text before unit ++ rest)) (first_broken behind) c.judge_name.result c.in_default.field-0 c.in_default.is (c.judge_name.ensures.judged _ behind units.among)
+    judges_on (Unit {0}) UnitTable (first_broken (unit_checks text before unit ++ rest)) (first_broken (body_name_checks unit (lines_view c.deref.result.now) ++ rest)) (first_broken rest) (first_broken rest) c.in_err-judge_body.field-0.0 c.from_residual-in_err-judge_body.result c.from_residual-in_err-judge_body.ensures
+    (judges_ok (first_broken (unit_checks text before unit ++ rest)) (first_broken behind) c.judge_name.result c.in_ok-judge_name.field-0 c.in_ok-judge_name.was (c.judge_name.ensures.judged _ behind units.among)
     ∙ ap first_broken (append_assoc (unit_declaration_checks text before unit) (body_name_checks unit unit.body) rest)
-    ∙ judges_ok (first_broken (unit_declaration_checks text before unit ++ body)) (first_broken body) c.judge_declarations.result c.in_default-judge_declarations.field-0 c.in_default-judge_declarations.is (c.judge_declarations.ensures.judged text before body units none)
+    ∙ judges_ok (first_broken (unit_declaration_checks text before unit ++ body)) (first_broken body) c.judge_declarations.result c.in_ok-judge_declarations.field-0 c.in_ok-judge_declarations.was (c.judge_declarations.ensures.judged text before body units none)
     ∙ ap (λ xs. first_broken (body_name_checks unit (lines_view xs) ++ rest)) (sym c.deref.ensures.value))
-    (c.in-Err-judge_body.ensures.judged unit rest c.is_block-in_block.ensures)
+    (c.in_err-judge_body.ensures.judged unit rest c.is_block-in_block.ensures)
 
 pub returns-clause-judged : goal.returns-clause-judged
 returns-clause-judged c = λ text before rest units.
@@ -58,18 +58,18 @@ returns-clause-judged c = λ text before rest units.
     let behind = (unit_declaration_checks text before unit ++ body_name_checks unit unit.body) ++ rest in
     let body = body_name_checks unit unit.body ++ rest in
     let none = empty unit c.is_block-in_block.result c.new-table.result c.is_block-in_block.ensures c.new-table.ensures.is_block c.new-table.ensures.names c.new-table.ensures.rows c.new-table.ensures.fields c.new-table.ensures.size in
-    judges_ok (first_broken (unit_checks text before unit ++ rest)) (first_broken behind) c.judge_name.result c.in_default.field-0 c.in_default.is (c.judge_name.ensures.judged _ behind units.among)
+    judges_ok (first_broken (unit_checks text before unit ++ rest)) (first_broken behind) c.judge_name.result c.in_ok-judge_name.field-0 c.in_ok-judge_name.was (c.judge_name.ensures.judged _ behind units.among)
     ∙ ap first_broken (append_assoc (unit_declaration_checks text before unit) (body_name_checks unit unit.body) rest)
-    ∙ judges_ok (first_broken (unit_declaration_checks text before unit ++ body)) (first_broken body) c.judge_declarations.result c.in_default-judge_declarations.field-0 c.in_default-judge_declarations.is (c.judge_declarations.ensures.judged text before body units none)
+    ∙ judges_ok (first_broken (unit_declaration_checks text before unit ++ body)) (first_broken body) c.judge_declarations.result c.in_ok-judge_declarations.field-0 c.in_ok-judge_declarations.was (c.judge_declarations.ensures.judged text before body units none)
     ∙ ap (λ xs. first_broken (body_name_checks unit (lines_view xs) ++ rest)) (sym c.deref.ensures.value)
-    ∙ judges_ok (first_broken (body_name_checks unit (lines_view c.deref.result.now) ++ rest)) (first_broken rest) c.judge_body.result c.in_default-judge_body.field-0 c.in_default-judge_body.is (c.judge_body.ensures.judged unit rest c.is_block-in_block.ensures)
+    ∙ judges_ok (first_broken (body_name_checks unit (lines_view c.deref.result.now) ++ rest)) (first_broken rest) c.judge_body.result c.in_ok-judge_body.field-0 c.in_ok-judge_body.was (c.judge_body.ensures.judged unit rest c.is_block-in_block.ensures)
 
 pub returns-clause-table : goal.returns-clause-table
 returns-clause-table c = λ text before units.
     let unit = unit_view c.args.unit.now in
-    c.in_default-judge_declarations.ensures.table text before units
+    c.in_ok-judge_declarations.ensures.table text before units
     (empty unit c.is_block-in_block.result c.new-table.result c.is_block-in_block.ensures c.new-table.ensures.is_block c.new-table.ensures.names c.new-table.ensures.rows c.new-table.ensures.fields c.new-table.ensures.size)
 
 pub returns-clause-spelled : goal.returns-clause-spelled
 returns-clause-spelled c =
-    c.in_default-judge_declarations.ensures.spelled ∙ ap (λ fields. map spelled fields ++ spelled_of_unit c.args.unit.now) c.new-table.ensures.fields
+    c.in_ok-judge_declarations.ensures.spelled ∙ ap (λ fields. map spelled fields ++ spelled_of_unit c.args.unit.now) c.new-table.ensures.fields

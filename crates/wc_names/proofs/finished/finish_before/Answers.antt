@@ -11,8 +11,8 @@ loop-number-init c = record {
 
 pub loop-number-preserved : goal.loop-number-preserved
 loop-number-preserved c = record {
-  finished = c.in_default.ensures.finished c.loop-number.invariant.finished;
-  first = c.in_default.ensures.first c.loop-number.invariant.first;
+  finished = c.in_ok-finish.ensures.finished c.loop-number.invariant.finished;
+  first = c.in_ok-finish.ensures.first c.loop-number.invariant.first;
 }
 
 pub returns-clause-finished : goal.returns-clause-finished

@@ -20,11 +20,11 @@ loop-kind-preserved c =
     record {
       kinds =
           piece_added old.kinds.items new.kinds.items (get_or kinds i SlotKind.Bool ∷ []) (drop (i + 1) kinds) (c.args.frame.now.kinds.items ++ kinds)
-          (ap (λ xs. old.kinds.items ++ xs) (sym cut) ∙ c.loop-kind.invariant.kinds) c.in_default.ensures.kinds;
+          (ap (λ xs. old.kinds.items ++ xs) (sym cut) ∙ c.loop-kind.invariant.kinds) c.in_ok-push.ensures.kinds;
       initials =
           piece_added old.initials.items new.initials.items (pos 0 ∷ []) (replicate (length (drop (i + 1) kinds)) (pos 0)) (c.args.frame.now.initials.items ++ replicate (length kinds) (pos 0))
-          (ap (λ xs. old.initials.items ++ replicate (length xs) (pos 0)) (sym cut) ∙ c.loop-kind.invariant.initials) c.in_default.ensures.initials;
-      first = λ h. c.in_default.ensures.first (zero_is_first (get_or kinds i SlotKind.Bool)) (c.loop-kind.invariant.first h);
+          (ap (λ xs. old.initials.items ++ replicate (length xs) (pos 0)) (sym cut) ∙ c.loop-kind.invariant.initials) c.in_ok-push.ensures.initials;
+      first = λ h. c.in_ok-push.ensures.first (zero_is_first (get_or kinds i SlotKind.Bool)) (c.loop-kind.invariant.first h);
     }
 
 pub returns-clause-kinds : goal.returns-clause-kinds

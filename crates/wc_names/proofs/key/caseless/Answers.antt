@@ -4,7 +4,7 @@ use Rattle.std.specs.Char.{to_ascii_lowercase}
 use Rattle.std.specs.List.{list_all}
 use Rattle.wc_model.specs.Language.DirectVariables.{numbers_below}
 use Rattle.wc_names.specs.Keys.{caseless}
-use Rattle.wc_names.proofs.Below.{each_below}
+use Rattle.wc_built_in.proofs.Below.{each_below}
 use Rattle.wc_names.proofs.key.caseless.Goals as goal
 
 -- a byte is hashed as its small letter is

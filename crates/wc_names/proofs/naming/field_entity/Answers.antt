@@ -2,9 +2,14 @@ use Rattle.std.proofs.Common.{◌≡◌, [], ◌∷◌, Option, Some, None, opti
 use Rattle.std.specs.Prelude.{option_and_then, slice_get}
 use Rattle.wc_model.specs.Language.Names.{name_of}
 use Rattle.wc_model.specs.Language.Scopes.{Scope, type_of}
+use Rattle.std.specs.List.{position_from}
+use Rattle.wc_model.specs.Language.Store.{block_places, same_path, variable_places}
+use Rattle.wc_names.specs.Members.{found_seen}
 use Rattle.wc_names.specs.Numbered.{numbered_type}
 use Rattle.wc_names.specs.declared.entity.Entity.{Entity}
-use Rattle.wc_names.proofs.Lookups.{from_row, named_rows, none_named, type_at_found, type_not_found}
+use Rattle.wc_names.proofs.Lookups.{from_row, has_room, named_rows, none_named, same_within, type_at_found, type_not_found}
+use Rattle.wc_names.proofs.Frames.{own_places}
+use Rattle.wc_names.proofs.Positions.{behind_is}
 use Rattle.wc_names.proofs.ScopeTables.{frame_path}
 use Rattle.wc_model.specs.Language.Declarations.{VariableType}
 use Rattle.wc_names.specs.declared.declared_type.DeclaredType.{DeclaredType}
@@ -28,13 +33,19 @@ returns-in-Some-member_of c = λ scope h e.
     let field = name_of c.args.field.now in
     let there = ap (slice_get c.args.units.now) e ∙ h.there in
     let row = sym (c.row.ensures h.table there (named_rows c.args.units.now scope.before scope.unit h)) ∙ c.in-Some.is in
-    let f = from_row c.args.units.now scope.before scope.unit h name [] c.in-Some.row row in
+    let f = from_row c.args.units.now scope.before scope.unit h name (field ∷ []) c.in-Some.row row in
     let k = known scope (type_of scope name) c.in-Some.row.declared (ap (option_and_then (numbered_type scope.before)) (type_at_found scope name f.v f.named) ∙ f.declared) in
     let seen = c.in-Some-member_of.member in
-    let place = c.place_at.ensures.place ∙ ap (option_map (λ n. record { 0 = n })) (c.number_behind.ensures scope.before scope.unit h name row ∙ sym (frame_path scope (name ∷ field ∷ []))) in
+    let own = ap (λ o. position_from (λ e. same_path e.0 (field ∷ [])) 0 (variable_places (block_places scope.before) o f.v.initial)) (sym (type_at_found scope name f.v f.named) ∙ k.1) ∙ same_within scope.before k.0 f.v.initial (field ∷ []) in
+    let inner = c.in-Some-member_of.ensures.place scope.before scope.unit k.0 h k.2 ∙ sym own in
+    let at =
+    behind_is c.in-Some.row.first seen.place c.behind.result _ c.behind.ensures.some c.behind.ensures.none inner (has_room c.in-Some.row.first (own_places scope.before f.v) (field ∷ []) h.table.size f.room h.is.small)
+    ∙ sym f.at_is
+    in
+    let place = c.place_at.ensures.place ∙ ap (option_map (λ n. record { 0 = n })) (at ∙ sym (frame_path scope (name ∷ field ∷ []))) in
     let found : Entity = record { kind = seen.kind; readable = c.is_result.result; writable = c.is_input.result; place = c.place_at.result } in
     (λ i. Some (record found { readable = c.is_result.ensures i; writable = c.is_input.ensures i; place = place i }))
-    ∙ field_named scope name field k.0 seen k.1 (sym c.in-Some-member_of.is ∙ c.member_of.ensures scope.before scope.unit k.0 h k.2)
+    ∙ field_named scope name field k.0 (found_seen seen) k.1 (sym (ap (option_map found_seen) c.in-Some-member_of.is) ∙ c.member_of.ensures.seen scope.before scope.unit k.0 h k.2)
 
 pub returns-in-None : goal.returns-in-None
 returns-in-None c = λ scope h e.
@@ -42,4 +53,4 @@ returns-in-None c = λ scope h e.
     let there = ap (slice_get c.args.units.now) e ∙ h.there in
     let f = from_row c.args.units.now scope.before scope.unit h name [] c.in-Some.row (sym (c.row.ensures h.table there (named_rows c.args.units.now scope.before scope.unit h)) ∙ c.in-Some.is) in
     let k = known scope (type_of scope name) c.in-Some.row.declared (ap (option_and_then (numbered_type scope.before)) (type_at_found scope name f.v f.named) ∙ f.declared) in
-    no_field_named scope name (name_of c.args.field.now) k.0 k.1 (sym c.in-None.is ∙ c.member_of.ensures scope.before scope.unit k.0 h k.2)
+    no_field_named scope name (name_of c.args.field.now) k.0 k.1 (sym (ap (option_map found_seen) c.in-None.is) ∙ c.member_of.ensures.seen scope.before scope.unit k.0 h k.2)

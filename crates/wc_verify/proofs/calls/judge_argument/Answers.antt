@@ -17,10 +17,10 @@ returns-clause-judged c = λ scope type before behind rest is num held.
     c.refuse.ensures.judges _ (first_broken rest)
     (argument_found scope (members_of scope.before type) spot c.in-Some.formal.kind c.judge_actual-found.result
     (formal_parts scope type (formal_named c.args.argument.now.direction (members_of scope.before type) (name_of c.args.argument.now.name.now)) c.in-Some.formal (c.in-Some.ensures.found is.text c.args.unit scope type is.tables_are is.unit_is num))
-    (is_new c.args.names.now before (name_of c.args.argument.now.name.now) held c.in-Ok.new c.in-Ok.ensures.new c.if-not-new.false)
+    (is_new c.args.names.now before (name_of c.args.argument.now.name.now) held c.in_ok-new.new c.in_ok-new.ensures.new c.if-not-new.false)
     (λ m kind line rest. c.judge_actual-found.ensures scope m line rest seen kind) c.args.line rest)
 
 pub returns-clause-held : goal.returns-clause-held
 returns-clause-held c = on_ok c.refuse.result ((before : List Assignment) → HoldsNames c.args.names.now before → HoldsNames c.add.new.self (assignment_view c.args.argument.now ∷ before))
-    (λ before held. let more : c.add.new.self ≡ c.args.names.now ++ name_of c.args.argument.now.name.now ∷ [] = c.in-Ok.ensures.names ∙ ap (λ b. if b then c.args.names.now ++ name_of c.args.argument.now.name.now ∷ [] else c.args.names.now) c.if-not-new.false in
+    (λ before held. let more : c.add.new.self ≡ c.args.names.now ++ name_of c.args.argument.now.name.now ∷ [] = c.in_ok-new.ensures.names ∙ ap (λ b. if b then c.args.names.now ++ name_of c.args.argument.now.name.now ∷ [] else c.args.names.now) c.if-not-new.false in
     subst (λ names. HoldsNames names (assignment_view c.args.argument.now ∷ before)) (sym more) (one_more c.args.names.now before (assignment_view c.args.argument.now) held))

@@ -13,7 +13,7 @@ use Rattle.wc_model.specs.declared.value.Value.TheVariants.{Bool as Truth}
 use Rattle.wc_names.specs.declared.declared_type.DeclaredType.{DeclaredType}
 use Rattle.wc_names.specs.declared.kept.Tables.{Tables}
 use Rattle.wc_verify.proofs.Calling.{ArgumentsBehind, one_behind}
-use Rattle.wc_declare.proofs.Judging.{judges_err, judges_ok}
+use Rattle.wc_declare.proofs.Judging.{judges_on, judges_ok}
 use Rattle.wc_names.proofs.Lists.{from_index_or}
 use Rattle.wc_verify.proofs.calls.judge_arguments.Goals as goal
 
@@ -25,8 +25,8 @@ begin : (tables : Tables) (unit : ℕ) (declared : DeclaredType) (line : ℕ) (n
     ArgumentsBehind tables unit declared line names all (map assignment_view (drop i items)) → ArgumentsBehind tables unit declared line names all (assignment_view (get_or items i one) ∷ map assignment_view (drop (i + 1) items))
 begin tables unit declared line names all items i below h = subst (λ xs. ArgumentsBehind tables unit declared line names all (map assignment_view xs)) (from_index_or items i one below) h
 
-pub returns-in-Err-clause-judged : goal.returns-in-Err-clause-judged
-returns-in-Err-clause-judged c = λ scope type rest is num.
+pub returns-in_err-judge_argument-clause-judged : goal.returns-in_err-judge_argument-clause-judged
+returns-in_err-judge_argument-clause-judged c = λ scope type rest is num.
     let items = c.args.arguments.now in
     let i = c.loop-argument.argument-index in
     let all = map assignment_view items in
@@ -35,9 +35,9 @@ returns-in-Err-clause-judged c = λ scope type rest is num.
     let checks = argument_checks scope c.args.line (members_of scope.before type) in
     let h = begin c.args.tables.now c.args.unit c.args.declared c.args.line c.loop-argument.names all items i c.loop-argument-test.true c.loop-argument.invariant in
     let more = flat_map checks (spots_behind (a ∷ h.before) left) ++ rest in
-    judges_err (Unit {0}) (Unit {0}) (first_broken (flat_map checks (spots_of all) ++ rest)) (first_broken (checks (record { before = h.before; item = a; behind = left }) ++ more)) (first_broken more) (first_broken rest) c.in-Err.fault
+    judges_on (Unit {0}) (Unit {0}) (first_broken (flat_map checks (spots_of all) ++ rest)) (first_broken (checks (record { before = h.before; item = a; behind = left }) ++ more)) (first_broken more) (first_broken rest) c.in_err-judge_argument.field-0.0 c.from_residual.result c.from_residual.ensures
     (h.found scope type rest is num ∙ ap first_broken (append_assoc (checks (record { before = h.before; item = a; behind = left })) (flat_map checks (spots_behind (a ∷ h.before) left)) rest))
-    (c.in-Err.ensures.judged scope type h.before left more is num h.held)
+    (c.in_err-judge_argument.ensures.judged scope type h.before left more is num h.held)
 
 pub loop-argument-preserved : goal.loop-argument-preserved
 loop-argument-preserved c =
@@ -48,6 +48,6 @@ loop-argument-preserved c =
     let left = map assignment_view (drop (i + 1) items) in
     let h = begin c.args.tables.now c.args.unit c.args.declared c.args.line c.loop-argument.names all items i c.loop-argument-test.true c.loop-argument.invariant in
     one_behind c.args.tables.now c.args.unit c.args.declared c.args.line c.loop-argument.names c.judge_argument.new.names all a left h
-    (λ scope type before behind rest is num held. judges_ok (first_broken (argument_checks scope c.args.line (members_of scope.before type) (record { before = before; item = a; behind = behind }) ++ rest)) (first_broken rest) c.judge_argument.result c.in_default.field-0 c.in_default.is
+    (λ scope type before behind rest is num held. judges_ok (first_broken (argument_checks scope c.args.line (members_of scope.before type) (record { before = before; item = a; behind = behind }) ++ rest)) (first_broken rest) c.judge_argument.result c.in_ok-judge_argument.field-0 c.in_ok-judge_argument.was
     (c.judge_argument.ensures.judged scope type before behind rest is num held))
-    c.in_default.ensures.held
+    c.in_ok-judge_argument.ensures.held

@@ -7,9 +7,9 @@ use Rattle.wc_model.specs.Language.Names.{name_of}
 use Rattle.wc_model.specs.Language.Tree.{Load, Store, Apply, Negate, Jump, Call, Return, End}
 use Rattle.wc_model.specs.Language.Views.{assignment_view, line_view, lines_view, term_view, word_view}
 use Rattle.wc_model.specs.declared.tree.Argument.{Argument}
-use Rattle.wc_verify.specs.Instructions.{GoesInside, SaysAhead, instr_line}
+use Rattle.wc_verify.specs.Instructions.{GoesInside, GoesOn, SaysAhead, instr_line}
 use Rattle.wc_verify.proofs.InstrLines.{first_seen, inside_fault, inside_line, inside_more, line_apply, line_call, line_defer, line_jump, line_load, line_not, line_return, line_store, none_ahead, same_line, view_instr}
-use Rattle.wc_declare.proofs.Judging.{judges_ok}
+use Rattle.wc_declare.proofs.Judging.{handed_on, judges_ok}
 use Rattle.wc_verify.proofs.Nesting as nesting
 use Rattle.wc_verify.proofs.inside.+inside.Goals as goal
 
@@ -61,50 +61,53 @@ judge_inside_line-returns-in-Some t c = λ scope rest more is.
     subst (λ x. GoesInside scope x c.args.kind rest more c.judge_instr.result) (sym (view_instr c.args.line.now c.in-Some.instr rest c.in-Some.is))
     (inside_line scope line rest c.args.kind more c.judge_instr.result (c.judge_instr.ensures scope (option_map word_view c.args.line.now.label) [] (inside_rules scope rest (kind_after scope line c.args.kind) ++ more) is (none_ahead line)))
 
-pub judge_nested-returns-in-Err : goal.judge_nested-returns-in-Err
-judge_nested-returns-in-Err t c = λ scope label behind more is.
+pub judge_nested-returns-in_err-refuse : goal.judge_nested-returns-in_err-refuse
+judge_nested-returns-in_err-refuse t c = λ scope label behind more is.
     let term = option_map term_view c.args.operand.now in
     let inside = lines_view c.args.inside.now.items in
-    nesting.opening_refused scope label c.args.line c.args.operator term inside c.args.close behind c.args.kind more c.in-Err.fault
-    (c.in-Err.ensures.judges (first_broken (opening_checks scope c.args.line c.args.operator term c.args.kind ++ nesting.within scope label c.args.line c.args.operator term inside c.args.close behind c.args.kind more)) (first_broken (nesting.within scope label c.args.line c.args.operator term inside c.args.close behind c.args.kind more))
-    (c.judge_opening.ensures scope term c.args.line (nesting.within scope label c.args.line c.args.operator term inside c.args.close behind c.args.kind more) (c.see_if_any-seen.ensures scope is)))
+    handed_on (GoesOn scope (nesting.whole scope label c.args.line c.args.operator term inside c.args.close behind c.args.kind more) behind c.args.kind more) c.in_err-refuse.field-0.0 c.from_residual.result c.from_residual.ensures
+    (nesting.opening_refused scope label c.args.line c.args.operator term inside c.args.close behind c.args.kind more c.in_err-refuse.field-0.0
+    (c.in_err-refuse.ensures.judges (first_broken (opening_checks scope c.args.line c.args.operator term c.args.kind ++ nesting.within scope label c.args.line c.args.operator term inside c.args.close behind c.args.kind more)) (first_broken (nesting.within scope label c.args.line c.args.operator term inside c.args.close behind c.args.kind more))
+    (c.judge_opening.ensures scope term c.args.line (nesting.within scope label c.args.line c.args.operator term inside c.args.close behind c.args.kind more) (c.see_if_any-seen.ensures scope is))))
 
-pub judge_nested-returns-in-Ok : goal.judge_nested-returns-in-Ok
-judge_nested-returns-in-Ok t c = λ scope label behind more is.
+pub judge_nested-returns : goal.judge_nested-returns
+judge_nested-returns t c = λ scope label behind more is.
     let term = option_map term_view c.args.operand.now in
     let inside = lines_view c.args.inside.now.items in
     let seen = c.see_if_any-seen.ensures scope is in
     let within = nesting.within scope label c.args.line c.args.operator term inside c.args.close behind c.args.kind more in
     let whole = nesting.whole scope label c.args.line c.args.operator term inside c.args.close behind c.args.kind more in
-    c.followed.ensures scope whole behind c.args.kind more
-    (c.refuse-in-Ok.ensures.judges (first_broken (line_rules scope whole behind c.args.kind ++ more)) (first_broken more)
-    (nesting.closing_found scope label c.args.line c.args.operator term inside c.args.close behind c.args.kind more c.opening_kind.result c.in-Ok.inner c.judge_closing.result (c.opening_kind.ensures scope term seen)
-    (judges_ok (first_broken (opening_checks scope c.args.line c.args.operator term c.args.kind ++ within)) (first_broken within) c.refuse.result c.in_default.field-0 c.in_default.is
+    c.kind_behind.ensures scope whole behind c.args.kind more
+    (c.refuse-2.ensures.judges (first_broken (line_rules scope whole behind c.args.kind ++ more)) (first_broken more)
+    (nesting.closing_found scope label c.args.line c.args.operator term inside c.args.close behind c.args.kind more c.opening_kind.result c.in_ok-inner.inner c.judge_closing.result (c.opening_kind.ensures scope term seen)
+    (judges_ok (first_broken (opening_checks scope c.args.line c.args.operator term c.args.kind ++ within)) (first_broken within) c.refuse.result c.in_ok-refuse.field-0 c.in_ok-refuse.was
     (c.refuse.ensures.judges (first_broken (opening_checks scope c.args.line c.args.operator term c.args.kind ++ within)) (first_broken within) (c.judge_opening.ensures scope term c.args.line within seen)))
-    (c.in-Ok.ensures scope (nesting.closing scope label c.args.line c.args.operator term inside c.args.close behind c.args.kind more) is)
+    (c.in_ok-inner.ensures scope (nesting.closing scope label c.args.line c.args.operator term inside c.args.close behind c.args.kind more) is)
     c.judge_closing.ensures))
     c.kind_after_operator.ensures
 
-pub judge_nested-returns-in-Err-judge_inside : goal.judge_nested-returns-in-Err-judge_inside
-judge_nested-returns-in-Err-judge_inside t c = λ scope label behind more is.
+pub judge_nested-returns-in_err-inner : goal.judge_nested-returns-in_err-inner
+judge_nested-returns-in_err-inner t c = λ scope label behind more is.
     let term = option_map term_view c.args.operand.now in
     let inside = lines_view c.args.inside.now.items in
     let seen = c.see_if_any-seen.ensures scope is in
     let within = nesting.within scope label c.args.line c.args.operator term inside c.args.close behind c.args.kind more in
-    nesting.inside_refused scope label c.args.line c.args.operator term inside c.args.close behind c.args.kind more c.opening_kind.result c.in-Err-judge_inside.fault (c.opening_kind.ensures scope term seen)
-    (judges_ok (first_broken (opening_checks scope c.args.line c.args.operator term c.args.kind ++ within)) (first_broken within) c.refuse.result c.in_default.field-0 c.in_default.is
+    handed_on (GoesOn scope (nesting.whole scope label c.args.line c.args.operator term inside c.args.close behind c.args.kind more) behind c.args.kind more) c.in_err-inner.field-0.0 c.from_residual-in_err-inner.result c.from_residual-in_err-inner.ensures
+    (nesting.inside_refused scope label c.args.line c.args.operator term inside c.args.close behind c.args.kind more c.opening_kind.result c.in_err-inner.field-0.0 (c.opening_kind.ensures scope term seen)
+    (judges_ok (first_broken (opening_checks scope c.args.line c.args.operator term c.args.kind ++ within)) (first_broken within) c.refuse.result c.in_ok-refuse.field-0 c.in_ok-refuse.was
     (c.refuse.ensures.judges (first_broken (opening_checks scope c.args.line c.args.operator term c.args.kind ++ within)) (first_broken within) (c.judge_opening.ensures scope term c.args.line within seen)))
-    (c.in-Err-judge_inside.ensures scope (nesting.closing scope label c.args.line c.args.operator term inside c.args.close behind c.args.kind more) is)
+    (c.in_err-inner.ensures scope (nesting.closing scope label c.args.line c.args.operator term inside c.args.close behind c.args.kind more) is))
 
-pub judge_inside-returns-in-Err : goal.judge_inside-returns-in-Err
-judge_inside-returns-in-Err t c = λ scope more is.
+pub judge_inside-returns-in_err-kind : goal.judge_inside-returns-in_err-kind
+judge_inside-returns-in_err-kind t c = λ scope more is.
     let items = c.deref-line-items.result.now in
     let i = c.loop-line.line-index in
     let left = lines_view (drop (i + 1) items) in
     let so_far = subst (λ ls. GoesInside scope (lines_view items) c.args.first ls more (Ok c.loop-line.kind)) (first_seen items i c.line-item.result c.loop-line-test.true c.line-item.is) (c.loop-line.invariant scope more is) in
-    subst (λ xs. GoesInside scope (lines_view xs) c.args.first End more (Err c.in-Err.fault)) c.deref-line-items.ensures.value
-    (inside_fault scope (lines_view items) left End c.args.first more c.in-Err.fault
-    (inside_more scope (lines_view items) (line_view c.line-item.result left) left c.args.first c.loop-line.kind more (Err c.in-Err.fault) so_far (c.in-Err.ensures scope left more is)))
+    handed_on (GoesInside scope (lines_view c.args.lines.now.items) c.args.first End more) c.in_err-kind.field-0.0 c.from_residual.result c.from_residual.ensures
+    (subst (λ xs. GoesInside scope (lines_view xs) c.args.first End more (Err c.in_err-kind.field-0.0)) c.deref-line-items.ensures.value
+    (inside_fault scope (lines_view items) left End c.args.first more c.in_err-kind.field-0.0
+    (inside_more scope (lines_view items) (line_view c.line-item.result left) left c.args.first c.loop-line.kind more (Err c.in_err-kind.field-0.0) so_far (c.in_err-kind.ensures scope left more is))))
 
 pub judge_inside-loop-line-preserved : goal.judge_inside-loop-line-preserved
 judge_inside-loop-line-preserved t c = λ scope more is.
@@ -112,7 +115,7 @@ judge_inside-loop-line-preserved t c = λ scope more is.
     let i = c.loop-line.line-index in
     let left = lines_view (drop (i + 1) items) in
     let so_far = subst (λ ls. GoesInside scope (lines_view items) c.args.first ls more (Ok c.loop-line.kind)) (first_seen items i c.line-item.result c.loop-line-test.true c.line-item.is) (c.loop-line.invariant scope more is) in
-    inside_more scope (lines_view items) (line_view c.line-item.result left) left c.args.first c.loop-line.kind more (Ok c.in-Ok.after) so_far (c.in-Ok.ensures scope left more is)
+    inside_more scope (lines_view items) (line_view c.line-item.result left) left c.args.first c.loop-line.kind more (Ok c.in_ok-kind.kind) so_far (c.in_ok-kind.ensures scope left more is)
 
 pub judge_inside-returns : goal.judge_inside-returns
 judge_inside-returns t c = λ scope more is.

@@ -7,4 +7,4 @@ use Rattle.wc_verify.proofs.instructions.apply.Goals as goal
 pub returns : goal.returns
 returns c = λ scope label behind more is.
     let term = term_view c.args.operand.now in
-    c.followed.ensures scope (PlainLine label c.args.line (Apply c.args.operator term)) behind c.args.kind more (c.refuse.ensures.judges _ (first_broken more) (c.judge_apply.ensures scope c.args.line more (c.see-seen.ensures scope is))) c.kind_after_operator-after.ensures
+    c.kind_behind.ensures scope (PlainLine label c.args.line (Apply c.args.operator term)) behind c.args.kind more (c.refuse.ensures.judges _ (first_broken more) (c.judge_apply.ensures scope c.args.line more (c.see-seen.ensures scope is))) c.kind_after_operator-after.ensures

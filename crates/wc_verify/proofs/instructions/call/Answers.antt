@@ -7,4 +7,4 @@ use Rattle.wc_verify.proofs.instructions.call.Goals as goal
 
 pub returns : goal.returns
 returns c = λ scope label behind more is.
-    c.followed.ensures scope (PlainLine label c.args.line (Call c.args.condition (name_of c.args.instance.now) (map assignment_view c.args.arguments.now))) behind c.args.kind more (c.judge_call-judged.ensures.judged scope more is) refl
+    c.kind_behind.ensures scope (PlainLine label c.args.line (Call c.args.condition (name_of c.args.instance.now) (map assignment_view c.args.arguments.now))) behind c.args.kind more (c.judge_call-judged.ensures.judged scope more is) refl

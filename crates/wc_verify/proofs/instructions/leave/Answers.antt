@@ -6,4 +6,4 @@ use Rattle.wc_verify.proofs.instructions.leave.Goals as goal
 
 pub returns : goal.returns
 returns c = λ scope label behind more.
-    c.followed.ensures scope (PlainLine label c.args.line (Return c.args.condition)) behind c.args.kind more (c.refuse.ensures.judges _ (first_broken more) (c.judge_condition.ensures c.args.line more)) refl
+    c.kind_behind.ensures scope (PlainLine label c.args.line (Return c.args.condition)) behind c.args.kind more (c.refuse.ensures.judges _ (first_broken more) (c.judge_condition.ensures c.args.line more)) refl

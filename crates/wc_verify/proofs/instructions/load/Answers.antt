@@ -9,5 +9,5 @@ pub returns : goal.returns
 returns c = λ scope label behind kind more is.
     let term = term_view c.args.operand.now in
     let seen = c.see-seen.ensures scope is in
-    c.followed.ensures scope (PlainLine label c.args.line (Load c.args.negated term)) behind kind more (c.refuse.ensures.judges _ (first_broken more) (c.judge_load.ensures scope term c.args.line more seen))
+    c.kind_behind.ensures scope (PlainLine label c.args.line (Load c.args.negated term)) behind kind more (c.refuse.ensures.judges _ (first_broken more) (c.judge_load.ensures scope term c.args.line more seen))
     (loaded scope label c.args.line c.args.negated term kind c.see-seen.result.kind c.kind_loaded-after.result c.kind_loaded-after.ensures seen.kind)

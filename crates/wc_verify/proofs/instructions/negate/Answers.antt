@@ -6,4 +6,4 @@ use Rattle.wc_verify.proofs.instructions.negate.Goals as goal
 
 pub returns : goal.returns
 returns c = λ scope label behind more.
-    c.followed.ensures scope (PlainLine label c.args.line Negate) behind c.args.kind more (c.refuse.ensures.judges _ (first_broken more) (c.judge_truth.ensures c.args.line more)) refl
+    c.kind_behind.ensures scope (PlainLine label c.args.line Negate) behind c.args.kind more (c.refuse.ensures.judges _ (first_broken more) (c.judge_truth.ensures c.args.line more)) refl

@@ -7,12 +7,12 @@ use Rattle.wc_model.specs.Language.Scopes.{Scope}
 use Rattle.wc_model.specs.Language.Views.{unit_view}
 use Rattle.wc_names.specs.StandsFor.{AreTables}
 use Rattle.wc_verify.proofs.BodyUnits.{UnitsLeft, unit_passed, unit_rules, unit_there}
-use Rattle.wc_declare.proofs.Judging.{judges_err}
+use Rattle.wc_declare.proofs.Judging.{judges_on}
 use Rattle.wc_names.proofs.Lists.{from_index}
 use Rattle.wc_verify.proofs.verifying.judge_bodies.Goals as goal
 
-pub returns-in-Err : goal.returns-in-Err
-returns-in-Err c = λ are.
+pub returns-in_err-judge_body : goal.returns-in_err-judge_body
+returns-in_err-judge_body c = λ are.
     let i = c.loop-number.number in
     let items = c.deref-unit-items.result.now in
     let all = map unit_view items in
@@ -23,9 +23,9 @@ returns-in-Err c = λ are.
     let h = subst (λ xs. UnitsLeft all (map unit_view xs) i) cut (c.loop-number.invariant are_all) in
     let scope : Scope = record { before = h.before; unit = unit } in
     let more = flat_map unit_rules (spots_behind (unit ∷ h.before) left) in
-    judges_err (Unit {0}) (Unit {0}) (body_fault (map unit_view c.args.source.now.units.items)) (first_broken (body_rules scope ++ more)) (first_broken more) None c.in-Err.fault
+    judges_on (Unit {0}) (Unit {0}) (body_fault (map unit_view c.args.source.now.units.items)) (first_broken (body_rules scope ++ more)) (first_broken more) None c.in_err-judge_body.field-0.0 c.from_residual.result c.from_residual.ensures
     (ap (λ xs. body_fault (map unit_view xs)) (sym c.deref-unit-items.ensures.value) ∙ h.found)
-    (c.in-Err.ensures scope more (record { text = all; tables_are = are_all; unit_is = unit_there all left unit i h }) refl)
+    (c.in_err-judge_body.ensures scope more (record { text = all; tables_are = are_all; unit_is = unit_there all left unit i h }) refl)
 
 pub loop-number-preserved : goal.loop-number-preserved
 loop-number-preserved c = λ are.
@@ -37,4 +37,4 @@ loop-number-preserved c = λ are.
     let cut = from_index items i c.unit-item.result c.loop-number-test.true c.unit-item.is in
     let h = subst (λ xs. UnitsLeft all (map unit_view xs) i) cut (c.loop-number.invariant are) in
     let scope : Scope = record { before = h.before; unit = unit } in
-    unit_passed all left unit i h (λ more. c.in_default.ensures scope more (record { text = all; tables_are = are; unit_is = unit_there all left unit i h }) refl)
+    unit_passed all left unit i h (λ more. c.in_ok-judge_body.ensures scope more (record { text = all; tables_are = are; unit_is = unit_there all left unit i h }) refl)

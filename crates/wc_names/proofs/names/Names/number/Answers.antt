@@ -4,7 +4,7 @@ use Rattle.std.specs.List.{position_from}
 use Rattle.wc_model.specs.Language.Declarations.{same_name}
 use Rattle.wc_model.specs.Language.Names.{name_of}
 use Rattle.wc_names.specs.Keys.{name_of_key}
-use Rattle.wc_names.proofs.KeyNames.{position_from-map}
+use Rattle.wc_built_in.proofs.FieldTables.{position_from-map}
 use Rattle.wc_names.proofs.names.Names.number.Goals as goal
 
 pub returns : goal.returns

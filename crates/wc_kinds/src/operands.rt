@@ -1,6 +1,6 @@
 ghost use Rattle.std.specs.Prelude.{◌≡◌};
 ghost use Rattle.wc_model.specs.Language.BodyRules.{is_bit_literal, is_divisor};
-ghost use Rattle.wc_verify.specs.Seeing.{whole_number};
+ghost use Rattle.wc_kinds.specs.WholeNumbers.{whole_number};
 ghost use Rattle.wc_model.specs.Language.Views.{term_view};
 
 use wc_model::{Operand, Value};
@@ -19,7 +19,7 @@ fn whole_number(operand: &Operand<'_>) -> Option<i32>
 }
 
 /// Whether an operand is a whole number that is not 0.
-pub(crate) fn is_divisor(operand: &Operand<'_>) -> bool
+pub fn is_divisor(operand: &Operand<'_>) -> bool
     ensures { result ≡ is_divisor (term_view operand.now) }
 {
     match whole_number(operand) {
@@ -29,7 +29,7 @@ pub(crate) fn is_divisor(operand: &Operand<'_>) -> bool
 }
 
 /// Whether an operand is a whole number 0 or 1.
-pub(crate) fn is_bit_literal(operand: &Operand<'_>) -> bool
+pub fn is_bit_literal(operand: &Operand<'_>) -> bool
     ensures { result ≡ is_bit_literal (term_view operand.now) }
 {
     match whole_number(operand) {

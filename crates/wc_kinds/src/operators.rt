@@ -17,7 +17,7 @@ pub(crate) fn compares(operator: Operator) -> bool
 }
 
 /// Whether an operator divides.
-pub(crate) fn divides(operator: Operator) -> bool
+pub fn divides(operator: Operator) -> bool
     ensures { result ≡ divides operator }
 {
     match operator {

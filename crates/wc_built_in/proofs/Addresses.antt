@@ -9,8 +9,8 @@ use Rattle.std.specs.List.{list_all, list_any}
 use Rattle.std.specs.Str.{bytes_eq}
 use Rattle.wc_model.specs.Language.DirectVariables.{direct_variables, numbers_below, spellings, variable_at}
 use Rattle.wc_model.specs.Language.Names.{Name}
-use Rattle.wc_names.specs.Direct.{direct_at, only_number}
-use Rattle.wc_names.proofs.Below.{each_below}
+use Rattle.wc_built_in.specs.Direct.{direct_at, only_number}
+use Rattle.wc_built_in.proofs.Below.{each_below}
 
 -- a number that does not pass leaves none found
 none_more : (p : ℕ → Bool) (i : ℕ) → find p (numbers_below i) ≡ None → p i ≡ false → find p (numbers_below (i + 1)) ≡ None

@@ -6,7 +6,7 @@ use crate::operators::compares;
 use wc_model::{Kind, Operator};
 
 /// Whether two kinds are the same.
-pub(crate) fn is_kind(a: Kind, b: Kind) -> bool
+pub fn is_kind(a: Kind, b: Kind) -> bool
     ensures { result ≡ is_kind a b }
 {
     match a {
@@ -26,7 +26,7 @@ pub(crate) fn is_kind(a: Kind, b: Kind) -> bool
 }
 
 /// Whether two results are of the same kind, or there is none of either.
-pub(crate) fn same_result(a: Option<Kind>, b: Option<Kind>) -> bool
+pub fn same_result(a: Option<Kind>, b: Option<Kind>) -> bool
     ensures { result ≡ same_result a b }
 {
     match a {
@@ -42,7 +42,7 @@ pub(crate) fn same_result(a: Option<Kind>, b: Option<Kind>) -> bool
 }
 
 /// Whether there is a kind, and it is BOOL.
-pub(crate) fn is_bool(kind: Option<Kind>) -> bool
+pub fn is_bool(kind: Option<Kind>) -> bool
     ensures { result ≡ is_bool kind }
 {
     match kind {
@@ -52,7 +52,7 @@ pub(crate) fn is_bool(kind: Option<Kind>) -> bool
 }
 
 /// The kind of the result behind an operator, from that before it.
-pub(crate) fn kind_after_operator(operator: Operator, kind: Option<Kind>) -> Option<Kind>
+pub fn kind_after_operator(operator: Operator, kind: Option<Kind>) -> Option<Kind>
     ensures { result ≡ kind_after_operator operator kind }
 {
     if compares(operator) {

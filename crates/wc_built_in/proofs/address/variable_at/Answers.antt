@@ -1,8 +1,8 @@
 use Rattle.std.proofs.Common.{is_some, sym, ap, ◌∙◌, arith}
 use Rattle.wc_model.specs.Language.Names.{name_of}
-use Rattle.wc_names.proofs.Addresses.{none_spelled, some_spelled}
-use Rattle.wc_names.proofs.address.variable_at.Goals as goal
-use Rattle.wc_names.proofs.address.variable_at.Goals.{else-number-lt45-via-then-number-lt45+else-is_address, else-number-lt45-via-else-number-lt45}
+use Rattle.wc_built_in.proofs.Addresses.{none_spelled, some_spelled}
+use Rattle.wc_built_in.proofs.address.variable_at.Goals as goal
+use Rattle.wc_built_in.proofs.address.variable_at.Goals.{else-number-lt45-via-then-number-lt45+else-is_address, else-number-lt45-via-else-number-lt45}
 
 pub returns-then-is_address-clause-variable : goal.returns-then-is_address-clause-variable
 returns-then-is_address-clause-variable c =

@@ -1,0 +1,3 @@
+pub mod Below
+pub mod Addresses
+pub mod FieldTables
