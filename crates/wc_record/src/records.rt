@@ -38,7 +38,7 @@ impl<'r, R: ByteIn> Records<'r, R> {
     }
 
     /// Reads the next record into `row`, where there is one.
-    #[inline(always)]
+    #[inline(never)]
     pub(crate) fn read(&mut self, row: &mut ByteRecord) -> Result<bool, Unread>
         ensures { IfOk result
             (λ found.

@@ -1,4 +1,4 @@
-ghost use Rattle.std.specs.Prelude.{ℕ, List, IfOk};
+ghost use Rattle.std.specs.Prelude.{◌≡◌, ℕ, List, IfOk};
 ghost use Rattle.wc_model.specs.Run.Log.{row_data_of};
 ghost use Rattle.wc_model.specs.Run.Log as log;
 ghost use Rattle.wc_model.specs.Run.Rows as rows;
@@ -16,6 +16,15 @@ pub(crate) enum RowFault {
     Memory,
 }
 
+/// The fault of fields that break the rule of this number. It stands apart, so that a row that breaks none does not pay for it.
+#[cold]
+#[inline(never)]
+fn refused(rule: u16) -> RowFault
+    ensures { result ≡ RowFault.Refused rule }
+{
+    RowFault::Refused(rule)
+}
+
 /// A sample.
 #[inline(always)]
 fn sample(text: &[u8]) -> Result<RowKind, RowFault>
@@ -26,7 +35,7 @@ fn sample(text: &[u8]) -> Result<RowKind, RowFault>
 {
     match counts(text) {
         Some(counts) => Ok(RowKind::Counts(counts)),
-        None => Err(RowFault::Refused(605)),
+        None => Err(refused(605)),
     }
 }
 
@@ -38,7 +47,7 @@ fn line_bytes(room: &mut Vec<u8>, text: &[u8]) -> Result<RowKind, RowFault>
 {
     match line_piece(room, text) {
         Ok(true) => Ok(RowKind::Bytes),
-        Ok(false) => Err(RowFault::Refused(606)),
+        Ok(false) => Err(refused(606)),
         Err(_) => Err(RowFault::Memory),
     }
 }
@@ -53,7 +62,7 @@ fn inputs(text: &[u8]) -> Result<RowKind, RowFault>
 {
     match inputs_word(text) {
         Some(inputs) => Ok(RowKind::Inputs(inputs)),
-        None => Err(RowFault::Refused(606)),
+        None => Err(refused(606)),
     }
 }
 
@@ -67,7 +76,7 @@ fn scan(text: &[u8]) -> Result<RowKind, RowFault>
     if text.is_empty() {
         Ok(RowKind::Scan)
     } else {
-        Err(RowFault::Refused(608))
+        Err(refused(608))
     }
 }
 
@@ -80,7 +89,7 @@ fn change(text: &[u8]) -> Result<RowKind, RowFault>
     if text.is_empty() {
         Ok(RowKind::Change)
     } else {
-        Err(RowFault::Refused(608))
+        Err(refused(608))
     }
 }
 
@@ -96,6 +105,6 @@ pub(crate) fn row_data(room: &mut Vec<u8>, kind: &[u8], text: &[u8]) -> Result<R
         b"I" => inputs(text),
         b"S" => scan(text),
         b"P" => change(text),
-        _ => Err(RowFault::Refused(604)),
+        _ => Err(refused(604)),
     }
 }

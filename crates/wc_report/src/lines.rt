@@ -1,11 +1,11 @@
-ghost use Rattle.std.specs.Prelude.{◌≡◌, ◌≤◌, ◌++◌, drop, IfOk, IsOkUnless, OnOk};
+ghost use Rattle.std.specs.Prelude.{◌≡◌, ◌≤◌, ◌++◌, ◌∷◌, [], decimal, drop, IfOk, IsOkUnless, OnOk};
 ghost use Rattle.wc_model.specs.Say.Job.{refused_text};
 ghost use Rattle.wc_model.specs.Say.Report.{AnswerLine, ScanLine, line_text};
 ghost use Rattle.wc_model.specs.Say.UnitReport.{path_line, unit_line};
 
 use crate::backward;
 use crate::digits::put_digits;
-use crate::numbers::{put_number, spaced_lines};
+use crate::numbers::spaced_lines;
 use std::alloc::Global;
 use wc_model::{Fault, Outputs, Steps, or_memory, put_bytes};
 
@@ -55,11 +55,24 @@ pub fn put_answer_line(text: &mut Vec<u8>, ms: u64, bytes: &[u8]) -> Result<(), 
         (text.new.items ≡ text.old.items ++ line_text (AnswerLine ms bytes.now)) }
     ensures memory { IsOkUnless result Fault.Memory }
 {
-    put_bytes(text, b"L ")?;
-    put_number(text, ms)?;
-    put_bytes(text, b" ")?;
+    let mut room = [0; HEAD_ROOM];
+    let start = head_backward(ms, &mut room);
+    put_bytes(text, &room[start..])?;
     put_digits(text, bytes)?;
     put_bytes(text, b"\n")
+}
+
+/// Room that the front of each line of an answer has in: its letter, two spaces and 20 digits.
+const HEAD_ROOM: usize = 23;
+
+/// Writes the front of the line of an answer, up to its digits, at the end of its room: where it starts.
+fn head_backward(ms: u64, room: &mut [u8; HEAD_ROOM]) -> usize
+    ensures within { result ≤ 23 }
+    ensures text { drop result room.new ≡ 76 ∷ 32 ∷ (decimal ms ++ (32 ∷ [])) }
+{
+    let at = backward::put_byte(b' ', room, HEAD_ROOM);
+    let at = backward::put_number(ms, room, at);
+    backward::put_byte(b'L', room, at)
 }
 
 /// The line of a refusal: `refused`, its number and its place, a line or row counted from 1 or 0 for none, with a space

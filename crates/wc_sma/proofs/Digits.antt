@@ -1,5 +1,5 @@
 -- Numbers written from their last digit on.
-use Rattle.std.proofs.Common.{◌≡◌, ℕ, zero, suc, ◌+◌, ◌/◌, ◌%◌, ◌^◌, ◌<◌, ◌≤◌, List, [], ◌∷◌, ◌++◌, length, refl, ap, sym, ◌∙◌, append_assoc, arith}
+use Rattle.std.proofs.Common.{◌≡◌, ℕ, ◌+◌, ◌/◌, ◌%◌, ◌^◌, ◌<◌, ◌≤◌, List, [], ◌∷◌, ◌++◌, length, refl, ap, sym, ◌∙◌, append_assoc, arith}
 use Rattle.std.proofs.Math.Nat.{mod-eq_of_lt}
 use Rattle.std.proofs.lemmas.Fmt.{decimal_step, decimal_digit}
 use Rattle.std.proofs.lemmas.Int.{ints}
@@ -16,14 +16,6 @@ pub one_digit : (n : ℕ) (text : List ℕ) → n < 10 → ((48 + n % 10) ∷ te
 one_digit n text h =
     let last : n % 10 ≡ n = mod-eq_of_lt h in
     ap (λ d. (48 + d) ∷ text) last ∙ ap (λ t. t ++ text) (sym (decimal_digit n h))
-
--- a power of ten
-pub power_some : (d : ℕ) → d ≤ 3 → 0 < 10 ^ d
-power_some zero h = omega arith
-power_some (suc zero) h = omega arith
-power_some (suc (suc zero)) h = omega arith
-power_some (suc (suc (suc zero))) h = omega arith
-power_some (suc (suc (suc (suc d)))) h = absurd (omega arith)
 
 -- a minus is one byte
 pub minus_below_zero : (value : ℤ) → value <ℤ pos 0 → length (minus_of value) ≡ 1

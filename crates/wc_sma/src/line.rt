@@ -9,7 +9,8 @@ ghost use Rattle.wc_model.specs.Run.Writing.{HasFailedSince, TakesFront};
 ghost use Rattle.wc_sma.specs.Standing.{StandsAfter, HasFailed};
 ghost use Rattle.wc_sma.specs.Feeding.{Feeds, Fails};
 
-use crate::acting::act;
+use crate::acting::{Reply, act};
+use crate::answers::answer;
 use crate::command::{Command, Seen, after_byte, command_of};
 use wc_indicator::Indicator;
 use wc_model::{ByteOut, WriteFault, write_whole};
@@ -49,8 +50,10 @@ fn serve<W: ByteOut>(
     ensures device { IfErr result
         (λ e. HasFailedSince (W.failure_count writer.old) (W.failure_count writer.new)) }
 {
-    let reply = act(command, indicator);
-    write_whole(writer, reply.bytes())
+    match act(command, indicator) {
+        Reply::Weight(mode, asked) => write_whole(writer, &answer(indicator, mode, asked)),
+        Reply::Unknown => write_whole(writer, b"\n?\r"),
+    }
 }
 
 impl Line {

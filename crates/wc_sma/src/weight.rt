@@ -1,4 +1,4 @@
-ghost use Rattle.std.specs.Prelude.{◌≡◌, ℕ, ◌+◌, ◌<◌, ◌≤◌, [], ◌∷◌, ◌++◌, length, decimal, unsigned_abs, IfSome};
+ghost use Rattle.std.specs.Prelude.{◌≡◌, ℕ, ◌+◌, ◌/◌, ◌^◌, ◌<◌, ◌≤◌, [], ◌∷◌, ◌++◌, length, decimal, unsigned_abs, IfSome};
 ghost use Rattle.wc_model.specs.Instrument.Answers.{last_digits, fraction_text, value_text, right_justified, weight_text};
 
 use std::marker::Model;
@@ -8,6 +8,19 @@ use std::marker::Model;
 struct Field {
     bytes: [u8; 10],
     at: usize,
+}
+
+/// What stands before the last so many digits of a number.
+fn digits_before(number: u32, decimals: u32) -> u32
+    requires { decimals ≤ 3 }
+    ensures { result ≡ number / 10 ^ decimals }
+{
+    match decimals {
+        0 => number,
+        1 => number / 10,
+        2 => number / 100,
+        _ => number / 1000,
+    }
 }
 
 impl Model for Field {
@@ -84,7 +97,7 @@ impl Field {
     {
         let magnitude = value.unsigned_abs();
         self.put_fraction(decimals, magnitude);
-        self.put_decimal(magnitude / 10_u32.pow(decimals));
+        self.put_decimal(digits_before(magnitude, decimals));
         if value < 0 {
             self.put(b'-');
         }

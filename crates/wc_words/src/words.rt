@@ -21,7 +21,7 @@ use wc_refusals::Form;
 /// tools/legal_digest computes. Whether a build was proved is not known to the program.
 const VERSION: &str = "0.1.0 (Narbeddo)
 toolchain rattle-kit-13 logic dac8208d650f15bf
-legal part sha256 aedd397f247a532236cb9ac167d41db3a6e0cbc9bfe5977426b412a5f0d6866a";
+legal part sha256 3ee23abc6738975bbf61384aac218c8e9cc04367d2af855a2a825c4826118664";
 
 /// What the program does, with an example of each word.
 const ABOUT: &str =

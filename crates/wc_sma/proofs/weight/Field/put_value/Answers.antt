@@ -1,19 +1,16 @@
-use Rattle.std.proofs.Common.{◌≡◌, ◌/◌, ◌^◌, ◌<◌, ◌++◌, length, ap, ◌∙◌, subst, sym, append-nil, length-append, arith, to_z, of_z, w32}
+use Rattle.std.proofs.Common.{◌≡◌, ◌/◌, ◌^◌, ◌++◌, length, ap, ◌∙◌, append-nil, length-append, arith, to_z, of_z, w32}
 use Rattle.std.proofs.lemmas.Int.{ints}
 use Rattle.std.specs.Prelude.{pos, ◌<ℤ◌, unsigned_abs, decimal}
 use Rattle.wc_model.specs.Instrument.Answers.{fraction_text, minus_of}
 use Rattle.wc_instrument_laws.proofs.Answers.{length_value, length_three}
-use Rattle.wc_sma.proofs.Digits.{power_some, minus_below_zero}
+use Rattle.wc_sma.proofs.Digits.{minus_below_zero}
 use Rattle.wc_sma.proofs.weight.Field.put_value.Goals as goal
-
-pub nonzero_div-magnitude : goal.nonzero_div-magnitude
-nonzero_div-magnitude c = subst (λ n. 0 < n) (sym c.pow.ensures) (power_some c.args.decimals c.requires.few)
 
 pub put_decimal-requires : goal.put_decimal-requires
 put_decimal-requires c =
     let raw : to_z w32 (of_z w32 c.args.value) ≡ c.args.value = omega (arith, ints) in
     let size : c.unsigned_abs-magnitude.result ≡ unsigned_abs c.args.value = c.unsigned_abs-magnitude.ensures.value ∙ ap unsigned_abs raw in
-    let whole : c.unsigned_abs-magnitude.result / c.pow.result ≡ unsigned_abs c.args.value / 10 ^ c.args.decimals = λ i. size i / c.pow.ensures i in
+    let whole : c.digits_before.result ≡ unsigned_abs c.args.value / 10 ^ c.args.decimals = c.digits_before.ensures ∙ (λ i. size i / 10 ^ c.args.decimals) in
     let behind : c.put_fraction.new.self ≡ fraction_text c.args.decimals (unsigned_abs c.args.value) =
     c.put_fraction.ensures ∙ (λ i. fraction_text c.args.decimals (size i) ++ c.requires.empty i) ∙ append-nil (fraction_text c.args.decimals (unsigned_abs c.args.value)) in
     omega (
@@ -29,7 +26,7 @@ put-requires c =
     let raw : to_z w32 (of_z w32 c.args.value) ≡ c.args.value = omega (arith, ints) in
     let low : c.args.value <ℤ pos 0 = omega (arith, ints) in
     let size : c.unsigned_abs-magnitude.result ≡ unsigned_abs c.args.value = c.unsigned_abs-magnitude.ensures.value ∙ ap unsigned_abs raw in
-    let whole : c.unsigned_abs-magnitude.result / c.pow.result ≡ unsigned_abs c.args.value / 10 ^ c.args.decimals = λ i. size i / c.pow.ensures i in
+    let whole : c.digits_before.result ≡ unsigned_abs c.args.value / 10 ^ c.args.decimals = c.digits_before.ensures ∙ (λ i. size i / 10 ^ c.args.decimals) in
     let behind : c.put_fraction.new.self ≡ fraction_text c.args.decimals (unsigned_abs c.args.value) =
     c.put_fraction.ensures ∙ (λ i. fraction_text c.args.decimals (size i) ++ c.requires.empty i) ∙ append-nil (fraction_text c.args.decimals (unsigned_abs c.args.value)) in
     omega (
@@ -37,7 +34,7 @@ put-requires c =
       ap (λ n. length (decimal n)) whole,
       ap length behind,
       ap length c.put_decimal.ensures,
-      length-append (decimal (c.unsigned_abs-magnitude.result / c.pow.result)) c.put_fraction.new.self,
+      length-append (decimal c.digits_before.result) c.put_fraction.new.self,
       minus_below_zero c.args.value low,
       length_three (minus_of c.args.value) (decimal (unsigned_abs c.args.value / 10 ^ c.args.decimals)) (fraction_text c.args.decimals (unsigned_abs c.args.value)),
       length_value c.args.decimals c.args.value c.requires.few c.requires.short,
