@@ -21,7 +21,7 @@ use wc_refusals::Form;
 /// tools/legal_digest computes. Whether a build was proved is not known to the program.
 const VERSION: &str = "0.1.0 (Narbeddo)
 toolchain rattle-kit-13 logic dac8208d650f15bf
-legal part sha256 3ee23abc6738975bbf61384aac218c8e9cc04367d2af855a2a825c4826118664";
+legal part sha256 c3468cef1e537c67dfc067db75dd792ae2f0a3cc629efde08970b50c62fb9124";
 
 /// What the program does, with an example of each word.
 const ABOUT: &str =
