@@ -1,5 +1,6 @@
 //! The standard function blocks at their edges, call by call (IEC 61131-3:2003, 2.5.2.3).
-use wc_blocks::{Ctu, LAST_MOMENT, RTrig, Rs, Sr, Tof, Ton, Tp};
+use wc_blocks::{Ctu, RTrig, Rs, Sr, Tof, Ton, Tp};
+use wc_model::LAST_MOMENT;
 
 /// Q and ET of a TON behind a call with these inputs; nothing where the moment is not one to call at.
 fn ton_at(block: &mut Ton, now: u64, input: bool, pt: i32) -> Option<(bool, i32)> {

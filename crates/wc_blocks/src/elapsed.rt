@@ -1,9 +1,6 @@
 ghost use Rattle.std.specs.Prelude.{◌≡◌, ◌≤◌, ◌-◌};
 ghost use Rattle.wc_model.specs.Language.Blocks.{elapsed, preset};
 
-/// The greatest moment, in milliseconds: 2^40 - 1.
-pub const LAST_MOMENT: u64 = 1099511627775;
-
 /// The preset time: PT, or 0 where it is negative.
 #[inline(always)]
 pub(crate) fn preset(pt: i32) -> u64

@@ -11,7 +11,6 @@ mod ton;
 mod tp;
 
 pub use ctu::Ctu;
-pub use elapsed::LAST_MOMENT;
 pub use r_trig::RTrig;
 pub use rs::Rs;
 pub use sr::Sr;

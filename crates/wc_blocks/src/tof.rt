@@ -4,7 +4,8 @@ ghost use Rattle.wc_language_laws.specs.Laws.{tof_call};
 ghost use Rattle.wc_model.specs.Language.Blocks.{tof_falling, tof_released, tof_step};
 ghost use Rattle.wc_model.specs.Language.Histories.{FitsTof, TimerCall};
 
-use crate::elapsed::{LAST_MOMENT, elapsed, preset};
+use crate::elapsed::{elapsed, preset};
+use wc_model::LAST_MOMENT;
 
 /// TOF, an off-delay timer (IEC 61131-3:2003, table 38). PT is read at each call, and a run starts at the
 /// first call that sees it: the profile's own.

@@ -4,7 +4,8 @@ ghost use Rattle.wc_language_laws.specs.Laws.{ton_call};
 ghost use Rattle.wc_model.specs.Language.Blocks.{ton_running, ton_step};
 ghost use Rattle.wc_model.specs.Language.Histories.{FitsTon, TimerCall};
 
-use crate::elapsed::{LAST_MOMENT, elapsed, preset};
+use crate::elapsed::{elapsed, preset};
+use wc_model::LAST_MOMENT;
 
 /// TON, an on-delay timer (IEC 61131-3:2003, table 38). PT is read at each call, and a run starts at the
 /// first call that sees it: the profile's own.

@@ -4,7 +4,8 @@ ghost use Rattle.wc_language_laws.specs.Laws.{tp_call};
 ghost use Rattle.wc_model.specs.Language.Blocks.{tp_begun, tp_idle, tp_over, tp_step};
 ghost use Rattle.wc_model.specs.Language.Histories.{FitsTp, TimerCall};
 
-use crate::elapsed::{LAST_MOMENT, preset};
+use crate::elapsed::preset;
+use wc_model::LAST_MOMENT;
 
 /// TP, a pulse timer (IEC 61131-3:2003, table 38). PT is read at each call, and a pulse begins at the first
 /// call that sees IN: the profile's own.

@@ -14,10 +14,7 @@ use crate::bodies::{Body, Opening};
 use crate::line_faults::{labelled_fault, refused_if};
 use wc_lexer::{Shape, Token};
 use wc_lines::{Begun, InLine, LineState, Operating};
-use wc_model::Fault;
-
-/// The greatest depth of parentheses.
-const MOST_DEPTH: usize = 8;
+use wc_model::{Fault, MOST_DEPTH};
 
 /// What is wrong with an operator's bracket: it is one too deep.
 fn depth_fault<'a>(openings: &[Opening<'a>], line: u32) -> Option<Fault>

@@ -13,7 +13,7 @@ use crate::tree_lines::{label_line, nested_line, step_line};
 use std::alloc::{AllocError, Global};
 use std::mem;
 use wc_lines::{Begun, LineForm, Step};
-use wc_model::{Line, Operand, Operator, Unit, Word};
+use wc_model::{Line, MOST_LINES, Operand, Operator, Unit, Word};
 
 /// A parenthesis that is open.
 #[derive(Drop)]
@@ -53,9 +53,6 @@ pub fn body_start<'a>(alloc: Global, unit: Unit<'a>) -> Body<'a>
         count: 0,
     }
 }
-
-/// The greatest number of lines in a unit.
-pub(crate) const MOST_LINES: usize = 1024;
 
 /// One line more, as far as lines are counted.
 fn one_more(count: usize) -> usize

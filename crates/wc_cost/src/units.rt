@@ -14,7 +14,7 @@ use crate::laid::LaidUnit;
 use crate::ways::ways;
 use std::alloc::Global;
 use wc_laying::flat_body;
-use wc_model::{Code, Fault, Source, Unit};
+use wc_model::{Code, Fault, MOST_STEPS, Source, Unit};
 use wc_names::Tables;
 
 /// The length of the worst way through a body.
@@ -43,7 +43,7 @@ fn bounded(code: Vec<Code>, lines: Vec<u32>, steps: u64, line: u32) -> Result<La
     // It takes no memory, so a refusal is not told as want of it.
     ensures refuses { IfErr result (λ fault. fault ≡ Fault.Memory → ⊥) }
 {
-    if steps > 1000000 {
+    if steps > MOST_STEPS {
         return Err(Fault::Refused {
             number: 411,
             place: line,

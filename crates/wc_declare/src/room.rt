@@ -7,14 +7,8 @@ ghost use Rattle.wc_names.specs.Spelled.{is_elementary, spelled, spelled_in_tabl
 ghost use Rattle.wc_declare.specs.Rows.{HasTaken, plain_of};
 
 use crate::word::refused;
-use wc_model::{Fault, Place, Word};
+use wc_model::{Fault, MOST_PLACES, MOST_VARIABLES, Place, Word};
 use wc_names::{DeclaredType, Field, UnitTable, Variable};
-
-/// How many variables a unit may have.
-const MOST_VARIABLES: usize = 256;
-
-/// How many places a frame may have.
-const MOST_PLACES: u32 = 4096;
 
 /// Where the places end once a variable is added to so many of so many places, if there is room.
 fn room(variables: usize, size: u16, width: u16) -> Option<u16>

@@ -5,6 +5,7 @@ ghost use Rattle.wc_model.specs.Run.JobSections.{part_at, sections_in, sections_
 use crate::headings::{Heading, is_heading};
 use crate::lines::first_line;
 use crate::parts::{Parting, Sections};
+use wc_model::LONGEST_JOB;
 
 /// What stands before and behind the first line that is this heading.
 fn part_at<'a>(heading: Heading, text: &'a [u8]) -> Option<Parting<'a>>
@@ -71,9 +72,6 @@ fn sections_in<'a>(text: &'a [u8]) -> Option<Sections<'a>>
         None
     }
 }
-
-/// The greatest length of a job, in bytes.
-pub(crate) const LONGEST_JOB: usize = 1048576;
 
 /// The sections of a job of at most 1048576 bytes: what stands between `@plate`, its first line, the first line `@program`
 /// behind it, the first line `@log` behind that one, and the end; and, where a line `@next` stands between `@program` and

@@ -3,11 +3,10 @@ ghost use Rattle.wc_job.specs.Reads.{Adds, IsOverTheLimit, IsWhole, ReadsInto, T
 ghost use Rattle.wc_model.specs.Run.Devices.{failures_after_read};
 ghost use Rattle.wc_model.specs.Run.JobSections.{longest_job};
 
-use crate::cutting::LONGEST_JOB;
 use std::alloc::Global;
 use std::io;
 use thiserror::Error;
-use wc_model::ByteIn;
+use wc_model::{ByteIn, LONGEST_JOB};
 
 /// Why the bytes of a job are not known.
 #[derive(Clone, Copy, Debug, Error)]

@@ -11,10 +11,7 @@ use crate::durations::duration;
 use crate::fronts::cut_at;
 use crate::marks::mark;
 use crate::numbers::{has_single_underscores, whole_number};
-use wc_model::is_word;
-
-/// The greatest length of a name, in characters.
-const LONGEST_NAME: usize = 32;
+use wc_model::{LONGEST_NAME, is_word};
 
 /// An identifier of that length, with single underscores or not, is a name.
 #[inline(always)]

@@ -9,10 +9,7 @@ use crate::piece::{Piece, first_piece};
 use crate::spaces::{first_feeds, line_feeds, opens_comment};
 use crate::{Stop, Token};
 use std::alloc::Global;
-use wc_model::Fault;
-
-/// The greatest length of a text, in bytes.
-const MOST_BYTES: usize = 65536;
+use wc_model::{Fault, MOST_BYTES};
 
 /// How many bytes the piece has at which a text can't be cut on.
 fn stuck_length(text: &[u8]) -> usize

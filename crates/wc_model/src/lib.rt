@@ -15,6 +15,7 @@ mod fuse_out;
 mod fuse_writes;
 mod image;
 mod kind;
+mod limits;
 mod operand;
 mod operator;
 mod place;
@@ -35,6 +36,10 @@ pub use fuse_in::FuseIn;
 pub use fuse_out::FuseOut;
 pub use image::{Image, Outputs, Steps};
 pub use kind::{Kind, SlotKind};
+pub use limits::{
+    GREATEST_COUNTS, LAST_MOMENT, LEAST_COUNTS, LONGEST_JOB, LONGEST_NAME, MOST_BYTES, MOST_DEPTH,
+    MOST_LINES, MOST_PLACES, MOST_ROWS, MOST_SPENT, MOST_STEPS, MOST_UNITS, MOST_VARIABLES,
+};
 pub use operand::{Operand, Word};
 pub use operator::{Condition, Direction, Operator, Storing};
 pub use place::{Path, Place};

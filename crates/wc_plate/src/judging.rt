@@ -8,6 +8,7 @@ ghost use Rattle.wc_plate.specs.Seen.{written_seen};
 use crate::broken::BrokenRule;
 use crate::kept::Plate;
 use crate::keys::Written;
+use wc_model::{GREATEST_COUNTS, LEAST_COUNTS};
 
 /// The line's three bytes for a unit.
 fn line_unit(text: &str) -> Option<[u8; 3]>
@@ -38,7 +39,7 @@ fn sample(counts: i64) -> Option<i32>
     ensures fits { is_some result ≡ plate.is_between least_sample greatest_sample counts }
     ensures same { IfSome result (λ x. counts ≡ x) }
 {
-    if counts >= -8388608 && counts <= 8388607 {
+    if counts >= i64::from(LEAST_COUNTS) && counts <= i64::from(GREATEST_COUNTS) {
         Some(counts as i32)
     } else {
         None

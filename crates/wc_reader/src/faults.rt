@@ -16,7 +16,7 @@ use crate::text_state::{LinePlace, Reading, TextState};
 use crate::words::unit_kind;
 use wc_bodies::{Body, start_fault, state_fault};
 use wc_lexer::{Shape, Token};
-use wc_model::{Fault, Unit, UnitKind};
+use wc_model::{Fault, MOST_UNITS, Unit, UnitKind};
 
 /// Whether the unit is a program.
 fn is_program(unit: &Unit) -> bool
@@ -41,9 +41,6 @@ pub fn has_program(units: &[Unit]) -> bool
 {
     any_program(units)
 }
-
-/// The greatest number of units in a text.
-const MOST_UNITS: usize = 64;
 
 /// One unit too many, where the text has as many as it may.
 fn too_many(units: &[Unit], line: u32) -> Option<Fault>

@@ -11,10 +11,7 @@ use crate::given::Given;
 use crate::place::Place;
 use std::io;
 use std::io::Read;
-use wc_model::ByteIn;
-
-/// The most bytes and calls that are spent on a log.
-const MOST_SPENT: u64 = 134217728;
+use wc_model::{ByteIn, MOST_SPENT};
 
 /// Whether as much of a log was read as may be: 134217728 bytes and calls since the start, or a
 /// count at its end. Both are counts of `ByteIn::spent`, the first of when the reader was lent.

@@ -17,10 +17,7 @@ use crate::source::Source;
 use csv::ByteRecord;
 use std::alloc::Global;
 use std::mem::replace;
-use wc_model::ByteIn;
-
-/// The most rows that a log has, the first one too.
-const MOST_ROWS: u32 = 1000000;
+use wc_model::{ByteIn, MOST_ROWS};
 
 /// How a log ended.
 #[derive(Clone, Copy, PartialEq, Eq)]

@@ -6,6 +6,7 @@ use crate::statuses::{CLOSED, COUNTS_OUT_OF_RANGE, DONE};
 use std::alloc::Global;
 use wc_indicator::Indicator;
 use wc_machine::Machine;
+use wc_model::{GREATEST_COUNTS, LEAST_COUNTS};
 use wc_sma::Line;
 use wc_store::SlotStore;
 
@@ -50,7 +51,7 @@ impl Scale {
     {
         match &mut self.indicator {
             Some(indicator) => {
-                if counts < -8388608 || counts > 8388607 {
+                if counts < LEAST_COUNTS || counts > GREATEST_COUNTS {
                     return COUNTS_OUT_OF_RANGE;
                 }
                 indicator.sample(counts);

@@ -8,7 +8,7 @@ use crate::results::Scanned;
 use crate::scale::Scale;
 use crate::statuses::{CLOSED, DONE, MOMENT_BACK, MOMENT_OUT_OF_RANGE, NO_PROGRAM};
 use wc_machine::Machine;
-use wc_model::Image;
+use wc_model::{Image, LAST_MOMENT};
 use wc_record::image;
 use wc_store::SlotStore;
 
@@ -59,7 +59,7 @@ impl Scale {
         };
         match &mut self.machine {
             Some(machine) => {
-                if ms > 1099511627775 {
+                if ms > LAST_MOMENT {
                     return no_scan(MOMENT_OUT_OF_RANGE);
                 }
                 if ms < machine.last() {

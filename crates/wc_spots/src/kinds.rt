@@ -1,11 +1,11 @@
 use crate::meant::Meant;
 use crate::pieces::{is_closing, opens};
+use wc_kinds::{takes, takes_truth};
 use wc_lexer::{Shape, Token};
 use wc_lines::{Operating, Operation, operation_of};
 use wc_model::{Kind, Operand, Storing};
 use wc_names::{DeclaredType, Tables};
 use wc_short_lines::operand_of;
-use wc_kinds::{takes, takes_truth};
 
 /// The operand that some tokens are: one alone, or a name with a field.
 pub(crate) fn operand_in<'a>(piece: &[Token<'a>]) -> Option<Operand<'a>> {

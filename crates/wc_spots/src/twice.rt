@@ -1,5 +1,5 @@
 use crate::meant::Meant;
-use wc_model::{Line, Source, Unit, Word};
+use wc_model::{Line, MOST_VARIABLES, Source, Unit, Word};
 
 /// A word is this one, and stands before a place.
 fn is_before(word: &Word<'_>, name: &[u8], place: u32) -> bool {
@@ -61,9 +61,6 @@ fn variables_until(unit: &Unit<'_>, place: u32) -> usize {
     }
     count
 }
-
-/// A unit may have so many variables.
-const MOST_VARIABLES: usize = 256;
 
 /// What is known of a name with which a unit has too much (306): the rule on variables or on places is broken.
 pub(crate) fn meant_by_room(source: &Source<'_>, place: u32) -> Meant {
