@@ -17,10 +17,8 @@ pub fn measure<'a>(alloc: Global, source: &Source<'a>, tables: &Tables<'a>) -> R
     ensures { AreTables tables.now (text_view source.now) → IsFaultless (text_view source.now)
         → Measures (text_view source.now) result }
 {
-    match lay_units(alloc, tables, source) {
-        Ok(_) => Ok(()),
-        Err(fault) => Err(fault),
-    }
+    lay_units(alloc, tables, source)?;
+    Ok(())
 }
 
 /// Lays a verified text flat, and measures each unit. 411 at the first unit that may take more than
@@ -28,18 +26,13 @@ pub fn measure<'a>(alloc: Global, source: &Source<'a>, tables: &Tables<'a>) -> R
 pub fn cost<'a>(alloc: Global, checked: Checked<'a>) -> Result<Loaded<'a>, Fault>
     ensures { IsCosted (text_view checked.entry.source) checked.entry.source result }
 {
-    let units = match lay_units(alloc, checked.tables(), checked.source()) {
-        Ok(units) => units,
-        Err(fault) => return Err(fault),
-    };
+    let units = lay_units(alloc, checked.tables(), checked.source())?;
     let last = units.len().saturating_sub(1);
-    match checked.tables().frame(alloc, last) {
-        Ok(frame) => Ok(Loaded {
-            checked,
-            units,
-            kinds: frame.kinds,
-            initials: frame.initials,
-        }),
-        Err(fault) => Err(fault),
-    }
+    let frame = checked.tables().frame(alloc, last)?;
+    Ok(Loaded {
+        checked,
+        units,
+        kinds: frame.kinds,
+        initials: frame.initials,
+    })
 }

@@ -111,10 +111,8 @@ impl<'a> Loaded<'a> {
         ensures memory { IsOkUnless result Fault.Memory }
     {
         let laid = &self.units[unit];
-        match ways(alloc, &self.units, &laid.code) {
-            Ok(ways) => worst_lines(alloc, &ways, &laid.code, &laid.lines),
-            Err(fault) => Err(fault),
-        }
+        let ways = ways(alloc, &self.units, &laid.code)?;
+        worst_lines(alloc, &ways, &laid.code, &laid.lines)
     }
 
     /// The place that a path names in the program's frame. Fields of standard blocks that texts

@@ -2,7 +2,7 @@ ghost use Rattle.std.specs.Prelude.{◌≡◌, ℕ, ◌++◌, List, IfOk, OnOk, 
 ghost use Rattle.wc_flat.specs.FlatPaths.{worst_of};
 ghost use Rattle.wc_cost.specs.Ways.{AreWays, is_own, own_source};
 
-use crate::ways::passed;
+use crate::ways::lines_passed;
 use std::alloc::Global;
 use wc_model::{Code, Fault};
 
@@ -37,10 +37,8 @@ fn list(lines: &mut Vec<u32>, line: &Code, source: u32) -> Result<(), Fault>
     if !is_own(line) {
         return Ok(());
     }
-    match lines.push(source) {
-        Ok(()) => Ok(()),
-        Err(_) => Err(Fault::Memory),
-    }
+    lines.push(source).map_err(|_| Fault::Memory)?;
+    Ok(())
 }
 
 /// The lines of the text on the worst way through a body, in order, from the lengths of its ways.
@@ -65,10 +63,8 @@ pub(crate) fn worst_lines(
         let Some(line) = code.get(index) else {
             continue;
         };
-        if let Err(fault) = list(&mut lines, line, source_at(sources, index)) {
-            return Err(fault);
-        }
-        left = passed(ways, index + 1, line);
+        list(&mut lines, line, source_at(sources, index))?;
+        left = lines_passed(ways, index + 1, line);
     }
     Ok(lines)
 }

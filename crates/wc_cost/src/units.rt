@@ -24,10 +24,7 @@ fn longest(alloc: Global, units: &[LaidUnit], code: &[Code]) -> Result<u64, Faul
         → steps ≡ (worst_of (bounds_of units.now) code.now sources).steps) }
     ensures memory { IsOkUnless result Fault.Memory }
 {
-    let ways = match ways(alloc, units, code) {
-        Ok(ways) => ways,
-        Err(fault) => return Err(fault),
-    };
+    let ways = ways(alloc, units, code)?;
     match ways.first() {
         Some(way) => Ok(*way),
         None => Ok(0),
@@ -35,7 +32,7 @@ fn longest(alloc: Global, units: &[LaidUnit], code: &[Code]) -> Result<u64, Faul
 }
 
 /// A laid body with its bound, or 411 at the unit's line.
-fn bounded(code: Vec<Code>, lines: Vec<u32>, steps: u64, line: u32) -> Result<LaidUnit, Fault>
+fn with_bound(code: Vec<Code>, lines: Vec<u32>, steps: u64, line: u32) -> Result<LaidUnit, Fault>
     ensures measured { (bounds : List ℕ) (scope : Scope) → IsLaid scope scope.unit.body code.items
         → lines.items ≡ sources_of scope.unit.body
         → steps ≡ (worst_of bounds code.items (sources_of scope.unit.body)).steps
@@ -68,15 +65,10 @@ fn lay_unit<'a>(
         → IsLayable scope scope.unit.body → flat_length scope.unit.body ≤ 65536
         → AreSmall (bounds_of units.now) → MeasuresUnit (bounds_of units.now) scope result }
 {
-    let flat = match flat_body(alloc, tables, number, &unit.body) {
-        Ok(flat) => flat,
-        Err(fault) => return Err(fault),
-    };
+    let flat = flat_body(alloc, tables, number, &unit.body)?;
     let (code, lines) = flat.into_lines();
-    match longest(alloc, units, &code) {
-        Ok(steps) => bounded(code, lines, steps, unit.line),
-        Err(fault) => Err(fault),
-    }
+    let steps = longest(alloc, units, &code)?;
+    with_bound(code, lines, steps, unit.line)
 }
 
 /// The units of a text laid flat and measured one after the other, or 411 at the first that is too
@@ -91,13 +83,8 @@ pub(crate) fn lay_units<'a>(
 {
     let mut units = Vec::new(alloc);
     for (number, unit) in source.units.iter().enumerate() {
-        let laid = match lay_unit(alloc, tables, number, unit, &units) {
-            Ok(laid) => laid,
-            Err(fault) => return Err(fault),
-        };
-        if let Err(_) = units.push(laid) {
-            return Err(Fault::Memory);
-        }
+        let laid = lay_unit(alloc, tables, number, unit, &units)?;
+        units.push(laid).map_err(|_| Fault::Memory)?;
     }
     Ok(units)
 }

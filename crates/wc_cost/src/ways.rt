@@ -5,7 +5,7 @@ ghost use Rattle.wc_cost.specs.Ways.{AreBehind, AreSmall, AreWays, and_then, own
 
 use crate::laid::LaidUnit;
 use std::alloc::Global;
-use wc_model::{Code, Condition, Fault};
+use wc_model::{Code, Condition, Fault, or_memory};
 
 /// The length of the way from the line of that number among those behind a place.
 fn way_from(ways: &[u64], next: usize, number: usize) -> u64
@@ -49,7 +49,7 @@ fn choose(ways: &[u64], next: usize, condition: Condition, acting: usize, passin
 }
 
 /// How many of the lines behind a line its worst way passes over.
-pub(crate) fn passed(ways: &[u64], next: usize, line: &Code) -> usize
+pub(crate) fn lines_passed(ways: &[u64], next: usize, line: &Code) -> usize
     ensures { (bounds : List ℕ) (source : ℕ) (rest : List Worst) → AreBehind ways.now next rest
         → line_worst bounds source rest line.now
         ≡ and_then bounds source line.now (from_line rest result) }
@@ -82,7 +82,7 @@ fn way(units: &[LaidUnit], ways: &[u64], next: usize, line: &Code) -> u64
         ≤ 18446744073709551615
         → result ≡ (line_worst (bounds_of units.now) source rest line.now).steps }
 {
-    let skip = passed(ways, next, line);
+    let skip = lines_passed(ways, next, line);
     cost(units, line).saturating_add(way_from(ways, next, skip))
 }
 
@@ -94,9 +94,7 @@ pub(crate) fn ways(alloc: Global, units: &[LaidUnit], code: &[Code]) -> Result<V
     ensures memory { IsOkUnless result Fault.Memory }
 {
     let count = code.len();
-    let Ok(mut ways) = vec![in alloc; 0_u64; count] else {
-        return Err(Fault::Memory);
-    };
+    let mut ways = or_memory(vec![in alloc; 0_u64; count])?;
     for index in (0..count).rev() {
         if let Some(line) = code.get(index) {
             ways[index] = way(units, &ways, index + 1, line);

@@ -9,6 +9,7 @@ use Rattle.wc_model.specs.Language.Tree.{Declaration, ProgramUnit, Text}
 use Rattle.wc_model.specs.declared.fault.Fault.{Fault}
 use Rattle.wc_model.specs.declared.fault.Fault.TheVariants.{Refused, Memory}
 use Rattle.wc_model.specs.Language.Judging.{Judges}
+use Rattle.wc_names.proofs.HandedOn.{handed_on}
 
 -- the same is found
 pub judges_same : {X : Type 0} (found other rest : Option Refusal) (result : Result X Fault) → found ≡ other → Judges other rest result → Judges found rest result
@@ -21,11 +22,7 @@ pub judges_err : (X Y : Type 0) (found other rest behind : Option Refusal) (faul
 judges_err X Y found other rest behind (Refused number place) e h = e ∙ h
 judges_err X Y found other rest behind Memory e h = tt
 
--- what is so of a fault is so of it where it is handed on
-pub handed_on : {Y : Type 0} (holds : Result Y Fault → Type 0) (fault : Fault) (result : Result Y Fault) → IsErr result × IsErrAnd result (λ e. e ≡ fault) → holds (Err fault) → holds result
-handed_on holds fault (Ok y) gives h = absurd gives.1
-handed_on holds fault (Err f) gives h = subst (λ x. holds (Err x)) (sym gives.1) h
-
+-- a fault that is handed on
 pub judges_on : (X Y : Type 0) (found other rest behind : Option Refusal) (fault : Fault) (result : Result Y Fault) → IsErr result × IsErrAnd result (λ e. e ≡ fault) → found ≡ other → Judges {X = X} other rest (Err fault) → Judges found behind result
 judges_on X Y found other rest behind fault result gives e h = handed_on (λ r. Judges {X = Y} found behind r) fault result gives (judges_err X Y found other rest behind fault e h)
 

@@ -92,9 +92,7 @@ pub(crate) fn put_inputs<'a>(
             continue;
         }
         let code = input_line(tables, unit, instance, last);
-        if let Err(fault) = flat.put(code, line) {
-            return Err(fault);
-        }
+        flat.put(code, line)?;
     }
     Ok(())
 }
@@ -123,9 +121,7 @@ pub(crate) fn put_outputs<'a>(
             continue;
         }
         let code = output_line(tables, unit, instance, last);
-        if let Err(fault) = flat.put(code, line) {
-            return Err(fault);
-        }
+        flat.put(code, line)?;
     }
     Ok(())
 }

@@ -16,7 +16,7 @@ use wc_model::{Fault, Instr, Line, Word};
 use wc_names::Tables;
 
 /// How many of the flat lines that are there stand before a label.
-fn ahead<'a>(labels: &Labels<'a>, label: &[u8], count: usize) -> u32
+fn lines_ahead<'a>(labels: &Labels<'a>, label: &[u8], count: usize) -> u32
     ensures { (rest : Lines) → HoldsLabels labels.now rest count
         → IsNear rest (name_of label.now) → IsAhead rest result (name_of label.now) }
 {
@@ -34,7 +34,7 @@ fn instr_ahead<'a>(labels: &Labels<'a>, instr: &Instr<'a>, count: usize) -> u32
         → IsLineLayable scope (IsAhead rest result) (instr_line instr.now label) }
 {
     match instr {
-        Instr::Jump { label, .. } => ahead(labels, label, count),
+        Instr::Jump { label, .. } => lines_ahead(labels, label, count),
         Instr::Load { .. } => 0,
         Instr::Store { .. } => 0,
         Instr::Apply { .. } => 0,
@@ -83,9 +83,7 @@ fn put_line<'a>(
 {
     if let Some(instr) = &line.instr {
         let skip = instr_ahead(labels, instr, flat.len());
-        if let Err(fault) = put_instr(tables, unit, instr, skip, flat) {
-            return Err(fault);
-        }
+        put_instr(tables, unit, instr, skip, flat)?;
     }
     keep(labels, line.label, flat.len())
 }
@@ -108,9 +106,7 @@ pub fn flat_body<'a>(
         let Some(last) = lines.get(index) else {
             continue;
         };
-        if let Err(fault) = put_line(tables, unit, last, &mut labels, &mut flat) {
-            return Err(fault);
-        }
+        put_line(tables, unit, last, &mut labels, &mut flat)?;
     }
     Ok(flat)
 }

@@ -88,15 +88,9 @@ pub(crate) fn put_call<'a>(
         flat.old flat.new) }
     ensures memory { IsOkUnless result Fault.Memory }
 {
-    if let Err(fault) = put_outputs(tables, unit, instance, arguments, line, flat) {
-        return Err(fault);
-    }
-    if let Err(fault) = flat.put(body_line(tables, unit, instance), line) {
-        return Err(fault);
-    }
-    if let Err(fault) = put_inputs(tables, unit, instance, arguments, line, flat) {
-        return Err(fault);
-    }
+    put_outputs(tables, unit, instance, arguments, line, flat)?;
+    flat.put(body_line(tables, unit, instance), line)?;
+    put_inputs(tables, unit, instance, arguments, line, flat)?;
     let skip = call_length(arguments.len());
     flat.put(Code::Call { condition, skip }, line)
 }

@@ -42,12 +42,8 @@ impl Flat {
         ensures put { OnOk result (self.new ≡ put_line line source self.old) }
         ensures memory { IsOkUnless result Fault.Memory }
     {
-        if let Err(_) = self.code.push(line) {
-            return Err(Fault::Memory);
-        }
-        if let Err(_) = self.sources.push(source) {
-            return Err(Fault::Memory);
-        }
+        self.code.push(line).map_err(|_| Fault::Memory)?;
+        self.sources.push(source).map_err(|_| Fault::Memory)?;
         Ok(())
     }
 

@@ -36,12 +36,8 @@ fn put_nested<'a>(
         (lines_view inside.now.items) close) flat.old flat.new) }
     ensures memory { IsOkUnless result Fault.Memory }
 {
-    if let Err(fault) = flat.put(Code::Close { operator }, close) {
-        return Err(fault);
-    }
-    if let Err(fault) = put_inside(tables, unit, inside, flat) {
-        return Err(fault);
-    }
+    flat.put(Code::Close { operator }, close)?;
+    put_inside(tables, unit, inside, flat)?;
     flat.put(opening(tables, unit, operand), line)
 }
 
@@ -152,9 +148,7 @@ fn put_inside<'a>(
         let Some(last) = lines.get(index) else {
             continue;
         };
-        if let Err(fault) = put_inside_line(tables, unit, last, flat) {
-            return Err(fault);
-        }
+        put_inside_line(tables, unit, last, flat)?;
     }
     Ok(())
 }

@@ -1,5 +1,6 @@
 pub mod KeyNames
 pub mod Lists
+pub mod HandedOn
 pub mod Places
 pub mod Positions
 pub mod Frames

@@ -17,6 +17,6 @@ loop-index-preserved c = λ bounds are.
     let code = c.args.code.now in
     let sources = c.args.sources.now in
     let e : c.loop-index.left ≡ 0 = omega arith in
-    executed bounds code sources i c.loop-index.left c.passed-left.result c.in-Some.line.now c.loop-index.lines.items c.list.new.lines.items c.in-Some.ensures.lookup.3.0 c.in-Some.ensures.lookup.1 e
-    (c.passed-left.ensures bounds (slice_index sources i) (worst_from bounds (drop (i + 1) code) (drop (i + 1) sources)) (behind_all bounds code c.args.ways.now are sources (i + 1)))
-    (c.in_default-list.ensures.listed ∙ ap (λ s. c.loop-index.lines.items ++ own_source c.in-Some.line.now s) c.source_at.ensures) (c.loop-index.invariant bounds are)
+    executed bounds code sources i c.loop-index.left c.lines_passed-left.result c.in-Some.line.now c.loop-index.lines.items c.list.new.lines.items c.in-Some.ensures.lookup.3.0 c.in-Some.ensures.lookup.1 e
+    (c.lines_passed-left.ensures bounds (slice_index sources i) (worst_from bounds (drop (i + 1) code) (drop (i + 1) sources)) (behind_all bounds code c.args.ways.now are sources (i + 1)))
+    (c.in_ok-list.ensures.listed ∙ ap (λ s. c.loop-index.lines.items ++ own_source c.in-Some.line.now s) c.source_at.ensures) (c.loop-index.invariant bounds are)

@@ -44,7 +44,7 @@ loop-index-preserved c = λ scope is may.
     let so_far = subst (λ k. AddsArguments scope instance c.args.line (inputs_of (map assignment_view (drop k items))) c.args.flat.now c.loop-index.flat) (sym next) (c.loop-index.invariant scope is may) in
     subst (λ xs. AddsArguments scope instance c.args.line xs c.args.flat.now c.put.new.self) (sym (ap inputs_of (ap (map assignment_view) cut) ∙ one_in a rest goes))
     (one_added scope instance c.args.line a (inputs_of rest) c.args.flat.now c.loop-index.flat c.put.new.self c.input_line-code.result
-    (c.input_line-code.ensures scope is asked.0 asked.1) so_far c.in_default-put.ensures.put)
+    (c.input_line-code.ensures scope is asked.0 asked.1) so_far c.in_ok-put.ensures.put)
 
 pub returns-clause-put : goal.returns-clause-put
 returns-clause-put c = λ scope is may.

@@ -44,7 +44,7 @@ loop-index-preserved c = λ scope is may.
     let so_far = subst (λ k. AddsOutputs scope instance c.args.line (outputs_of (map assignment_view (drop k items))) c.args.flat.now c.loop-index.flat) (sym next) (c.loop-index.invariant scope is may) in
     subst (λ xs. AddsOutputs scope instance c.args.line xs c.args.flat.now c.put.new.self) (sym (ap outputs_of (ap (map assignment_view) cut) ∙ one_out a rest goes))
     (one_given scope instance c.args.line a (outputs_of rest) c.args.flat.now c.loop-index.flat c.put.new.self c.output_line-code.result
-    (c.output_line-code.ensures scope is asked.0 asked.1) so_far c.in_default-put.ensures.put)
+    (c.output_line-code.ensures scope is asked.0 asked.1) so_far c.in_ok-put.ensures.put)
 
 pub returns-clause-put : goal.returns-clause-put
 returns-clause-put c = λ scope is may.

@@ -10,8 +10,8 @@ use Rattle.wc_laying.proofs.body.instr_ahead.Goals as goal
 
 pub returns-in-Jump : goal.returns-in-Jump
 returns-in-Jump c = λ rest scope label holds may.
-    as_near scope rest c.ahead.result (instr_line c.args.instr.now label) (PlainLine label c.in-Jump.line (Jump c.in-Jump.condition (name_of c.in-Jump.label.now))) (ap (λ i. instr_line i label) c.in-Jump.is ∙ line_jump c.in-Jump.condition c.in-Jump.label c.in-Jump.line label)
-    (λ h. c.ahead.ensures rest holds h) may
+    as_near scope rest c.lines_ahead.result (instr_line c.args.instr.now label) (PlainLine label c.in-Jump.line (Jump c.in-Jump.condition (name_of c.in-Jump.label.now))) (ap (λ i. instr_line i label) c.in-Jump.is ∙ line_jump c.in-Jump.condition c.in-Jump.label c.in-Jump.line label)
+    (λ h. c.lines_ahead.ensures rest holds h) may
 
 pub returns-in-Load : goal.returns-in-Load
 returns-in-Load c = λ rest scope label holds may.

@@ -14,6 +14,6 @@ returns-clause-put c =
     let instance = name_of c.args.instance.now in
     let arguments = map assignment_view c.args.arguments.now in
     let count : length arguments ≡ length c.args.arguments.now = length-map c.args.arguments.now assignment_view in
-    call_added scope rest c.args.condition instance arguments c.args.line c.args.flat.now c.put_outputs.new.flat c.put.new.self c.put_inputs.new.flat c.put-2.new.self c.body_line.result c.call_length-skip.result (c.in_default.ensures.put scope is may) (c.body_line.ensures scope is callable) c.in_default-put.ensures.put
-    (c.in_default-put_inputs.ensures.put scope is may) (c.call_length-skip.ensures (subst (λ n. n < 65536) count few) ∙ ap (λ n. 1 + n) (sym count)) put)
+    call_added scope rest c.args.condition instance arguments c.args.line c.args.flat.now c.put_outputs.new.flat c.put.new.self c.put_inputs.new.flat c.put-2.new.self c.body_line.result c.call_length-skip.result (c.in_ok-put_outputs.ensures.put scope is may) (c.body_line.ensures scope is callable) c.in_ok-put.ensures.put
+    (c.in_ok-put_inputs.ensures.put scope is may) (c.call_length-skip.ensures (subst (λ n. n < 65536) count few) ∙ ap (λ n. 1 + n) (sym count)) put)
     c.put-2.ensures.put

@@ -89,7 +89,7 @@ put_nested-returns-clause-put t c =
     on_ok c.put-2.result
     (λ put scope rest label is opens inner.
     nested_added scope rest label c.args.line c.args.operator (option_map term_view c.args.operand.now) (lines_view c.args.inside.now.items) c.args.close c.args.flat.now c.put.new.self c.put_inside.new.flat c.put-2.new.self c.opening.result
-    c.in_default.ensures.put (c.in_default-put_inside.ensures.put scope is inner) (c.opening.ensures scope is opens) put)
+    c.in_ok-put.ensures.put (c.in_ok-put_inside.ensures.put scope is inner) (c.opening.ensures scope is opens) put)
     c.put-2.ensures.put
 
 pub put_inside_line-returns-in-Some-clause-put : goal.put_inside_line-returns-in-Some-clause-put
@@ -126,7 +126,7 @@ put_inside-loop-index-preserved t c = λ scope is may.
     let here = subst (λ xs. IsInsideLayable scope (lines_view xs)) cut (inside_from scope i items may) in
     let so_far = subst (λ k. AddsLines scope (lines_view (drop k items)) c.args.flat.now c.loop-index.flat) (sym next) (c.loop-index.invariant scope is may) in
     subst (λ xs. AddsLines scope (lines_view xs) c.args.flat.now c.put_inside_line.new.flat) (sym cut)
-    (c.in_default-put_inside_line.ensures.put scope (lines_view (drop (i + 1) items)) c.args.flat.now is here so_far)
+    (c.in_ok-put_inside_line.ensures.put scope (lines_view (drop (i + 1) items)) c.args.flat.now is here so_far)
 
 pub put_inside-returns-clause-put : goal.put_inside-returns-clause-put
 put_inside-returns-clause-put t c = λ scope is may.

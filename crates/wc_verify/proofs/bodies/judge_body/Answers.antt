@@ -6,7 +6,7 @@ use Rattle.wc_model.specs.Language.Kinds.{lines_of}
 use Rattle.wc_model.specs.Language.Views.{lines_view}
 use Rattle.wc_verify.specs.Bodies.{GetsTo, asked_of}
 use Rattle.wc_verify.specs.Rows.{row_at}
-use Rattle.wc_declare.proofs.Judging.{handed_on}
+use Rattle.wc_names.proofs.HandedOn.{handed_on}
 use Rattle.wc_verify.proofs.BodySteps.{body_fault, goes_further}
 use Rattle.wc_verify.proofs.InstrLines.{first_seen}
 use Rattle.wc_verify.proofs.bodies.judge_body.Goals as goal

@@ -4,7 +4,7 @@ use Rattle.wc_model.specs.Language.Views.{line_view, word_view}
 use Rattle.wc_verify.specs.Bodies.{GetsTo, GoesTo}
 use Rattle.wc_verify.specs.Instructions.{instr_line}
 use Rattle.wc_verify.specs.Rows.{jumped_row, row_named}
-use Rattle.wc_declare.proofs.Judging.{handed_on}
+use Rattle.wc_names.proofs.HandedOn.{handed_on}
 use Rattle.wc_verify.proofs.BodyLines.{label_kept}
 use Rattle.wc_verify.proofs.BodySteps.{IsEntered, alone_judged, at_label, counts_entered, given_kept, label_refused, line_judged}
 use Rattle.wc_verify.proofs.InstrLines.{lines_put, view_instr, view_none}

@@ -3,7 +3,7 @@ use Rattle.std.specs.Prelude.{if◌then◌else◌}
 use Rattle.wc_model.specs.Language.Kinds.{leaves}
 use Rattle.wc_verify.specs.Instructions.{instr_line}
 use Rattle.wc_verify.specs.declared.ways.Way.TheVariants.{Unseen, Agreed}
-use Rattle.wc_declare.proofs.Judging.{handed_on}
+use Rattle.wc_names.proofs.HandedOn.{handed_on}
 use Rattle.wc_verify.specs.Bodies.{HandsOn}
 use Rattle.wc_verify.proofs.BodySteps.{hands_fault}
 use Rattle.wc_verify.proofs.bodies.judge_step.Goals as goal

@@ -9,7 +9,8 @@ use Rattle.wc_model.specs.Language.Views.{assignment_view, line_view, lines_view
 use Rattle.wc_model.specs.declared.tree.Argument.{Argument}
 use Rattle.wc_verify.specs.Instructions.{GoesInside, GoesOn, SaysAhead, instr_line}
 use Rattle.wc_verify.proofs.InstrLines.{first_seen, inside_fault, inside_line, inside_more, line_apply, line_call, line_defer, line_jump, line_load, line_not, line_return, line_store, none_ahead, same_line, view_instr}
-use Rattle.wc_declare.proofs.Judging.{handed_on, judges_ok}
+use Rattle.wc_declare.proofs.Judging.{judges_ok}
+use Rattle.wc_names.proofs.HandedOn.{handed_on}
 use Rattle.wc_verify.proofs.Nesting as nesting
 use Rattle.wc_verify.proofs.inside.+inside.Goals as goal
 

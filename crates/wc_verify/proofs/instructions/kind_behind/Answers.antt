@@ -1,4 +1,4 @@
-use Rattle.wc_declare.proofs.Judging.{handed_on}
+use Rattle.wc_names.proofs.HandedOn.{handed_on}
 use Rattle.wc_verify.specs.Instructions.{GoesOn}
 use Rattle.wc_verify.proofs.Going.{goes_wrong}
 use Rattle.wc_verify.proofs.instructions.kind_behind.Goals as goal

@@ -12,8 +12,8 @@ use Rattle.wc_cost.specs.Ways.{AreSmall, AreWays}
 use Rattle.wc_cost.specs.declared.laid.LaidUnit.{LaidUnit}
 use Rattle.wc_cost.proofs.loaded.Loaded.worst_path.Goals as goal
 
-pub returns-in-Ok-clause-worst : goal.returns-in-Ok-clause-worst
-returns-in-Ok-clause-worst c =
+pub returns-clause-worst : goal.returns-clause-worst
+returns-clause-worst c =
     let inside = c.self.inside in
     let sound = c.self.invariant in
     let units = inside.units.items in
@@ -26,13 +26,13 @@ returns-in-Ok-clause-worst c =
     in
     let there = slice_get_read units (length units) c.args.unit unit refl within c.index-laid.ensures in
     let short = code_short sound.sound.read.0 text sound.sound.read.1 units sound.sound.laid c.args.unit unit there in
-    let ways = c.in-Ok.ensures.ways (subst (λ (us : List LaidUnit). AreSmall (bounds_of us)) (sym c.deref.ensures.value) sound.small) (subst (λ (l : List Code). length l ≤ 65536) (sym c.deref-2.ensures.value) short) in
-    let those : AreWays (bounds_of units) c.deref-in-Ok-2.result.now c.deref-in-Ok.result.now = λ sources.
-    c.deref-in-Ok.ensures.value ∙ ways sources
-    ∙ (λ i. Rattle.wc_cost.specs.Ways.steps_of (Rattle.wc_flat.specs.FlatPaths.worst_from (bounds_of (c.deref.ensures.value i)) ((c.deref-2.ensures.value ∙ sym c.deref-in-Ok-2.ensures.value) i) sources))
+    let ways = c.in_ok-ways.ensures.ways (subst (λ (us : List LaidUnit). AreSmall (bounds_of us)) (sym c.deref.ensures.value) sound.small) (subst (λ (l : List Code). length l ≤ 65536) (sym c.deref-2.ensures.value) short) in
+    let those : AreWays (bounds_of units) c.deref-4.result.now c.deref-3.result.now = λ sources.
+    c.deref-3.ensures.value ∙ ways sources
+    ∙ (λ i. Rattle.wc_cost.specs.Ways.steps_of (Rattle.wc_flat.specs.FlatPaths.worst_from (bounds_of (c.deref.ensures.value i)) ((c.deref-2.ensures.value ∙ sym c.deref-4.ensures.value) i) sources))
     in
     subst (λ (v : LoadedText). Rattle.std.specs.Prelude.IfOk c.worst_lines.result (λ lines. AreWorstAt (text_view v.source) c.args.unit lines.items)) c.self.view_is
     (IfOk-weaker c.worst_lines.result _ _
     (λ lines e. worst_stands sound.sound.read.0 text sound.sound.read.1 units sound.sound.laid sound.bounds sound.lines c.args.unit unit there lines.items
-    (e (bounds_of units) those ∙ (λ i. (worst_of (bounds_of units) (c.deref-in-Ok-2.ensures.value i) (c.deref-in-Ok-3.ensures.value i)).lines)))
+    (e (bounds_of units) those ∙ (λ i. (worst_of (bounds_of units) (c.deref-4.ensures.value i) (c.deref-5.ensures.value i)).lines)))
     c.worst_lines.ensures.lines)

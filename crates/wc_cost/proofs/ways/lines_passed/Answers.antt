@@ -1,5 +1,5 @@
 use Rattle.wc_cost.proofs.WorstWays.{call_way, jump_way, other_way, return_way}
-use Rattle.wc_cost.proofs.ways.passed.Goals as goal
+use Rattle.wc_cost.proofs.ways.lines_passed.Goals as goal
 
 pub returns-in-Jump : goal.returns-in-Jump
 returns-in-Jump c = λ bounds source rest are. jump_way bounds source rest c.args.line.now c.in-Jump.condition c.in-Jump.skip c.choose.result c.in-Jump.is (c.choose.ensures rest are)

@@ -2,7 +2,7 @@ use Rattle.std.proofs.Common.{sym, ◌∙◌}
 use Rattle.wc_model.specs.Language.Declarations.{named_in}
 use Rattle.wc_model.specs.Language.Names.{name_of}
 use Rattle.wc_laying.proofs.LabelsLaid.{found_ahead, not_ahead}
-use Rattle.wc_laying.proofs.body.ahead.Goals as goal
+use Rattle.wc_laying.proofs.body.lines_ahead.Goals as goal
 
 pub returns-in-Some : goal.returns-in-Some
 returns-in-Some c = λ rest holds near.

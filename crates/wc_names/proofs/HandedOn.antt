@@ -1,0 +1,8 @@
+-- What is so of a fault is so of it where it is handed on.
+use Rattle.std.proofs.Common.{◌≡◌, Result, Ok, Err, sym, subst}
+use Rattle.std.specs.Result.{IsErr, IsErrAnd}
+use Rattle.wc_model.specs.declared.fault.Fault.{Fault}
+
+pub handed_on : {X : Type 0} (holds : Result X Fault → Type 0) (fault : Fault) (result : Result X Fault) → IsErr result × IsErrAnd result (λ e. e ≡ fault) → holds (Err fault) → holds result
+handed_on holds fault (Ok x) gives h = absurd gives.1
+handed_on holds fault (Err f) gives h = subst (λ x. holds (Err x)) (sym gives.1) h
