@@ -8,7 +8,7 @@ ghost use Rattle.wc_model.specs.Language.Views.{assignment_view, line_view, line
 ghost use Rattle.wc_model.specs.Language.Judging.{Judges};
 
 use crate::reserved::is_reserved;
-use crate::word::refused;
+use crate::word::refusal;
 use wc_built_in::variable_at;
 use wc_model::{Argument, Fault, Instr, Line, Operand, Word};
 
@@ -23,7 +23,7 @@ fn judge_label<'a>(label: Option<Word<'a>>) -> Result<(), Fault>
     match label {
         Some(word) => {
             if is_reserved(word.text) {
-                Err(refused(307, word.line))
+                Err(refusal(307, word.line))
             } else {
                 Ok(())
             }
@@ -44,11 +44,11 @@ fn judge_operand<'a>(in_block: bool, operand: &Operand<'a>) -> Result<(), Fault>
         return Ok(());
     };
     if in_block {
-        return Err(refused(305, word.line));
+        return Err(refusal(305, word.line));
     }
     match variable_at(word.text) {
         Some(_) => Ok(()),
-        None => Err(refused(304, word.line)),
+        None => Err(refusal(304, word.line)),
     }
 }
 

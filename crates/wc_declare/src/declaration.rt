@@ -17,7 +17,7 @@ use crate::room::add_variable;
 use crate::type_names::is_type_word;
 use crate::types::{block, type_at, width};
 use crate::units::Units;
-use crate::word::refused;
+use crate::word::refusal;
 use wc_model::{Decl, Fault, Initial, Kind, Section, Unit, Value, Word};
 use wc_names::{DeclaredType, Names, UnitTable, Variable};
 
@@ -37,12 +37,12 @@ pub(crate) fn declare_name<'a>(names: &mut Names<'a>, word: Word<'a>) -> Result<
         (λ fault. fault ≡ Fault.Memory → is_among reserved_words (name_view word.entry) ≡ false) }
 {
     if is_reserved(word.text) {
-        return Err(refused(307, word.line));
+        return Err(refusal(307, word.line));
     }
     if names.add(word.text)? {
         Ok(())
     } else {
-        Err(refused(301, word.line))
+        Err(refusal(301, word.line))
     }
 }
 
@@ -106,15 +106,15 @@ fn judge_type<'a>(units: &Units<'a>, declaration: &Decl<'a>) -> Result<DeclaredT
 {
     let word = declaration.type_name;
     if !is_closed_before(units, word.text) {
-        return Err(refused(308, word.line));
+        return Err(refusal(308, word.line));
     }
     let Some(declared) = type_at(units, word.text) else {
-        return Err(refused(302, word.line));
+        return Err(refusal(302, word.line));
     };
     if stands_in(declaration.section, declared) {
         Ok(declared)
     } else {
-        Err(refused(302, word.line))
+        Err(refusal(302, word.line))
     }
 }
 
@@ -164,7 +164,7 @@ fn judge_initial<'a>(declaration: &Decl<'a>, declared: DeclaredType) -> Result<(
     if suits(declared, initial.value) {
         Ok(())
     } else {
-        Err(refused(303, initial.line))
+        Err(refusal(303, initial.line))
     }
 }
 

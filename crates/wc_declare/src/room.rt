@@ -6,7 +6,7 @@ ghost use Rattle.wc_names.specs.Numbered.{plain_of_field};
 ghost use Rattle.wc_names.specs.Spelled.{is_elementary, spelled, spelled_in_table, spelled_where};
 ghost use Rattle.wc_declare.specs.Rows.{HasTaken, plain_of};
 
-use crate::word::refused;
+use crate::word::refusal;
 use wc_model::{Fault, MOST_PLACES, MOST_VARIABLES, Place, Word};
 use wc_names::{DeclaredType, Field, UnitTable, Variable};
 
@@ -77,7 +77,7 @@ pub(crate) fn add_variable<'a>(
     ensures is_block { OnOk result (table.new.is_block ≡ table.old.is_block) }
 {
     let Some(end) = room(table.rows.len(), table.size, width) else {
-        return Err(refused(306, word.line));
+        return Err(refusal(306, word.line));
     };
     table.rows.push(variable).map_err(|_| Fault::Memory)?;
     push_field(&mut table.fields, word, variable)?;

@@ -15,7 +15,7 @@ use crate::body::judge_body;
 use crate::declaration::judge_declarations;
 use crate::reserved::is_reserved;
 use crate::units::Units;
-use crate::word::refused;
+use crate::word::refusal;
 use std::alloc::Global;
 use wc_model::{Fault, Unit, UnitKind, Word};
 use wc_names::{Names, UnitTable};
@@ -42,10 +42,10 @@ fn judge_name<'a>(names: &Names<'a>, word: Word<'a>) -> Result<(), Fault>
     ensures refuses { IfErr result (λ fault. fault ≡ Fault.Memory → ⊥) }
 {
     if is_reserved(word.text) {
-        return Err(refused(307, word.line));
+        return Err(refusal(307, word.line));
     }
     if names.contains(word.text) {
-        return Err(refused(301, word.line));
+        return Err(refusal(301, word.line));
     }
     Ok(())
 }

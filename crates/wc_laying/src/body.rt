@@ -10,13 +10,13 @@ ghost use Rattle.wc_verify.specs.Seeing.{IsScope};
 
 use crate::flat::Flat;
 use crate::inside::put_instr;
-use crate::labels::Labels;
+use crate::labels::LabelCounts;
 use std::alloc::Global;
 use wc_model::{Fault, Instr, Line, Word};
 use wc_names::Tables;
 
 /// How many of the flat lines that are there stand before a label.
-fn lines_ahead<'a>(labels: &Labels<'a>, label: &[u8], count: usize) -> u32
+fn lines_ahead<'a>(labels: &LabelCounts<'a>, label: &[u8], count: usize) -> u32
     ensures { (rest : Lines) → HoldsLabels labels.now rest count
         → IsNear rest (name_of label.now) → IsAhead rest result (name_of label.now) }
 {
@@ -27,7 +27,7 @@ fn lines_ahead<'a>(labels: &Labels<'a>, label: &[u8], count: usize) -> u32
 }
 
 /// How far ahead an instruction's label is; 0 where it names none.
-fn instr_ahead<'a>(labels: &Labels<'a>, instr: &Instr<'a>, count: usize) -> u32
+fn instr_ahead<'a>(labels: &LabelCounts<'a>, instr: &Instr<'a>, count: usize) -> u32
     ensures { (rest : Lines) (scope : Scope) (label : Option LabelWord)
         → HoldsLabels labels.now rest count
         → IsLineLayable scope (IsNear rest) (instr_line instr.now label)
@@ -56,7 +56,11 @@ fn distance(left: usize, count: usize) -> u32
 }
 
 /// Keeps a line's label, where it has one.
-fn keep<'a>(labels: &mut Labels<'a>, label: Option<Word<'a>>, count: usize) -> Result<(), Fault>
+fn keep<'a>(
+    labels: &mut LabelCounts<'a>,
+    label: Option<Word<'a>>,
+    count: usize,
+) -> Result<(), Fault>
     ensures kept { OnOk result
         (KeepsLabel (option_map word_view label.entry) count labels.old labels.new) }
     ensures memory { IsOkUnless result Fault.Memory }
@@ -72,7 +76,7 @@ fn put_line<'a>(
     tables: &Tables<'a>,
     unit: usize,
     line: &Line<'a>,
-    labels: &mut Labels<'a>,
+    labels: &mut LabelCounts<'a>,
     flat: &mut Flat,
 ) -> Result<(), Fault>
     ensures put { OnOk result
@@ -101,7 +105,7 @@ pub fn flat_body<'a>(
     ensures memory { IsOkUnless result Fault.Memory }
 {
     let mut flat = Flat::new(alloc);
-    let mut labels = Labels::new(alloc);
+    let mut labels = LabelCounts::new(alloc);
     for index in (0..lines.len()).rev() {
         let Some(last) = lines.get(index) else {
             continue;

@@ -11,22 +11,22 @@ use wc_names::Key;
 
 /// The labels of a body, with how many flat lines there are from each to the last.
 #[derive(Drop)]
-pub(crate) struct Labels<'a> {
+pub(crate) struct LabelCounts<'a> {
     entries: IndexMap<Key<'a>, usize>,
 }
 
-impl<'a> Model for Labels<'a> {
+impl<'a> Model for LabelCounts<'a> {
     ghost Value = { List (Name × ℕ) };
 
     ghost view = { λ l. named_rows l.entries.entries };
 }
 
-impl<'a> Labels<'a> {
+impl<'a> LabelCounts<'a> {
     /// No labels.
-    pub(crate) fn new(alloc: Global) -> Labels<'a>
+    pub(crate) fn new(alloc: Global) -> LabelCounts<'a>
         ensures { result ≡ [] }
     {
-        Labels {
+        LabelCounts {
             entries: IndexMap::new(alloc),
         }
     }

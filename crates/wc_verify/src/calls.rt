@@ -14,7 +14,7 @@ ghost use Rattle.wc_verify.specs.Found.{first_at};
 ghost use Rattle.wc_verify.specs.Calls.{HoldsNames, is_numbered_instance};
 ghost use Rattle.wc_verify.specs.Seeing.{IsScope, IsSeen};
 
-use crate::first::{first_of, refuse, refused, unless};
+use crate::first::{first_of, refusal, refuse, unless};
 use crate::refusals::{is_of_kind, judge_condition, judge_reading, judge_writing};
 use crate::seen::{Seen, see};
 use std::alloc::Global;
@@ -98,11 +98,11 @@ fn judge_argument<'a>(
         → HoldsNames names.new (assignment_view argument.now ∷ before)) }
 {
     let Some(formal) = tables.formal(declared, argument.direction, argument.name) else {
-        return Err(refused(409, line));
+        return Err(refusal(409, line));
     };
     let new = names.add(argument.name)?;
     if !new {
-        return Err(refused(410, line));
+        return Err(refusal(410, line));
     }
     let seen = see(tables, unit, &argument.value);
     let found = judge_actual(argument.direction, formal.kind, &argument.value, seen);
@@ -177,13 +177,13 @@ pub(crate) fn judge_call<'a>(
     ensures room { IfErr result (λ fault. fault ≡ Fault.Memory → 0 < length arguments.now) }
 {
     let Some(declared) = type_of(tables, unit, instance) else {
-        return Err(refused(401, line));
+        return Err(refusal(401, line));
     };
     if !is_instance(declared) {
-        return Err(refused(402, line));
+        return Err(refusal(402, line));
     }
     match judge_condition(condition, kind) {
-        Some(number) => Err(refused(number, line)),
+        Some(number) => Err(refusal(number, line)),
         None => judge_arguments(alloc, tables, unit, declared, arguments, line),
     }
 }

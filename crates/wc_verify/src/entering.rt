@@ -10,9 +10,9 @@ ghost use Rattle.wc_model.specs.Language.Views.{word_view};
 ghost use Rattle.wc_verify.specs.Rows.{entered_row, row_named, way_to};
 ghost use Rattle.wc_verify.specs.Ways.{joined_ways, kind_of_way};
 
-use crate::first::refused;
+use crate::first::refusal;
 use crate::labels::{Labels, Row};
-use crate::ways::{Way, joined, kind_of};
+use crate::ways::{Way, joined_ways, kind_of};
 use wc_model::{Fault, Kind, Word};
 
 /// Enters a line with a label, from the way above: 407 where the label was given already.
@@ -36,7 +36,7 @@ fn enter_label<'a>(
 {
     let row = labels.row(word.text);
     if row.given {
-        return Err(refused(407, word.line));
+        return Err(refusal(407, word.line));
     }
     let entered = Row {
         ahead: row.ahead.saturating_sub(1),
@@ -44,7 +44,7 @@ fn enter_label<'a>(
         way: Way::Unseen,
     };
     labels.set(word.text, entered)?;
-    Ok(kind_of(joined(above, row.way)))
+    Ok(kind_of(joined_ways(above, row.way)))
 }
 
 /// Enters a line, from the way above: the kind of the result before its instruction.
@@ -69,6 +69,6 @@ pub(crate) fn enter<'a>(
 {
     match label {
         Some(word) => enter_label(labels, word, above),
-        None => Ok(kind_of(joined(above, Way::Unseen))),
+        None => Ok(kind_of(joined_ways(above, Way::Unseen))),
     }
 }

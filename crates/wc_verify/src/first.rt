@@ -25,7 +25,7 @@ pub(crate) fn first_of(first: Option<u16>, then: Option<u16>) -> Option<u16>
 }
 
 /// A refusal.
-pub(crate) fn refused(number: u16, place: u32) -> Fault
+pub(crate) fn refusal(number: u16, place: u32) -> Fault
     ensures { result ≡ Fault.Refused number place }
 {
     Fault::Refused { number, place }
@@ -39,7 +39,7 @@ pub(crate) fn refuse(number: Option<u16>, line: u32) -> Result<(), Fault>
     ensures refuses { IfErr result (λ fault. fault ≡ Fault.Memory → ⊥) }
 {
     match number {
-        Some(number) => Err(refused(number, line)),
+        Some(number) => Err(refusal(number, line)),
         None => Ok(()),
     }
 }

@@ -43,7 +43,7 @@ pub(crate) fn with_way(kind: Option<Kind>, way: Way) -> Way
 }
 
 /// The way from the line above, and then the others.
-pub(crate) fn joined(above: Way, others: Way) -> Way
+pub(crate) fn joined_ways(above: Way, others: Way) -> Way
     ensures { result ≡ joined_ways above others }
 {
     match above {

@@ -12,6 +12,6 @@ returns-then-suits-clause-judged c = λ before rest e.
 
 pub returns-else-suits-clause-judged : goal.returns-else-suits-clause-judged
 returns-else-suits-clause-judged c = λ before rest e.
-    rw c.refused.ensures (
+    rw c.refusal.ensures (
     initial_found before (declaration_view c.args.declaration.now) c.in-Some.initial c.args.declared rest c.in-Some.is e
     ∙ ap (λ b. if b then first_broken rest else Some (record { number = 303; line = c.in-Some.initial.line })) (sym c.suits.ensures ∙ c.if-suits.false))

@@ -10,7 +10,7 @@ pub returns-in_default-clause-judged : goal.returns-in_default-clause-judged
 returns-in_default-clause-judged c = λ text before rest h.
     let d = c.args.declaration.now in
     let name = name_of d.type_name.text.now in
-    rw c.refused-in_default.ensures (
+    rw c.refusal-in_default.ensures (
     passed 308 d.type_name.line _ (asks 302 d.type_name.line (is_usable_type before d.section name) ∷ rest) (sym (c.is_closed_before.ensures text before h) ∙ c.if-not-is_closed_before.false)
     ∙ broken 302 d.type_name.line (is_usable_type before d.section name) rest (unusable_type before d.section name (sym (c.type_at.ensures.declared text before h) ∙ c.in_default.is)))
 
@@ -28,7 +28,7 @@ pub returns-else-stands_in-clause-judged : goal.returns-else-stands_in-clause-ju
 returns-else-stands_in-clause-judged c = λ text before rest h.
     let d = c.args.declaration.now in
     let name = name_of d.type_name.text.now in
-    rw c.refused-else-stands_in.ensures (
+    rw c.refusal-else-stands_in.ensures (
     passed 308 d.type_name.line _ (asks 302 d.type_name.line (is_usable_type before d.section name) ∷ rest) (sym (c.is_closed_before.ensures text before h) ∙ c.if-not-is_closed_before.false)
     ∙ broken 302 d.type_name.line (is_usable_type before d.section name) rest (usable_type before d.section name c.in-Some.declared (sym (c.type_at.ensures.declared text before h) ∙ c.in-Some.is) ∙ sym c.stands_in.ensures ∙ c.if-stands_in.false))
 

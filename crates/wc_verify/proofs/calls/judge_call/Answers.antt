@@ -13,13 +13,13 @@ use Rattle.wc_verify.proofs.calls.judge_call.Goals as goal
 pub returns-then-not-is_instance-clause-judged : goal.returns-then-not-is_instance-clause-judged
 returns-then-not-is_instance-clause-judged c = λ scope rest is.
     let typed = type_parts scope (type_of scope (name_of c.args.instance.now)) c.in-Some.declared (c.in-Some.ensures.declared scope is) in
-    rw c.refused-then-not-is_instance.ensures (no_instance_found scope c.args.line c.args.condition (type_of scope (name_of c.args.instance.now)) (map assignment_view c.args.arguments.now) c.args.kind rest c.in-Some.declared typed (sym c.if-not-is_instance.ensures))
+    rw c.refusal-then-not-is_instance.ensures (no_instance_found scope c.args.line c.args.condition (type_of scope (name_of c.args.instance.now)) (map assignment_view c.args.arguments.now) c.args.kind rest c.in-Some.declared typed (sym c.if-not-is_instance.ensures))
 
 pub returns-in-Some-judge_condition-clause-judged : goal.returns-in-Some-judge_condition-clause-judged
 returns-in-Some-judge_condition-clause-judged c = λ scope rest is.
     let typed = type_parts scope (type_of scope (name_of c.args.instance.now)) c.in-Some.declared (c.in-Some.ensures.declared scope is) in
     let arguments = map assignment_view c.args.arguments.now in
-    rw c.refused-in-Some-judge_condition.ensures (instance_found scope c.args.line c.args.condition (type_of scope (name_of c.args.instance.now)) arguments c.args.kind rest c.in-Some.declared typed (sym c.if-not-is_instance.ensures)
+    rw c.refusal-in-Some-judge_condition.ensures (instance_found scope c.args.line c.args.condition (type_of scope (name_of c.args.instance.now)) arguments c.args.kind rest c.in-Some.declared typed (sym c.if-not-is_instance.ensures)
     ∙ c.in-Some-judge_condition.ensures c.args.line (flat_map (argument_checks scope c.args.line (members_of scope.before typed.type)) (spots_of arguments) ++ rest))
 
 pub returns-in-None-clause-judged : goal.returns-in-None-clause-judged

@@ -2,7 +2,7 @@ use Rattle.std.proofs.Common.{ap, ◌∙◌}
 use Rattle.wc_model.specs.Language.Declarations.{named_in}
 use Rattle.wc_model.specs.Language.Names.{name_of}
 use Rattle.wc_verify.proofs.LabelRows.{looked_up}
-use Rattle.wc_laying.proofs.labels.Labels.get.Goals as goal
+use Rattle.wc_laying.proofs.labels.LabelCounts.get.Goals as goal
 
 pub returns-in-Some : goal.returns-in-Some
 returns-in-Some c = c.in-Some.ensures.value ∙ looked_up (record { text = c.args.name }) c.self.inside.entries.entries ∙ ap (λ rows. named_in rows (name_of c.args.name.now)) c.self.view_is

@@ -4,8 +4,8 @@ use Rattle.wc_model.specs.Language.Declarations.{named_in, same_name}
 use Rattle.wc_model.specs.Language.Names.{name_of}
 use Rattle.wc_verify.specs.Rows.{named_rows}
 use Rattle.wc_verify.proofs.LabelRows.{kept}
-use Rattle.wc_laying.proofs.labels.Labels.set.Goals as goal
-use Rattle.wc_laying.proofs.labels.Labels.set.Goals.{in-Ok, in-Err}
+use Rattle.wc_laying.proofs.labels.LabelCounts.set.Goals as goal
+use Rattle.wc_laying.proofs.labels.LabelCounts.set.Goals.{in-Ok, in-Err}
 
 pub returns-clause-rows : goal.returns-clause-rows
 returns-clause-rows c = elim c.match-insert.branch [
