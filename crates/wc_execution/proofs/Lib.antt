@@ -7,3 +7,4 @@ pub mod Behind
 pub mod Filling
 pub mod Lefts
 pub mod BodyLines
+pub mod Bits

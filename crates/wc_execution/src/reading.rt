@@ -7,8 +7,9 @@ use wc_store::Store;
 pub fn number_at<S: Store>(store: &S, place: Place) -> Option<i64>
     ensures { result ≡ slice_get (S.numbers store.now) place.0 }
 {
-    if usize::from(place.0) < store.size() {
-        Some(store.get(place))
+    let at = usize::from(place.0);
+    if at < store.size() {
+        Some(store.get(at))
     } else {
         None
     }

@@ -4,7 +4,6 @@ ghost use Rattle.wc_execution.specs.Lines.{AreBefore};
 ghost use Rattle.wc_model.specs.Language.Frames.{bit_number};
 ghost use Rattle.wc_model.specs.declared.kind.SlotKind.TheVariants as slots;
 
-use wc_model::Place;
 use wc_store::Store;
 
 /// Writes a BOOL of a block.
@@ -17,7 +16,7 @@ pub(crate) fn set_truth<S: Store>(store: &mut S, at: usize, truth: bool)
     ensures moments { (now : ℕ) → AreBefore now (S.slot_kinds store.old) (S.numbers store.old)
         → AreBefore now (S.slot_kinds store.new) (S.numbers store.new) }
 {
-    store.set(Place(at as u16), i64::from(truth));
+    store.set(at, i64::from(truth));
 }
 
 /// Writes a DINT of a block.
@@ -30,7 +29,7 @@ pub(crate) fn set_count<S: Store>(store: &mut S, at: usize, count: i32)
     ensures moments { (now : ℕ) → AreBefore now (S.slot_kinds store.old) (S.numbers store.old)
         → AreBefore now (S.slot_kinds store.new) (S.numbers store.new) }
 {
-    store.set(Place(at as u16), i64::from(count));
+    store.set(at, i64::from(count));
 }
 
 /// Writes a TIME of a block.
@@ -43,7 +42,7 @@ pub(crate) fn set_time<S: Store>(store: &mut S, at: usize, time: i32)
     ensures moments { (now : ℕ) → AreBefore now (S.slot_kinds store.old) (S.numbers store.old)
         → AreBefore now (S.slot_kinds store.new) (S.numbers store.new) }
 {
-    store.set(Place(at as u16), i64::from(time));
+    store.set(at, i64::from(time));
 }
 
 /// Writes the moment that a timer keeps.
@@ -58,7 +57,7 @@ pub(crate) fn set_moment<S: Store>(store: &mut S, at: usize, moment: u64)
         → AreBefore now (S.slot_kinds store.old) (S.numbers store.old)
         → AreBefore now (S.slot_kinds store.new) (S.numbers store.new) }
 {
-    store.set(Place(at as u16), moment as i64);
+    store.set(at, moment as i64);
 }
 
 /// Writes the phase that a timer keeps.
@@ -72,5 +71,5 @@ pub(crate) fn set_phase<S: Store>(store: &mut S, at: usize, phase: u8)
     ensures moments { (now : ℕ) → AreBefore now (S.slot_kinds store.old) (S.numbers store.old)
         → AreBefore now (S.slot_kinds store.new) (S.numbers store.new) }
 {
-    store.set(Place(at as u16), i64::from(phase));
+    store.set(at, i64::from(phase));
 }

@@ -34,8 +34,8 @@ pub(crate) fn carried_over<S: Store>(
     for at in 0..loaded.size() {
         let place = Place(at as u16);
         if let Some(from) = loaded.carry(old, place) {
-            let number = old_store.get(from);
-            store.set(place, number);
+            let number = old_store.get(from.0 as usize);
+            store.set(at, number);
         }
     }
     store

@@ -3,7 +3,7 @@ ghost use Rattle.wc_execution.specs.Lines.{AreBefore};
 ghost use Rattle.wc_soundness.specs.FirstNumbers.{AreFirst};
 
 use std::alloc::Global;
-use wc_model::{Fault, Place, SlotKind};
+use wc_model::{Fault, SlotKind};
 use wc_store::Store;
 
 /// The store with the first numbers at its places.
@@ -19,7 +19,7 @@ fn filled<S: Store>(store: S, initials: &[i64]) -> S
     let mut store = store;
     for at in 0..initials.len() {
         let number = initials[at];
-        store.set(Place(at as u16), number);
+        store.set(at, number);
     }
     store
 }

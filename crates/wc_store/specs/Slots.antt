@@ -1,5 +1,5 @@
 -- What a store is: the kinds of its slots and their numbers, in the order of the places. (No rule of the language.)
-use Rattle.std.specs.Prelude.{ℕ, List, [], ◌∷◌, ℤ, IfSome, slice_get}
+use Rattle.std.specs.Prelude.{ℕ, ◌+◌, List, [], ◌∷◌, ℤ, IfSome, slice_get, slice_set}
 use Rattle.wc_model.specs.Language.Frames.{IsInRange}
 use Rattle.wc_model.specs.declared.kind.SlotKind.{SlotKind}
 
@@ -18,3 +18,7 @@ AreInRange [] [] = Unit {0}
 AreInRange (kind ∷ kinds) (n ∷ numbers) = IsInRange kind n × AreInRange kinds numbers
 AreInRange [] (n ∷ numbers) = ⊥
 AreInRange (kind ∷ kinds) [] = ⊥
+
+-- the numbers with these four from a place on
+abbrev pub with_four : List ℤ → ℕ → ℤ → ℤ → ℤ → ℤ → List ℤ
+with_four numbers at a b c d = slice_set (slice_set (slice_set (slice_set numbers at a) (at + 1) b) (at + 2) c) (at + 3) d

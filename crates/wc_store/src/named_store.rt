@@ -4,7 +4,7 @@ use crate::zeros::zeros;
 use indexmap::IndexMap;
 use std::alloc::Global;
 use std::marker::Model;
-use wc_model::{Fault, Place, SlotKind};
+use wc_model::{Fault, SlotKind};
 
 /// A store that keeps each number with its kind under the number of its place, for tests that compare stores.
 #[derive(Drop)]
@@ -40,17 +40,26 @@ impl Store for NamedStore {
         self.slots.len()
     }
 
-    fn get(&self, place: Place) -> i64 {
-        match self.slots.get(&(place.0 as usize)) {
+    fn get(&self, at: usize) -> i64 {
+        match self.slots.get(&at) {
             Some(tagged) => tagged.number(),
             // Below the size there is a number at each place, so this is not reached.
             None => 0,
         }
     }
 
-    fn set(&mut self, place: Place, number: i64) {
-        if let Some(tagged) = self.slots.get_mut(&(place.0 as usize)) {
+    fn set(&mut self, at: usize, number: i64) {
+        if let Some(tagged) = self.slots.get_mut(&at) {
             *tagged = tagged.with_number(number);
         }
+    }
+
+    fn set_four(&mut self, at: usize, a: i64, b: i64, c: i64, d: i64) {
+        // So it is known that no number of a place is too great.
+        let _size = self.size();
+        self.set(at, a);
+        self.set(at + 1, b);
+        self.set(at + 2, c);
+        self.set(at + 3, d);
     }
 }

@@ -1,7 +1,10 @@
+ghost use Rattle.std.specs.Prelude.{◌≡◌, ◌+◌, ◌≤◌, length};
+ghost use Rattle.wc_store.specs.Slots.{with_four};
+
 use crate::store::Store;
 use std::alloc::Global;
 use std::marker::Model;
-use wc_model::{Fault, Place, SlotKind};
+use wc_model::{Fault, SlotKind};
 
 /// A store of plain numbers: a read and a write are an index each. The kinds are kept beside them.
 #[derive(Drop)]
@@ -20,6 +23,18 @@ impl Model for SlotStore {
     ghost view = { slots_view };
 
     ghost invariant = { AreSlotsSound };
+}
+
+/// Writes four numbers one behind another.
+#[inline(always)]
+fn write_four(numbers: &mut [i64], at: usize, a: i64, b: i64, c: i64, d: i64)
+    requires { at + 4 ≤ length numbers.old }
+    ensures { numbers.new ≡ with_four numbers.old at a b c d }
+{
+    numbers[at] = a;
+    numbers[at + 1] = b;
+    numbers[at + 2] = c;
+    numbers[at + 3] = d;
 }
 
 impl Store for SlotStore {
@@ -43,13 +58,17 @@ impl Store for SlotStore {
     }
 
     #[inline(always)]
-    fn get(&self, place: Place) -> i64 {
-        let at = place.0 as usize;
+    fn get(&self, at: usize) -> i64 {
         self.numbers[at]
     }
 
     #[inline(always)]
-    fn set(&mut self, place: Place, number: i64) {
-        self.numbers[place.0 as usize] = number;
+    fn set(&mut self, at: usize, number: i64) {
+        self.numbers[at] = number;
+    }
+
+    #[inline(always)]
+    fn set_four(&mut self, at: usize, a: i64, b: i64, c: i64, d: i64) {
+        write_four(self.numbers.as_mut_slice(), at, a, b, c, d);
     }
 }

@@ -1,9 +1,9 @@
-ghost use Rattle.std.specs.Prelude.{◌≡◌, ◌<◌, List, ℤ, Some, pos, IfOk, IsOkUnless, length, replicate, slice_get, slice_set};
+ghost use Rattle.std.specs.Prelude.{◌≡◌, ◌+◌, ◌<◌, ◌≤◌, List, ℤ, Some, pos, IfOk, IsOkUnless, length, replicate, slice_get, slice_set};
 ghost use Rattle.wc_model.specs.declared.kind.SlotKind.{SlotKind};
-ghost use Rattle.wc_store.specs.Slots.{IsInRangeAt};
+ghost use Rattle.wc_store.specs.Slots.{IsInRangeAt, with_four};
 
 use std::alloc::Global;
-use wc_model::{Fault, Place, SlotKind};
+use wc_model::{Fault, SlotKind};
 
 /// A frame's numbers: one for each place, in the range of the place's kind. BOOL is 0 or 1, a moment and a
 /// TIME are milliseconds.
@@ -25,16 +25,26 @@ pub trait Store: Drop + Sized {
         ensures kinds { result ≡ length (slot_kinds self.now) }
         ensures numbers { result ≡ length (numbers self.now) };
 
-    /// The number at a place.
-    fn get(&self, place: Place) -> i64
-        requires { place.0 < length (slot_kinds self.now) }
-        ensures number { slice_get (numbers self.now) place.0 ≡ Some result }
-        ensures range { IsInRangeAt (slot_kinds self.now) place.0 result };
+    /// The number at the place that stands there, counted from 0.
+    fn get(&self, at: usize) -> i64
+        requires { at < length (slot_kinds self.now) }
+        ensures number { slice_get (numbers self.now) at ≡ Some result }
+        ensures range { IsInRangeAt (slot_kinds self.now) at result };
 
     /// Writes a number that is in the place's range. No other place changes.
-    fn set(&mut self, place: Place, number: i64)
-        requires place { place.0 < length (slot_kinds self.old) }
-        requires range { IsInRangeAt (slot_kinds self.old) place.0 number }
-        ensures numbers { numbers self.new ≡ slice_set (numbers self.old) place.0 number }
+    fn set(&mut self, at: usize, number: i64)
+        requires place { at < length (slot_kinds self.old) }
+        requires range { IsInRangeAt (slot_kinds self.old) at number }
+        ensures numbers { numbers self.new ≡ slice_set (numbers self.old) at number }
+        ensures kinds { slot_kinds self.new ≡ slot_kinds self.old };
+
+    /// Writes four numbers to places that follow one another, each in its place's range. No other place changes.
+    fn set_four(&mut self, at: usize, a: i64, b: i64, c: i64, d: i64)
+        requires places { at + 4 ≤ length (slot_kinds self.old) }
+        requires first { IsInRangeAt (slot_kinds self.old) at a }
+        requires second { IsInRangeAt (slot_kinds self.old) (at + 1) b }
+        requires third { IsInRangeAt (slot_kinds self.old) (at + 2) c }
+        requires fourth { IsInRangeAt (slot_kinds self.old) (at + 3) d }
+        ensures numbers { numbers self.new ≡ with_four (numbers self.old) at a b c d }
         ensures kinds { slot_kinds self.new ≡ slot_kinds self.old };
 }

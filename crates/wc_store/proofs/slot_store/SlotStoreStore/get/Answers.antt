@@ -9,11 +9,11 @@ index-requires c =
     omega (arith, same_length _ _ c.self.invariant, ap (λ (s : SlotNumbers). length s.kinds) c.self.view_is, c.requires, c.self.inside.numbers.ok)
 
 -- what is read at a place of a store
-read : (c : goal.After-result-1) → IsRead c.args.self.now.kinds c.args.self.now.numbers c.args.place.0 c.index.result.now
+read : (c : goal.After-result-1) → IsRead c.args.self.now.kinds c.args.self.now.numbers c.args.at c.index.result.now
 read c =
-    let within : c.args.place.0 < length c.self.inside.kinds.items = subst (λ (s : SlotNumbers). c.args.place.0 < length s.kinds) (sym c.self.view_is) c.requires in
-    subst (λ (s : SlotNumbers). IsRead s.kinds s.numbers c.args.place.0 c.index.result.now) c.self.view_is
-    (is_read c.self.inside.kinds.items c.self.inside.numbers.items c.args.place.0 c.index.result.now c.self.invariant within c.index.ensures)
+    let within : c.args.at < length c.self.inside.kinds.items = subst (λ (s : SlotNumbers). c.args.at < length s.kinds) (sym c.self.view_is) c.requires in
+    subst (λ (s : SlotNumbers). IsRead s.kinds s.numbers c.args.at c.index.result.now) c.self.view_is
+    (is_read c.self.inside.kinds.items c.self.inside.numbers.items c.args.at c.index.result.now c.self.invariant within c.index.ensures)
 
 pub returns-clause-number : goal.returns-clause-number
 returns-clause-number c = (read c).number

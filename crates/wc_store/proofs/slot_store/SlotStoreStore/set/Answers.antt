@@ -11,7 +11,7 @@ index_mut-requires c =
 
 pub invariant_of-self : goal.invariant_of-self
 invariant_of-self c =
-    let within : c.args.place.0 < length c.self.inside.kinds.items = subst (λ (s : SlotNumbers). c.args.place.0 < length s.kinds) (sym c.self.view_is) c.requires.place in
-    let ranged : IsInRangeAt c.self.inside.kinds.items c.args.place.0 c.args.number = subst (λ (s : SlotNumbers). IsInRangeAt s.kinds c.args.place.0 c.args.number) (sym c.self.view_is) c.requires.range in
-    subst (λ n. AreInRange c.self.inside.kinds.items (slice_set c.self.inside.numbers.items c.args.place.0 n)) (sym (in_range_has_64_bits _ _ _ within ranged))
-    (written_fits c.self.inside.kinds.items c.self.inside.numbers.items c.args.place.0 c.args.number c.self.invariant ranged)
+    let within : c.args.at < length c.self.inside.kinds.items = subst (λ (s : SlotNumbers). c.args.at < length s.kinds) (sym c.self.view_is) c.requires.place in
+    let ranged : IsInRangeAt c.self.inside.kinds.items c.args.at c.args.number = subst (λ (s : SlotNumbers). IsInRangeAt s.kinds c.args.at c.args.number) (sym c.self.view_is) c.requires.range in
+    subst (λ n. AreInRange c.self.inside.kinds.items (slice_set c.self.inside.numbers.items c.args.at n)) (sym (in_range_has_64_bits _ _ _ within ranged))
+    (written_fits c.self.inside.kinds.items c.self.inside.numbers.items c.args.at c.args.number c.self.invariant ranged)
