@@ -3,7 +3,7 @@ ghost use Rattle.std.specs.Prelude.{◌≡◌, ◌≤◌, length, true};
 ghost use Rattle.wc_model.specs.Language.Frames.{IsInRange};
 
 use std::alloc::Global;
-use wc_model::{Fault, SlotKind};
+use wc_model::{Fault, Place, SlotKind};
 use wc_store::{NamedStore, SlotStore, Store};
 
 /// A frame with two places of each kind.
@@ -52,7 +52,7 @@ fn put<S: Store>(store: &mut S, kinds: &[SlotKind], place: u16, number: i64) -> 
     let at = usize::from(place);
     if at < kinds.len() {
         if fits(kinds[at], number) {
-            store.set(usize::from(place), number);
+            store.set(Place(place), number);
             return true;
         }
     }
@@ -61,7 +61,7 @@ fn put<S: Store>(store: &mut S, kinds: &[SlotKind], place: u16, number: i64) -> 
 
 /// Whether a place holds a number.
 fn holds<S: Store>(store: &S, place: u16, number: i64) -> bool {
-    usize::from(place) < store.size() && store.get(usize::from(place)) == number
+    usize::from(place) < store.size() && store.get(Place(place)) == number
 }
 
 /// Each call of a store: 0 at first; what is written is read, and no other place changes.
@@ -120,7 +120,7 @@ fn agree<A: Store, B: Store>(one: &A, other: &B, places: u16) -> bool {
         return false;
     }
     for place in 0..places {
-        if one.get(usize::from(place)) != other.get(usize::from(place)) {
+        if one.get(Place(place)) != other.get(Place(place)) {
             return false;
         }
     }

@@ -15,7 +15,7 @@ pub(crate) fn truth_at<S: Store>(store: &S, at: usize) -> bool
     ensures { number_from slots.Bool (S.slot_kinds store.now) (S.numbers store.now) at 0
         ≡ Some (bit_number result) }
 {
-    store.get(at) == 1
+    store.get_at(at) == 1
 }
 
 /// A DINT of a block.
@@ -26,7 +26,7 @@ pub(crate) fn count_at<S: Store>(store: &S, at: usize) -> i32
     ensures { number_from slots.Dint (S.slot_kinds store.now) (S.numbers store.now) at 0
         ≡ Some result }
 {
-    store.get(at) as i32
+    store.get_at(at) as i32
 }
 
 /// A TIME of a block, in milliseconds.
@@ -37,7 +37,7 @@ pub(crate) fn time_at<S: Store>(store: &S, at: usize) -> i32
     ensures { number_from slots.Time (S.slot_kinds store.now) (S.numbers store.now) at 0
         ≡ Some result }
 {
-    store.get(at) as i32
+    store.get_at(at) as i32
 }
 
 /// The moment that a timer keeps, in milliseconds.
@@ -50,7 +50,7 @@ pub(crate) fn moment_at<S: Store>(store: &S, at: usize) -> u64
     ensures before { (now : ℕ) → AreBefore now (S.slot_kinds store.now) (S.numbers store.now)
         → result ≤ now }
 {
-    store.get(at) as u64
+    store.get_at(at) as u64
 }
 
 /// The phase that a timer keeps, 0 to 2.
@@ -61,5 +61,5 @@ pub(crate) fn phase_at<S: Store>(store: &S, at: usize) -> u8
     ensures { number_from slots.Phase (S.slot_kinds store.now) (S.numbers store.now) at 0
         ≡ Some (pos result) }
 {
-    store.get(at) as u8
+    store.get_at(at) as u8
 }

@@ -32,7 +32,7 @@ pub(crate) fn read<S: Store>(store: &S, base: usize, place: Place) -> i32
     requires there { IsSome (held base (S.slot_kinds store.now) (S.numbers store.now) place) }
     ensures { held base (S.slot_kinds store.now) (S.numbers store.now) place ≡ Some result }
 {
-    store.get(base + place.0 as usize) as i32
+    store.get_at(base + place.0 as usize) as i32
 }
 
 /// Writes a number to a place of the instance that begins at `base`.
@@ -47,7 +47,7 @@ pub(crate) fn write<S: Store>(store: &mut S, base: usize, place: Place, number: 
     ensures moments { (now : ℕ) → AreBefore now (S.slot_kinds store.old) (S.numbers store.old)
         → AreBefore now (S.slot_kinds store.new) (S.numbers store.new) }
 {
-    store.set(base + place.0 as usize, i64::from(number));
+    store.set_at(base + place.0 as usize, i64::from(number));
 }
 
 /// LD and LDN of a place.

@@ -9,7 +9,7 @@ pub fn number_at<S: Store>(store: &S, place: Place) -> Option<i64>
 {
     let at = usize::from(place.0);
     if at < store.size() {
-        Some(store.get(at))
+        Some(store.get_at(at))
     } else {
         None
     }

@@ -16,7 +16,7 @@ pub(crate) fn set_truth<S: Store>(store: &mut S, at: usize, truth: bool)
     ensures moments { (now : ℕ) → AreBefore now (S.slot_kinds store.old) (S.numbers store.old)
         → AreBefore now (S.slot_kinds store.new) (S.numbers store.new) }
 {
-    store.set(at, i64::from(truth));
+    store.set_at(at, i64::from(truth));
 }
 
 /// Writes a DINT of a block.
@@ -29,7 +29,7 @@ pub(crate) fn set_count<S: Store>(store: &mut S, at: usize, count: i32)
     ensures moments { (now : ℕ) → AreBefore now (S.slot_kinds store.old) (S.numbers store.old)
         → AreBefore now (S.slot_kinds store.new) (S.numbers store.new) }
 {
-    store.set(at, i64::from(count));
+    store.set_at(at, i64::from(count));
 }
 
 /// Writes a TIME of a block.
@@ -42,7 +42,7 @@ pub(crate) fn set_time<S: Store>(store: &mut S, at: usize, time: i32)
     ensures moments { (now : ℕ) → AreBefore now (S.slot_kinds store.old) (S.numbers store.old)
         → AreBefore now (S.slot_kinds store.new) (S.numbers store.new) }
 {
-    store.set(at, i64::from(time));
+    store.set_at(at, i64::from(time));
 }
 
 /// Writes the moment that a timer keeps.
@@ -57,7 +57,7 @@ pub(crate) fn set_moment<S: Store>(store: &mut S, at: usize, moment: u64)
         → AreBefore now (S.slot_kinds store.old) (S.numbers store.old)
         → AreBefore now (S.slot_kinds store.new) (S.numbers store.new) }
 {
-    store.set(at, moment as i64);
+    store.set_at(at, moment as i64);
 }
 
 /// Writes the phase that a timer keeps.
@@ -71,5 +71,5 @@ pub(crate) fn set_phase<S: Store>(store: &mut S, at: usize, phase: u8)
     ensures moments { (now : ℕ) → AreBefore now (S.slot_kinds store.old) (S.numbers store.old)
         → AreBefore now (S.slot_kinds store.new) (S.numbers store.new) }
 {
-    store.set(at, i64::from(phase));
+    store.set_at(at, i64::from(phase));
 }

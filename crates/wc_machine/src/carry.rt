@@ -34,8 +34,8 @@ pub(crate) fn carried_over<S: Store>(
     for at in 0..loaded.size() {
         let place = Place(at as u16);
         if let Some(from) = loaded.carry(old, place) {
-            let number = old_store.get(from.0 as usize);
-            store.set(at, number);
+            let number = old_store.get_at(from.0 as usize);
+            store.set_at(at, number);
         }
     }
     store

@@ -19,7 +19,7 @@ fn filled<S: Store>(store: S, initials: &[i64]) -> S
     let mut store = store;
     for at in 0..initials.len() {
         let number = initials[at];
-        store.set(at, number);
+        store.set_at(at, number);
     }
     store
 }

@@ -4,7 +4,7 @@ use crate::zeros::zeros;
 use indexmap::IndexMap;
 use std::alloc::Global;
 use std::marker::Model;
-use wc_model::{Fault, SlotKind};
+use wc_model::{Fault, Place, SlotKind};
 
 /// A store that keeps each number with its kind under the number of its place, for tests that compare stores.
 #[derive(Drop)]
@@ -40,7 +40,15 @@ impl Store for NamedStore {
         self.slots.len()
     }
 
-    fn get(&self, at: usize) -> i64 {
+    fn get(&self, place: Place) -> i64 {
+        self.get_at(usize::from(place.0))
+    }
+
+    fn set(&mut self, place: Place, number: i64) {
+        self.set_at(usize::from(place.0), number);
+    }
+
+    fn get_at(&self, at: usize) -> i64 {
         match self.slots.get(&at) {
             Some(tagged) => tagged.number(),
             // Below the size there is a number at each place, so this is not reached.
@@ -48,7 +56,7 @@ impl Store for NamedStore {
         }
     }
 
-    fn set(&mut self, at: usize, number: i64) {
+    fn set_at(&mut self, at: usize, number: i64) {
         if let Some(tagged) = self.slots.get_mut(&at) {
             *tagged = tagged.with_number(number);
         }
@@ -57,9 +65,9 @@ impl Store for NamedStore {
     fn set_four(&mut self, at: usize, a: i64, b: i64, c: i64, d: i64) {
         // So it is known that no number of a place is too great.
         let _size = self.size();
-        self.set(at, a);
-        self.set(at + 1, b);
-        self.set(at + 2, c);
-        self.set(at + 3, d);
+        self.set_at(at, a);
+        self.set_at(at + 1, b);
+        self.set_at(at + 2, c);
+        self.set_at(at + 3, d);
     }
 }

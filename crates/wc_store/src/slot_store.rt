@@ -4,7 +4,7 @@ ghost use Rattle.wc_store.specs.Slots.{with_four};
 use crate::store::Store;
 use std::alloc::Global;
 use std::marker::Model;
-use wc_model::{Fault, SlotKind};
+use wc_model::{Fault, Place, SlotKind};
 
 /// A store of plain numbers: a read and a write are an index each. The kinds are kept beside them.
 #[derive(Drop)]
@@ -58,12 +58,22 @@ impl Store for SlotStore {
     }
 
     #[inline(always)]
-    fn get(&self, at: usize) -> i64 {
+    fn get(&self, place: Place) -> i64 {
+        self.get_at(usize::from(place.0))
+    }
+
+    #[inline(always)]
+    fn set(&mut self, place: Place, number: i64) {
+        self.set_at(usize::from(place.0), number);
+    }
+
+    #[inline(always)]
+    fn get_at(&self, at: usize) -> i64 {
         self.numbers[at]
     }
 
     #[inline(always)]
-    fn set(&mut self, at: usize, number: i64) {
+    fn set_at(&mut self, at: usize, number: i64) {
         self.numbers[at] = number;
     }
 

@@ -3,7 +3,7 @@ ghost use Rattle.wc_model.specs.declared.kind.SlotKind.{SlotKind};
 ghost use Rattle.wc_store.specs.Slots.{IsInRangeAt, with_four};
 
 use std::alloc::Global;
-use wc_model::{Fault, SlotKind};
+use wc_model::{Fault, Place, SlotKind};
 
 /// A frame's numbers: one for each place, in the range of the place's kind. BOOL is 0 or 1, a moment and a
 /// TIME are milliseconds.
@@ -25,14 +25,27 @@ pub trait Store: Drop + Sized {
         ensures kinds { result ≡ length (slot_kinds self.now) }
         ensures numbers { result ≡ length (numbers self.now) };
 
-    /// The number at the place that stands there, counted from 0.
-    fn get(&self, at: usize) -> i64
+    /// The number at a place.
+    fn get(&self, place: Place) -> i64
+        requires { place.0 < length (slot_kinds self.now) }
+        ensures number { slice_get (numbers self.now) place.0 ≡ Some result }
+        ensures range { IsInRangeAt (slot_kinds self.now) place.0 result };
+
+    /// Writes a number that is in the place's range. No other place changes.
+    fn set(&mut self, place: Place, number: i64)
+        requires place { place.0 < length (slot_kinds self.old) }
+        requires range { IsInRangeAt (slot_kinds self.old) place.0 number }
+        ensures numbers { numbers self.new ≡ slice_set (numbers self.old) place.0 number }
+        ensures kinds { slot_kinds self.new ≡ slot_kinds self.old };
+
+    /// The number at the place of this number, counted from 0: so no sum of places has to fit a place.
+    fn get_at(&self, at: usize) -> i64
         requires { at < length (slot_kinds self.now) }
         ensures number { slice_get (numbers self.now) at ≡ Some result }
         ensures range { IsInRangeAt (slot_kinds self.now) at result };
 
-    /// Writes a number that is in the place's range. No other place changes.
-    fn set(&mut self, at: usize, number: i64)
+    /// Writes a number that is in its range to the place of this number. No other place changes.
+    fn set_at(&mut self, at: usize, number: i64)
         requires place { at < length (slot_kinds self.old) }
         requires range { IsInRangeAt (slot_kinds self.old) at number }
         ensures numbers { numbers self.new ≡ slice_set (numbers self.old) at number }

@@ -6,6 +6,6 @@ use Rattle.wc_execution.specs.Lines.{written, AreBefore}
 
 pub returns-clause-moments : goal.returns-clause-moments
 returns-clause-moments g c = λ now before.
-    let left : written c.args.base (g.S.Store.slot_kinds c.args.store.now) (g.S.Store.numbers c.args.store.now) c.args.place c.args.number ≡ Some (g.S.Store.numbers c.set.new.self) = search rules in
-    subst (λ kinds. AreBefore now kinds (g.S.Store.numbers c.set.new.self)) (sym c.set.ensures.kinds)
-    (written_keeps now c.args.base (g.S.Store.slot_kinds c.args.store.now) (g.S.Store.numbers c.args.store.now) c.args.place c.args.number (g.S.Store.numbers c.set.new.self) left before)
+    let left : written c.args.base (g.S.Store.slot_kinds c.args.store.now) (g.S.Store.numbers c.args.store.now) c.args.place c.args.number ≡ Some (g.S.Store.numbers c.set_at.new.self) = search rules in
+    subst (λ kinds. AreBefore now kinds (g.S.Store.numbers c.set_at.new.self)) (sym c.set_at.ensures.kinds)
+    (written_keeps now c.args.base (g.S.Store.slot_kinds c.args.store.now) (g.S.Store.numbers c.args.store.now) c.args.place c.args.number (g.S.Store.numbers c.set_at.new.self) left before)

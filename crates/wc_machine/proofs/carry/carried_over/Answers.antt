@@ -18,17 +18,17 @@ loop-at-preserved g c =
       | in-Some w ↦
           let carried = w.in-Some.ensures.carried in
           let from = w.in-Some.from.0 in
-          let n = w.get-number.result in
+          let n = w.get_at-number.result in
           let kind = ap (λ ks. slice_get ks at) (c.loop-at.invariant.kinds ∙ c.requires.kinds) ∙ w.in-Some.ensures.kind ∙ ap (λ ks. slice_get ks from) (sym c.requires.old_kinds) in
           let below : at < length first = (let t = c.loop-at-test.true in let s = c.size-at-end.ensures in let l = c.requires.numbers in omega (arith, t, s, l)) in
-          let written : g.S.Store.numbers w.set.new.self ≡ slice_set (g.S.Store.numbers c.loop-at.store) at n = search rules in
+          let written : g.S.Store.numbers w.set_at.new.self ≡ slice_set (g.S.Store.numbers c.loop-at.store) at n = search rules in
           record {
             carried = subst (λ s. AreCarriedTo old new numbers first (g.S.Store.numbers s) (at + 1)) (sym w.store-is) (subst (λ ns. AreCarriedTo old new numbers first ns (at + 1)) (sym written)
-                (one_carried old new numbers first (g.S.Store.numbers c.loop-at.store) at from n (sym carried) w.get-number.ensures.number below c.loop-at.invariant.carried));
-            kinds = ap (λ s. g.S.Store.slot_kinds s) w.store-is ∙ w.set.ensures.kinds ∙ c.loop-at.invariant.kinds;
+                (one_carried old new numbers first (g.S.Store.numbers c.loop-at.store) at from n (sym carried) w.get_at-number.ensures.number below c.loop-at.invariant.carried));
+            kinds = ap (λ s. g.S.Store.slot_kinds s) w.store-is ∙ w.set_at.ensures.kinds ∙ c.loop-at.invariant.kinds;
             moments = λ last before earlier. subst (λ s. AreBefore last (g.S.Store.slot_kinds s) (g.S.Store.numbers s)) (sym w.store-is)
-                (subst (λ ks. AreBefore last ks (g.S.Store.numbers w.set.new.self)) (sym w.set.ensures.kinds) (subst (λ ns. AreBefore last (g.S.Store.slot_kinds c.loop-at.store) ns) (sym written)
-                (moment_carried last (g.S.Store.slot_kinds c.loop-at.store) (g.S.Store.slot_kinds c.args.old_store.now) (g.S.Store.numbers c.loop-at.store) numbers at from n kind w.get-number.ensures.number (c.loop-at.invariant.moments last before earlier) earlier)));
+                (subst (λ ks. AreBefore last ks (g.S.Store.numbers w.set_at.new.self)) (sym w.set_at.ensures.kinds) (subst (λ ns. AreBefore last (g.S.Store.slot_kinds c.loop-at.store) ns) (sym written)
+                (moment_carried last (g.S.Store.slot_kinds c.loop-at.store) (g.S.Store.slot_kinds c.args.old_store.now) (g.S.Store.numbers c.loop-at.store) numbers at from n kind w.get_at-number.ensures.number (c.loop-at.invariant.moments last before earlier) earlier)));
           }
       | in_default w ↦ record {
         carried = subst (λ s. AreCarriedTo old new numbers first (g.S.Store.numbers s) (at + 1)) (sym w.store-is) (first_stays old new numbers first (g.S.Store.numbers c.loop-at.store) at (sym c.carry.ensures.carried ∙ ap (option_map (λ p. p.0)) w.in_default.is) c.loop-at.invariant.carried);

@@ -1,7 +1,7 @@
 -- There is a number at each place, in the range of the place's kind.
 use Rattle.std.proofs.Common.{◌<◌, ap, sym, subst, arith, length}
 use Rattle.wc_store.proofs.Ranges.{same_length, is_read, IsRead}
-use Rattle.wc_store.proofs.slot_store.SlotStoreStore.get.Goals as goal
+use Rattle.wc_store.proofs.slot_store.SlotStoreStore.get_at.Goals as goal
 use Rattle.wc_store.specs.Slots.{SlotNumbers}
 
 pub index-requires : goal.index-requires
