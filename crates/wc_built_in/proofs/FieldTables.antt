@@ -1,15 +1,14 @@
 -- What is found in the table of a standard block's fields.
-use Rattle.std.proofs.Common.{◌≡◌, ℕ, ◌+◌, ◌<◌, ◌≤◌, Bool, true, false, not, ◌&&◌, List, [], ◌∷◌, Option, Some, None, cond, ltb, ltb-true, map, length, option_map, refl, sym, ap, ◌∙◌, arith}
+use Rattle.std.proofs.Common.{◌≡◌, ℕ, ◌+◌, ◌<◌, Bool, true, false, not, ◌&&◌, List, [], ◌∷◌, Option, Some, None, cond, ltb, ltb-true, map, length, option_map, refl, sym, ap, ◌∙◌, arith}
 use Rattle.std.proofs.lemmas.Bool.{ltb-false}
 use Rattle.std.proofs.lemmas.Iterator.Adapters.{position_from-zero}
-use Rattle.std.proofs.lemmas.List.{length-map}
 use Rattle.std.proofs.lemmas.List.Folds.{find_at}
 use Rattle.std.proofs.lemmas.Option.{slice_get_past}
 use Rattle.std.proofs.lemmas.Slice.Eq.{bytes_eq-Decides}
-use Rattle.std.specs.Prelude.{◌||◌, filter, find, if◌then◌else◌, option_and_then, slice_get}
+use Rattle.std.specs.Prelude.{◌||◌, find, option_and_then, slice_get}
 use Rattle.std.specs.Cmp.{decided}
 use Rattle.std.specs.List.{list_any, position_from, position_or_len}
-use Rattle.wc_model.specs.Language.Declarations.{Member, member_named, same_name, standard_members}
+use Rattle.wc_model.specs.Language.Declarations.{member_named, same_name, standard_members}
 use Rattle.wc_model.specs.Language.Names.{Name, name_of}
 use Rattle.wc_model.specs.Language.Store.{Content, standard_fields}
 use Rattle.wc_model.specs.declared.block.StandardBlock.{StandardBlock}
@@ -40,13 +39,6 @@ number_below p xs n e = by (ltb (position_or_len p xs) (length xs)) refl (positi
 pub number_is : (fields : List StandardField) (block : StandardBlock) (name : Name) → map field_content fields ≡ standard_fields block →
     position_from (λ f. same_name (name_of f.name.now) name) 0 fields ≡ position_from (λ f. same_name f.0 name) 0 (standard_fields block)
 number_is fields block name e = sym (position_from-map field_content (λ f. same_name f.0 name) 0 fields) ∙ ap (position_from (λ (f : Name × Content). same_name f.0 name) 0) e
-
-few_fields : (block : StandardBlock) → length (standard_fields block) ≤ 6
-few_fields RTrig = omega arith
-few_fields block = omega arith
-
-pub few : (fields : List StandardField) (block : StandardBlock) → map field_content fields ≡ standard_fields block → length fields ≤ 6
-few fields block e = let l = sym (length-map fields field_content) ∙ ap length e in let f = few_fields block in omega (arith, l, f)
 
 -- no two fields of a block have one name
 abbrev are_different : List Name → Bool

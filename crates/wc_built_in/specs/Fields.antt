@@ -1,5 +1,5 @@
 -- The fields of the standard blocks, as the code's table has them. (No rule of the language.)
-use Rattle.std.specs.Prelude.{Bool, true, false, List, [], ◌∷◌, filter, Option, Some, None, if◌then◌else◌}
+use Rattle.std.specs.Prelude.{Bool, true, false, List, filter, Option, Some, None, if◌then◌else◌}
 use Rattle.wc_model.specs.Language.Declarations.{Member}
 use Rattle.wc_model.specs.Language.Kinds.{elementary_kind}
 use Rattle.wc_model.specs.Language.Names.{Name, name_of}

@@ -1,4 +1,5 @@
 pub mod KeyNames
+pub mod KeyWords
 pub mod Lists
 pub mod HandedOn
 pub mod Places

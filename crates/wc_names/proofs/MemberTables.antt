@@ -8,7 +8,7 @@ use Rattle.wc_model.specs.Language.Kinds.{elementary_kind}
 use Rattle.wc_model.specs.Language.Names.{Name}
 use Rattle.wc_model.specs.Language.Store.{same_path, unit_places}
 use Rattle.wc_model.specs.Language.Tree.{ProgramUnit}
-use Rattle.wc_built_in.specs.Fields.{Seen, member_seen}
+use Rattle.wc_built_in.specs.Fields.{member_seen}
 use Rattle.wc_names.specs.Members.{kind_numbered, row_seen}
 use Rattle.wc_names.specs.Numbered.{number_within, numbered_type}
 use Rattle.wc_names.specs.StandsFor.{AreRows, Stands, first_place, row_named}

@@ -1,6 +1,7 @@
 -- The name that a key of a set names. (No rule of the language.)
-use Rattle.std.specs.Prelude.{◌≡◌, ℕ, ◌*◌, ◌%◌, ◌^◌, Bool, IsTrue, List, map, fold, bit_or, bit_xor}
-use Rattle.std.proofs.Common.{sym, ap}
+use Rattle.std.specs.Prelude.{◌≡◌, ℕ, ◌*◌, ◌%◌, ◌^◌, Bool, IsTrue, List, [], ◌∷◌, map, fold, bit_or, bit_xor}
+use Rattle.std.specs.Int.{from_le_bytes, rotate_left}
+use Rattle.std.proofs.Common.{sym, ap, w64}
 use Rattle.std.proofs.lemmas.Slice.Eq.{bytes_eq-Decides}
 use Rattle.std.specs.Cmp.{IsEquivalence, decided}
 use Rattle.std.specs.Hash as fed
@@ -24,13 +25,22 @@ same_key a b = same_name (name_of_key b) (name_of_key a)
 abbrev pub caseless : ℕ → ℕ
 caseless byte = bit_or byte 32
 
--- the number of a name with one byte more (the hash FNV-1a)
-abbrev pub mixed : ℕ → ℕ → ℕ
-mixed number byte = (bit_xor number byte * 0x100000001b3) % 2 ^ 64
+-- a number with one word more
+abbrev pub mix : ℕ → ℕ → ℕ
+mix number word = rotate_left w64 ((bit_xor number word * 0x9e3779b97f4a7c15) % 2 ^ 64) 26
+
+-- eight bytes as one word
+abbrev pub word_of : List ℕ → ℕ
+word_of bytes = from_le_bytes w64 (map caseless bytes)
+
+-- the number of a name behind another number: eight bytes are one word, and each of the last ones is one
+abbrev pub number_behind : ℕ → Name → ℕ
+number_behind number (a ∷ b ∷ c ∷ d ∷ e ∷ f ∷ g ∷ h ∷ name) = number_behind (mix number (word_of (a ∷ b ∷ c ∷ d ∷ e ∷ f ∷ g ∷ h ∷ []))) name
+number_behind number name = fold (λ n byte. mix n (caseless byte)) number name
 
 -- the number of a name, by all of its bytes
 abbrev pub name_number : Name → ℕ
-name_number name = fold (λ number byte. mixed number (caseless byte)) 0xcbf29ce484222325 name
+name_number name = number_behind 0xcbf29ce484222325 name
 
 -- what is hashed of a name: its number alone
 abbrev pub fed_name : Name → fed.HashWrites

@@ -1,9 +1,9 @@
-ghost use Rattle.std.specs.Prelude.{◌≡◌, List, [], ◌∷◌, Some, option_and_then};
+ghost use Rattle.std.specs.Prelude.{◌≡◌, List, Some, option_and_then};
 ghost use Rattle.wc_model.specs.Language.BodyRules.{formal_named, passes};
 ghost use Rattle.wc_model.specs.Language.Declarations.{VariableType, members_of};
 ghost use Rattle.wc_model.specs.Language.Names.{name_of};
 ghost use Rattle.wc_model.specs.Language.Tree.{ProgramUnit};
-ghost use Rattle.wc_names.specs.Numbered.{number_within, numbered_formal, numbered_type};
+ghost use Rattle.wc_names.specs.Numbered.{numbered_formal, numbered_type};
 ghost use Rattle.wc_names.specs.StandsFor.{Stands};
 
 use crate::declared_type::DeclaredType;

@@ -1,9 +1,9 @@
-ghost use Rattle.std.specs.Prelude.{◌≡◌};
+ghost use Rattle.std.specs.Prelude.{◌≡◌, ◌≤◌, length, take};
 ghost use Rattle.std.specs.Char.{to_ascii_lowercase};
 ghost use Rattle.std.specs.Cmp.{partial_equiv_from_equiv};
 ghost use Rattle.wc_model.specs.Language.Declarations.{same_name};
 ghost use Rattle.wc_model.specs.Language.Names.{name_of};
-ghost use Rattle.wc_names.specs.Keys.{caseless, fed_name, mixed, name_number, name_of_key, same_key, same_key_laws, same_key_fed};
+ghost use Rattle.wc_names.specs.Keys.{caseless, fed_name, mix, name_number, name_of_key, same_key, same_key_fed, same_key_laws, word_of};
 
 use std::hash::{Hash, Hasher};
 
@@ -28,20 +28,50 @@ fn caseless(byte: u8) -> u8
     byte | 32
 }
 
-/// The number of a name with one byte more (the hash FNV-1a).
-fn mixed(number: u64, byte: u8) -> u64
-    ensures { result ≡ mixed number byte }
+/// A number with one word more. It is turned, so that the last bytes of words count for all that follow.
+fn mix(number: u64, word: u64) -> u64
+    ensures { result ≡ mix number word }
 {
-    (number ^ u64::from(byte)).wrapping_mul(0x100000001b3)
+    (number ^ word)
+        .wrapping_mul(0x9e3779b97f4a7c15)
+        .rotate_left(26)
 }
 
-/// The number of a name, without regard to letter case: what is hashed of it.
+/// The first eight bytes of a text as one word.
+fn first_word(text: &[u8]) -> u64
+    requires { 8 ≤ length text.now }
+    ensures { result ≡ word_of (take 8 (name_of text.now)) }
+{
+    let Some(word) = text.first_chunk::<8>() else {
+        return 0;
+    };
+    u64::from_le_bytes([
+        caseless(word[0]),
+        caseless(word[1]),
+        caseless(word[2]),
+        caseless(word[3]),
+        caseless(word[4]),
+        caseless(word[5]),
+        caseless(word[6]),
+        caseless(word[7]),
+    ])
+}
+
+/// The number of a name, without regard to letter case: what is hashed of it. Eight bytes are one word, and each of the
+/// last ones is one.
 fn name_number(text: &[u8]) -> u64
     ensures { result ≡ name_number (name_of text.now) }
 {
     let mut number = 0xcbf29ce484222325_u64;
-    for byte in text {
-        number = mixed(number, caseless(*byte));
+    let mut at = 0_usize;
+    while at < text.len() {
+        if text.len() - at < 8 {
+            number = mix(number, u64::from(caseless(text[at])));
+            at += 1;
+        } else {
+            number = mix(number, first_word(&text[at..]));
+            at += 8;
+        }
     }
     number
 }

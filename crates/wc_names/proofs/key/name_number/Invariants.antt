@@ -1,8 +1,12 @@
-use Rattle.std.proofs.Common.{◌≡◌, take}
+use Rattle.std.proofs.Common.{◌≡◌, ◌≤◌, ◌-◌, length, drop}
 use Rattle.wc_model.specs.Language.Names.{name_of}
 use Rattle.wc_names.proofs.key.name_number.Given as goal
-use Rattle.wc_names.specs.Keys.{name_number}
+use Rattle.wc_names.specs.Keys.{name_number, number_behind}
 
--- the number of the bytes so far, in small letters
-abbrev pub invariant-loop-byte : goal.invariant-loop-byte
-invariant-loop-byte l = l.number ≡ name_number (name_of (take l.byte-index l.text))
+-- with the bytes that are left the number is that of the name
+abbrev pub invariant-loop-at : goal.invariant-loop-at
+invariant-loop-at l = (l.at ≤ length l.fn.text) × (number_behind l.number (name_of (drop l.at l.fn.text)) ≡ name_number (name_of l.fn.text))
+
+-- how many bytes are left
+abbrev pub decreases-loop-at : goal.decreases-loop-at
+decreases-loop-at l = length l.fn.text - l.at

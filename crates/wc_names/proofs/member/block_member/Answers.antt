@@ -1,10 +1,7 @@
-use Rattle.std.proofs.Common.{◌≡◌, Option, Some, option_map, ap, sym, ◌∙◌}
-use Rattle.std.specs.Prelude.{List, length, slice_get}
+use Rattle.std.proofs.Common.{Some, option_map, ap, sym, ◌∙◌}
+use Rattle.std.specs.Prelude.{slice_get}
 use Rattle.wc_model.specs.Language.Names.{name_of}
-use Rattle.wc_model.specs.Language.Tree.{ProgramUnit}
-use Rattle.wc_built_in.specs.Fields.{Seen}
 use Rattle.wc_names.specs.Members.{row_seen}
-use Rattle.wc_names.specs.StandsFor.{Stands}
 use Rattle.wc_names.proofs.Lookups.{named_rows}
 use Rattle.wc_names.proofs.member.block_member.Goals as goal
 
