@@ -1,5 +1,5 @@
 -- The first 25 numbers are those of the image.
-use Rattle.std.proofs.Common.{◌≡◌, ◌+◌, ◌++◌, [], map, drop, refl, ap, sym, ◌∙◌, subst, arith, pos, true, zero-add}
+use Rattle.std.proofs.Common.{◌≡◌, ◌+◌, ◌++◌, map, drop, refl, ap, sym, ◌∙◌, subst, arith, pos, true, zero-add}
 use Rattle.std.proofs.lemmas.List.{drop-drop}
 use Rattle.std.specs.Prelude.{slice_get, slice_index_or}
 use Rattle.wc_flat.specs.NumberBlocks.{is_slot}

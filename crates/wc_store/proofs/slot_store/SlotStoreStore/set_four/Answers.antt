@@ -1,5 +1,5 @@
 -- Four numbers in range are written at places that there are.
-use Rattle.std.proofs.Common.{◌≡◌, ◌+◌, ◌++◌, take, drop, length, ap, sym, ◌∙◌, subst, arith, w64}
+use Rattle.std.proofs.Common.{◌≡◌, ◌+◌, length, ap, sym, ◌∙◌, subst, arith, w64}
 use Rattle.std.proofs.lemmas.Int.{to_z-of_z}
 use Rattle.wc_store.proofs.Fours.{four_length, fours_fit, put_back, same_four}
 use Rattle.wc_store.proofs.Ranges.{same_length}
