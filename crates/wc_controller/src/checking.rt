@@ -79,13 +79,15 @@ fn check_input<T: ByteIn, W: ByteOut>(
         (W.failure_count writer.new) }
     ensures taken { TakesInput (T.bytes_left program.old) (T.bytes_left program.new) }
 {
-    let text = read_input(alloc, Input::Program, program)?;
-    match check(alloc, &text, paths, writer) {
-        Ok(()) => Ok(()),
-        Err(fault) => Err(Stopped {
-            input: Input::Program,
-            fault,
-        }),
+    match read_input(alloc, Input::Program, program) {
+        Ok(text) => match check(alloc, &text, paths, writer) {
+            Ok(()) => Ok(()),
+            Err(fault) => Err(Stopped {
+                input: Input::Program,
+                fault,
+            }),
+        },
+        Err(stopped) => Err(stopped),
     }
 }
 

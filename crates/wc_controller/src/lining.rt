@@ -48,7 +48,10 @@ fn line_inputs<V: Scanner, P: ByteIn, L: ByteIn, W: ByteOut>(
         (W.failure_count writer.new) }
     ensures taken { TakesInput (P.bytes_left plate.old) (P.bytes_left plate.new) }
 {
-    let plate = read_plate(alloc, plate)?;
+    let plate = match read_plate(alloc, plate) {
+        Ok(plate) => plate,
+        Err(stopped) => return Err(stopped),
+    };
     match run(alloc, None, scanner, &plate, None, None, log, writer, told) {
         Ok(_) => Ok(()),
         Err(fault) => Err(Stopped {

@@ -118,7 +118,10 @@ pub(crate) fn run_loaded<'a, V: Scanner, L: ByteIn, W: ByteOut>(
     ensures failures { TellsWriteFaults (met result) (W.failure_count writer.old)
         (W.failure_count writer.new) }
 {
-    let next = load_next(alloc, scanner, text)?;
+    let next = match load_next(alloc, scanner, text) {
+        Ok(next) => next,
+        Err(stopped) => return Err(stopped),
+    };
     match Machine::new(alloc, loaded) {
         Ok(machine) => match run(
             alloc,

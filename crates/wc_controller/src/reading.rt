@@ -101,7 +101,10 @@ pub(crate) fn read_plate<R: ByteIn>(alloc: Global, reader: &mut R) -> Result<Pla
         (R.failure_count reader.new) }
     ensures taken { TakesInput (R.bytes_left reader.old) (R.bytes_left reader.new) }
 {
-    let bytes = read_input(alloc, Input::Plate, reader)?;
+    let bytes = match read_input(alloc, Input::Plate, reader) {
+        Ok(bytes) => bytes,
+        Err(stopped) => return Err(stopped),
+    };
     match plate(alloc, &bytes) {
         Ok(plate) => Ok(plate),
         Err(fault) => Err(Stopped {

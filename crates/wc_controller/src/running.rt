@@ -73,10 +73,22 @@ fn run_inputs<V: Scanner, P: ByteIn, T: ByteIn, N: ByteIn, L: ByteIn, W: ByteOut
     ensures failures { TellsWriteFaults (met result) (W.failure_count writer.old)
         (W.failure_count writer.new) }
 {
-    let plate = read_plate(alloc, plate)?;
-    let text = read_input(alloc, Input::Program, program)?;
-    let loaded = load_input(alloc, scanner, Input::Program, &text)?;
-    let other = read_next(alloc, next)?;
+    let plate = match read_plate(alloc, plate) {
+        Ok(plate) => plate,
+        Err(stopped) => return Err(stopped),
+    };
+    let text = match read_input(alloc, Input::Program, program) {
+        Ok(text) => text,
+        Err(stopped) => return Err(stopped),
+    };
+    let loaded = match load_input(alloc, scanner, Input::Program, &text) {
+        Ok(loaded) => loaded,
+        Err(stopped) => return Err(stopped),
+    };
+    let other = match read_next(alloc, next) {
+        Ok(other) => other,
+        Err(stopped) => return Err(stopped),
+    };
     run_loaded(
         alloc,
         last,

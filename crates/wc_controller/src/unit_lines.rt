@@ -49,7 +49,10 @@ fn lines_at(
         Ok(line) => line,
         Err(_) => return Err(RunFault::Memory),
     };
-    let path = path_at(alloc, loaded, paths, unit)?;
+    let path = match path_at(alloc, loaded, paths, unit) {
+        Ok(path) => path,
+        Err(fault) => return Err(fault),
+    };
     match lines.extend_from_slice(&path) {
         Ok(()) => Ok(lines),
         Err(_) => Err(RunFault::Memory),
@@ -64,7 +67,10 @@ pub fn text_of_units(alloc: Global, loaded: &Loaded<'_>, paths: bool) -> Result<
 {
     let mut report = Vec::new(alloc);
     for unit in 0..loaded.units() {
-        let lines = lines_at(alloc, loaded, paths, unit)?;
+        let lines = match lines_at(alloc, loaded, paths, unit) {
+            Ok(lines) => lines,
+            Err(fault) => return Err(fault),
+        };
         match report.extend_from_slice(&lines) {
             Ok(()) => {}
             Err(_) => return Err(RunFault::Memory),

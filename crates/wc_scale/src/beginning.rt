@@ -19,8 +19,10 @@ fn machine_of(alloc: Global, text: &'static [u8]) -> Result<Machine<'static, Slo
     ensures refused { IfErr result (λ fault. IsRefusedLoad text.now fault) }
     ensures only { IfErr result (λ fault. IsTheOnlyRefusal text.now fault) }
 {
-    let loaded = load(alloc, text)?;
-    Machine::new(alloc, loaded)
+    match load(alloc, text) {
+        Ok(loaded) => Machine::new(alloc, loaded),
+        Err(fault) => Err(fault),
+    }
 }
 
 impl Scale {

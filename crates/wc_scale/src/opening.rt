@@ -16,8 +16,10 @@ fn indicator_of(alloc: Global, text: &[u8]) -> Result<Indicator, Fault>
     ensures plate { IfOk result (λ indicator. ShowsPlate text.now indicator) }
     ensures refused { IfErr result (λ fault. IsRefusedPlate text.now fault) }
 {
-    let plate = plate(alloc, text)?;
-    Indicator::new(alloc, plate)
+    match plate(alloc, text) {
+        Ok(plate) => Indicator::new(alloc, plate),
+        Err(fault) => Err(fault),
+    }
 }
 
 impl Scale {
