@@ -5,6 +5,8 @@ ghost use Rattle.std.specs.List.{list_all};
 ghost use Rattle.wc_model.specs.Instrument.Plates.{least_sample, greatest_sample};
 ghost use Rattle.wc_model.specs.Run.Log.{number_within, moment_of, whole_of, counts_of};
 
+use wc_model::{GREATEST_COUNTS, LAST_MOMENT, LEAST_COUNTS};
+
 /// The number that at most thirteen digits write, and none where a byte is no digit.
 #[inline(always)]
 fn value_of_digits(text: &[u8]) -> Option<u64>
@@ -46,7 +48,7 @@ pub(crate) fn moment(text: &[u8]) -> Option<u64>
     ensures { result ≡ moment_of text.now }
 {
     match number_within(13, text) {
-        Some(ms) if ms <= 1099511627775 => Some(ms),
+        Some(ms) if ms <= LAST_MOMENT => Some(ms),
         _ => None,
     }
 }
@@ -79,8 +81,9 @@ pub(crate) fn counts(text: &[u8]) -> Option<i32>
     ensures range { IfSome result
         (λ counts. (least_sample ≤ℤ counts) × (counts ≤ℤ greatest_sample)) }
 {
+    let (least, greatest) = (i64::from(LEAST_COUNTS), i64::from(GREATEST_COUNTS));
     match whole(text) {
-        Some(counts) if counts >= -8388608 && counts <= 8388607 => Some(counts as i32),
+        Some(counts) if counts >= least && counts <= greatest => Some(counts as i32),
         _ => None,
     }
 }

@@ -21,7 +21,7 @@ use wc_refusals::Form;
 /// tools/legal_digest computes. Whether a build was proved is not known to the program.
 const VERSION: &str = "0.1.0 (Narbeddo)
 toolchain rattle-kit-13 logic dac8208d650f15bf
-legal part sha256 c3468cef1e537c67dfc067db75dd792ae2f0a3cc629efde08970b50c62fb9124";
+legal part sha256 292249fde513c55be7ce905cff0598dfdc74dad95324f1280913aa5307632982";
 
 /// What the program does, with an example of each word.
 const ABOUT: &str =
