@@ -102,7 +102,7 @@ impl<'n> Watcher<'n> {
     }
 
     /// The number of the first name that no program has, counted from 0.
-    fn unknown_in(&self) -> Option<usize> {
+    fn unknown_name(&self) -> Option<usize> {
         for index in 0..self.names.len() {
             let is_watched = match self.watched.get(index) {
                 Some(watched) => watched.is_some(),
@@ -170,7 +170,7 @@ impl Scanner for Watcher<'_> {
         if self.awaits_next {
             return true;
         }
-        match self.unknown() {
+        match self.unknown_name() {
             Some(index) => {
                 self.fault = Some(WatchFault::Unknown(index));
                 false
