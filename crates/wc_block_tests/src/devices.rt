@@ -2,7 +2,7 @@
 use std::alloc::Global;
 use std::io;
 use std::io::{Read, Write};
-use wc_model::{ByteIn, ByteOut, Device, Fault, is_word, wrap32};
+use wc_model::{ByteIn, ByteOut, Device, Fault, WriteFault, is_word, wrap32};
 
 /// A reader and writer whose calls all fail.
 #[derive(Drop)]
@@ -88,6 +88,15 @@ fn failed_writes_are_told() -> bool {
     failed && none && ByteOut::failures(&full) == 1
 }
 
+/// Whether a writer's fault says these words of itself.
+fn write_fault_says(alloc: Global, words: &str) -> bool {
+    let fault = WriteFault;
+    match format!(in alloc; "{fault}") {
+        Ok(said) => said.as_bytes() == words.as_bytes(),
+        Err(_) => false,
+    }
+}
+
 /// Whether a fault says these words of itself.
 fn says(alloc: Global, fault: Fault, words: &str) -> bool {
     match format!(in alloc; "{fault}") {
@@ -104,6 +113,7 @@ fn faults_say_what_they_are(rt: HostRuntime) {
     };
     assert!(rt; says(rt.alloc(), refused, "refused 403 6"));
     assert!(rt; says(rt.alloc(), Fault::Memory, "want of memory"));
+    assert!(rt; write_fault_says(rt.alloc(), "write fault"));
 }
 
 #[test]

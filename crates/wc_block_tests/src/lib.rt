@@ -1,10 +1,13 @@
-//! Tests of what stands lowest, through its public calls: numbers, words, devices, standard blocks, and stores.
+//! Tests of what stands lowest, through its public calls: numbers, words, devices, what every text
+//! has, standard blocks, and stores.
 #![tactic(auto)]
 
 #[cfg(test)]
 mod around;
 #[cfg(test)]
 mod blocks;
+#[cfg(test)]
+mod built_in;
 #[cfg(test)]
 mod devices;
 #[cfg(test)]

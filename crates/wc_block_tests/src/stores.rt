@@ -52,16 +52,36 @@ fn put<S: Store>(store: &mut S, kinds: &[SlotKind], place: u16, number: i64) -> 
     let at = usize::from(place);
     if at < kinds.len() {
         if fits(kinds[at], number) {
-            store.set(Place(place), number);
+            if at % 2 == 0 {
+                store.set(Place(place), number);
+            } else {
+                store.set_at(at, number);
+            }
             return true;
         }
     }
     false
 }
 
-/// Whether a place holds a number.
+/// Whether a place holds a number, by the place and by its number.
 fn holds<S: Store>(store: &S, place: u16, number: i64) -> bool {
-    usize::from(place) < store.size() && store.get(Place(place)) == number
+    let at = usize::from(place);
+    at < store.size() && store.get(Place(place)) == number && store.get_at(at) == number
+}
+
+/// Writes to the first four places at once where the numbers are in their ranges, and says whether.
+fn put_four<S: Store>(store: &mut S, kinds: &[SlotKind], numbers: &[i64; 4]) -> bool
+    requires { S.slot_kinds store.old ≡ kinds.now }
+    ensures { S.slot_kinds store.new ≡ kinds.now }
+{
+    let [a, b, c, d] = *numbers;
+    if kinds.len() >= 4 {
+        if fits(kinds[0], a) && fits(kinds[1], b) && fits(kinds[2], c) && fits(kinds[3], d) {
+            store.set_four(0, a, b, c, d);
+            return true;
+        }
+    }
+    false
 }
 
 /// Each call of a store: 0 at first; what is written is read, and no other place changes.
@@ -76,7 +96,10 @@ fn each_call<S: Store>(alloc: Global, kinds: &[SlotKind]) -> Result<bool, Fault>
     let dint = put(&mut store, kinds, 1, -2147483648) && holds(&store, 1, -2147483648);
     let moment = put(&mut store, kinds, 3, 1099511627775) && holds(&store, 3, 1099511627775);
     let last = put(&mut store, kinds, 9, 1) && holds(&store, 9, 1) && !holds(&store, 10, 0);
-    Ok(zero && dint && moment && last && holds(&store, 1, -2147483648) && holds(&store, 2, 0))
+    let kept = holds(&store, 1, -2147483648) && holds(&store, 2, 0);
+    let four = put_four(&mut store, kinds, &[1, -5, 6, 7]) && holds(&store, 0, 1);
+    let behind = holds(&store, 1, -5) && holds(&store, 2, 6) && holds(&store, 3, 7);
+    Ok(zero && dint && moment && last && kept && four && behind && holds(&store, 9, 1))
 }
 
 #[test]

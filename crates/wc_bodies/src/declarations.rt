@@ -9,8 +9,8 @@ ghost use Rattle.wc_model.specs.declared.source.Section.{Section};
 
 use std::alloc::{AllocError, Global};
 use wc_lexer::{Shape, Token};
-use wc_lines::{truth, word};
-use wc_model::{Decl, Initial, Section, Unit, Value, Word, is_word};
+use wc_lines::{ends_section, truth, word};
+use wc_model::{Decl, Initial, Section, Unit, Value, Word};
 
 /// How far a section of declarations has been read.
 #[derive(Drop)]
@@ -103,7 +103,7 @@ fn at_first_name<'a>(alloc: Global, name: Word<'a>) -> Result<SectionPlace<'a>, 
         → section_view units unit section place
         ≡ moves.at_first_name units unit section (word_view name.entry)) }
 {
-    if is_word(name.text, b"end_var") {
+    if ends_section(name.text) {
         Ok(SectionPlace::BehindSection)
     } else {
         let state = with_name(Vec::new(alloc), name)?;

@@ -1,3 +1,5 @@
 pub mod Below
 pub mod Addresses
 pub mod FieldTables
+pub mod WordTables
+pub mod ReservedWords

@@ -7,9 +7,8 @@ ghost use Rattle.wc_model.specs.Language.Tree.{Lines, ProgramUnit};
 ghost use Rattle.wc_model.specs.Language.Views.{assignment_view, line_view, lines_view, term_view, word_view};
 ghost use Rattle.wc_model.specs.Language.Judging.{Judges};
 
-use crate::reserved::is_reserved;
 use crate::word::refusal;
-use wc_built_in::variable_at;
+use wc_built_in::{is_reserved, variable_at};
 use wc_model::{Argument, Fault, Instr, Line, Operand, Word};
 
 /// Judges a label by 307.

@@ -12,12 +12,11 @@ ghost use Rattle.wc_declare.specs.Rows.{HasTaken, HoldsRows, IsEmptyOf, SameName
 ghost use Rattle.wc_names.specs.StandsFor.{AreDifferent, IsTableOf, type_at};
 ghost use Rattle.wc_declare.specs.SoFar.{AreUnitsOf};
 
-use crate::reserved::is_reserved;
 use crate::room::add_variable;
-use crate::type_names::is_type_word;
 use crate::types::{block, type_at, width};
 use crate::units::Units;
 use crate::word::refusal;
+use wc_built_in::{is_reserved, is_type_word};
 use wc_model::{Decl, Fault, Initial, Kind, Section, Unit, Value, Word};
 use wc_names::{DeclaredType, Names, UnitTable, Variable};
 

@@ -4,9 +4,7 @@
 mod body;
 mod declaration;
 mod declaring;
-mod reserved;
 mod room;
-mod type_names;
 mod types;
 mod unit;
 mod units;

@@ -8,9 +8,8 @@ ghost use Rattle.wc_names.specs.Spelled.{is_elementary};
 ghost use Rattle.wc_names.specs.StandsFor.{type_at};
 ghost use Rattle.wc_declare.specs.SoFar.{AreUnitsOf};
 
-use crate::type_names::{elementary, standard};
 use crate::units::Units;
-use wc_built_in::standard_fields;
+use wc_built_in::{elementary_type, standard_block, standard_fields};
 use wc_model::StandardBlock;
 use wc_names::DeclaredType;
 
@@ -36,10 +35,10 @@ pub(crate) fn type_at<'a>(units: &Units<'a>, name: &[u8]) -> Option<DeclaredType
         (λ declared. is_elementary declared
         ≡ is_some (named_in elementary_types (name_of name.now))) }
 {
-    if let Some(kind) = elementary(name) {
+    if let Some(kind) = elementary_type(name) {
         return Some(DeclaredType::Elementary(kind));
     }
-    if let Some(block) = standard(name) {
+    if let Some(block) = standard_block(name) {
         return Some(DeclaredType::Standard(block));
     }
     match block(units, name) {

@@ -13,10 +13,10 @@ ghost use Rattle.wc_declare.specs.SoFar.{AreUnitsOf};
 
 use crate::body::judge_body;
 use crate::declaration::judge_declarations;
-use crate::reserved::is_reserved;
 use crate::units::Units;
 use crate::word::refusal;
 use std::alloc::Global;
+use wc_built_in::is_reserved;
 use wc_model::{Fault, Unit, UnitKind, Word};
 use wc_names::{Names, UnitTable};
 

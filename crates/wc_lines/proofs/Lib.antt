@@ -1,3 +1,3 @@
-mod FoundGroups
+mod MeantWords
 mod LaterTokens
 pub mod Outcomes

@@ -1,3 +1,3 @@
 pub mod Words
 pub mod LineViews
-pub mod OperatorGroups
+pub mod Meanings

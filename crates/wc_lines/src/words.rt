@@ -1,19 +1,21 @@
 ghost use Rattle.std.specs.Prelude.{◌≡◌};
 ghost use Rattle.wc_grammar_laws.specs.Words as words;
+ghost use Rattle.wc_lines.specs.Meanings.{section_meant, unit_meant};
 ghost use Rattle.wc_model.specs.Language.Declarations.{same_name};
-ghost use Rattle.wc_model.specs.Text.Keywords.{end_word};
 ghost use Rattle.wc_model.specs.Language.Names.{name_of};
+ghost use Rattle.wc_model.specs.Text.Keywords.{end_var, end_word};
 
+use wc_built_in::{END_FUNCTION_BLOCK, END_PROGRAM, END_VAR, FALSE, Keyword, TRUE, keyword_named};
 use wc_lexer::Token;
-use wc_model::{UnitKind, Word, is_word};
+use wc_model::{Section, UnitKind, Word, is_word};
 
 /// TRUE and FALSE.
 pub fn truth(text: &[u8]) -> Option<bool>
     ensures { result ≡ words.found words.truths (name_of text.now) }
 {
-    if is_word(text, b"true") {
+    if is_word(text, TRUE) {
         Some(true)
-    } else if is_word(text, b"false") {
+    } else if is_word(text, FALSE) {
         Some(false)
     } else {
         None
@@ -25,8 +27,55 @@ pub fn ends_unit(text: &[u8], kind: UnitKind) -> bool
     ensures { result ≡ same_name (name_of text.now) (end_word kind) }
 {
     match kind {
-        UnitKind::FunctionBlock => is_word(text, b"end_function_block"),
-        UnitKind::Program => is_word(text, b"end_program"),
+        UnitKind::FunctionBlock => is_word(text, END_FUNCTION_BLOCK),
+        UnitKind::Program => is_word(text, END_PROGRAM),
+    }
+}
+
+/// Whether the word ends a section of declarations.
+pub fn ends_section(text: &[u8]) -> bool
+    ensures { result ≡ same_name (name_of text.now) end_var }
+{
+    is_word(text, END_VAR)
+}
+
+/// The section that a reserved word begins.
+fn section_meant(keyword: Keyword) -> Option<Section>
+    ensures { result ≡ section_meant keyword }
+{
+    match keyword {
+        Keyword::SectionStart(section) => Some(section),
+        _ => None,
+    }
+}
+
+/// The section that the word begins.
+pub fn section_named(text: &[u8]) -> Option<Section>
+    ensures { result ≡ words.found words.section_words (name_of text.now) }
+{
+    match keyword_named(text) {
+        Some(keyword) => section_meant(keyword),
+        None => None,
+    }
+}
+
+/// The kind of unit that a reserved word begins.
+fn unit_meant(keyword: Keyword) -> Option<UnitKind>
+    ensures { result ≡ unit_meant keyword }
+{
+    match keyword {
+        Keyword::UnitStart(kind) => Some(kind),
+        _ => None,
+    }
+}
+
+/// The kind of unit that the word begins.
+pub fn unit_kind(text: &[u8]) -> Option<UnitKind>
+    ensures { result ≡ words.found words.unit_kinds (name_of text.now) }
+{
+    match keyword_named(text) {
+        Some(keyword) => unit_meant(keyword),
+        None => None,
     }
 }
 

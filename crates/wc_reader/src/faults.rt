@@ -13,9 +13,9 @@ ghost use Rattle.wc_reader.specs.TextViews.{IsStateCounted, line_place_view, rea
 ghost use Rattle.wc_lines.specs.Words.{symbol_view};
 
 use crate::text_state::{LinePlace, Reading, TextState};
-use crate::words::unit_kind;
 use wc_bodies::{Body, start_fault, state_fault};
 use wc_lexer::{Shape, Token};
+use wc_lines::unit_kind;
 use wc_model::{Fault, MOST_UNITS, Unit, UnitKind};
 
 /// Whether the unit is a program.

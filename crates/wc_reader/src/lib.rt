@@ -8,7 +8,6 @@ mod faults;
 mod moves;
 mod text;
 mod text_state;
-mod words;
 
 pub use ends::at_text_end;
 pub use faults::has_program;

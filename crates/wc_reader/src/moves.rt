@@ -11,11 +11,10 @@ ghost use Rattle.wc_lines.specs.Words.{symbol_view};
 
 use crate::body_moves::place_move;
 use crate::text_state::{BodyPlace, LinePlace, TextState};
-use crate::words::unit_kind;
 use std::alloc::{AllocError, Global};
 use wc_bodies::{Body, DeclarationState, SectionPlace, body_start, declaration_move};
 use wc_lexer::{Shape, Token};
-use wc_lines::word;
+use wc_lines::{unit_kind, word};
 use wc_model::{Section, Unit, UnitKind};
 
 /// Behind a unit's first word, where the token is one.

@@ -4,7 +4,6 @@ mod ThreeFields
 mod StatusBits
 mod RecordEnds
 mod ReadRecords
-mod Sources
 pub mod LogSteps
 mod Cuts
 mod Standing

@@ -15,8 +15,7 @@ use Rattle.wc_record.specs.Places.{log_start}
 use Rattle.wc_record.specs.Left.{Answer, HasLeft, IsLeft, Takes, end_behind, log_behind, moment_or_zero}
 use Rattle.wc_record.specs.Steps.{GivesRecord}
 use Rattle.wc_record.specs.Told.{Reads, ReadsTo, all_records, record_at, records_read}
-use Rattle.wc_record.specs.Reading.{records_of}
-use Rattle.wc_record.specs.Source.{SourceHas}
+use Rattle.wc_record.specs.Reading.{HasRecords, records_of}
 use Rattle.wc_record.specs.declared.log.LogEnd.{LogEnd}
 use Rattle.wc_record.specs.declared.log.Rows.{Rows}
 use Rattle.wc_record.specs.declared.row_kind.LogFault.TheVariants as fault
@@ -117,6 +116,13 @@ first_has_none (name ∷ more) e = by_name (bytes_eq (codes "ms") name) refl (sy
 pub first_read : (left rest : List Record) (fields : Record) → left ≡ fields ∷ rest → true ≡ has_fields first_row fields → log_of left ≡ log_after (fields ∷ []) rest
 first_read left rest fields e f = rw (e, ← f) refl
 
+-- a first row that is not as it must be is refused, and so is a log with none
+pub first_refused : (left rest : List Record) (fields : Record) → left ≡ fields ∷ rest → false ≡ has_fields first_row fields → (log_of left ≡ refused_at 601 1) × (fields ≡ record_at left 1)
+first_refused left rest fields e f = rw (e, ← f) (refl, refl)
+
+pub none_refused : (left : List Record) (fields : Record) → left ≡ [] → fields ≡ [] → (log_of left ≡ refused_at 601 1) × (fields ≡ record_at left 1)
+none_refused left fields e f = rw e (refl, f)
+
 -- what is given is taken, and the end is kept
 pub taken : {R : Type 0} (bytes_left : R → Option (List ℕ)) (before left : List Record) (answer : Answer) (given : Rows R) (end : Option LogEnd) → end ≡ end_behind answer
     → GivesRecord bytes_left before left answer given → Takes bytes_left (log_behind before left) answer (record given { end = end })
@@ -188,21 +194,21 @@ reads_still bytes_left rows records end e h = rw e at h
 
 -- where the bytes are known, their log is left at first: what is cut off changes none of it
 pub all_left : {R : Type 0} (bytes_left : R → Option (List ℕ)) (rows : Rows R) (known read : Option (List ℕ)) → rows.number ≡ 0 → rows.last ≡ 0 → rows.end ≡ None → read ≡ option_map (cut_from log_start) known
-    → IfSome read (λ bytes. SourceHas bytes_left rows.source (records_of bytes)) → IfSome known (λ bytes. HasLeft bytes_left rows (log_of (records_of bytes)))
+    → ((bytes : List ℕ) → read ≡ Some bytes → HasRecords bytes_left rows.records (records_of bytes)) → IfSome known (λ bytes. HasLeft bytes_left rows (log_of (records_of bytes)))
 all_left bytes_left rows None read number last end cut h = tt
 all_left bytes_left rows (Some bytes) read number last end cut h =
-    rw end ([], records_of (cut_from log_start bytes), record { has = rw cut at h; number = number; last = last; few = omega arith }, sym (cut_log_is_same bytes))
+    rw end ([], records_of (cut_from log_start bytes), record { has = h (cut_from log_start bytes) cut; number = number; last = last; few = omega arith }, sym (cut_log_is_same bytes))
 
 -- and its records are read up to the cut
 pub all_read : {R : Type 0} (bytes_left : R → Option (List ℕ)) (rows : Rows R) (known read : Option (List ℕ)) → rows.number ≡ 0 → rows.last ≡ 0 → rows.end ≡ None → read ≡ option_map (cut_from log_start) known
-    → IfSome read (λ bytes. SourceHas bytes_left rows.source (records_of bytes)) → IfSome known (λ bytes. Reads bytes_left rows (records_read bytes))
+    → ((bytes : List ℕ) → read ≡ Some bytes → HasRecords bytes_left rows.records (records_of bytes)) → IfSome known (λ bytes. Reads bytes_left rows (records_read bytes))
 all_read bytes_left rows None read number last end cut h = tt
 all_read bytes_left rows (Some bytes) read number last end cut h =
     rw end (
       [],
       records_of (cut_from log_start bytes),
       record {
-        stands = record { has = rw cut at h; number = number; last = last; few = omega arith };
+        stands = record { has = h (cut_from log_start bytes) cut; number = number; last = last; few = omega arith };
         all = refl;
         at_hand = tt;
       },

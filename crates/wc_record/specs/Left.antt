@@ -1,8 +1,9 @@
 -- What is left of a log: its rows and its refusal, where the bytes of the reader are known.
 use Rattle.std.specs.Prelude.{◌≡◌, ◌≤◌, ◌<◌, ◌^◌, ◌⊎◌, ⊤, ℕ, ◌-◌, true, List, [], ◌∷◌, length, Option, Some, None, Result, Ok, Err}
 use Rattle.wc_model.specs.Run.Log.{Record, LogOf, log_of, log_after, last_moment, refused_at, with_row}
+use Rattle.csv.specs.Reading.{reader_source}
 use Rattle.wc_record.specs.Bound.{is_used_up}
-use Rattle.wc_record.specs.Source.{SourceHas, bounded_in, counted_in}
+use Rattle.wc_record.specs.Reading.{HasRecords, lent}
 use Rattle.wc_record.specs.Views.{IsDataInRange, data_view, row_view}
 use Rattle.wc_record.specs.declared.log.LogEnd.{LogEnd}
 use Rattle.wc_record.specs.declared.log.LogEnd.TheVariants.{AllRead, Met}
@@ -47,12 +48,12 @@ abbrev pub started_at : {R : Type 0} → Rows R → ℕ
 started_at rows = rows.start
 
 -- the count of the reader from which on the bound on what is read is measured
-abbrev pub bounded_from : {R : Type 0} → Rows R → Option ℕ
-bounded_from rows = bounded_in rows.source
+abbrev pub bounded_from : {R : Type 0} → Rows R → ℕ
+bounded_from rows = (reader_source rows.records.csv).start
 
 -- a count of the reader that is lent
 abbrev pub count_in : {R : Type 0} → (R → ℕ) → Rows R → ℕ
-count_in count rows = counted_in count rows.source
+count_in count rows = count (lent (reader_source rows.records.csv))
 
 -- the moment of a row, 0 where there is none
 abbrev pub moment_or_zero : Option ℕ → ℕ
@@ -66,7 +67,7 @@ log_behind (fields ∷ before) left = log_after (fields ∷ before) left
 
 -- these records were read, and behind them stands this log
 pub record StandsBehind {R : Type 0} (bytes_left : R → Option (List ℕ)) (rows : Rows R) (before left : List Record) : Type 0 where
-  pub has : SourceHas bytes_left rows.source left
+  pub has : HasRecords bytes_left rows.records left
   pub number : rows.number ≡ length before
   pub last : rows.last ≡ moment_or_zero (last_moment before)
   pub few : rows.number ≤ 1000000

@@ -3,7 +3,6 @@ pub mod Places
 pub mod Cutting
 pub mod Views
 pub mod Reading
-pub mod Source
 pub mod Left
 pub mod Steps
 pub mod Recorders

@@ -15,7 +15,6 @@ mod records;
 mod refused_row;
 mod row_data;
 mod row_kind;
-mod source;
 
 pub use bounded::is_used_up;
 pub use last_scans::{Record, Recorder};

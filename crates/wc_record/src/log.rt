@@ -3,21 +3,40 @@ ghost use Rattle.csv.specs.Records.{fields_of};
 ghost use Rattle.wc_model.specs.Run.Log.{Record, LogOf, log_of};
 ghost use Rattle.wc_record.specs.Left.{HasCauseIn, HasLeft, IsNext, StandsBehind, Takes, bounded_from, count_in, ended, last_ms, row_bytes, rows_read, started_at};
 ghost use Rattle.wc_record.specs.Left as left;
-ghost use Rattle.wc_record.specs.Reading.{TakesFirst, records_of};
-ghost use Rattle.wc_record.specs.Source.{SourceHas};
+ghost use Rattle.wc_record.specs.Reading.{HasRecords, TakesFirst, records_of};
 ghost use Rattle.wc_record.specs.Steps.{GivesRecord, IsBehindFirst, Keeps, KeepsRow, RefusesAt};
 ghost use Rattle.wc_record.specs.Told.{Reads, at_hand, fields_told, records_read};
 
 use crate::bounded::{Bounded, is_used_up};
 use crate::fields::{is_first_row, row_in};
+use crate::records::Records;
 use crate::refused_row::RefusedRow;
 use crate::row_data::RowFault;
 use crate::row_kind::{LogFault, Row};
-use crate::source::Source;
 use csv::ByteRecord;
 use std::alloc::Global;
 use std::mem::replace;
 use wc_model::{ByteIn, MOST_ROWS};
+
+/// Room for the bytes of a record: as many as `csv` takes from its reader at once.
+const RECORD_ROOM: usize = 8192;
+
+/// Room for the ends of its fields, three and one that is too many.
+const ENDS_ROOM: usize = 4;
+
+/// A record to read into. `csv` takes no more bytes at once than it has room for, so with less room
+/// than its line has bytes each record would be taken in two pieces. Where memory is refused, it
+/// grows as it needs.
+#[cold]
+#[inline(never)]
+fn roomy_record(alloc: Global) -> ByteRecord
+    ensures { fields_of result ≡ [] }
+{
+    match ByteRecord::with_capacity(alloc, RECORD_ROOM, ENDS_ROOM) {
+        Ok(row) => row,
+        Err(_) => ByteRecord::new(alloc),
+    }
+}
 
 /// How a log ended.
 #[derive(Clone, Copy, PartialEq, Eq)]
@@ -56,7 +75,8 @@ fn end_behind(answer: &Result<Option<Row>, LogFault>) -> Option<LogEnd>
 /// none.
 #[derive(Drop)]
 pub struct Rows<'r, R> {
-    source: Source<'r, R>,
+    alloc: Global,
+    records: Records<'r, R>,
     row: ByteRecord,
     room: Vec<u8>,
     start: u64,
@@ -75,13 +95,14 @@ impl<'r, R: ByteIn> Rows<'r, R> {
             (λ bytes. Reads R.bytes_left result (records_read bytes)) }
         ensures fresh { (rows_read result ≡ 0) × (last_ms result ≡ 0) × (ended result ≡ None) }
         ensures start { started_at result ≡ R.spent_count reader.old }
-        ensures bounded { bounded_from result ≡ Some (R.spent_count reader.old) }
+        ensures bounded { bounded_from result ≡ R.spent_count reader.old }
         ensures failures { count_in R.failure_count result ≡ R.failure_count reader.old }
         ensures spent { count_in R.spent_count result ≡ R.spent_count reader.old }
     {
         let start = reader.spent();
         Rows {
-            source: Source::new(alloc, Bounded::new(reader, start)),
+            alloc,
+            records: Records::new(alloc, Bounded::new(reader, start)),
             row: ByteRecord::new(alloc),
             room: Vec::new(alloc),
             start,
@@ -102,10 +123,10 @@ impl<'r, R: ByteIn> Rows<'r, R> {
             → ¬ HasCauseIn R.failure_count R.spent_count failures_before self.now }
         ensures fault { (result ≡ LogFault.Read) ⊎ (result ≡ LogFault.Memory) }
     {
-        let failures = self.source.failures();
+        let failures = self.records.failures();
         if failures > failures_before
             || failures == u64::MAX
-            || is_used_up(self.start, self.source.spent())
+            || is_used_up(self.start, self.records.spent())
         {
             LogFault::Read
         } else {
@@ -119,12 +140,12 @@ impl<'r, R: ByteIn> Rows<'r, R> {
     fn read(&mut self) -> Result<bool, LogFault>
         ensures next { IfOk result
             (λ found.
-            TakesFirst (SourceHas R.bytes_left self.old.source)
-            (SourceHas R.bytes_left self.new.source) found (fields_of self.new.row)) }
+            TakesFirst (HasRecords R.bytes_left self.old.records)
+            (HasRecords R.bytes_left self.new.records) found (fields_of self.new.row)) }
         ensures fault { IfErr result (λ met. met ≡ LogFault.Memory) }
         ensures keeps { KeepsRow self.old self.new }
     {
-        match self.source.read(&mut self.row) {
+        match self.records.read(&mut self.row) {
             Ok(found) => Ok(found),
             Err(_) => Err(LogFault::Memory),
         }
@@ -145,7 +166,7 @@ impl<'r, R: ByteIn> Rows<'r, R> {
             ((rows_read self.new ≡ 1) × (last_ms self.new ≡ last_ms self.old)) }
         ensures keeps { Keeps self.old self.new }
     {
-        self.row = self.source.record();
+        self.row = roomy_record(self.alloc);
         match self.read() {
             Ok(found) => {
                 if found && is_first_row(&self.row) {
@@ -259,7 +280,7 @@ impl<'r, R: ByteIn> Rows<'r, R> {
             (count_in R.failure_count self.old) self.new }
         ensures keeps { Keeps self.old self.new }
     {
-        let failures_before = self.source.failures();
+        let failures_before = self.records.failures();
         match self.next_row() {
             Ok(given) => Ok(given),
             Err(fault) => match fault {
@@ -326,7 +347,7 @@ impl<'r, R: ByteIn> Rows<'r, R> {
             .iter()
             .filter(|byte| **byte == b'\n')
             .count();
-        let line = self.source.line().saturating_sub(feeds as u64);
+        let line = self.records.line().saturating_sub(feeds as u64);
         line.clamp(1, u32::MAX as u64) as u32
     }
 

@@ -13,8 +13,8 @@ ghost use Rattle.wc_lines.specs.Words.{marks_of, symbol_view};
 
 use std::alloc::{AllocError, Global};
 use wc_lexer::{Shape, Token};
-use wc_lines::word;
-use wc_model::{Decl, Section, Unit, Word, is_word};
+use wc_lines::{ends_section, word};
+use wc_model::{Decl, Section, Unit, Word};
 
 /// Whether the token is a declaration's name.
 fn is_name(token: Token) -> bool
@@ -22,7 +22,7 @@ fn is_name(token: Token) -> bool
     ensures more { IsTrue result → same_name (name_of token.entry.text.now) end_var ≡ false }
 {
     match token.shape {
-        Shape::Identifier => !is_word(token.text, b"end_var"),
+        Shape::Identifier => !ends_section(token.text),
         _ => false,
     }
 }

@@ -5,8 +5,9 @@ ghost use Rattle.wc_model.specs.Language.Scopes.{Scope};
 ghost use Rattle.wc_model.specs.Language.Views.{text_view};
 
 use std::alloc::Global;
+use wc_built_in::field_named;
 use wc_cost::Loaded;
-use wc_model::{Fault, Kind, Path, Place, SlotKind, is_word};
+use wc_model::{Fault, Kind, Path, Place, Section, SlotKind, StandardBlock};
 use wc_names::DeclaredType;
 
 /// A variable that is watched: its place in the program's frame, and its kind.
@@ -45,25 +46,29 @@ fn watched_at(loaded: &Loaded<'_>, path: &Path<'_>) -> Option<Watched>
     }
 }
 
-/// Whether texts cannot name a field of that name of a standard block.
-fn is_hidden(name: &[u8]) -> bool {
-    is_word(b"m", name)
-        || is_word(b"run", name)
-        || is_word(b"phase", name)
-        || is_word(b"start", name)
+/// Whether texts cannot name the field of that name of a standard block.
+fn is_hidden(block: StandardBlock, name: &[u8]) -> bool {
+    match field_named(block, name) {
+        Some(found) => found.field.section == Section::Own,
+        None => false,
+    }
 }
 
-/// Whether the names of a path lead into a standard block.
-fn leads_into_standard(loaded: &Loaded<'_>, names: &[&[u8]]) -> bool {
+/// Whether the names of a path lead to a field of a standard block that texts cannot name.
+fn leads_to_hidden(loaded: &Loaded<'_>, names: &[&[u8]]) -> bool {
     let tables = loaded.checked().tables();
     let mut unit = loaded.units().saturating_sub(1);
+    let mut entered = None;
     for name in names {
+        if let Some(block) = entered {
+            return is_hidden(block, name);
+        }
         let Some(located) = tables.variable(unit, name) else {
             return false;
         };
         match located.declared {
             DeclaredType::Block(block) => unit = block,
-            DeclaredType::Standard(_) => return true,
+            DeclaredType::Standard(block) => entered = Some(block),
             DeclaredType::Elementary(_) => return false,
         }
     }
@@ -72,11 +77,7 @@ fn leads_into_standard(loaded: &Loaded<'_>, names: &[&[u8]]) -> bool {
 
 /// What the names of a path lead to in a program. A field that texts cannot name is nothing.
 fn watched_by_names(loaded: &Loaded<'_>, names: &[&[u8]]) -> Option<Watched> {
-    let is_field = match names.last() {
-        Some(name) => is_hidden(name),
-        None => false,
-    };
-    if is_field && leads_into_standard(loaded, names) {
+    if leads_to_hidden(loaded, names) {
         return None;
     }
     watched_at(loaded, &Path::Names(names))

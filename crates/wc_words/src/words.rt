@@ -21,7 +21,7 @@ use wc_refusals::Form;
 /// tools/legal_digest computes. Whether a build was proved is not known to the program.
 const VERSION: &str = "0.1.0 (Narbeddo)
 toolchain rattle-kit-13 logic dac8208d650f15bf
-legal part sha256 292249fde513c55be7ce905cff0598dfdc74dad95324f1280913aa5307632982";
+legal part sha256 bd7adca2554c6bae19a3880901272b44ef24a5689c6ae710100d71e57ae989ef";
 
 /// What the program does, with an example of each word.
 const ABOUT: &str =

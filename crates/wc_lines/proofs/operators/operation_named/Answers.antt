@@ -1,10 +1,12 @@
+use Rattle.std.proofs.Common.{◌∙◌, sym, ap}
+use Rattle.std.specs.Prelude.{option_and_then}
+use Rattle.wc_lines.specs.Meanings.{operation_meant}
 use Rattle.wc_model.specs.Language.Names.{name_of}
-use Rattle.wc_lines.proofs.FoundGroups.{found-first, found-second}
-use Rattle.wc_lines.specs.OperatorGroups.{loads_and_stores, from_logic}
+use Rattle.wc_lines.proofs.MeantWords.{operation_is}
 use Rattle.wc_lines.proofs.operators.operation_named.Goals as goal
 
 pub returns-in-Some : goal.returns-in-Some
-returns-in-Some c = found-first loads_and_stores from_logic (name_of c.args.text.now) c.load_or_store.result c.in-Some.operation c.load_or_store.ensures c.in-Some.is
+returns-in-Some c = c.operation_meant.ensures ∙ ap (option_and_then operation_meant) (sym c.in-Some.is ∙ c.keyword_named.ensures) ∙ operation_is (name_of c.args.text.now)
 
 pub returns-in-None : goal.returns-in-None
-returns-in-None c = found-second loads_and_stores from_logic (name_of c.args.text.now) c.load_or_store.result c.logic_or_later.result c.load_or_store.ensures c.in-None.is c.logic_or_later.ensures
+returns-in-None c = ap (option_and_then operation_meant) (sym c.in-None.is ∙ c.keyword_named.ensures) ∙ operation_is (name_of c.args.text.now)

@@ -1,7 +1,8 @@
 use Rattle.std.proofs.Common.{◌∙◌, sym, ap, refl, arith}
 use Rattle.csv.specs.Records.{fields_of}
-use Rattle.wc_record.proofs.LogSteps.{first_has_none, first_read}
+use Rattle.wc_record.proofs.LogSteps.{first_has_none, first_read, first_refused, none_refused}
 use Rattle.wc_record.proofs.log.Rows.first_row.Goals as goal
+use Rattle.wc_record.proofs.log.Rows.first_row.Goals.{else-found-via-then-found+else-is_first_row, else-found-via-else-found}
 use Rattle.wc_record.specs.Left.{moment_or_zero}
 
 pub returns-then-is_first_row-clause-first : goal.returns-then-is_first_row-clause-first
@@ -21,3 +22,18 @@ returns-then-is_first_row-clause-first g c =
       },
       read.1,
     )
+
+pub returns-then-not-found-clause-refused : goal.returns-then-not-found-clause-refused
+returns-then-not-found-clause-refused g c =
+    λ left stands.
+    let none = (rw c.if-not-found.true at c.in-Ok.ensures.next) left stands.has in
+    none_refused left (fields_of c.clear.new.self) none c.clear.ensures.fields
+
+pub returns-else-not-found-clause-refused : goal.returns-else-not-found-clause-refused
+returns-else-not-found-clause-refused g c = elim c.else-found.branch [
+  | else-found-via-then-found+else-is_first_row w ↦
+      λ left stands.
+      let read = (rw c.if-not-found.false at c.in-Ok.ensures.next) left stands.has in
+      first_refused left read.0 (fields_of c.read.new.self.row) read.1 w.if-is_first_row.ensures
+  | else-found-via-else-found w ↦ cc
+]

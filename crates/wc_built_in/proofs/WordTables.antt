@@ -1,0 +1,127 @@
+-- Looking a name up in tables of words.
+use Rattle.std.proofs.Common.{◌≡◌, ℕ, Bool, true, false, not, List, [], ◌∷◌, ◌++◌, length, map, Option, Some, None, if◌then◌else◌, true≢false, refl, sym, ap, ◌∙◌}
+use Rattle.std.proofs.lemmas.Bool.{and_parts}
+use Rattle.std.proofs.lemmas.Slice.Eq.{bytes_eq-Decides}
+use Rattle.std.specs.Prelude.{◌||◌, option_and_then}
+use Rattle.std.specs.Cmp.{decided}
+use Rattle.std.specs.List.{list_all}
+use Rattle.std.specs.Option.{is_some, option_or}
+use Rattle.wc_model.specs.Language.DeclarationRules.{is_among}
+use Rattle.wc_model.specs.Language.Declarations.{named_in, same_name}
+use Rattle.wc_model.specs.Language.Names.{Name, name_of}
+use Rattle.wc_built_in.specs.Keywords.{keyword_row}
+use Rattle.wc_built_in.specs.declared.keywords.KeywordRow.{KeywordRow}
+
+-- names that compare as the same are the same
+pub names_equal : (a b : Name) → same_name a b ≡ true → a ≡ b
+names_equal a b e = (bytes_eq-Decides a b).0 e
+
+-- in whatever order they are compared
+pub same_name_turned : (a b : Name) → same_name a b ≡ same_name b a
+same_name_turned a b = (decided same_name (λ x y. bytes_eq-Decides x y)).symm a b
+
+-- in the first table, or else in the second
+pub named_in-append : {X : Type 0} (xs ys : List (Name × X)) (name : Name) → named_in (xs ++ ys) name ≡ option_or (named_in xs name) (named_in ys name)
+named_in-append [] ys name = refl
+named_in-append {X} (x ∷ xs) ys name =
+    elim (same_name x.0 name) as (λ b. (if◌then◌else◌ {A = Option X} b (Some x.1) (named_in (xs ++ ys) name)) ≡ option_or (if◌then◌else◌ {A = Option X} b (Some x.1) (named_in xs name)) (named_in ys name)) [
+      | true ↦ refl
+      | false ↦ named_in-append xs ys name
+    ]
+
+-- nothing is found where no row has so many letters
+pub none_of_length : {X : Type 0} (p : ℕ → Bool) (rows : List (Name × X)) (name : Name) → list_all (λ row. p (length row.0)) rows ≡ true → p (length name) ≡ false → named_in rows name ≡ None
+none_of_length p [] name all other = refl
+none_of_length {X} p (row ∷ rows) name all other =
+    let parts = and_parts (p (length row.0)) (list_all (λ r. p (length r.0)) rows) all in
+    by (same_name row.0 name) refl parts.0 (none_of_length p rows name parts.1 other)
+  where
+    by : (b : Bool) → same_name row.0 name ≡ b → p (length row.0) ≡ true → named_in rows name ≡ None → (if◌then◌else◌ {A = Option X} b (Some row.1) (named_in rows name)) ≡ None
+    by true same own rest = absurd (true≢false (sym own ∙ ap (λ n. p (length n)) (names_equal row.0 name same) ∙ other))
+    by false same own rest = rest
+
+-- the names of a table
+abbrev pub words_in : {X : Type 0} → List (Name × X) → List Name
+words_in rows = map (λ row. row.0) rows
+
+-- something is found where the name is among those of the table
+pub some_among : {X : Type 0} (rows : List (Name × X)) (name : Name) → is_some (named_in rows name) ≡ is_among (words_in rows) name
+some_among [] name = refl
+some_among {X} (row ∷ rows) name = by (same_name row.0 name) (same_name name row.0) (same_name_turned row.0 name) (some_among rows name)
+  where
+    by : (a b : Bool) → a ≡ b → is_some (named_in rows name) ≡ is_among (words_in rows) name → is_some (if◌then◌else◌ {A = Option X} a (Some row.1) (named_in rows name)) ≡ (b || is_among (words_in rows) name)
+    by true true e rest = refl
+    by false false e rest = rest
+    by true false e rest = absurd (true≢false e)
+    by false true e rest = absurd (true≢false (sym e))
+
+-- a name among these is among those, where all of these are
+among_too : (xs ys : List Name) (name : Name) → list_all (is_among ys) xs ≡ true → is_among xs name ≡ true → is_among ys name ≡ true
+among_too [] ys name all among = cc
+among_too (x ∷ xs) ys name all among =
+    let parts = and_parts (is_among ys x) (list_all (is_among ys) xs) all in
+    by (same_name name x) refl among parts.0 (among_too xs ys name parts.1)
+  where
+    by : (b : Bool) → same_name name x ≡ b → (b || is_among xs name) ≡ true → is_among ys x ≡ true → (is_among xs name ≡ true → is_among ys name ≡ true) → is_among ys name ≡ true
+    by true same among first rest = ap (is_among ys) (names_equal name x same) ∙ first
+    by false same among first rest = rest among
+
+-- two lists of the same names
+pub same_words : (xs ys : List Name) (name : Name) → list_all (is_among ys) xs ≡ true → list_all (is_among xs) ys ≡ true → is_among xs name ≡ is_among ys name
+same_words xs ys name there back = by (is_among xs name) (is_among ys name) (among_too xs ys name there) (among_too ys xs name back)
+  where
+    by : (a b : Bool) → (a ≡ true → b ≡ true) → (b ≡ true → a ≡ true) → a ≡ b
+    by true b on back = sym (on refl)
+    by false true on back = back refl
+    by false false on back = refl
+
+-- each row of a table has what a reading of another table gives for its name
+abbrev pub AreRead : {X Y : Type 0} → (X → Option Y) → List (Name × X) → List (Name × Y) → Type 0
+AreRead {X} {Y} f rows part = map (λ (row : Name × Y). option_and_then f (named_in rows row.0)) part ≡ map (λ (row : Name × Y). Some row.1) part
+
+-- each row that can be read stands in the other table
+abbrev pub stands_in : {X Y : Type 0} → (X → Option Y) → List (Name × Y) → Name × X → Bool
+stands_in f part row = not (is_some (f row.1)) || is_some (named_in part row.0)
+
+-- what is found in the part is read
+read_of : {X Y : Type 0} (f : X → Option Y) (rows : List (Name × X)) (part : List (Name × Y)) (name : Name) (y : Y) → AreRead f rows part → named_in part name ≡ Some y → option_and_then f (named_in rows name) ≡ Some y
+read_of f rows [] name y read e = cc
+read_of {X} {Y} f rows (row ∷ part) name y read e =
+    let first : option_and_then f (named_in rows row.0) ≡ Some row.1 = cc in
+    let behind : AreRead f rows part = cc in
+    by (same_name row.0 name) refl e first (read_of f rows part name y behind)
+  where
+    by : (b : Bool) → same_name row.0 name ≡ b → (if◌then◌else◌ {A = Option Y} b (Some row.1) (named_in part name)) ≡ Some y → option_and_then f (named_in rows row.0) ≡ Some row.1
+        → (named_in part name ≡ Some y → option_and_then f (named_in rows name) ≡ Some y) → option_and_then f (named_in rows name) ≡ Some y
+    by true same e first rest = ap (λ n. option_and_then f (named_in rows n)) (sym (names_equal row.0 name same)) ∙ first ∙ e
+    by false same e first rest = rest e
+
+-- what is not found there is not
+none_read : {X Y : Type 0} (f : X → Option Y) (rows : List (Name × X)) (part : List (Name × Y)) (name : Name) → list_all (stands_in f part) rows ≡ true → named_in part name ≡ None → option_and_then f (named_in rows name) ≡ None
+none_read f [] part name all none = refl
+none_read {X} {Y} f (row ∷ rows) part name all none =
+    let parts = and_parts (stands_in f part row) (list_all (stands_in f part) rows) all in
+    by (same_name row.0 name) refl parts.0 (none_read f rows part name parts.1 none)
+  where
+    alone : (o : Option Y) → f row.1 ≡ o → row.0 ≡ name → (not (is_some o) || is_some (named_in part row.0)) ≡ true → o ≡ None
+    alone None e same stands = refl
+    alone (Some y) e same stands = absurd (true≢false (sym stands ∙ ap (λ n. is_some (named_in part n)) same ∙ ap is_some none))
+
+    by : (b : Bool) → same_name row.0 name ≡ b → stands_in f part row ≡ true → option_and_then f (named_in rows name) ≡ None → option_and_then f (if◌then◌else◌ {A = Option X} b (Some row.1) (named_in rows name)) ≡ None
+    by true same stands rest = alone (f row.1) refl (names_equal row.0 name same) stands
+    by false same stands rest = rest
+
+-- so a part of a table can be looked up in the whole
+pub found_in_part : {X Y : Type 0} (f : X → Option Y) (rows : List (Name × X)) (part : List (Name × Y)) (name : Name) → AreRead f rows part → list_all (stands_in f part) rows ≡ true → option_and_then f (named_in rows name) ≡ named_in part name
+found_in_part {X} {Y} f rows part name read all = by (named_in part name) refl
+  where
+    by : (o : Option Y) → named_in part name ≡ o → option_and_then f (named_in rows name) ≡ o
+    by None e = none_read f rows part name all e
+    by (Some y) e = read_of f rows part name y read e
+
+-- a row that is the word is the one that is found, and one that is not is passed
+pub row_at : (rows behind : List KeywordRow) (name : Name) (row : KeywordRow) → rows ≡ row ∷ behind → same_name (name_of row.word.now) name ≡ true → Some row.keyword ≡ named_in (map keyword_row rows) name
+row_at rows behind name row e same = rw (e, same) refl
+
+pub row_passed : (rows behind : List KeywordRow) (name : Name) (row : KeywordRow) → rows ≡ row ∷ behind → same_name (name_of row.word.now) name ≡ false → named_in (map keyword_row behind) name ≡ named_in (map keyword_row rows) name
+row_passed rows behind name row e other = rw (e, other) refl

@@ -1,0 +1,166 @@
+ghost use Rattle.std.specs.Prelude.{◌≡◌, map};
+ghost use Rattle.wc_model.specs.Language.Declarations.{named_in};
+ghost use Rattle.wc_model.specs.Language.Names.{name_of};
+ghost use Rattle.wc_built_in.specs.Keywords.{five_letters, four_letters, keyword_row, keywords, longer_words, one_letter, three_letters, two_letters};
+
+use crate::keyword::Keyword;
+use crate::words::{END_FUNCTION_BLOCK, END_PROGRAM, END_VAR, FALSE, TRUE};
+use wc_model::{Condition, Kind, Operator, Section, StandardBlock, Storing, UnitKind, is_word};
+
+/// A reserved word, in small letters, and what it stands for.
+pub(crate) struct KeywordRow {
+    word: &'static [u8],
+    keyword: Keyword,
+}
+
+/// Reserved words, each with what it stands for.
+macro_rules! words {
+    ($($word:tt $keyword:expr;)*) => {
+        &[$(KeywordRow {
+            word: $word,
+            keyword: $keyword,
+        }),*]
+    };
+}
+
+/// The words of one letter.
+fn one_letter() -> &'static [KeywordRow]
+    ensures { map keyword_row result.now ≡ one_letter }
+{
+    words! {
+        b"s" Keyword::Store(Storing::Set);
+        b"r" Keyword::Store(Storing::Reset);
+    }
+}
+
+/// The words of two letters.
+fn two_letters() -> &'static [KeywordRow]
+    ensures { map keyword_row result.now ≡ two_letters }
+{
+    words! {
+        b"ld" Keyword::Load(false);
+        b"st" Keyword::Store(Storing::Result);
+        b"or" Keyword::Apply(Operator::Or);
+        b"gt" Keyword::Apply(Operator::Gt);
+        b"ge" Keyword::Apply(Operator::Ge);
+        b"eq" Keyword::Apply(Operator::Eq);
+        b"ne" Keyword::Apply(Operator::Ne);
+        b"le" Keyword::Apply(Operator::Le);
+        b"lt" Keyword::Apply(Operator::Lt);
+        b"sr" Keyword::Standard(StandardBlock::Sr);
+        b"rs" Keyword::Standard(StandardBlock::Rs);
+        b"tp" Keyword::Standard(StandardBlock::Tp);
+        b"at" Keyword::Kept;
+    }
+}
+
+/// The words of three letters.
+fn three_letters() -> &'static [KeywordRow]
+    ensures { map keyword_row result.now ≡ three_letters }
+{
+    words! {
+        b"and" Keyword::Apply(Operator::And);
+        b"orn" Keyword::Apply(Operator::Orn);
+        b"xor" Keyword::Apply(Operator::Xor);
+        b"ldn" Keyword::Load(true);
+        b"stn" Keyword::Store(Storing::Negation);
+        b"not" Keyword::Not;
+        b"add" Keyword::Apply(Operator::Add);
+        b"sub" Keyword::Apply(Operator::Sub);
+        b"mul" Keyword::Apply(Operator::Mul);
+        b"div" Keyword::Apply(Operator::Div);
+        b"mod" Keyword::Apply(Operator::Mod);
+        b"jmp" Keyword::Jump(Condition::Always);
+        b"cal" Keyword::Call(Condition::Always);
+        b"ret" Keyword::Return(Condition::Always);
+        b"var" Keyword::SectionStart(Section::Own);
+        b"ton" Keyword::Standard(StandardBlock::Ton);
+        b"tof" Keyword::Standard(StandardBlock::Tof);
+        b"ctu" Keyword::Standard(StandardBlock::Ctu);
+    }
+}
+
+/// The words of four letters.
+fn four_letters() -> &'static [KeywordRow]
+    ensures { map keyword_row result.now ≡ four_letters }
+{
+    words! {
+        b"andn" Keyword::Apply(Operator::Andn);
+        b"xorn" Keyword::Apply(Operator::Xorn);
+        b"jmpc" Keyword::Jump(Condition::IfTrue);
+        b"calc" Keyword::Call(Condition::IfTrue);
+        b"retc" Keyword::Return(Condition::IfTrue);
+        TRUE Keyword::Truth(true);
+        b"bool" Keyword::Elementary(Kind::Bool);
+        b"dint" Keyword::Elementary(Kind::Dint);
+        b"time" Keyword::Elementary(Kind::Time);
+    }
+}
+
+/// The words of five letters.
+fn five_letters() -> &'static [KeywordRow]
+    ensures { map keyword_row result.now ≡ five_letters }
+{
+    words! {
+        b"jmpcn" Keyword::Jump(Condition::IfFalse);
+        b"calcn" Keyword::Call(Condition::IfFalse);
+        b"retcn" Keyword::Return(Condition::IfFalse);
+        FALSE Keyword::Truth(false);
+    }
+}
+
+/// The words of more letters.
+fn longer_words() -> &'static [KeywordRow]
+    ensures { map keyword_row result.now ≡ longer_words }
+{
+    words! {
+        END_VAR Keyword::SectionEnd;
+        b"var_input" Keyword::SectionStart(Section::Input);
+        b"var_output" Keyword::SectionStart(Section::Output);
+        b"function_block" Keyword::UnitStart(UnitKind::FunctionBlock);
+        END_FUNCTION_BLOCK Keyword::UnitEnd(UnitKind::FunctionBlock);
+        b"program" Keyword::UnitStart(UnitKind::Program);
+        END_PROGRAM Keyword::UnitEnd(UnitKind::Program);
+        b"r_trig" Keyword::Standard(StandardBlock::RTrig);
+        b"function" Keyword::Kept;
+        b"end_function" Keyword::Kept;
+        b"var_in_out" Keyword::Kept;
+        b"var_global" Keyword::Kept;
+        b"var_external" Keyword::Kept;
+        b"var_temp" Keyword::Kept;
+        b"constant" Keyword::Kept;
+        b"retain" Keyword::Kept;
+    }
+}
+
+/// The first of these that the text is.
+fn keyword_in(rows: &[KeywordRow], text: &[u8]) -> Option<Keyword>
+    ensures { result ≡ named_in (map keyword_row rows.now) (name_of text.now) }
+{
+    for row in rows {
+        if is_word(row.word, text) {
+            return Some(row.keyword);
+        }
+    }
+    None
+}
+
+/// What a text stands for, where it is a reserved word. Letter case is not significant.
+pub fn keyword_named(text: &[u8]) -> Option<Keyword>
+    ensures { result ≡ named_in keywords (name_of text.now) }
+{
+    let letters = text.len();
+    if letters == 1 {
+        keyword_in(one_letter(), text)
+    } else if letters == 2 {
+        keyword_in(two_letters(), text)
+    } else if letters == 3 {
+        keyword_in(three_letters(), text)
+    } else if letters == 4 {
+        keyword_in(four_letters(), text)
+    } else if letters == 5 {
+        keyword_in(five_letters(), text)
+    } else {
+        keyword_in(longer_words(), text)
+    }
+}

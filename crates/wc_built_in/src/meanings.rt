@@ -1,0 +1,74 @@
+ghost use Rattle.std.specs.Prelude.{◌≡◌};
+ghost use Rattle.std.specs.Option.{is_some};
+ghost use Rattle.wc_model.specs.Language.DeclarationRules.{is_among, reserved_words, type_words};
+ghost use Rattle.wc_model.specs.Language.Declarations.{elementary_types, named_in, standard_blocks};
+ghost use Rattle.wc_model.specs.Language.Names.{name_of};
+ghost use Rattle.wc_built_in.specs.Keywords.{elementary_meant, standard_meant, type_meant};
+
+use crate::keyword::Keyword;
+use crate::keywords::keyword_named;
+use wc_model::{Kind, StandardBlock};
+
+/// The elementary type that a word stands for.
+fn elementary_meant(keyword: Keyword) -> Option<Kind>
+    ensures { result ≡ elementary_meant keyword }
+{
+    match keyword {
+        Keyword::Elementary(kind) => Some(kind),
+        _ => None,
+    }
+}
+
+/// The elementary type of that name.
+pub fn elementary_type(text: &[u8]) -> Option<Kind>
+    ensures { result ≡ named_in elementary_types (name_of text.now) }
+{
+    match keyword_named(text) {
+        Some(keyword) => elementary_meant(keyword),
+        None => None,
+    }
+}
+
+/// The standard function block that a word stands for.
+fn standard_meant(keyword: Keyword) -> Option<StandardBlock>
+    ensures { result ≡ standard_meant keyword }
+{
+    match keyword {
+        Keyword::Standard(block) => Some(block),
+        _ => None,
+    }
+}
+
+/// The standard function block of that name.
+pub fn standard_block(text: &[u8]) -> Option<StandardBlock>
+    ensures { result ≡ named_in standard_blocks (name_of text.now) }
+{
+    match keyword_named(text) {
+        Some(keyword) => standard_meant(keyword),
+        None => None,
+    }
+}
+
+/// Whether a word stands for a type.
+fn is_type(keyword: Keyword) -> bool
+    ensures { result ≡ is_some (type_meant keyword) }
+{
+    matches!(keyword, Keyword::Elementary(_) | Keyword::Standard(_))
+}
+
+/// Whether a name is a type in every text.
+pub fn is_type_word(text: &[u8]) -> bool
+    ensures { result ≡ is_among type_words (name_of text.now) }
+{
+    match keyword_named(text) {
+        Some(keyword) => is_type(keyword),
+        None => false,
+    }
+}
+
+/// Whether it is a reserved word, which names no unit and no variable.
+pub fn is_reserved(text: &[u8]) -> bool
+    ensures { result ≡ is_among reserved_words (name_of text.now) }
+{
+    keyword_named(text).is_some()
+}

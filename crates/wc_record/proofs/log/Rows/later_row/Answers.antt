@@ -1,0 +1,17 @@
+use Rattle.std.proofs.Common.{◌∙◌, ◌∷◌, subst, sym, refl, arith}
+use Rattle.wc_record.proofs.log.Rows.later_row.Goals as goal
+use Rattle.wc_record.specs.Steps.{GivesRecord}
+
+pub returns-in-Ok-true-clause-gives : goal.returns-in-Ok-true-clause-gives
+returns-in-Ok-true-clause-gives g c =
+    λ first before left stands.
+    let read = (rw c.in-Ok-true.field-0-test at c.in-Ok-true.ensures.next) left stands.has in
+    let keeps = c.in-Ok-true.ensures.keeps in
+    subst (λ l. GivesRecord g.R.ByteIn.bytes_left (first ∷ before) l c.judged.result c.judged.new.self) (sym read.1)
+    (c.judged.ensures.gives first before read.0 (record { has = read.2; number = keeps.number ∙ stands.number; last = keeps.last ∙ stands.last; few = omega (arith, keeps.number, stands.few) }))
+
+pub returns-in-Ok-false-clause-gives : goal.returns-in-Ok-false-clause-gives
+returns-in-Ok-false-clause-gives g c =
+    λ first before left stands.
+    let none = (rw c.in-Ok-false.field-0-test at c.in-Ok-false.ensures.next) left stands.has in
+    rw none refl
