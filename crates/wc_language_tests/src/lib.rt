@@ -1,5 +1,5 @@
-//! Tests of the passes behind reading and of the machine, through their public calls. Which texts are refused,
-//! what they cost and what their scans leave is tried on the program.
+//! Tests of a program text through the public calls: its tokens and its tree, the passes behind reading, and the machine.
+//! Which texts are refused, what they cost and what their scans leave is tried on the program.
 #![tactic(auto)]
 
 #[cfg(test)]
@@ -17,4 +17,10 @@ mod places;
 #[cfg(test)]
 mod programs;
 #[cfg(test)]
+mod short_lines;
+#[cfg(test)]
 mod texts;
+#[cfg(test)]
+mod tokens;
+#[cfg(test)]
+mod trees;
