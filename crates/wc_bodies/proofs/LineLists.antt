@@ -16,13 +16,7 @@ use Rattle.wc_model.specs.declared.tree.Line.{Line, fold-Line, map-Line, out-Lin
 through_instr : (layer : Instr-F (Option Word → Lines → Lines) (Lines → Lines)) (label : Option Word) (rest others : Lines)
     → lines_and (instruction_view layer label rest) others ≡ instruction_view layer label (lines_and rest others)
 through_instr (Instr-F.Load negated operand line) label rest others = refl
-through_instr (Instr-F.Store storing target line) label rest others = refl
-through_instr (Instr-F.Apply operator operand line) label rest others = refl
-through_instr (Instr-F.Defer operator operand inside line close) label rest others = refl
-through_instr (Instr-F.Not line) label rest others = refl
-through_instr (Instr-F.Jump condition target line) label rest others = refl
-through_instr (Instr-F.Call condition instance arguments line) label rest others = refl
-through_instr (Instr-F.Return condition line) label rest others = refl
+through_instr other label rest others = refl
 
 -- a line whose instruction is seen already
 abbrev mapped : Line-F Instr Line → Line-F (Option Word → Lines → Lines) (Lines → Lines)

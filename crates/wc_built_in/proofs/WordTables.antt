@@ -1,11 +1,11 @@
 -- Looking a name up in tables of words.
-use Rattle.std.proofs.Common.{◌≡◌, ℕ, Bool, true, false, not, List, [], ◌∷◌, ◌++◌, length, map, Option, Some, None, if◌then◌else◌, true≢false, refl, sym, ap, ◌∙◌}
+use Rattle.std.proofs.Common.{◌≡◌, Bool, true, false, not, List, [], ◌∷◌, map, Option, Some, None, if◌then◌else◌, true≢false, refl, sym, ap, ◌∙◌}
 use Rattle.std.proofs.lemmas.Bool.{and_parts}
 use Rattle.std.proofs.lemmas.Slice.Eq.{bytes_eq-Decides}
 use Rattle.std.specs.Prelude.{◌||◌, option_and_then}
 use Rattle.std.specs.Cmp.{decided}
 use Rattle.std.specs.List.{list_all}
-use Rattle.std.specs.Option.{is_some, option_or}
+use Rattle.std.specs.Option.{is_some}
 use Rattle.wc_model.specs.Language.DeclarationRules.{is_among}
 use Rattle.wc_model.specs.Language.Declarations.{named_in, same_name}
 use Rattle.wc_model.specs.Language.Names.{Name, name_of}
@@ -19,26 +19,6 @@ names_equal a b e = (bytes_eq-Decides a b).0 e
 -- in whatever order they are compared
 pub same_name_turned : (a b : Name) → same_name a b ≡ same_name b a
 same_name_turned a b = (decided same_name (λ x y. bytes_eq-Decides x y)).symm a b
-
--- in the first table, or else in the second
-pub named_in-append : {X : Type 0} (xs ys : List (Name × X)) (name : Name) → named_in (xs ++ ys) name ≡ option_or (named_in xs name) (named_in ys name)
-named_in-append [] ys name = refl
-named_in-append {X} (x ∷ xs) ys name =
-    elim (same_name x.0 name) as (λ b. (if◌then◌else◌ {A = Option X} b (Some x.1) (named_in (xs ++ ys) name)) ≡ option_or (if◌then◌else◌ {A = Option X} b (Some x.1) (named_in xs name)) (named_in ys name)) [
-      | true ↦ refl
-      | false ↦ named_in-append xs ys name
-    ]
-
--- nothing is found where no row has so many letters
-pub none_of_length : {X : Type 0} (p : ℕ → Bool) (rows : List (Name × X)) (name : Name) → list_all (λ row. p (length row.0)) rows ≡ true → p (length name) ≡ false → named_in rows name ≡ None
-none_of_length p [] name all other = refl
-none_of_length {X} p (row ∷ rows) name all other =
-    let parts = and_parts (p (length row.0)) (list_all (λ r. p (length r.0)) rows) all in
-    by (same_name row.0 name) refl parts.0 (none_of_length p rows name parts.1 other)
-  where
-    by : (b : Bool) → same_name row.0 name ≡ b → p (length row.0) ≡ true → named_in rows name ≡ None → (if◌then◌else◌ {A = Option X} b (Some row.1) (named_in rows name)) ≡ None
-    by true same own rest = absurd (true≢false (sym own ∙ ap (λ n. p (length n)) (names_equal row.0 name same) ∙ other))
-    by false same own rest = rest
 
 -- the names of a table
 abbrev pub words_in : {X : Type 0} → List (Name × X) → List Name

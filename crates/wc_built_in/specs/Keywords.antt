@@ -1,6 +1,5 @@
--- The reserved words by how many letters they have, each with what it stands for. (IEC 61131-3:2003, tables 10, 51, 52 and C.2;
--- the order is the profile's own.)
-use Rattle.std.specs.Prelude.{true, false, List, [], ◌∷◌, ◌++◌, codes, Option, Some, None}
+-- The reserved words, each with what it stands for. (IEC 61131-3:2003, tables 10, 51, 52 and C.2; the order is the profile's own.)
+use Rattle.std.specs.Prelude.{true, false, List, [], ◌∷◌, codes, Option, Some, None}
 use Rattle.wc_model.specs.Language.Names.{Name, name_of}
 use Rattle.wc_model.specs.Text.Keywords.{unit_word, end_word, section_word, end_var, truth_word, load_word, store_word, operator_word, not_word, jump_word, call_word, return_word, kind_word, block_word}
 use Rattle.wc_model.specs.declared.block.StandardBlock.{StandardBlock}
@@ -31,47 +30,30 @@ elementary kind = (kind_word kind, Elementary kind)
 abbrev pub standard : StandardBlock → Name × Keyword
 standard block = (block_word block, Standard block)
 
-abbrev pub one_letter : List (Name × Keyword)
-one_letter = (store_word storings.Set, Store storings.Set) ∷ (store_word storings.Reset, Store storings.Reset) ∷ []
-
-abbrev pub two_letters : List (Name × Keyword)
-two_letters =
-    (load_word false, Load false) ∷ (store_word storings.Result, Store storings.Result) ∷ applied operators.Or
-    ∷ applied operators.Gt ∷ applied operators.Ge ∷ applied operators.Eq ∷ applied operators.Ne ∷ applied operators.Le ∷ applied operators.Lt
-    ∷ standard blocks.Sr ∷ standard blocks.Rs ∷ standard blocks.Tp ∷ (codes "at", Kept) ∷ []
-
-abbrev pub three_letters : List (Name × Keyword)
-three_letters =
-    applied operators.And ∷ applied operators.Orn ∷ applied operators.Xor ∷ (load_word true, Load true)
-    ∷ (store_word storings.Negation, Store storings.Negation) ∷ (not_word, Not)
-    ∷ applied operators.Add ∷ applied operators.Sub ∷ applied operators.Mul ∷ applied operators.Div ∷ applied operators.Mod
-    ∷ (jump_word Always, Jump Always) ∷ (call_word Always, Call Always) ∷ (return_word Always, Return Always)
-    ∷ (section_word sections.Own, SectionStart sections.Own)
-    ∷ standard blocks.Ton ∷ standard blocks.Tof ∷ standard blocks.Ctu ∷ []
-
-abbrev pub four_letters : List (Name × Keyword)
-four_letters =
-    applied operators.Andn ∷ applied operators.Xorn
-    ∷ (jump_word IfTrue, Jump IfTrue) ∷ (call_word IfTrue, Call IfTrue) ∷ (return_word IfTrue, Return IfTrue)
-    ∷ (truth_word true, Truth true) ∷ elementary kinds.Bool ∷ elementary kinds.Dint ∷ elementary kinds.Time ∷ []
-
-abbrev pub five_letters : List (Name × Keyword)
-five_letters =
-    (jump_word IfFalse, Jump IfFalse) ∷ (call_word IfFalse, Call IfFalse) ∷ (return_word IfFalse, Return IfFalse)
-    ∷ (truth_word false, Truth false) ∷ []
-
-abbrev pub longer_words : List (Name × Keyword)
-longer_words =
-    (end_var, SectionEnd) ∷ (section_word sections.Input, SectionStart sections.Input) ∷ (section_word sections.Output, SectionStart sections.Output)
-    ∷ (unit_word units.FunctionBlock, UnitStart units.FunctionBlock) ∷ (end_word units.FunctionBlock, UnitEnd units.FunctionBlock)
-    ∷ (unit_word units.Program, UnitStart units.Program) ∷ (end_word units.Program, UnitEnd units.Program)
-    ∷ standard blocks.RTrig ∷ (codes "function", Kept) ∷ (codes "end_function", Kept) ∷ (codes "var_in_out", Kept)
-    ∷ (codes "var_global", Kept) ∷ (codes "var_external", Kept) ∷ (codes "var_temp", Kept) ∷ (codes "constant", Kept)
-    ∷ (codes "retain", Kept) ∷ []
-
 -- all reserved words
 abbrev pub keywords : List (Name × Keyword)
-keywords = one_letter ++ (two_letters ++ (three_letters ++ (four_letters ++ (five_letters ++ longer_words))))
+keywords =
+    (load_word false, Load false) ∷ (store_word storings.Result, Store storings.Result) ∷ applied operators.And
+    ∷ applied operators.Or ∷ (store_word storings.Set, Store storings.Set)
+    ∷ (store_word storings.Reset, Store storings.Reset) ∷ applied operators.Gt ∷ applied operators.Ge
+    ∷ applied operators.Eq ∷ applied operators.Ne ∷ applied operators.Le ∷ applied operators.Lt ∷ standard blocks.Sr
+    ∷ standard blocks.Rs ∷ standard blocks.Tp ∷ (codes "at", Kept) ∷ applied operators.Orn ∷ applied operators.Xor
+    ∷ (load_word true, Load true) ∷ (store_word storings.Negation, Store storings.Negation) ∷ (not_word, Not)
+    ∷ applied operators.Add ∷ applied operators.Sub ∷ applied operators.Mul ∷ applied operators.Div
+    ∷ applied operators.Mod ∷ (jump_word Always, Jump Always) ∷ (call_word Always, Call Always)
+    ∷ (return_word Always, Return Always) ∷ (section_word sections.Own, SectionStart sections.Own)
+    ∷ standard blocks.Ton ∷ standard blocks.Tof ∷ standard blocks.Ctu ∷ applied operators.Andn
+    ∷ applied operators.Xorn ∷ (jump_word IfTrue, Jump IfTrue) ∷ (call_word IfTrue, Call IfTrue)
+    ∷ (return_word IfTrue, Return IfTrue) ∷ (truth_word true, Truth true) ∷ elementary kinds.Bool
+    ∷ elementary kinds.Dint ∷ elementary kinds.Time ∷ (jump_word IfFalse, Jump IfFalse)
+    ∷ (call_word IfFalse, Call IfFalse) ∷ (return_word IfFalse, Return IfFalse) ∷ (truth_word false, Truth false)
+    ∷ (end_var, SectionEnd) ∷ (section_word sections.Input, SectionStart sections.Input)
+    ∷ (section_word sections.Output, SectionStart sections.Output)
+    ∷ (unit_word units.FunctionBlock, UnitStart units.FunctionBlock)
+    ∷ (end_word units.FunctionBlock, UnitEnd units.FunctionBlock) ∷ (unit_word units.Program, UnitStart units.Program)
+    ∷ (end_word units.Program, UnitEnd units.Program) ∷ standard blocks.RTrig ∷ (codes "function", Kept)
+    ∷ (codes "end_function", Kept) ∷ (codes "var_in_out", Kept) ∷ (codes "var_global", Kept)
+    ∷ (codes "var_external", Kept) ∷ (codes "var_temp", Kept) ∷ (codes "constant", Kept) ∷ (codes "retain", Kept) ∷ []
 
 -- the elementary type that a word stands for, and the standard block
 abbrev pub elementary_meant : Keyword → Option Kind

@@ -1,7 +1,7 @@
 ghost use Rattle.std.specs.Prelude.{◌≡◌, map};
 ghost use Rattle.wc_model.specs.Language.Declarations.{named_in};
 ghost use Rattle.wc_model.specs.Language.Names.{name_of};
-ghost use Rattle.wc_built_in.specs.Keywords.{five_letters, four_letters, keyword_row, keywords, longer_words, one_letter, three_letters, two_letters};
+ghost use Rattle.wc_built_in.specs.Keywords.{keyword_row, keywords};
 
 use crate::keyword::Keyword;
 use crate::words::{END_FUNCTION_BLOCK, END_PROGRAM, END_VAR, FALSE, TRUE};
@@ -23,24 +23,17 @@ macro_rules! words {
     };
 }
 
-/// The words of one letter.
-fn one_letter() -> &'static [KeywordRow]
-    ensures { map keyword_row result.now ≡ one_letter }
-{
-    words! {
-        b"s" Keyword::Store(Storing::Set);
-        b"r" Keyword::Store(Storing::Reset);
-    }
-}
-
-/// The words of two letters.
-fn two_letters() -> &'static [KeywordRow]
-    ensures { map keyword_row result.now ≡ two_letters }
+/// The reserved words, the most frequent first.
+fn all_words() -> &'static [KeywordRow]
+    ensures { map keyword_row result.now ≡ keywords }
 {
     words! {
         b"ld" Keyword::Load(false);
         b"st" Keyword::Store(Storing::Result);
+        b"and" Keyword::Apply(Operator::And);
         b"or" Keyword::Apply(Operator::Or);
+        b"s" Keyword::Store(Storing::Set);
+        b"r" Keyword::Store(Storing::Reset);
         b"gt" Keyword::Apply(Operator::Gt);
         b"ge" Keyword::Apply(Operator::Ge);
         b"eq" Keyword::Apply(Operator::Eq);
@@ -51,15 +44,6 @@ fn two_letters() -> &'static [KeywordRow]
         b"rs" Keyword::Standard(StandardBlock::Rs);
         b"tp" Keyword::Standard(StandardBlock::Tp);
         b"at" Keyword::Kept;
-    }
-}
-
-/// The words of three letters.
-fn three_letters() -> &'static [KeywordRow]
-    ensures { map keyword_row result.now ≡ three_letters }
-{
-    words! {
-        b"and" Keyword::Apply(Operator::And);
         b"orn" Keyword::Apply(Operator::Orn);
         b"xor" Keyword::Apply(Operator::Xor);
         b"ldn" Keyword::Load(true);
@@ -77,14 +61,6 @@ fn three_letters() -> &'static [KeywordRow]
         b"ton" Keyword::Standard(StandardBlock::Ton);
         b"tof" Keyword::Standard(StandardBlock::Tof);
         b"ctu" Keyword::Standard(StandardBlock::Ctu);
-    }
-}
-
-/// The words of four letters.
-fn four_letters() -> &'static [KeywordRow]
-    ensures { map keyword_row result.now ≡ four_letters }
-{
-    words! {
         b"andn" Keyword::Apply(Operator::Andn);
         b"xorn" Keyword::Apply(Operator::Xorn);
         b"jmpc" Keyword::Jump(Condition::IfTrue);
@@ -94,26 +70,10 @@ fn four_letters() -> &'static [KeywordRow]
         b"bool" Keyword::Elementary(Kind::Bool);
         b"dint" Keyword::Elementary(Kind::Dint);
         b"time" Keyword::Elementary(Kind::Time);
-    }
-}
-
-/// The words of five letters.
-fn five_letters() -> &'static [KeywordRow]
-    ensures { map keyword_row result.now ≡ five_letters }
-{
-    words! {
         b"jmpcn" Keyword::Jump(Condition::IfFalse);
         b"calcn" Keyword::Call(Condition::IfFalse);
         b"retcn" Keyword::Return(Condition::IfFalse);
         FALSE Keyword::Truth(false);
-    }
-}
-
-/// The words of more letters.
-fn longer_words() -> &'static [KeywordRow]
-    ensures { map keyword_row result.now ≡ longer_words }
-{
-    words! {
         END_VAR Keyword::SectionEnd;
         b"var_input" Keyword::SectionStart(Section::Input);
         b"var_output" Keyword::SectionStart(Section::Output);
@@ -149,18 +109,5 @@ fn keyword_in(rows: &[KeywordRow], text: &[u8]) -> Option<Keyword>
 pub fn keyword_named(text: &[u8]) -> Option<Keyword>
     ensures { result ≡ named_in keywords (name_of text.now) }
 {
-    let letters = text.len();
-    if letters == 1 {
-        keyword_in(one_letter(), text)
-    } else if letters == 2 {
-        keyword_in(two_letters(), text)
-    } else if letters == 3 {
-        keyword_in(three_letters(), text)
-    } else if letters == 4 {
-        keyword_in(four_letters(), text)
-    } else if letters == 5 {
-        keyword_in(five_letters(), text)
-    } else {
-        keyword_in(longer_words(), text)
-    }
+    keyword_in(all_words(), text)
 }

@@ -11,7 +11,7 @@ use Rattle.wc_model.specs.Language.Scopes.{Scope, type_of}
 use Rattle.wc_model.specs.Language.Store.{Content, standard_fields}
 use Rattle.wc_model.specs.Language.Tree.{ProgramUnit}
 use Rattle.wc_model.specs.declared.block.StandardBlock.{StandardBlock}
-use Rattle.wc_model.specs.declared.block.StandardBlock.TheVariants.{RTrig, Sr, Rs, Ctu, Ton, Tof, Tp}
+use Rattle.wc_model.specs.declared.block.StandardBlock.TheVariants.{RTrig}
 use Rattle.wc_model.specs.declared.kind.Kind.{Kind}
 use Rattle.wc_names.specs.Numbered.{numbered_type}
 use Rattle.wc_names.specs.declared.declared_type.DeclaredType.TheVariants as numbered
@@ -115,21 +115,11 @@ alike {X} p good t h (x ∷ xs) some g = by (good x) refl g
 has_fields : (b : StandardBlock) → is_some_list (standard_fields b) ≡ true
 unfolding is_some_list
 has_fields RTrig = refl
-has_fields Sr = refl
-has_fields Rs = refl
-has_fields Ctu = refl
-has_fields Ton = refl
-has_fields Tof = refl
-has_fields Tp = refl
+has_fields other = refl
 
 own_fields : (b : StandardBlock) → list_all (λ f. is_field b f.0) (standard_fields b) ≡ true
 own_fields RTrig = refl
-own_fields Sr = refl
-own_fields Rs = refl
-own_fields Ctu = refl
-own_fields Ton = refl
-own_fields Tof = refl
-own_fields Tp = refl
+own_fields other = refl
 
 pub standard_kept : (side : Option Scope) (scope : Scope) (name : Name) (block : StandardBlock) → type_of scope name ≡ Some (Standard block) →
     list_all (λ path. same_lead (side_lead side path) (lead_from path scope.before scope.unit)) (map (λ (f : Name × Content). name ∷ f.0 ∷ []) (standard_fields block)) ≡ has_form (numbered_side side name) (Instance block)

@@ -6,11 +6,11 @@ use Rattle.wc_model.specs.Language.Carried.{keeps}
 use Rattle.wc_model.specs.Language.CarriedPlaces.{carried_number, frame_of_text, number_if_kept}
 use Rattle.wc_model.specs.Language.Frames.{place_number, slot_kind_of, slot_kinds}
 use Rattle.wc_model.specs.Language.Scans.{initial_of}
-use Rattle.wc_model.specs.Language.Store.{Location, Content, Plain, Moment, Phase}
+use Rattle.wc_model.specs.Language.Store.{Location, Content, Plain}
 use Rattle.wc_model.specs.Language.Tree.{Text}
 use Rattle.wc_model.specs.Text.Grammar.{IsProgramLast}
 use Rattle.wc_model.specs.declared.place.Place.{Place}
-use Rattle.wc_model.specs.declared.value.Value.TheVariants.{Bool as Truth, Dint, Time}
+use Rattle.wc_model.specs.declared.value.Value.TheVariants.{Bool as Truth}
 use Rattle.wc_soundness.proofs.Carrying.{first_holds, kept_leads, one_fits}
 use Rattle.wc_soundness.specs.Typing.{slot_of}
 
@@ -18,10 +18,7 @@ use Rattle.wc_soundness.specs.Typing.{slot_of}
 pub slots_alike : (o : Option Content) → option_map slot_kind_of o ≡ option_map slot_of o
 slots_alike None = refl
 slots_alike (Some (Plain (Truth b))) = refl
-slots_alike (Some (Plain (Dint n))) = refl
-slots_alike (Some (Plain (Time t))) = refl
-slots_alike (Some (Moment m)) = refl
-slots_alike (Some (Phase p)) = refl
+slots_alike another = refl
 
 -- the slots of two places of which one keeps the other's value
 kinds_kept : (old new : Text) → IsProgramLast old → IsProgramLast new → (place : Location) (n k : ℕ) → place_number (frame_of_text new) place ≡ Some n → place_number (frame_of_text old) place ≡ Some k → keeps old new place ≡ true → slice_get (slot_kinds (frame_of_text new)) n ≡ slice_get (slot_kinds (frame_of_text old)) k

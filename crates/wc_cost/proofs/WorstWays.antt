@@ -5,7 +5,7 @@ use Rattle.std.specs.Prelude.{if◌then◌else◌, nat_lt, slice_index}
 use Rattle.wc_flat.specs.FlatPaths.{Worst, from_line, line_worst, no_more, one_more, preceded, turned, worse, worst_from, worst_of}
 use Rattle.wc_model.specs.Language.Faults.{MOST_STEPS}
 use Rattle.wc_model.specs.declared.code.Code.{Code}
-use Rattle.wc_model.specs.declared.code.Code.TheVariants.{Not, Jump, Return, Call, ArgumentNumber, ArgumentPlace, Standard, Body}
+use Rattle.wc_model.specs.declared.code.Code.TheVariants.{Not, Jump, Return, Call, ArgumentNumber, Body}
 use Rattle.wc_model.specs.declared.operator.Condition.{Condition}
 use Rattle.wc_model.specs.declared.operator.Condition.TheVariants.{Always, IfTrue, IfFalse}
 use Rattle.wc_names.proofs.Lists.{from_index, from_index_or}
@@ -125,10 +125,7 @@ one_more_way bounds small code ways i line sources steps few below is count behi
 -- the lines of the text on a line's way
 pub then_lines : (bounds : List ℕ) (source : ℕ) (line : Code) (way : Worst) → (and_then bounds source line way).lines ≡ own_source line source ++ way.lines
 then_lines bounds source (ArgumentNumber target n) way = refl
-then_lines bounds source (ArgumentPlace place target) way = refl
-then_lines bounds source (Standard block at) way = refl
-then_lines bounds source (Body unit at) way = refl
-then_lines bounds source line way = refl
+then_lines bounds source another way = refl
 
 -- the ways from a line on
 none_left : (n : ℕ) → (let none : List ℕ = [] in drop n none ≡ none)

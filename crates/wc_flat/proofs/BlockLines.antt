@@ -52,10 +52,7 @@ ReadsField kind found o = (content : Content) → found ≡ Some content → slo
 
 pub slot_is : (kind : SlotKind) → is_slot kind (Some kind) ≡ true
 slot_is slots.Bool = refl
-slot_is slots.Dint = refl
-slot_is slots.Time = refl
-slot_is slots.Moment = refl
-slot_is slots.Phase = refl
+slot_is other = refl
 
 pub field_read : (frame : List (Location × Content)) (store : Store) (numbers : List ℤ) → AreContents frame store numbers → (kind : SlotKind) (place : Location) (at : ℕ) → place_number frame place ≡ Some at → ReadsField kind (store place) (number_from kind (slot_kinds frame) numbers at 0)
 field_read frame store numbers contents kind place at e content found same =
@@ -72,18 +69,13 @@ field_slot frame store numbers contents place at e content found = contents.kind
 pub truth_given : (frame : List (Location × Content)) (c : Option Content) (o : Option ℤ) → ReadsField slots.Bool c o → (go : Bool → Result Store Reason) (flat_go : Bool → Option (List ℤ)) → ((x : Bool) → c ≡ Some (Plain (Truth x)) → CalledAs frame (go x) (flat_go x)) → CalledAs frame (with_truth c go) (given_bit o flat_go)
 truth_given frame (Some (Plain (Truth b))) o e go flat_go h = subst (λ (x : Option (List ℤ)). CalledAs frame (go b) x) (sym (ap (λ (x : Option ℤ). given_bit x flat_go) (e (Plain (Truth b)) refl refl) ∙ ap (λ (x : Option Bool). given x flat_go) (bit_of-number b))) (h b refl)
 truth_given frame (Some (Plain (Dint n))) o e go flat_go h = tt
-truth_given frame (Some (Plain (Time t))) o e go flat_go h = tt
-truth_given frame (Some (Moment m)) o e go flat_go h = tt
-truth_given frame (Some (Phase p)) o e go flat_go h = tt
-truth_given frame None o e go flat_go h = tt
+truth_given frame other o e go flat_go h = tt
 
 pub dint_given : (frame : List (Location × Content)) (c : Option Content) (o : Option ℤ) → ReadsField slots.Dint c o → (go : ℤ → Result Store Reason) (flat_go : ℤ → Option (List ℤ)) → ((x : ℤ) → c ≡ Some (Plain (Dint x)) → CalledAs frame (go x) (flat_go x)) → CalledAs frame (with_dint c go) (given o flat_go)
 dint_given frame (Some (Plain (Truth b))) o e go flat_go h = tt
 dint_given frame (Some (Plain (Dint n))) o e go flat_go h = subst (λ (x : Option (List ℤ)). CalledAs frame (go n) x) (sym (ap (λ (x : Option ℤ). given x flat_go) (e (Plain (Dint n)) refl refl))) (h n refl)
 dint_given frame (Some (Plain (Time t))) o e go flat_go h = tt
-dint_given frame (Some (Moment m)) o e go flat_go h = tt
-dint_given frame (Some (Phase p)) o e go flat_go h = tt
-dint_given frame None o e go flat_go h = tt
+dint_given frame other o e go flat_go h = tt
 
 pub time_given : (frame : List (Location × Content)) (c : Option Content) (o : Option ℤ) → ReadsField slots.Time c o → (go : ℤ → Result Store Reason) (flat_go : ℤ → Option (List ℤ)) → ((x : ℤ) → c ≡ Some (Plain (Time x)) → CalledAs frame (go x) (flat_go x)) → CalledAs frame (with_time c go) (given o flat_go)
 time_given frame (Some (Plain (Truth b))) o e go flat_go h = tt

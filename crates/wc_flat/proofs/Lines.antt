@@ -155,11 +155,9 @@ may_replace (Truth a) (Truth false) e = (refl, refl)
 may_replace (Dint a) (Dint b) e = (refl, refl)
 may_replace (Time a) (Time b) e = (refl, refl)
 may_replace (Truth a) (Dint b) e = cc
-may_replace (Truth a) (Time b) e = cc
 may_replace (Dint a) (Truth b) e = cc
-may_replace (Dint a) (Time b) e = cc
 may_replace (Time a) (Truth b) e = cc
-may_replace (Time a) (Dint b) e = cc
+may_replace other third e = cc
 
 pub write_follows : (w : Sides) → (store : Store) (numbers : List ℤ) → AreContents w.frame store numbers → (state : State) → state.numbers ≡ numbers → (location : Location) (place : Place) → place_number w.frame location ≡ Some (w.base + place.0) → (value : Value) → WritesAs w state (written store location value) (writes (flat w) state place (value_number value))
 write_follows w store numbers contents state same location place is value = step (store location) refl

@@ -14,7 +14,7 @@ use Rattle.wc_model.specs.Language.Scopes.{Scope}
 use Rattle.wc_model.specs.Language.Store.{Direct, Content, Plain, Moment, Phase, Store, same_direct, value_at, initial_store, program_frame}
 use Rattle.wc_model.specs.Language.Tree.{ProgramUnit}
 use Rattle.wc_model.specs.declared.kind.SlotKind.TheVariants.{Bool as SlotBool, Dint as SlotDint}
-use Rattle.wc_model.specs.declared.value.Value.TheVariants.{Bool as Truth, Dint, Time}
+use Rattle.wc_model.specs.declared.value.Value.TheVariants.{Bool as Truth, Dint}
 use Rattle.wc_model.specs.Language.Reasons.{NoSuchPlace}
 use Rattle.std.proofs.Common.{Result, Ok, Err}
 use Rattle.wc_model.specs.Language.Reasons.{Reason}
@@ -81,18 +81,12 @@ pub bit_content : (c : Option Content) → option_map slot_of c ≡ Some SlotBoo
 bit_content (Some (Plain (Truth true))) e = refl
 bit_content (Some (Plain (Truth false))) e = refl
 bit_content (Some (Plain (Dint n))) e = cc
-bit_content (Some (Plain (Time t))) e = cc
-bit_content (Some (Moment m)) e = cc
-bit_content (Some (Phase p)) e = cc
-bit_content None e = cc
+bit_content other e = cc
 
 pub word_content : (c : Option Content) → option_map slot_of c ≡ Some SlotDint → option_map content_number c ≡ Some (word_of (elim c as (λ x. Result Value Reason) [ Some d ↦ elim d [ Plain v ↦ Ok v | Moment m ↦ Err NoSuchPlace | Phase p ↦ Err NoSuchPlace ] | None ↦ Err NoSuchPlace ]))
 word_content (Some (Plain (Dint n))) e = refl
 word_content (Some (Plain (Truth b))) e = cc
-word_content (Some (Plain (Time t))) e = cc
-word_content (Some (Moment m)) e = cc
-word_content (Some (Phase p)) e = cc
-word_content None e = cc
+word_content other e = cc
 
 -- for units that come newest first
 abbrev pub OutputsRead : List ProgramUnit → Type 0

@@ -125,11 +125,7 @@ combined_dints Mul a b = refl
 combined_dints Div a b = quotient_follows (quotient a b) (λ q. wrap q)
 combined_dints Mod a b = quotient_follows (quotient a b) (λ q. a -ℤ q *ℤ b)
 combined_dints Gt a b = refl
-combined_dints Ge a b = refl
-combined_dints Eq a b = refl
-combined_dints Ne a b = refl
-combined_dints Le a b = refl
-combined_dints Lt a b = refl
+combined_dints another a b = refl
 
 pub combined_times : (operator : Operator) (a b : ℤ) → ReadsAs (on_numbers Time operator a b) (combined operator a b)
 combined_times And a b = tt
@@ -144,11 +140,7 @@ combined_times Mul a b = tt
 combined_times Div a b = tt
 combined_times Mod a b = tt
 combined_times Gt a b = refl
-combined_times Ge a b = refl
-combined_times Eq a b = refl
-combined_times Ne a b = refl
-combined_times Le a b = refl
-combined_times Lt a b = refl
+combined_times another a b = refl
 
 -- operators on values and on their numbers
 pub combined_follows : (operator : Operator) (a b : Value) → ReadsAs (apply operator a b) (combined operator (value_number a) (value_number b))
@@ -159,11 +151,9 @@ combined_follows operator (Truth false) (Truth false) = combined_neither operato
 combined_follows operator (Dint a) (Dint b) = combined_dints operator a b
 combined_follows operator (Time a) (Time b) = combined_times operator a b
 combined_follows operator (Truth a) (Dint b) = tt
-combined_follows operator (Truth a) (Time b) = tt
 combined_follows operator (Dint a) (Truth b) = tt
-combined_follows operator (Dint a) (Time b) = tt
 combined_follows operator (Time a) (Truth b) = tt
-combined_follows operator (Time a) (Dint b) = tt
+combined_follows operator another third = tt
 
 -- negation
 pub flipped_follows : (value : Value) → ReadsAs (negated value) (flipped (value_number value))

@@ -5,7 +5,7 @@ use Rattle.wc_grammar_laws.proofs.Appending.{append_last}
 use Rattle.wc_grammar_laws.proofs.LineSound.{AllowsFrom, mark_on}
 use Rattle.wc_grammar_laws.proofs.Told.{Exact, PartOpened}
 use Rattle.wc_grammar_laws.proofs.WordLaws.{is_operator}
-use Rattle.wc_grammar_laws.specs.Words.{Operating, Applies, Operation, Operates, Negates, Jumps, Calls, Returns, found, is_transfer, operation_of, operations, truths}
+use Rattle.wc_grammar_laws.specs.Words.{Operating, Applies, Operation, Operates, Negates, found, is_transfer, operation_of, operations, truths}
 use Rattle.wc_grammar_laws.proofs.Languages.{joined}
 use Rattle.wc_model.specs.Text.Grammar as grammar
 use Rattle.wc_model.specs.Text.Grammar.{IsOn, IsOperator, Setting, InBody, InParentheses, label_in, operand}
@@ -52,9 +52,7 @@ exact_operator : (setting : Setting) (label : Option Word) (symbol : Symbol) (li
     → Exact setting (behind_operator label line operation) (tokens ++ mark_on symbol line ∷ [])
 exact_operator setting label symbol line (Operates operating) tokens e h = joined tokens (mark_on symbol line ∷ []) h (e, refl)
 exact_operator setting label symbol line Negates tokens e h = tt
-exact_operator setting label symbol line (Jumps condition) tokens e h = tt
-exact_operator setting label symbol line (Calls condition) tokens e h = tt
-exact_operator setting label symbol line (Returns condition) tokens e h = tt
+exact_operator setting label symbol line another tokens e h = tt
 
 exact_at_operator : (setting : Setting) (label : Option Word) (symbol : Symbol) (line : ℕ) (operation : Option Operation) (tokens : List Mark) → operation_of symbol ≡ operation → label_in setting label tokens
     → ExactNext setting (tokens ++ mark_on symbol line ∷ []) (at_operator label line operation)
@@ -188,9 +186,7 @@ exact_behind_name : (setting : Setting) (begun : Begun) (place : OperandOf) (nam
 exact_behind_name setting begun (OfStep operating) name LineEnd tokens n = tt
 exact_behind_name setting begun (OfOpening operator) name LineEnd tokens n = absurd n
 exact_behind_name setting begun (OfArgument call input) name LineEnd tokens n = tt
-exact_behind_name setting begun (OfArgument call input) name Comma tokens n = tt
-exact_behind_name setting begun (OfArgument call input) name ClosingBracket tokens n = tt
-exact_behind_name setting begun place name _ tokens n = tt
+exact_behind_name setting begun another name third tokens n = tt
 
 exact_pointed : (setting : Setting) (begun : Begun) (place : OperandOf) (name : Name) (tokens : List Mark) → NoOpening place → Exact setting (Pointed begun place name) tokens
 exact_pointed setting begun (OfStep operating) name tokens n = tt

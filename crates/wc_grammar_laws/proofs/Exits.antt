@@ -15,7 +15,7 @@ use Rattle.wc_model.specs.Text.Keywords.{end_var, end_word, not_word, unit_word}
 use Rattle.wc_model.specs.Text.Marks.{Symbol, Identifier, Truth, Colon, Semicolon, Assign, LineEnd, ClosingBracket, Mark}
 use Rattle.wc_model.specs.Language.Names.{name_of}
 use Rattle.wc_model.specs.Text.Positions.{Opening, Position}
-use Rattle.wc_model.specs.Language.Tree.{Word, Term, Constant, Variable, Field, Assignment, Step, Negate, Jump, Call, Lines, End, Alone, Plain, Nested, ProgramUnit}
+use Rattle.wc_model.specs.Language.Tree.{Word, Term, Constant, Variable, Field, Assignment, Step, Negate, Jump, Call, Lines, End, Plain, ProgramUnit}
 use Rattle.wc_model.specs.declared.operator.Direction.TheVariants.{Into}
 use Rattle.wc_model.specs.declared.source.Section.{Section}
 use Rattle.wc_model.specs.declared.source.UnitKind.{UnitKind}
@@ -142,10 +142,7 @@ exits_by state next before unit symbol e h = record {
 -- parentheses with a further instruction hold something
 holds_more : (x : Option Term) (done : Lines) (label : Option Word) (line : ℕ) (step : Step) → has_content x (lines_and done (Plain label line step End)) ≡ true
 holds_more None End label line step = refl
-holds_more None (Alone w rest) label line step = refl
-holds_more None (Plain w n s rest) label line step = refl
-holds_more None (Nested w n o x inside close rest) label line step = refl
-holds_more (Some x) done label line step = refl
+holds_more other another label line step = refl
 
 -- NOT on a line, and the `)` of the innermost parenthesis
 exits_open : (openings : List Opening) (p : Position) → p.openings ≡ openings → Exits (AtLine p) p.before p.unit

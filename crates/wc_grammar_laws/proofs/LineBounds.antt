@@ -4,7 +4,7 @@ use Rattle.std.specs.Prelude.{is_some}
 use Rattle.wc_grammar_laws.proofs.Bounds.{Within, PositionWithin, counted, ended_was_within, ended_within, opened}
 use Rattle.wc_grammar_laws.specs.LineMoves.{Begun, Listed, InList, AtFirst, AtNext, AtAssign, AtValue, AtEnd, OperandOf, OfStep, OfOpening, OfArgument, LineState, Start, Worded, Labelled, Operated, Jumped, Called, Instanced, Listing, Bracketed, Named, Pointed, Stepped, BracketedWith, Ended, at_bracketed, at_field, at_labelled, at_list, at_operand, at_operated, at_operator, at_start, behind_name, behind_operand, behind_operator, line_move, name_or_literal, operator_or_label, simple_operator}
 use Rattle.wc_grammar_laws.specs.Moves.{State, begun_line}
-use Rattle.wc_grammar_laws.specs.Words.{Operating, Loads, Stores, Applies, Operation, Operates, Negates, Jumps, Calls, Returns, found, is_transfer, operation_of, operations, truths}
+use Rattle.wc_grammar_laws.specs.Words.{Operating, Loads, Stores, Applies, Operation, Operates, found, is_transfer, operation_of, operations, truths}
 use Rattle.wc_model.specs.Text.Grammar.{Setting}
 use Rattle.wc_model.specs.Text.Marks.{Symbol, Identifier, Whole, Duration, Truth, Direct, OpeningBracket, ClosingBracket, Comma, Colon, Point, Assign, Arrow, LineEnd}
 use Rattle.wc_model.specs.Language.Names.{Name, name_of}
@@ -148,10 +148,7 @@ fitted_by p lines parentheses next c h = (h.0, omega (arith, c.0, h.1), h.2, ome
 -- behind an operator a line is counted
 pub count_operator : (label : Option Word) (line : ℕ) (operation : Operation) → Counts 1 0 (Some (behind_operator label line operation))
 count_operator label line (Operates operating) = (refl, refl)
-count_operator label line Negates = (refl, refl)
-count_operator label line (Jumps condition) = (refl, refl)
-count_operator label line (Calls condition) = (refl, refl)
-count_operator label line (Returns condition) = (refl, refl)
+count_operator label line another = (refl, refl)
 
 -- where a label's line goes on, it is counted at its operator alone
 abbrev pub CountsOnce : Symbol → Option LineState → Type 0

@@ -21,7 +21,7 @@ use Rattle.wc_model.specs.Text.Marks.{ClosingBracket, Identifier, IsNamed, Mark,
 use Rattle.wc_model.specs.Language.Names.{Name, name_of}
 use Rattle.wc_model.specs.Text.Positions.{Opening, Position, at_instruction, at_line}
 use Rattle.wc_model.specs.Text.ReadingFaults.{ColonFollows, EmptyParentheses, MetAtToken, NotAllowedInParentheses, NotOneProgramLast, ParenthesisNotPaired, ReadingFault, TooDeep, TooMany}
-use Rattle.wc_model.specs.Language.Tree.{Call, Constant, End, Jump, Lines, Alone, Plain, Nested, Load, Negate, ProgramUnit, Return, Step, Store, Apply, Term, Word}
+use Rattle.wc_model.specs.Language.Tree.{Call, Constant, End, Jump, Lines, Alone, Load, Negate, ProgramUnit, Return, Step, Store, Apply, Term, Word}
 use Rattle.wc_model.specs.declared.operator.Operator.{Operator}
 use Rattle.wc_model.specs.declared.source.UnitKind.{UnitKind}
 use Rattle.wc_model.specs.declared.source.UnitKind.TheVariants.{FunctionBlock, Program}
@@ -85,12 +85,7 @@ step_for (Returns condition) = Return condition
 
 step_for_is : (operation : Operation) → operation_in (step_for operation) ≡ operation
 step_for_is (Operates (Loads negated)) = refl
-step_for_is (Operates (Stores storing)) = refl
-step_for_is (Operates (Applies operator)) = refl
-step_for_is Negates = refl
-step_for_is (Jumps condition) = refl
-step_for_is (Calls condition) = refl
-step_for_is (Returns condition) = refl
+step_for_is another = refl
 
 -- an operator begins some step
 begins_some : (mark : Mark) (operation : Operation) → operation_of mark.symbol ≡ Some operation → (step : Step) × IsOperatorOf step mark
@@ -161,9 +156,7 @@ line_there p (o ∷ outer) before mark behind e h =
 holds_nothing : (x : Option Term) (done : Lines) → not (has_content x done) ≡ true → ¬ (HasContent x done)
 holds_nothing None End e h = h
 holds_nothing None (Alone label rest) e h = cc
-holds_nothing None (Plain label line step rest) e h = cc
-holds_nothing None (Nested label line operator x inside close rest) e h = cc
-holds_nothing (Some x) done e h = cc
+holds_nothing another third e h = cc
 
 -- a `)`
 closing_there : (p : Position) (openings : List Opening) (before behind : List Mark) (line : ℕ) → p.openings ≡ openings → at_line p before → IsThere before (mark_on ClosingBracket line) behind (judge_closing p openings line)

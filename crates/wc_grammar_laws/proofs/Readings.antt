@@ -5,7 +5,7 @@ use Rattle.wc_grammar_laws.proofs.AtEnds.{at_end_met}
 use Rattle.wc_grammar_laws.proofs.Bounds.{Within}
 use Rattle.wc_grammar_laws.proofs.Exits.{AreBlocks}
 use Rattle.wc_grammar_laws.proofs.Judged.{Judged, judged, same_end}
-use Rattle.wc_grammar_laws.specs.LineMoves.{LineState, Start, Worded, Labelled, Operated, Jumped, Called, Instanced, Listing, Bracketed, Named, Pointed, Stepped, BracketedWith, line_move}
+use Rattle.wc_grammar_laws.specs.LineMoves.{LineState, Start, Worded, Jumped, Called, Instanced, Named, Stepped, BracketedWith, line_move}
 use Rattle.wc_grammar_laws.proofs.MetThere.{IsThere, there}
 use Rattle.wc_grammar_laws.specs.Moves.{State, Outside, Unnamed, Declaring, AtLine, OnLine, Closed, Met, at_end, at_first, begun_line, body_move, colon_next, has_program, is_colon, is_program, judge, move, reading, start_move, walk, section_or_line, section_begun, behind_unit}
 use Rattle.wc_grammar_laws.proofs.Orders.{Ordered, OrderedNext, front, ordered_on}
@@ -19,7 +19,7 @@ use Rattle.wc_model.specs.Language.Declarations.{same_name}
 use Rattle.wc_model.specs.Text.Grammar.{IsFront, IsProgramLast, Setting, Spells, units}
 use Rattle.wc_model.specs.Text.Keywords.{end_word}
 use Rattle.wc_model.specs.Text.Limits.{IsWithinLimits}
-use Rattle.wc_model.specs.Text.Marks.{Colon, Identifier, LineEnd, OpeningBracket, Point, Mark, Symbol}
+use Rattle.wc_model.specs.Text.Marks.{Colon, Identifier, LineEnd, Point, Mark, Symbol}
 use Rattle.wc_model.specs.Language.Names.{name_of}
 use Rattle.wc_model.specs.Text.Positions.{Opening, Position, setting_in}
 use Rattle.wc_model.specs.Text.ReadingFaults.{EmptyParentheses, IsFaultFree, IsFirstReadingFault, IsMet, MetAtToken, NotAllowedInParentheses, NotOneProgramLast, ParenthesisNotPaired, ReadingFault, TooDeep, TooMany, UnexpectedToken, UnitNotClosed, rank_of}
@@ -74,19 +74,13 @@ start_either_way p (o ∷ outer) symbol line colon other e = e
 line_same : (setting : Setting) (state : LineState) (symbol : Symbol) (line : ℕ) (colon other : Bool) → state ≢ Start → line_move setting state symbol line colon ≡ line_move setting state symbol line other
 line_same setting Start symbol line colon other n = absurd (n refl)
 line_same setting (Worded label) Colon line colon other n = refl
-line_same setting (Labelled label) symbol line colon other n = refl
-line_same setting (Operated begun operating) symbol line colon other n = refl
 line_same setting (Jumped begun condition) (Identifier bytes) line colon other n = refl
 line_same setting (Called begun condition) (Identifier bytes) line colon other n = refl
 line_same setting (Instanced begun condition instance) LineEnd line colon other n = refl
-line_same setting (Instanced begun condition instance) OpeningBracket line colon other n = refl
-line_same setting (Listing begun call item) symbol line colon other n = refl
-line_same setting (Bracketed begun operator) symbol line colon other n = refl
 line_same setting (Named begun place name) Point line colon other n = refl
-line_same setting (Pointed begun place name) symbol line colon other n = refl
 line_same setting (Stepped begun step) LineEnd line colon other n = refl
 line_same setting (BracketedWith begun operator operand) LineEnd line colon other n = refl
-line_same setting _ symbol line colon other n = refl
+line_same setting another third line colon other n = refl
 
 -- nor to whether a token is taken at all
 none_either_way : (state : State) (symbol : Symbol) (line : ℕ) (colon other : Bool) → HasBegun state → move state symbol line colon ≡ None → move state symbol line other ≡ None
@@ -299,10 +293,7 @@ ended_at (Outside us) last_line text e = by_program (has_program us) refl e
     by_program true p e = let k : us ≡ text = cc in record { is = ap Outside k; program = subst (λ t. has_program t ≡ true) k p }
     by_program false p e = absurd (cc)
 ended_at (Unnamed us kind line) last_line text e = absurd (cc)
-ended_at (Declaring us unit section place) last_line text e = absurd (cc)
-ended_at (AtLine p) last_line text e = absurd (cc)
-ended_at (OnLine p state) last_line text e = absurd (cc)
-ended_at (Closed p) last_line text e = absurd (cc)
+ended_at another last_line text e = absurd (cc)
 
 -- what the walk reads
 pub record WasRead (before left : List Mark) (text : Text) : Type 0 where

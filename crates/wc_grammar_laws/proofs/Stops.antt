@@ -3,7 +3,7 @@ use Rattle.std.proofs.Common.{◌≡◌, ◌≢◌, ℕ, Bool, false, List, [], 
 use Rattle.std.specs.Prelude.{Err}
 use Rattle.wc_grammar_laws.proofs.Exits.{IsOpening, NoOpens}
 use Rattle.wc_grammar_laws.proofs.LineComplete.{Leads, move_led}
-use Rattle.wc_grammar_laws.specs.LineMoves.{at_bracketed, at_field, at_operand, name_or_literal, LineForm, Opens, Begun, OfStep, OfOpening, OfArgument, LineState, Bracketed, Named, Pointed, BracketedWith, Ended, at_start_in, line_move}
+use Rattle.wc_grammar_laws.specs.LineMoves.{at_bracketed, at_field, at_operand, name_or_literal, LineForm, Opens, Begun, OfStep, OfOpening, LineState, Bracketed, Named, Pointed, BracketedWith, Ended, at_start_in, line_move}
 use Rattle.wc_grammar_laws.proofs.LineRests.{line_of, rest_of}
 use Rattle.wc_grammar_laws.proofs.LineStart.{start_led}
 use Rattle.wc_grammar_laws.specs.Moves.{State, AtLine, OnLine, begun_line, at_end, colon_next, move, on_line, open_in, start_move}
@@ -11,7 +11,7 @@ use Rattle.wc_grammar_laws.proofs.Orders.{IsOpen}
 use Rattle.wc_grammar_laws.proofs.WalkedLines.{begins, walk_on}
 use Rattle.wc_grammar_laws.specs.Words.{found, truths}
 use Rattle.wc_model.specs.Text.Grammar.{Setting}
-use Rattle.wc_model.specs.Text.Marks.{Direct, Duration, Identifier, LineEnd, Mark, Point, Symbol, Truth, Whole}
+use Rattle.wc_model.specs.Text.Marks.{Direct, Identifier, LineEnd, Mark, Point, Symbol}
 use Rattle.wc_model.specs.Language.Names.{Name, name_of}
 use Rattle.wc_model.specs.Text.Positions.{Opening, Position, setting_in}
 use Rattle.wc_model.specs.Text.ReadingFaults.{ParenthesisNotPaired}
@@ -95,10 +95,8 @@ opening_ends p (BracketedWith begun operator x) h last_line = refl
 opening_ends p (Named begun (OfOpening operator) name) h last_line = refl
 opening_ends p (Pointed begun (OfOpening operator) name) h last_line = refl
 opening_ends p (Named begun (OfStep operating) name) h last_line = absurd h
-opening_ends p (Named begun (OfArgument call input) name) h last_line = absurd h
 opening_ends p (Pointed begun (OfStep operating) name) h last_line = absurd h
-opening_ends p (Pointed begun (OfArgument call input) name) h last_line = absurd h
-opening_ends p state h last_line = absurd h
+opening_ends p other h last_line = absurd h
 
 -- the line of a form that opens a parenthesis
 abbrev line_in : LineForm → ℕ
@@ -112,10 +110,8 @@ opening_line_is (BracketedWith begun own y) label line operator x left h r = sym
 opening_line_is (Named begun (OfOpening own) name) label line operator x left h r = sym (ap line_in r.1)
 opening_line_is (Pointed begun (OfOpening own) name) label line operator x left h r = sym (ap line_in r.1)
 opening_line_is (Named begun (OfStep operating) name) label line operator x left h r = absurd h
-opening_line_is (Named begun (OfArgument call input) name) label line operator x left h r = absurd h
 opening_line_is (Pointed begun (OfStep operating) name) label line operator x left h r = absurd h
-opening_line_is (Pointed begun (OfArgument call input) name) label line operator x left h r = absurd h
-opening_line_is state label line operator x left h r = absurd h
+opening_line_is other label line operator x left h r = absurd h
 
 -- an opening line goes on as one, or ends
 abbrev OpeningNext : Option LineState → Type 0
@@ -130,10 +126,7 @@ name_opening begun operator name (Some value) = tt
 operand_opening : (begun : Begun) (operator : Operator) (symbol : Symbol) (line : ℕ) → OpeningNext (at_operand begun (OfOpening operator) symbol line)
 operand_opening begun operator (Identifier bytes) line = name_opening begun operator (name_of bytes) (found truths (name_of bytes))
 operand_opening begun operator (Direct bytes) line = tt
-operand_opening begun operator (Whole number) line = tt
-operand_opening begun operator (Duration number) line = tt
-operand_opening begun operator (Truth value) line = tt
-operand_opening begun operator _ line = tt
+operand_opening begun operator other line = tt
 
 bracket_opening : (begun : Begun) (operator : Operator) (symbol : Symbol) (line : ℕ) → OpeningNext (at_bracketed begun operator symbol line)
 bracket_opening begun operator LineEnd line = tt
@@ -158,10 +151,8 @@ opening_next setting (BracketedWith begun operator x) symbol line colon h = with
 opening_next setting (Named begun (OfOpening operator) name) symbol line colon h = named_opening begun operator name symbol line setting colon
 opening_next setting (Pointed begun (OfOpening operator) name) symbol line colon h = pointed_opening begun operator name symbol
 opening_next setting (Named begun (OfStep operating) name) symbol line colon h = absurd h
-opening_next setting (Named begun (OfArgument call input) name) symbol line colon h = absurd h
 opening_next setting (Pointed begun (OfStep operating) name) symbol line colon h = absurd h
-opening_next setting (Pointed begun (OfArgument call input) name) symbol line colon h = absurd h
-opening_next setting state symbol line colon h = absurd h
+opening_next setting other symbol line colon h = absurd h
 
 -- where an opening line stays on
 abbrev OpeningOn : Position → LineForm → List Mark → List Mark → Bool → Option State → Type 0

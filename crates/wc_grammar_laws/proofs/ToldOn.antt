@@ -178,9 +178,7 @@ body_kept p tokens symbol line colon e h = start_kept InBody p tokens symbol lin
 has_content_is : (x : Option Term) (inside : Lines) → has_content x inside ≡ true → HasContent x inside
 has_content_is None End e = absurd (cc)
 has_content_is None (Alone label rest) e = tt
-has_content_is None (Plain label line step rest) e = tt
-has_content_is None (Nested label line operator x inside close rest) e = tt
-has_content_is (Some x) inside e = tt
+has_content_is other another e = tt
 
 closing_kept : (p : Position) (o : Opening) (outer : List Opening) (tokens : List Mark) (line : ℕ) (b : Bool) → has_content o.operand p.done ≡ b → p.openings ≡ o ∷ outer → at_line p tokens
     → Keeps tokens (mark_on ClosingBracket line) (if b then Some (Closed (behind_closing p o outer line)) else None)

@@ -33,13 +33,7 @@ fault_of rank =
 known : (fault : ReadingFault) → fault_of (rank_of fault) ≡ fault
 unfolding fault_of
 known UnexpectedToken = refl
-known UnitNotClosed = refl
-known NotOneProgramLast = refl
-known EmptyParentheses = refl
-known NotAllowedInParentheses = refl
-known ParenthesisNotPaired = refl
-known TooDeep = refl
-known TooMany = refl
+known other = refl
 
 same_fault : (f g : ReadingFault) → rank_of f ≤ rank_of g → rank_of g ≤ rank_of f → f ≡ g
 same_fault f g a b =

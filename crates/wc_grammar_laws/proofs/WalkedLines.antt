@@ -6,7 +6,7 @@ use Rattle.wc_grammar_laws.proofs.LineRests.{line_of, rest_of}
 use Rattle.wc_grammar_laws.proofs.LineStart.{start_led}
 use Rattle.wc_grammar_laws.specs.Moves.{State, AtLine, Closed, behind_line, behind_closing, begun_line, body_move, colon_next, is_colon, lines_and, has_content, move, on_line, behind_unit, section_begun, start_move, section_or_line, walk, word_move}
 use Rattle.wc_grammar_laws.proofs.WordLaws.{found_operation}
-use Rattle.wc_grammar_laws.specs.Words.{Loads, Stores, Applies, Operation, Operates, Negates, Jumps, Calls, Returns, found, operations, operation_word, section_words}
+use Rattle.wc_grammar_laws.specs.Words.{Loads, Stores, Applies, Operation, Operates, Jumps, Calls, Returns, found, operations, operation_word, section_words}
 use Rattle.wc_grammar_laws.proofs.Languages.{next_is, both_empty, regroup, after, given_first}
 use Rattle.wc_model.specs.Language.Declarations.{same_name}
 use Rattle.wc_model.specs.Text.Grammar as grammar
@@ -17,9 +17,9 @@ use Rattle.wc_model.specs.Text.Marks.{Symbol, Identifier, LineEnd, ClosingBracke
 use Rattle.wc_model.specs.Language.Names.{Name, name_of}
 use Rattle.wc_model.specs.Text.Positions.{Opening, Position, setting_in}
 use Rattle.wc_model.specs.Language.Tree.{Term, Lines, End, Alone, Plain, Nested}
-use Rattle.wc_model.specs.declared.operator.Condition.TheVariants.{Always, IfTrue, IfFalse}
-use Rattle.wc_model.specs.declared.operator.Operator.TheVariants.{And, Andn, Or, Orn, Xor, Xorn, Add, Sub, Mul, Div, Mod, Gt, Ge, Eq, Ne, Le, Lt}
-use Rattle.wc_model.specs.declared.operator.Storing.TheVariants.{Result, Negation, Set, Reset}
+use Rattle.wc_model.specs.declared.operator.Condition.TheVariants.{Always}
+use Rattle.wc_model.specs.declared.operator.Operator.TheVariants.{And}
+use Rattle.wc_model.specs.declared.operator.Storing.TheVariants.{Result}
 use Rattle.wc_model.specs.declared.source.UnitKind.{UnitKind}
 use Rattle.wc_model.specs.declared.source.UnitKind.TheVariants.{FunctionBlock, Program}
 
@@ -79,71 +79,18 @@ on_line_walked p state form (mark ∷ marks) colon r =
 -- no operator's word ends a unit or begins a section
 pub ends_no_unit : (kind : UnitKind) (operation : Operation) → (same_name (operation_word operation) (end_word kind) ≡ false) × (found section_words (operation_word operation) ≡ None)
 ends_no_unit FunctionBlock (Operates (Loads false)) = (refl, refl)
-ends_no_unit FunctionBlock (Operates (Loads true)) = (refl, refl)
 ends_no_unit FunctionBlock (Operates (Stores Result)) = (refl, refl)
-ends_no_unit FunctionBlock (Operates (Stores Negation)) = (refl, refl)
-ends_no_unit FunctionBlock (Operates (Stores Set)) = (refl, refl)
-ends_no_unit FunctionBlock (Operates (Stores Reset)) = (refl, refl)
 ends_no_unit FunctionBlock (Operates (Applies And)) = (refl, refl)
-ends_no_unit FunctionBlock (Operates (Applies Andn)) = (refl, refl)
-ends_no_unit FunctionBlock (Operates (Applies Or)) = (refl, refl)
-ends_no_unit FunctionBlock (Operates (Applies Orn)) = (refl, refl)
-ends_no_unit FunctionBlock (Operates (Applies Xor)) = (refl, refl)
-ends_no_unit FunctionBlock (Operates (Applies Xorn)) = (refl, refl)
-ends_no_unit FunctionBlock (Operates (Applies Add)) = (refl, refl)
-ends_no_unit FunctionBlock (Operates (Applies Sub)) = (refl, refl)
-ends_no_unit FunctionBlock (Operates (Applies Mul)) = (refl, refl)
-ends_no_unit FunctionBlock (Operates (Applies Div)) = (refl, refl)
-ends_no_unit FunctionBlock (Operates (Applies Mod)) = (refl, refl)
-ends_no_unit FunctionBlock (Operates (Applies Gt)) = (refl, refl)
-ends_no_unit FunctionBlock (Operates (Applies Ge)) = (refl, refl)
-ends_no_unit FunctionBlock (Operates (Applies Eq)) = (refl, refl)
-ends_no_unit FunctionBlock (Operates (Applies Ne)) = (refl, refl)
-ends_no_unit FunctionBlock (Operates (Applies Le)) = (refl, refl)
-ends_no_unit FunctionBlock (Operates (Applies Lt)) = (refl, refl)
-ends_no_unit FunctionBlock Negates = (refl, refl)
 ends_no_unit FunctionBlock (Jumps Always) = (refl, refl)
-ends_no_unit FunctionBlock (Jumps IfTrue) = (refl, refl)
-ends_no_unit FunctionBlock (Jumps IfFalse) = (refl, refl)
 ends_no_unit FunctionBlock (Calls Always) = (refl, refl)
-ends_no_unit FunctionBlock (Calls IfTrue) = (refl, refl)
-ends_no_unit FunctionBlock (Calls IfFalse) = (refl, refl)
 ends_no_unit FunctionBlock (Returns Always) = (refl, refl)
-ends_no_unit FunctionBlock (Returns IfTrue) = (refl, refl)
-ends_no_unit FunctionBlock (Returns IfFalse) = (refl, refl)
 ends_no_unit Program (Operates (Loads false)) = (refl, refl)
-ends_no_unit Program (Operates (Loads true)) = (refl, refl)
 ends_no_unit Program (Operates (Stores Result)) = (refl, refl)
-ends_no_unit Program (Operates (Stores Negation)) = (refl, refl)
-ends_no_unit Program (Operates (Stores Set)) = (refl, refl)
-ends_no_unit Program (Operates (Stores Reset)) = (refl, refl)
 ends_no_unit Program (Operates (Applies And)) = (refl, refl)
-ends_no_unit Program (Operates (Applies Andn)) = (refl, refl)
-ends_no_unit Program (Operates (Applies Or)) = (refl, refl)
-ends_no_unit Program (Operates (Applies Orn)) = (refl, refl)
-ends_no_unit Program (Operates (Applies Xor)) = (refl, refl)
-ends_no_unit Program (Operates (Applies Xorn)) = (refl, refl)
-ends_no_unit Program (Operates (Applies Add)) = (refl, refl)
-ends_no_unit Program (Operates (Applies Sub)) = (refl, refl)
-ends_no_unit Program (Operates (Applies Mul)) = (refl, refl)
-ends_no_unit Program (Operates (Applies Div)) = (refl, refl)
-ends_no_unit Program (Operates (Applies Mod)) = (refl, refl)
-ends_no_unit Program (Operates (Applies Gt)) = (refl, refl)
-ends_no_unit Program (Operates (Applies Ge)) = (refl, refl)
-ends_no_unit Program (Operates (Applies Eq)) = (refl, refl)
-ends_no_unit Program (Operates (Applies Ne)) = (refl, refl)
-ends_no_unit Program (Operates (Applies Le)) = (refl, refl)
-ends_no_unit Program (Operates (Applies Lt)) = (refl, refl)
-ends_no_unit Program Negates = (refl, refl)
 ends_no_unit Program (Jumps Always) = (refl, refl)
-ends_no_unit Program (Jumps IfTrue) = (refl, refl)
-ends_no_unit Program (Jumps IfFalse) = (refl, refl)
 ends_no_unit Program (Calls Always) = (refl, refl)
-ends_no_unit Program (Calls IfTrue) = (refl, refl)
-ends_no_unit Program (Calls IfFalse) = (refl, refl)
 ends_no_unit Program (Returns Always) = (refl, refl)
-ends_no_unit Program (Returns IfTrue) = (refl, refl)
-ends_no_unit Program (Returns IfFalse) = (refl, refl)
+ends_no_unit third fourth = (refl, refl)
 
 -- an identifier of an operator's name begins no section
 no_section : (done : Lines) (name : Name) → found section_words name ≡ None → section_begun done name ≡ None
@@ -239,9 +186,7 @@ with_more p line rest = λ i. record p { done = lines_and_assoc p.done line rest
 content_is : (x : Option Term) (inside : Lines) → HasContent x inside → has_content x inside ≡ true
 content_is None End h = absurd h
 content_is None (Alone label rest) h = refl
-content_is None (Plain label line step rest) h = refl
-content_is None (Nested label line operator operand inside close rest) h = refl
-content_is (Some x) inside h = refl
+content_is third fourth h = refl
 
 -- a parenthesis closes
 pub closing_walked : (q : Position) (o : Opening) (outer : List Opening) (close : ℕ) (tokens : List Mark) (colon : Bool) → q.openings ≡ o ∷ outer → HasContent o.operand q.done

@@ -21,7 +21,7 @@ use Rattle.wc_model.specs.Language.Names.{Name, name_of}
 use Rattle.wc_model.specs.Text.Positions.{Opening, Position, at_line, openings_of, setting_in}
 use Rattle.wc_model.specs.Language.Tree.{Declaration, End, ProgramUnit}
 use Rattle.wc_model.specs.declared.source.Section.{Section}
-use Rattle.wc_model.specs.declared.source.Section.TheVariants.{Input, Output, Own}
+use Rattle.wc_model.specs.declared.source.Section.TheVariants.{Input}
 use Rattle.wc_model.specs.declared.source.UnitKind.{UnitKind}
 use Rattle.wc_model.specs.declared.source.UnitKind.TheVariants.{FunctionBlock, Program}
 
@@ -54,11 +54,8 @@ section_no_colon section ds (mark ∷ marks) colon h = not_colon mark.symbol (λ
 -- a section's word ends no unit, and is found
 section_found : (kind : UnitKind) (section : Section) → (same_name (section_word section) (end_word kind) ≡ false) × (found section_words (section_word section) ≡ Some section)
 section_found FunctionBlock Input = (refl, refl)
-section_found FunctionBlock Output = (refl, refl)
-section_found FunctionBlock Own = (refl, refl)
 section_found Program Input = (refl, refl)
-section_found Program Output = (refl, refl)
-section_found Program Own = (refl, refl)
+section_found other another = (refl, refl)
 
 -- a section's first word
 section_begins : (units : List ProgramUnit) (unit : ProgramUnit) (section : Section) (tokens : List Mark) (colon : Bool) → identifier (section_word section) tokens → colon ≡ false

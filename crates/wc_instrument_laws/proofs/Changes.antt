@@ -16,10 +16,7 @@ use Rattle.wc_model.specs.Say.Report.{ReportLine, lines_with, report_lines, stat
 at_row : (plate : PlateData) (start : Logic) (brings : RowData) (past : Past) (row : LogRow) →
     lines_with plate programs start brings past row ≡ lines_at plate (logic_behind plate start past) brings past row
 at_row plate start (Counts counts) past row = refl
-at_row plate start (Bytes bytes) past row = refl
-at_row plate start (Inputs inputs) past row = refl
-at_row plate start Scan past row = refl
-at_row plate start Change past row = refl
+at_row plate start another past row = refl
 
 -- so are those of all rows that follow
 pub from_logic : (plate : PlateData) (start : Logic) (past : Past) (rows : List LogRow) →

@@ -2,21 +2,14 @@
 use Rattle.std.proofs.Common.{◌≡◌, true, Option, Some, refl, subst, sym}
 use Rattle.wc_language_laws.specs.Laws.{ATextKeepsItsPlaces}
 use Rattle.wc_model.specs.Language.Carried.{Lead, ToPlace, ToField, same_lead}
-use Rattle.wc_model.specs.declared.block.StandardBlock.TheVariants.{RTrig, Sr, Rs, Ctu, Ton, Tof, Tp}
-use Rattle.wc_model.specs.declared.kind.Kind.TheVariants.{Bool as KindBool, Dint, Time}
+use Rattle.wc_model.specs.declared.block.StandardBlock.TheVariants.{RTrig}
+use Rattle.wc_model.specs.declared.kind.Kind.TheVariants.{Bool as KindBool}
 
 -- where names lead is the same as itself
 same_as_itself : (lead : Lead) → same_lead (Some lead) (Some lead) ≡ true
 same_as_itself (ToPlace KindBool) = refl
-same_as_itself (ToPlace Dint) = refl
-same_as_itself (ToPlace Time) = refl
 same_as_itself (ToField RTrig) = refl
-same_as_itself (ToField Sr) = refl
-same_as_itself (ToField Rs) = refl
-same_as_itself (ToField Ctu) = refl
-same_as_itself (ToField Ton) = refl
-same_as_itself (ToField Tof) = refl
-same_as_itself (ToField Tp) = refl
+same_as_itself other = refl
 
 -- so each place keeps
 pub keeps_its_places : ATextKeepsItsPlaces

@@ -48,9 +48,7 @@ loadable scope (Field instance field) h = tt
 
 loadable_plain : (term : Term) → IsLoadable false term
 loadable_plain (Constant value) = tt
-loadable_plain (Address word) = tt
-loadable_plain (NameOf name) = tt
-loadable_plain (Field instance field) = tt
+loadable_plain other = tt
 
 -- a store
 store_writable : (scope : Scope) (line : ℕ) (storing : Storing) (target : Term) (kind : Option Kind) → Clean (term_checks scope.unit target) → Clean (store_checks scope line storing target kind) → IsWritable scope target

@@ -43,9 +43,7 @@ judged_more single b rest h =
   where
     by_cases : (s u n t : Bool) → ((s && not (u && not n)) && t) ≡ (s && ((not u || n) && t))
     by_cases true true true t = refl
-    by_cases true true false t = refl
-    by_cases true false n t = refl
-    by_cases false u n t = refl
+    by_cases another third fourth t = refl
 
 -- one character more is passed
 pub passed_more : (text rest : List ℕ) (b count : ℕ) (single next : Bool) → is_identifier_character b ≡ true → next ≡ (single && not (is_underscore b && not (begins is_ascii_alphanumeric rest))) → Passed text (b ∷ rest) count single → Passed text rest (count + 1) next

@@ -191,11 +191,9 @@ regrouped true true true true true g x y h = refl
 regrouped true true true false true g x y h = refl
 regrouped true false true d true g x y h = refl
 regrouped true true false d true g x y h = refl
-regrouped true true false d false g x y h = refl
 regrouped true false false d true g x y h = refl
-regrouped true false false d false g x y h = refl
 regrouped false b c d true g x y h = refl
-regrouped false b c d false g x y h = refl
+regrouped other another third fourth fifth g x y h = refl
 
 -- the forms behind the first part, from part to part
 pub same_behind : (first : Part) (later : List Part) → behind_form first later ≡ ((not (has_point first) || are_none later) && are_later (unit_milliseconds first) later)

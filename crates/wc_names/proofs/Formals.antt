@@ -9,7 +9,7 @@ use Rattle.wc_model.specs.Language.Names.{Name}
 use Rattle.wc_model.specs.Language.Store.{standard_fields}
 use Rattle.wc_model.specs.Language.Tree.{ProgramUnit}
 use Rattle.wc_model.specs.declared.block.StandardBlock.{StandardBlock}
-use Rattle.wc_model.specs.declared.block.StandardBlock.TheVariants.{RTrig, Sr, Rs, Ctu, Ton, Tof, Tp}
+use Rattle.wc_model.specs.declared.block.StandardBlock.TheVariants.{RTrig}
 use Rattle.wc_model.specs.declared.kind.Kind.{Kind}
 use Rattle.wc_model.specs.declared.operator.Direction.{Direction}
 use Rattle.wc_model.specs.declared.operator.Direction.TheVariants.{Into, OutOf}
@@ -128,12 +128,7 @@ block_formal d units before u h type number name e m found i =
 -- and so are those of the standard blocks
 standard_numbered : (before : List ProgramUnit) (block : StandardBlock) → list_all (λ m. is_some (numbered_formal before (Standard block) m)) (standard_members block) ≡ true
 standard_numbered before RTrig = refl
-standard_numbered before Sr = refl
-standard_numbered before Rs = refl
-standard_numbered before Ctu = refl
-standard_numbered before Ton = refl
-standard_numbered before Tof = refl
-standard_numbered before Tp = refl
+standard_numbered before other = refl
 
 of_all : (q : Member → Bool) (ms : List Member) (name : Name) (m : Member) → list_all q ms ≡ true → member_named ms name ≡ Some m → q m ≡ true
 of_all q [] name m all e = cc

@@ -4,7 +4,7 @@ use Rattle.wc_grammar_laws.specs.LineMoves.{Start, line_move}
 use Rattle.wc_grammar_laws.specs.Moves.{begun_line, body_move, inside_move}
 use Rattle.wc_lexer.specs.Views.{shape_view}
 use Rattle.wc_lexer.specs.declared.shape.Shape.{Shape}
-use Rattle.wc_lexer.specs.declared.shape.Shape.TheVariants.{Identifier, Whole, Duration, Truth, Address, And, AndNot, Opening, Closing, Comma, Colon, Semicolon, Point, Assign, Arrow, LineEnd}
+use Rattle.wc_lexer.specs.declared.shape.Shape.TheVariants.{Identifier, Whole, Duration, Truth, Address, And, AndNot, Opening, Closing, Comma}
 use Rattle.wc_model.specs.Text.Grammar.{InBody, InParentheses}
 use Rattle.wc_model.specs.Text.Positions as positions
 use Rattle.wc_model.specs.Text.Positions.{Position}
@@ -22,28 +22,10 @@ inside-other p o outer line AndNot bytes h = refl
 inside-other p o outer line Opening bytes h = refl
 inside-other p o outer line Closing bytes h = absurd (h refl)
 inside-other p o outer line Comma bytes h = refl
-inside-other p o outer line Colon bytes h = refl
-inside-other p o outer line Semicolon bytes h = refl
-inside-other p o outer line Point bytes h = refl
-inside-other p o outer line Assign bytes h = refl
-inside-other p o outer line Arrow bytes h = refl
-inside-other p o outer line LineEnd bytes h = refl
+inside-other p o outer line another bytes h = refl
 
 -- in a body, other than an identifier
 pub body-other : (p : Position) (line : ℕ) (colon : Bool) (shape : Shape) (bytes : List ℕ) → (shape ≡ Identifier → ⊥) → body_move p (symbol_of (shape_view shape) bytes) line colon ≡ begun_line p (line_move InBody Start (symbol_of (shape_view shape) bytes) line colon)
 body-other p line colon Identifier bytes h = absurd (h refl)
 body-other p line colon (Whole value) bytes h = refl
-body-other p line colon (Duration value) bytes h = refl
-body-other p line colon (Truth value) bytes h = refl
-body-other p line colon Address bytes h = refl
-body-other p line colon And bytes h = refl
-body-other p line colon AndNot bytes h = refl
-body-other p line colon Opening bytes h = refl
-body-other p line colon Closing bytes h = refl
-body-other p line colon Comma bytes h = refl
-body-other p line colon Colon bytes h = refl
-body-other p line colon Semicolon bytes h = refl
-body-other p line colon Point bytes h = refl
-body-other p line colon Assign bytes h = refl
-body-other p line colon Arrow bytes h = refl
-body-other p line colon LineEnd bytes h = refl
+body-other p line colon another bytes h = refl

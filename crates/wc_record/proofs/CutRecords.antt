@@ -203,9 +203,7 @@ long_not_first (a ∷ b ∷ c ∷ d ∷ more) h = none (bytes_eq (codes "ms") a)
   where
     none : (x y z : Bool) → (x && (y && (z && false))) ≡ false
     none true true true = refl
-    none true true false = refl
-    none true false z = refl
-    none false y z = refl
+    none other another third = refl
 
 -- where a long record stands the log ends, whatever follows
 ends_alike : (before : List Record) (a b : Record) (x y : LogOf) → IsLong a → IsLong b → log_with before (row_of before a) x ≡ log_with before (row_of before b) y

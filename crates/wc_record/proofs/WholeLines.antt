@@ -38,18 +38,14 @@ spot_stays : (at : Spot) (ended size byte : ℕ) → is_outside at ≡ true → 
 spot_stays spot.Opening ended size byte e f = rw f (plain_stays ended size byte)
 spot_stays spot.Plain ended size byte e f = plain_stays ended size byte
 spot_stays spot.Quoted ended size byte e f = cc
-spot_stays spot.LogStart ended size byte e f = cc
-spot_stays spot.SecondOfMark ended size byte e f = cc
-spot_stays spot.ThirdOfMark ended size byte e f = cc
+spot_stays other ended size byte e f = cc
 
 -- behind a line feed a record starts
 line_ends : (at : Spot) (ended size : ℕ) → is_outside at ≡ true → after_at at ended size 10 ≡ record_start
 line_ends spot.Opening ended size e = refl
 line_ends spot.Plain ended size e = refl
 line_ends spot.Quoted ended size e = cc
-line_ends spot.LogStart ended size e = cc
-line_ends spot.SecondOfMark ended size e = cc
-line_ends spot.ThirdOfMark ended size e = cc
+line_ends other ended size e = cc
 
 -- what is no quote does not pass the test for one
 no_quote : (byte : ℕ) → byte ≢ 34 → (byte == 34) ≡ false

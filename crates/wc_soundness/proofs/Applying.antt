@@ -92,14 +92,9 @@ applied operator KindBool t d (Truth x) (Truth y) ka kb = on_bools operator t x 
 applied operator KindDint t d (Dint x) (Dint y) ka kb = on_dints' operator t d x y
 applied operator KindTime t d (Time x) (Time y) ka kb = on_times operator t x y
 applied operator kind t d (Truth x) (Dint y) ka kb = cc
-applied operator kind t d (Truth x) (Time y) ka kb = cc
 applied operator kind t d (Dint x) (Truth y) ka kb = cc
-applied operator kind t d (Dint x) (Time y) ka kb = cc
 applied operator kind t d (Time x) (Truth y) ka kb = cc
-applied operator kind t d (Time x) (Dint y) ka kb = cc
-applied operator kind t d (Truth x) (Truth y) ka kb = cc
-applied operator kind t d (Dint x) (Dint y) ka kb = cc
-applied operator kind t d (Time x) (Time y) ka kb = cc
+applied operator kind t d another third ka kb = cc
 
 -- a BOOL
 pub truth_of : (v : Value) → kind_of v ≡ KindBool → (b : Bool) × (v ≡ Truth b)

@@ -42,21 +42,11 @@ step_goes here store fits calls line (Return condition) behind kind result a c =
 -- a simple step is no jump and no return
 pub simple_no_jump : (step : Step) (label : Name) → is_simple step ≡ true → step_jumps_to step label ≡ true → ⊥
 simple_no_jump (Load negated operand) label s j = cc
-simple_no_jump (StoreStep storing target) label s j = cc
-simple_no_jump (Apply operator operand) label s j = cc
-simple_no_jump Negate label s j = cc
-simple_no_jump (Jump condition target) label s j = cc
-simple_no_jump (Call condition instance arguments) label s j = cc
-simple_no_jump (Return condition) label s j = cc
+simple_no_jump other label s j = cc
 
 pub simple_no_return : (step : Step) → is_simple step ≡ true → step_returns step ≡ true → ⊥
 simple_no_return (Load negated operand) s j = cc
-simple_no_return (StoreStep storing target) s j = cc
-simple_no_return (Apply operator operand) s j = cc
-simple_no_return Negate s j = cc
-simple_no_return (Jump condition target) s j = cc
-simple_no_return (Call condition instance arguments) s j = cc
-simple_no_return (Return condition) s j = cc
+simple_no_return other s j = cc
 
 -- a simple step goes to the next line
 pub simple_stays : (scope : Scope) (step : Step) (behind : List BodyLine) (kind : Option Kind) (store : Store) (e : Effect) → is_simple step ≡ true → GoesWell (LeadsTo scope step behind kind) store e → GoesWell (InsideMode (kind_after_step scope step kind)) store e

@@ -235,15 +235,8 @@ carried_holds old new store old_last new_last same = λ place. by place (keeps o
 -- a text that takes its own place
 same_as_itself : (lead : Lead) → same_lead (Some lead) (Some lead) ≡ true
 same_as_itself (ToPlace KindBool) = refl
-same_as_itself (ToPlace KindDint) = refl
-same_as_itself (ToPlace KindTime) = refl
 same_as_itself (ToField RTrig) = refl
-same_as_itself (ToField Sr) = refl
-same_as_itself (ToField Rs) = refl
-same_as_itself (ToField Ctu) = refl
-same_as_itself (ToField Ton) = refl
-same_as_itself (ToField Tof) = refl
-same_as_itself (ToField Tp) = refl
+same_as_itself third = refl
 
 pub kept_by_itself : ATextForItselfIsNoChange
 kept_by_itself text store place lead e =

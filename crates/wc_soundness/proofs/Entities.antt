@@ -14,7 +14,7 @@ use Rattle.wc_model.specs.Language.Scopes.{Scope, Entity, kind_of, own_entity, t
 use Rattle.wc_model.specs.Language.Store.{Location, Direct, Path, Content, Store, same_direct, value_at, written, below, variable_places, unit_places, block_places, first_content, standard_fields}
 use Rattle.wc_model.specs.Language.Tree.{Word, Term, Constant, Address, Variable as NameOf, Field, ProgramUnit}
 use Rattle.wc_model.specs.declared.block.StandardBlock.{StandardBlock}
-use Rattle.wc_model.specs.declared.block.StandardBlock.TheVariants.{RTrig, Sr, Rs, Ctu, Ton, Tof, Tp}
+use Rattle.wc_model.specs.declared.block.StandardBlock.TheVariants.{RTrig}
 use Rattle.wc_model.specs.declared.kind.Kind.{Kind}
 use Rattle.wc_model.specs.declared.kind.Kind.TheVariants.{Bool as KindBool, Dint as KindDint, Time as KindTime}
 use Rattle.wc_model.specs.declared.kind.SlotKind.{SlotKind}
@@ -98,12 +98,7 @@ member_is_placed block m = is_slot (Rattle.std.specs.Option.option_map slot_of (
 
 pub members_are_placed : (block : StandardBlock) → list_all (member_is_placed block) (standard_members block) ≡ true
 members_are_placed RTrig = refl
-members_are_placed Sr = refl
-members_are_placed Rs = refl
-members_are_placed Ctu = refl
-members_are_placed Ton = refl
-members_are_placed Tof = refl
-members_are_placed Tp = refl
+members_are_placed other = refl
 
 -- what all pass, the found one passes
 pub found_passes : {X : Type 0} (test pass : X → Bool) (xs : List X) (x : X) → list_all pass xs ≡ true → find test xs ≡ Some x → pass x ≡ true

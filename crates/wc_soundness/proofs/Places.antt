@@ -51,20 +51,12 @@ value_there store place kind e = go (store place) kind e
     go (Some (Plain (Dint n))) KindDint e = (Dint n, refl, refl)
     go (Some (Plain (Time t))) KindTime e = (Time t, refl, refl)
     go (Some (Plain (Truth b))) KindDint e = cc
-    go (Some (Plain (Truth b))) KindTime e = cc
     go (Some (Plain (Dint n))) KindBool e = cc
-    go (Some (Plain (Dint n))) KindTime e = cc
     go (Some (Plain (Time t))) KindBool e = cc
-    go (Some (Plain (Time t))) KindDint e = cc
     go (Some (Moment m)) KindBool e = cc
-    go (Some (Moment m)) KindDint e = cc
-    go (Some (Moment m)) KindTime e = cc
     go (Some (Phase p)) KindBool e = cc
-    go (Some (Phase p)) KindDint e = cc
-    go (Some (Phase p)) KindTime e = cc
     go None KindBool e = cc
-    go None KindDint e = cc
-    go None KindTime e = cc
+    go third fourth e = cc
 
 -- values of one kind pass the test
 pub same_kind-of : (a b : Value) → kind_of a ≡ kind_of b → same_kind a b ≡ true
@@ -72,11 +64,9 @@ same_kind-of (Truth a) (Truth b) e = refl
 same_kind-of (Dint a) (Dint b) e = refl
 same_kind-of (Time a) (Time b) e = refl
 same_kind-of (Truth a) (Dint b) e = cc
-same_kind-of (Truth a) (Time b) e = cc
 same_kind-of (Dint a) (Truth b) e = cc
-same_kind-of (Dint a) (Time b) e = cc
 same_kind-of (Time a) (Truth b) e = cc
-same_kind-of (Time a) (Dint b) e = cc
+same_kind-of third fourth e = cc
 
 -- a value of the place's kind can be written there
 pub written-there : (store : Store) (place : Location) (value : Value) → slot_at store place ≡ Some (slot_of_kind (kind_of value)) → (new : Store) × (written store place value ≡ Ok new) × SameSlots store new

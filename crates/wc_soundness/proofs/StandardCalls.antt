@@ -1,5 +1,5 @@
 -- A call of an instance of a standard block is never stuck, and keeps the kinds of all places.
-use Rattle.std.proofs.Common.{◌≡◌, ℕ, Bool, List, [], ◌∷◌, ◌++◌, map, Option, Some, None, Result, ℤ, append_assoc, refl, ap, ◌∙◌}
+use Rattle.std.proofs.Common.{◌≡◌, ℕ, Bool, List, [], ◌∷◌, ◌++◌, map, Option, Some, Result, ℤ, append_assoc, refl, ap, ◌∙◌}
 use Rattle.std.specs.Option.{option_map}
 use Rattle.std.specs.Prelude.{codes}
 use Rattle.wc_model.specs.Language.BlockCalls.{field_at, with_truth, with_dint, with_time, with_moment, with_phase, with_fields, r_trig_contents, r_trig_called, sr_contents, sr_called, rs_contents, rs_called, ctu_contents, ctu_called, ton_contents, ton_called, tof_contents, tof_called, tp_contents, tp_called, standard_called}
@@ -37,42 +37,27 @@ with_fields-keeps store instance (f ∷ fields) t =
 pub truth-given : (store : Store) (c : Option Content) → option_map slot_of c ≡ Some SlotBool → (go : Bool → Result Store Reason) → ((b : Bool) → Writes store (go b)) → Writes store (with_truth c go)
 truth-given store (Some (Plain (Truth b))) e go h = h b
 truth-given store (Some (Plain (Dint n))) e go h = cc
-truth-given store (Some (Plain (Time t))) e go h = cc
-truth-given store (Some (Moment m)) e go h = cc
-truth-given store (Some (Phase p)) e go h = cc
-truth-given store None e go h = cc
+truth-given store other e go h = cc
 
 pub dint-given : (store : Store) (c : Option Content) → option_map slot_of c ≡ Some SlotDint → (go : ℤ → Result Store Reason) → ((n : ℤ) → Writes store (go n)) → Writes store (with_dint c go)
 dint-given store (Some (Plain (Dint n))) e go h = h n
 dint-given store (Some (Plain (Truth b))) e go h = cc
-dint-given store (Some (Plain (Time t))) e go h = cc
-dint-given store (Some (Moment m)) e go h = cc
-dint-given store (Some (Phase p)) e go h = cc
-dint-given store None e go h = cc
+dint-given store other e go h = cc
 
 pub time-given : (store : Store) (c : Option Content) → option_map slot_of c ≡ Some SlotTime → (go : ℤ → Result Store Reason) → ((n : ℤ) → Writes store (go n)) → Writes store (with_time c go)
 time-given store (Some (Plain (Time t))) e go h = h t
 time-given store (Some (Plain (Truth b))) e go h = cc
-time-given store (Some (Plain (Dint n))) e go h = cc
-time-given store (Some (Moment m)) e go h = cc
-time-given store (Some (Phase p)) e go h = cc
-time-given store None e go h = cc
+time-given store other e go h = cc
 
 pub moment-given : (store : Store) (c : Option Content) → option_map slot_of c ≡ Some SlotMoment → (go : ℕ → Result Store Reason) → ((n : ℕ) → Writes store (go n)) → Writes store (with_moment c go)
 moment-given store (Some (Moment m)) e go h = h m
 moment-given store (Some (Plain (Truth b))) e go h = cc
-moment-given store (Some (Plain (Dint n))) e go h = cc
-moment-given store (Some (Plain (Time t))) e go h = cc
-moment-given store (Some (Phase p)) e go h = cc
-moment-given store None e go h = cc
+moment-given store other e go h = cc
 
 pub phase-given : (store : Store) (c : Option Content) → option_map slot_of c ≡ Some SlotPhase → (go : ℕ → Result Store Reason) → ((n : ℕ) → Writes store (go n)) → Writes store (with_phase c go)
 phase-given store (Some (Phase p)) e go h = h p
 phase-given store (Some (Plain (Truth b))) e go h = cc
-phase-given store (Some (Plain (Dint n))) e go h = cc
-phase-given store (Some (Plain (Time t))) e go h = cc
-phase-given store (Some (Moment m)) e go h = cc
-phase-given store None e go h = cc
+phase-given store other e go h = cc
 
 -- the store holds the fields of this block below these names
 abbrev pub HoldsBlock : Store → List Name → StandardBlock → Type 0

@@ -82,11 +82,7 @@ bit_value here store (Constant (Dint (pos zero))) e = (Truth false, refl, refl)
 bit_value here store (Constant (Dint (pos (suc zero)))) e = (Truth true, refl, refl)
 bit_value here store (Constant (Dint (pos (suc (suc n))))) e = absurd (let l = leb-true (suc (suc n)) 1 e in omega (arith, l))
 bit_value here store (Constant (Dint (negsuc n))) e = cc
-bit_value here store (Constant (Truth b)) e = cc
-bit_value here store (Constant (Time t)) e = cc
-bit_value here store (Address word) e = cc
-bit_value here store (NameOf name) e = cc
-bit_value here store (Field instance field) e = cc
+bit_value here store other e = cc
 
 pub or-true : (x y : Bool) → (x || y) ≡ true → (x ≡ true) ⊎ (y ≡ true)
 or-true true y e = inl refl

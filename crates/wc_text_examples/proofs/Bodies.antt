@@ -3,7 +3,7 @@ use Rattle.std.proofs.Common.{◌≡◌, ℕ, true, false, List, [], ◌∷◌, 
 use Rattle.std.specs.Prelude.{Some, None}
 use Rattle.wc_model.specs.Language.Names.{name_of}
 use Rattle.wc_model.specs.Text.Marks.{Mark, LineEnd, IsNamed, IsSymbol}
-use Rattle.wc_model.specs.Language.Tree.{Step, Load, Store, Apply, Negate, Jump, Call, Return, Lines, End, Alone, Plain, Nested, Declaration, Text}
+use Rattle.wc_model.specs.Language.Tree.{Step, Load, Store, Apply, Negate, Lines, End, Alone, Plain, Nested, Declaration, Text}
 use Rattle.wc_model.specs.Text.Languages.{Language, ◌then◌, each}
 use Rattle.wc_model.specs.Text.Keywords.{end_word, section_word}
 use Rattle.wc_model.specs.Text.Grammar.{InBody, IsOperator, IsOperatorOf, Group, identifier, line_ends, lines, section_of, sections, units, IsFront, IsProgramLast}
@@ -42,9 +42,7 @@ no_operator_of_at_end (Load negated x) h = cc
 no_operator_of_at_end (Store storing x) h = cc
 no_operator_of_at_end (Apply operator x) h = no_operator_at_end operator h
 no_operator_of_at_end Negate h = cc
-no_operator_of_at_end (Jump condition label) h = cc
-no_operator_of_at_end (Call condition instance arguments) h = cc
-no_operator_of_at_end (Return condition) h = cc
+no_operator_of_at_end other h = cc
 
 -- the end of a unit, and what follows
 abbrev pub ending : UnitKind → Language Mark → Language Mark

@@ -10,7 +10,7 @@ use Rattle.wc_model.specs.Text.Characters.{begins, is_address_character, is_iden
 use Rattle.wc_model.specs.Text.Lexemes.{Lexeme, Run, Typed, Unsigned, Signed, Sign, Addressed, Marked, is_run, is_literal_value, is_unsigned_run}
 use Rattle.wc_model.specs.Text.Marks as marks
 use Rattle.wc_model.specs.Text.Reading.{mark_of_token, symbol_of}
-use Rattle.wc_model.specs.Text.Shapes.{Shape, Identifier, Whole, Duration, Truth, Address, And, AndNot, Opening, Closing, Comma, Colon, Semicolon, Point, Assign, Arrow, LineEnd}
+use Rattle.wc_model.specs.Text.Shapes.{Shape, Identifier, Whole}
 use Rattle.wc_model.specs.Text.Tokens.{Token, Cuts, Nothing, Skipped, Taken}
 use Rattle.wc_token_laws.proofs.Reach.{mark_passes}
 
@@ -91,20 +91,7 @@ AreAscii (mark ∷ others) = IsAsciiSymbol mark.symbol × AreAscii others
 symbol_ascii : (shape : Shape) (bytes : List ℕ) → IsAscii bytes → IsAsciiSymbol (symbol_of shape bytes)
 symbol_ascii Identifier bytes h = h
 symbol_ascii (Whole value) bytes h = tt
-symbol_ascii (Duration milliseconds) bytes h = tt
-symbol_ascii (Truth value) bytes h = tt
-symbol_ascii Address bytes h = tt
-symbol_ascii And bytes h = tt
-symbol_ascii AndNot bytes h = tt
-symbol_ascii Opening bytes h = tt
-symbol_ascii Closing bytes h = tt
-symbol_ascii Comma bytes h = tt
-symbol_ascii Colon bytes h = tt
-symbol_ascii Semicolon bytes h = tt
-symbol_ascii Point bytes h = tt
-symbol_ascii Assign bytes h = tt
-symbol_ascii Arrow bytes h = tt
-symbol_ascii LineEnd bytes h = tt
+symbol_ascii another bytes h = tt
 
 -- the tokens of a text as the grammar sees them
 pub tokens_ascii : {Ends : List ℕ → List ℕ → Type 0} (before rest : List ℕ) (tokens : List Token) → Cuts Ends before rest tokens → AreAscii (map mark_of_token tokens)

@@ -18,13 +18,7 @@ use Rattle.wc_verify.proofs.InstrLines.{lines_put, view_instr, view_none}
 -- an instruction stands behind its label
 label_opened : (layer : Instr-F Instr Line) (label : Option Word) → label_of (opened_line layer label) ≡ label
 label_opened (Instr-F.Load negated operand line) label = refl
-label_opened (Instr-F.Store storing target line) label = refl
-label_opened (Instr-F.Apply operator operand line) label = refl
-label_opened (Instr-F.Defer operator operand inside line close) label = refl
-label_opened (Instr-F.Not line) label = refl
-label_opened (Instr-F.Jump condition target line) label = refl
-label_opened (Instr-F.Call condition instance arguments line) label = refl
-label_opened (Instr-F.Return condition line) label = refl
+label_opened other label = refl
 
 pub label_kept : (instr : Instr) (label : Option Word) → label_of (instr_line instr label) ≡ label
 label_kept instr label = label_opened (out-Instr instr) label

@@ -82,13 +82,7 @@ inside_fault scope all rest other first more Memory h = tt
 through : (layer : Instr-F Instr Line) (label : Option Word) (rest : Lines) →
     instruction_view (map-Instr Instr Line (Option Word → Lines → Lines) (Lines → Lines) (fold-Instr (Option Word → Lines → Lines) (Lines → Lines) instruction_view line_step_view) (fold-Line (Option Word → Lines → Lines) (Lines → Lines) instruction_view line_step_view) layer) label rest ≡ put (opened_line layer label) rest
 through (Instr-F.Load negated operand line) label rest = refl
-through (Instr-F.Store storing target line) label rest = refl
-through (Instr-F.Apply operator operand line) label rest = refl
-through (Instr-F.Defer operator operand inside line close) label rest = refl
-through (Instr-F.Not line) label rest = refl
-through (Instr-F.Jump condition target line) label rest = refl
-through (Instr-F.Call condition instance arguments line) label rest = refl
-through (Instr-F.Return condition line) label rest = refl
+through another label rest = refl
 
 -- an instruction of the code, as a line
 instr_seen : (instr : Instr) (label : Option Word) (rest : Lines) → fold-Instr (Option Word → Lines → Lines) (Lines → Lines) instruction_view line_step_view instr label rest ≡ put (instr_line instr label) rest
