@@ -15,7 +15,7 @@
  * docs/EMBEDDING.md says what is proved of these calls and what you owe them; examples/embedded/ has two whole programs. In short:
  *
  *   - Each call says by a status whether it was done. Where it was not, it has changed nothing.
- *   - narbeddo_open, narbeddo_load, narbeddo_change, narbeddo_about and narbeddo_path ask malloc for memory; no other call does, and
+ *   - narbeddo_open, narbeddo_load, narbeddo_change, narbeddo_about and narbeddo_path ask your allocator for memory; no other call does, and
  *     none of those can fail on arguments in range.
  *   - A scale stays on the thread that made it, and no call comes from a signal handler. There may be any number of scales.
  *   - A pointer is never null, and leads to what its type says; a text of no bytes too has some address.
@@ -33,7 +33,7 @@ extern "C" {
 /* What a call says of itself. */
 #define NARBEDDO_DONE 0                /* it did what it is for */
 #define NARBEDDO_REFUSED 1             /* a text breaks a rule: number and place say which and where (docs/REFUSALS.md) */
-#define NARBEDDO_NO_MEMORY 2           /* malloc gave none */
+#define NARBEDDO_NO_MEMORY 2           /* your allocator gave none */
 #define NARBEDDO_CLOSED 3              /* the scale was not opened, or was closed */
 #define NARBEDDO_ALREADY_OPEN 4        /* close it first */
 #define NARBEDDO_NO_PROGRAM 5          /* load one first */

@@ -23,6 +23,7 @@ static const char program[] = "PROGRAM Fill\n"
                               "ST full\n"
                               "LD %IX0.0\n"
                               "ANDN full\n"
+                              "AND %IX1.5\n" /* only while the weight is valid */
                               "ST %QX0.0\n"
                               "END_PROGRAM\n";
 
@@ -87,6 +88,9 @@ int main(void)
     const uint8_t *text = (const uint8_t *)program;
     narbeddo_unit unit = narbeddo_about(text, strlen(program), 0);
     uint64_t next_scan = 0;
+    if (unit.units > 1) { /* the program stands behind its function blocks */
+        unit = narbeddo_about(text, strlen(program), unit.units - 1);
+    }
     if (narbeddo_size() > sizeof scale || unit.text.status != NARBEDDO_DONE) {
         safe_state("the library or the program does not fit");
     }
@@ -107,16 +111,21 @@ int main(void)
         }
         while (serial_read(&byte)) {
             narbeddo_answer answer = narbeddo_byte(&scale, byte);
+            if (answer.status != NARBEDDO_DONE) {
+                safe_state("the scale is closed");
+            }
             if (answer.length != 0) {
                 serial_write(answer.bytes, answer.length);
             }
         }
         if (now >= next_scan) { /* each 10 ms */
             narbeddo_scanned scanned;
-            narbeddo_inputs(&scale, digital_inputs());
+            if (narbeddo_inputs(&scale, digital_inputs()) != NARBEDDO_DONE) {
+                safe_state("the scale is closed");
+            }
             scanned = narbeddo_scan(&scale, now);
             if (scanned.status != NARBEDDO_DONE) {
-                safe_state("the clock went back");
+                safe_state("no scan was done: the clock went back, or its moments are used up");
             }
             valves(scanned.bits);
             next_scan = now + 10;

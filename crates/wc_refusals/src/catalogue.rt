@@ -164,7 +164,7 @@ fn body_entry(number: u16) -> Option<&'static Entry>
             help "declare the name in VAR, VAR_INPUT or VAR_OUTPUT of this unit";
         402 "verify": "the kinds do not fit"
             at "the line of the instruction, or of the )", "PROGRAM P / LDN 1 / END_PROGRAM" => 2,
-            help "operators work on two BOOL, two DINT or two TIME values; compare a number first to get a BOOL";
+            help "operators work on two BOOL, two DINT or two TIME values; compare a number first to get a BOOL, and write a time as T#500ms";
         403 "verify": "there is no current result"
             at "the line of the instruction", "PROGRAM P / NOT / END_PROGRAM" => 2,
             help "begin with LD: behind a jump, a label or a call there may be no current result";
@@ -182,7 +182,7 @@ fn body_entry(number: u16) -> Option<&'static Entry>
             help "choose another label; letter case makes no difference";
         408 "verify": "the divisor is not a whole-number literal, or it is 0"
             at "the line of the instruction", "PROGRAM P / LD 1 / DIV 0 / END_PROGRAM" => 3,
-            help "DIV and MOD take a whole number that is not 0, as DIV 10";
+            help "DIV and MOD take a number that is written out and not 0, as DIV 10; there is no division by a variable, and none that waits for a `)`";
         409 "verify": "the block has no input or output of that name"
             at "the line of the call", "PROGRAM P / VAR t : TON; END_VAR / CAL t(x := 1) / END_PROGRAM" => 3,
             help "`:=` takes the names that a block has in VAR_INPUT, `=>` those that it has in VAR_OUTPUT";
@@ -207,7 +207,7 @@ fn plate_entry(number: u16) -> Option<&'static Entry>
             help "the plate has lines `key = value`";
         502 "plate": "a key is missing, is unknown, or has a value of the wrong kind"
             at "0", "(the empty plate)" => 0,
-            help "the keys are unit, decimals, max, e, zero_counts, span_counts and window, each once; unit is a text, the others are whole numbers";
+            help "the keys are unit, decimals, max, e, zero_counts, span_counts and window, each once; unit is a text, the others are whole numbers, max and e in units of the last decimal, as e = 5 for 0.005 kg";
         503 "plate": "unit must be g, kg or t"
             at "0", "plate A with unit = \"lb\"" => 0,
             help "write unit = \"g\", \"kg\" or \"t\"";
@@ -238,16 +238,16 @@ fn log_entry(number: u16) -> Option<&'static Entry>
         number;
         601 "log": "the row has not three fields, or the first row is not ms,kind,data"
             at "the row", "(the empty log)" => 1,
-            help "the first row is ms,kind,data, and each other has three fields too, with no data as in 50,S,";
+            help "the first row is ms,kind,data; each other has two commas too, also where it has no data, as 50,S,";
         602 "log": "the moment is not a number of milliseconds below 2^40"
             at "the row", "row ,S," => 2,
-            help "the moment is a whole number of milliseconds, 0 to 1099511627775";
+            help "a row is ms,kind,data; the moment is a whole number of milliseconds, 0 to 1099511627775";
         603 "log": "the moment is before that of the row above"
             at "the row", "rows 1,S, / 0,S," => 3,
             help "sort the rows by their moments";
         604 "log": "the kind is none of C, L, I, S and P"
             at "the row", "row 0,," => 2,
-            help "the kinds are C, L, I, S and P";
+            help "a row is ms,kind,data; the kinds are C, L, I, S and P";
         605 "log": "the counts are not a whole number from -8388608 to 8388607"
             at "the row", "row 0,C," => 2,
             help "the counts are -8388608 to 8388607";
@@ -262,7 +262,7 @@ fn log_entry(number: u16) -> Option<&'static Entry>
             help "leave the third field of a scan and of a change empty, as 10,S,";
         609 "log": "there is no next program to change to"
             at "the row", "row 0,P," => 2,
-            help "name the next program by --next of run, trace or show, or by @next; one run changes its program once";
+            help "name the next program by --next of run, trace or show, or in a job by @next before @log; one run changes its program once";
     }
 }
 
@@ -278,6 +278,6 @@ fn job_entry(number: u16) -> Option<&'static Entry>
             help "a job is a line @plate and the plate, a line @program and the program, a line @log and the log";
         702 "job, files": "there are more than 1048576 bytes"
             at "0", "(1048577 spaces)" => 0,
-            help "a plate, a program and a job may have 1048576 bytes";
+            help "a plate and a job may have 1048576 bytes, a program 65536";
     }
 }
