@@ -72,6 +72,15 @@ typedef struct narbeddo_scanned {
     int32_t words[4];  /* %QD0 to %QD3 */
 } narbeddo_scanned;
 
+/* What is engraved on the scale, beside which a display shows its weights. */
+typedef struct narbeddo_engraved {
+    uint32_t status;
+    uint8_t unit[3];  /* as on the line: "kg ", "g  " or "t  ", with no zero behind it */
+    int32_t decimals; /* digits behind the point of a weight, 0 to 3 */
+    int32_t max;      /* the greatest load (Max), in units of the last decimal */
+    int32_t e;        /* the scale interval (e), in units of the last decimal */
+} narbeddo_engraved;
+
 /* What the indicator shows, for a display. Weights are in units of the plate's last decimal, and 0 where it is not valid. */
 typedef struct narbeddo_reading {
     uint32_t status;
@@ -121,6 +130,9 @@ narbeddo_scanned narbeddo_scan(narbeddo_scale *scale, uint64_t moment);
 
 /* What the indicator shows. */
 narbeddo_reading narbeddo_read(narbeddo_scale *scale);
+
+/* What is engraved on the scale. */
+narbeddo_engraved narbeddo_plate(narbeddo_scale *scale);
 
 /* One unit of a program's text, which need not be loaded: units are counted in text order from 0, and the program is the last. */
 typedef struct narbeddo_unit {

@@ -1,4 +1,4 @@
-/* The loop of a controller: a clock, a load cell, a serial line and outputs, which you fill in, around one scale.
+/* The loop of a controller: a clock, a load cell, a serial line, a display and outputs, which you fill in, around one scale.
  *
  * Everything the scale needs is taken before the loop. Inside it no call asks for memory, and none can fail but for what your sensor and your
  * clock give: counts out of range and a clock that goes back are told by a status, and then nothing has changed. */
@@ -74,6 +74,27 @@ static void valves(uint32_t bits)
     vessel += bits & 1 ? 400 : 0;
 }
 
+static int operator_looks(void) /* 1 where the display is to be written anew */
+{
+    return ticks % 500 == 0;
+}
+
+static void display(const narbeddo_engraved *engraved, const narbeddo_reading *reading)
+{
+    const char *motion = reading->flags & NARBEDDO_STABLE ? "" : ", in motion";
+    double units = 1; /* of the last decimal in one of the plate's unit */
+    int32_t digit;
+    for (digit = 0; digit < engraved->decimals; digit++) {
+        units *= 10;
+    }
+    if (reading->flags & NARBEDDO_VALID) {
+        printf("%5lu ms  display %.*f %.2s%s\n", (unsigned long)ticks, (int)engraved->decimals, reading->weights[1] / units,
+               (const char *)engraved->unit, motion);
+    } else {
+        printf("%5lu ms  display ----\n", (unsigned long)ticks);
+    }
+}
+
 static void safe_state(const char *why) /* shut all valves, and tell somebody */
 {
     printf("safe state: %s\n", why);
@@ -85,6 +106,7 @@ static void safe_state(const char *why) /* shut all valves, and tell somebody */
 int main(void)
 {
     static narbeddo_scale scale;
+    narbeddo_engraved engraved;
     const uint8_t *text = (const uint8_t *)program;
     narbeddo_unit unit = narbeddo_about(text, strlen(program), 0);
     uint64_t next_scan = 0;
@@ -102,6 +124,7 @@ int main(void)
     if (narbeddo_load(&scale, text, strlen(program)).status != NARBEDDO_DONE) {
         safe_state("the program is refused");
     }
+    engraved = narbeddo_plate(&scale);
     while (ticks < 2000) { /* for ever, in yours */
         uint64_t now = clock_ms();
         int32_t counts;
@@ -129,6 +152,13 @@ int main(void)
             }
             valves(scanned.bits);
             next_scan = now + 10;
+        }
+        if (operator_looks()) {
+            narbeddo_reading reading = narbeddo_read(&scale);
+            if (engraved.status != NARBEDDO_DONE || reading.status != NARBEDDO_DONE) {
+                safe_state("the scale is closed");
+            }
+            display(&engraved, &reading);
         }
     }
     narbeddo_close(&scale);

@@ -97,8 +97,20 @@ static void closed(narbeddo_scale *scale)
     is("inputs of a closed scale", narbeddo_inputs(scale, 1), NARBEDDO_CLOSED);
     is("scan of a closed scale", narbeddo_scan(scale, 0).status, NARBEDDO_CLOSED);
     is("reading of a closed scale", narbeddo_read(scale).status, NARBEDDO_CLOSED);
+    is("plate of a closed scale", narbeddo_plate(scale).status, NARBEDDO_CLOSED);
     is("load into a closed scale", narbeddo_load(scale, text, 0).status, NARBEDDO_CLOSED);
     is("change of a closed scale", narbeddo_change(scale, text, 0).status, NARBEDDO_CLOSED);
+}
+
+/* What is engraved on a scale with the plate below. */
+static void plate(narbeddo_scale *scale)
+{
+    narbeddo_engraved engraved = narbeddo_plate(scale);
+    is("plate", engraved.status, NARBEDDO_DONE);
+    is("unit", (unsigned long)memcmp(engraved.unit, "kg ", 3), 0);
+    is("decimals", (unsigned long)engraved.decimals, 3);
+    is("Max", (unsigned long)engraved.max, 15000);
+    is("e", (unsigned long)engraved.e, 5);
 }
 
 static void rows(narbeddo_scale *scale)
@@ -203,6 +215,7 @@ int main(void)
     closed(&scale);
     is("a plate", open_by(&scale, good_plate).status, NARBEDDO_DONE);
     is("open again", open_by(&scale, good_plate).status, NARBEDDO_ALREADY_OPEN);
+    plate(&scale);
     rows(&scale);
     is("a program", narbeddo_load(&scale, (const uint8_t *)counting, strlen(counting)).status, NARBEDDO_DONE);
     moments(&scale);

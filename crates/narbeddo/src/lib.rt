@@ -11,5 +11,5 @@ mod rows;
 pub use changes::{narbeddo_change, narbeddo_close, narbeddo_load, narbeddo_open};
 pub use making::{narbeddo_make, narbeddo_size};
 pub use programs::{narbeddo_about, narbeddo_path};
-pub use readings::narbeddo_read;
+pub use readings::{narbeddo_plate, narbeddo_read};
 pub use rows::{narbeddo_byte, narbeddo_inputs, narbeddo_sample, narbeddo_scan};

@@ -181,7 +181,7 @@ fn finish(
 fn tell_waiting(rt: &HostRuntime) {
     if rt.stdin().is_terminal() {
         let _told = rt.eprintln(
-            "wc: reading a job from standard input, up to its end (Ctrl-D); `wc help` says more",
+            "wc: reading a job from standard input, up to its end (Ctrl-D); `help` says more",
         );
     }
 }

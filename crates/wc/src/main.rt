@@ -49,26 +49,45 @@ fn end_without_words(rt: &HostRuntime, error: &io::Error) -> u8 {
     WRONG_WORDS
 }
 
-/// Says which word takes a program, or how a job is read, with the path of a file that there is.
-fn tell_words(rt: &HostRuntime, words: &str, path: &str) -> io::Result<()> {
+/// Says how the program is called with a word in front of a path, by the name by which it was called.
+fn tell_call(
+    rt: &HostRuntime,
+    what: &str,
+    words: &[String],
+    word: &str,
+    path: &str,
+) -> io::Result<()> {
+    let called = match words.first() {
+        Some(called) => called.as_str(),
+        None => "wc",
+    };
+    rt.eprint(what)?;
+    let called = shown(rt.alloc(), called.as_bytes())?;
+    rt.stderr().write_all(called.as_bytes())?;
+    rt.eprint(word)?;
     let path = shown(rt.alloc(), path.as_bytes())?;
-    rt.eprint(words)?;
     rt.stderr().write_all(path.as_bytes())?;
     rt.eprintln("")
 }
 
-/// Says what could be meant by a first word that the program has not.
-fn tell_meant(rt: &HostRuntime, word: Option<&String>) -> io::Result<()> {
-    let job = "help: a job is read from standard input: wc < ";
-    match word {
+/// Says what could be meant by a first word that the program has not: which word takes a program, or how a job is read.
+fn tell_meant(rt: &HostRuntime, words: &[String]) -> io::Result<()> {
+    let job = "help: a job is read from standard input: ";
+    match words.get(1) {
         Some(path) if File::open(rt, path).is_ok() => {
             if path.as_str().ends_with(".il") {
-                tell_words(rt, "help: a program is checked by: wc check ", path)
+                tell_call(
+                    rt,
+                    "help: a program is checked by: ",
+                    words,
+                    " check ",
+                    path,
+                )
             } else {
-                tell_words(rt, job, path)
+                tell_call(rt, job, words, " < ", path)
             }
         }
-        _ => tell_words(rt, job, "job.txt"),
+        _ => tell_call(rt, job, words, " < ", "job.txt"),
     }
 }
 
@@ -89,7 +108,7 @@ fn show(rt: &HostRuntime, error: &Error, words: &[String]) -> u8 {
     match error.print(rt) {
         Ok(()) => {
             if error.kind() == ErrorKind::InvalidSubcommand {
-                let _told = tell_meant(rt, words.get(1));
+                let _told = tell_meant(rt, words);
             }
             error.exit_code() as u8
         }

@@ -6,6 +6,7 @@ use crate::finding::Finding;
 use crate::lines::{behind, column_at, front};
 use crate::pieces::tell_piece;
 use std::alloc::{AllocError, Global};
+use wc_built_in::{Keyword, keyword_named};
 use wc_model::Fault;
 use wc_stops::{Awaits, ReadingStop, stop_of};
 
@@ -42,30 +43,29 @@ fn words_of(awaits: Awaits) -> &'static str {
     }
 }
 
-/// A piece is one of two words.
-fn is_one_of(piece: &[u8], one: &[u8], other: &[u8]) -> bool {
-    piece.eq_ignore_ascii_case(one) || piece.eq_ignore_ascii_case(other)
-}
-
 /// Says that a word begins no line, where only a colon could stand behind it.
 fn tell_word(finding: &mut Finding, word: &[u8]) -> Result<(), AllocError>
     ensures spot { finding.new.spot ≡ finding.old.spot }
     ensures line { finding.new.line ≡ finding.old.line }
 {
-    if is_one_of(word, b"VAR", b"VAR_INPUT") || is_one_of(word, b"VAR_OUTPUT", b"END_VAR") {
-        finding.help = Some("declarations stand before the first line of a body");
-        return finding.tell(word, "begins no line of a body");
+    match keyword_named(word) {
+        Some(Keyword::SectionStart(_)) | Some(Keyword::SectionEnd) => {
+            finding.help = Some("declarations stand before the first line of a body");
+            finding.tell(word, "begins no line of a body")
+        }
+        Some(Keyword::UnitEnd(_)) => {
+            finding.help = Some(
+                "a PROGRAM ends with END_PROGRAM, a FUNCTION_BLOCK with END_FUNCTION_BLOCK",
+            );
+            finding.tell(word, "is not the end of this unit")
+        }
+        _ => {
+            finding.help = Some(
+                "the operators are LD, ST, S, R, AND, OR, XOR, NOT, ADD, SUB, MUL, DIV, MOD, GT, GE, EQ, NE, LE, LT, JMP, CAL and RET; a label has `:` behind it",
+            );
+            finding.tell(word, "is no operator")
+        }
     }
-    if is_one_of(word, b"END_PROGRAM", b"END_FUNCTION_BLOCK") {
-        finding.help = Some(
-            "a PROGRAM ends with END_PROGRAM, a FUNCTION_BLOCK with END_FUNCTION_BLOCK",
-        );
-        return finding.tell(word, "is not the end of this unit");
-    }
-    finding.help = Some(
-        "the operators are LD, ST, S, R, AND, OR, XOR, NOT, ADD, SUB, MUL, DIV, MOD, GT, GE, EQ, NE, LE, LT, JMP, CAL and RET; a label has `:` behind it",
-    );
-    finding.tell(word, "is no operator")
 }
 
 /// Says that a token can't stand where it does.
@@ -86,7 +86,7 @@ fn tell_token(finding: &mut Finding, piece: &[u8], awaits: Awaits) -> Result<(),
 
 /// Which of the rules of its number is broken, where it has more than one, by the piece that is meant.
 fn rule_of(number: u16, piece: &[u8]) -> Option<&'static str> {
-    let is_unit_word = is_one_of(piece, b"PROGRAM", b"FUNCTION_BLOCK");
+    let is_unit_word = matches!(keyword_named(piece), Some(Keyword::UnitStart(_)));
     match number {
         203 if is_unit_word => Some("a unit stands behind the PROGRAM"),
         206 if piece.first() == Some(&b')') => Some("no parenthesis is open here"),

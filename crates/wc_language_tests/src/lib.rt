@@ -24,3 +24,5 @@ mod texts;
 mod tokens;
 #[cfg(test)]
 mod trees;
+#[cfg(test)]
+mod words;

@@ -71,7 +71,7 @@ place_line margin name line beside =
 -- which page says more
 abbrev pub page_text : ℕ → List ℕ
 page_text number =
-    shown_text (codes "; `wc explain ") ++ number_text number
+    shown_text (codes "; `explain ") ++ number_text number
     ++ shown_text (codes "` says more") ++ (10 ∷ [])
 
 -- the last line: what to write instead, and the page that says more

@@ -47,7 +47,7 @@ fn write_page(message: &mut Message, number: u16) -> Result<(), AllocError>
     ensures { OnOk result (message.new.bytes.items
         ≡ message.old.bytes.items ++ page_text number) }
 {
-    message.say("; `wc explain ")?;
+    message.say("; `explain ")?;
     message.count(number as usize)?;
     message.say("` says more")?;
     message.end_line()

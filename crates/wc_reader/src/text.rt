@@ -125,11 +125,8 @@ pub fn read_at<'a>(
         StopsWith (reading_view reading.old) (marks_of (drop index tokens.now)) fault) }
     ensures counted { OnOk result (IsStateCounted reading.new.state) }
 {
-    let (_, left) = tokens.split_at(index);
-    match left.split_first() {
-        Some((token, behind)) => read_token(alloc, reading, *token, is_colon_next(behind)),
-        None => Err(Fault::Memory),
-    }
+    let behind = &tokens[index + 1..];
+    read_token(alloc, reading, tokens[index], is_colon_next(behind))
 }
 
 /// The section in which a declaration may begin here.

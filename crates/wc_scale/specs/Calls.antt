@@ -1,6 +1,6 @@
 -- What each call with a row's work does to a scale and what it answers, for whatever plate and whatever has come the scale
 -- stands for. A call that answers any status but 0 changes nothing. (The profile's own.)
-use Rattle.std.specs.Prelude.{◌≡◌, ℕ, ◌<◌, ◌≤◌, List, [], ◌∷◌, ◌++◌, take, ℤ, ◌≤ℤ◌, Some}
+use Rattle.std.specs.Prelude.{◌≡◌, ℕ, ◌<◌, ◌≤◌, List, [], ◌∷◌, ◌++◌, take, ℤ, pos, ◌≤ℤ◌, Some}
 use Rattle.wc_model.specs.Instrument.Answers.{after_requests, answers_to}
 use Rattle.wc_model.specs.Instrument.Plates.{PlateData, greatest_sample, least_sample}
 use Rattle.wc_model.specs.Instrument.Requests.{requests_in}
@@ -12,6 +12,7 @@ use Rattle.wc_scale.specs.Opening.{GivesPlate, RefusesPlate}
 use Rattle.wc_scale.specs.Scanning.{IsToldOf}
 use Rattle.wc_scale.specs.Standing.{Came, HasNoProgram, IsClosed, IsKept, IsNotBehind, Running, Stands, nothing_yet}
 use Rattle.wc_scale.specs.declared.results.Answer.{Answer}
+use Rattle.wc_scale.specs.declared.results.Engraved.{Engraved}
 use Rattle.wc_scale.specs.declared.results.Reading.{Reading}
 use Rattle.wc_scale.specs.declared.results.Refusal.{Refusal}
 use Rattle.wc_scale.specs.declared.results.Scanned.{Scanned}
@@ -107,3 +108,8 @@ pub record RefusesScan (old new : Scale) (ms : ℕ) (status : ℕ) : Type 0 wher
 abbrev pub TellsReading : Scale → Reading → Type 0
 TellsReading scale reading = (plate : PlateData) (came : Came) → Stands scale plate came →
     (reading.status ≡ 0) × (reading.flags ≡ (image_with plate came.inputs came.history).status) × (reading.weights ≡ (image_with plate came.inputs came.history).weights)
+
+-- what is engraved: the unit, the digits behind the point, the greatest load and the scale interval of the plate
+abbrev pub TellsEngraved : Scale → Engraved → Type 0
+TellsEngraved scale engraved = (plate : PlateData) (came : Came) → Stands scale plate came →
+    (engraved.status ≡ 0) × (engraved.unit ≡ plate.unit) × (engraved.decimals ≡ pos plate.decimals) × (engraved.max ≡ pos plate.max) × (engraved.e ≡ pos plate.e)

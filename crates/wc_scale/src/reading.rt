@@ -1,8 +1,8 @@
-ghost use Rattle.wc_scale.specs.Calls.{TellsReading};
+ghost use Rattle.wc_scale.specs.Calls.{TellsEngraved, TellsReading};
 ghost use Rattle.std.specs.Prelude.{◌≡◌};
 ghost use Rattle.wc_scale.specs.Standing.{IsClosed};
 
-use crate::results::Reading;
+use crate::results::{Engraved, Reading};
 use crate::scale::Scale;
 use crate::statuses::{CLOSED, DONE};
 use wc_record::image;
@@ -27,6 +27,32 @@ impl Scale {
                 status: CLOSED,
                 flags: 0,
                 weights: [0; 3],
+            },
+        }
+    }
+
+    /// What is engraved on the scale: the unit, the point and the range of what it shows. It takes no memory.
+    pub fn engraved(&self) -> Engraved
+        ensures shows { TellsEngraved self.now result }
+        ensures closed { IsClosed self.now → result.status ≡ 3 }
+    {
+        match &self.indicator {
+            Some(indicator) => {
+                let plate = indicator.plate();
+                Engraved {
+                    status: DONE,
+                    unit: plate.unit(),
+                    decimals: plate.decimals(),
+                    max: plate.max(),
+                    e: plate.e(),
+                }
+            }
+            None => Engraved {
+                status: CLOSED,
+                unit: [0; 3],
+                decimals: 0,
+                max: 0,
+                e: 0,
             },
         }
     }

@@ -54,6 +54,22 @@ pub struct Reading {
     pub weights: [i32; 3],
 }
 
+/// What is engraved on the scale: a status, and of its plate what a display needs beside a weight.
+#[repr(C)]
+#[derive(Clone, Copy)]
+pub struct Engraved {
+    /// The status.
+    pub status: u32,
+    /// The unit in three bytes, as the line writes it: `g`, `kg` or `t`, and spaces behind it; zeros of a closed scale.
+    pub unit: [u8; 3],
+    /// How many digits a weight has behind its point, 0 to 3.
+    pub decimals: i32,
+    /// The greatest load (Max), in units of the last decimal.
+    pub max: i32,
+    /// The scale interval (e), in units of the last decimal.
+    pub e: i32,
+}
+
 /// What is told of one unit of a program's text.
 #[repr(C)]
 #[derive(Clone, Copy)]

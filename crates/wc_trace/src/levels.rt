@@ -1,3 +1,5 @@
+ghost use Rattle.std.specs.Prelude.{◌<◌, OnOk, length};
+
 use crate::kinds::{kind_behind, literal_kind};
 use crate::legend::Legend;
 use crate::notes::Note;
@@ -115,9 +117,12 @@ impl Levels {
     }
 
     /// Goes to the body that is so many calls deep, where one that is deeper is left and one that is new begins.
-    fn go_to(&mut self, alloc: Global, depth: usize) -> Result<(), Fault> {
-        self.levels.truncate(depth.saturating_add(1));
-        for _level in self.levels.len()..depth.saturating_add(1) {
+    fn go_to(&mut self, alloc: Global, depth: u32) -> Result<(), Fault>
+        ensures there { OnOk result (depth < length self.new.levels.items) }
+    {
+        let count = depth as usize + 1;
+        self.levels.truncate(count);
+        for _level in self.levels.len()..count {
             if self.levels.push(BodyLevel::new(alloc)).is_err() {
                 return Err(Fault::Memory);
             }
@@ -132,13 +137,9 @@ impl Levels {
         legend: &Legend,
         seen: &SeenLine,
     ) -> Result<Said, Fault> {
-        self.go_to(alloc, seen.depth as usize)?;
-        match self.levels.last_mut() {
-            Some(level) => {
-                level.pass(legend, seen)?;
-                Ok(level.said(legend, seen))
-            }
-            None => Err(Fault::Memory),
-        }
+        self.go_to(alloc, seen.depth)?;
+        let level = &mut self.levels[seen.depth as usize];
+        level.pass(legend, seen)?;
+        Ok(level.said(legend, seen))
     }
 }

@@ -165,13 +165,35 @@ fn put_row(
     put_bytes(text, b"\n")
 }
 
-/// Puts the heading of a scan: its number among those of the run, and its moment.
-fn put_heading(text: &mut Vec<u8>, number: u32, ms: u64) -> Result<(), Fault> {
+/// What the heading of a scan says: its number among those of the run, its moment, and whether the next program has taken the
+/// place of the first.
+#[derive(Clone, Copy)]
+pub(crate) struct Heading {
+    pub(crate) number: u32,
+    pub(crate) ms: u64,
+    pub(crate) is_changed: bool,
+}
+
+/// Puts the heading of a scan.
+fn put_heading(text: &mut Vec<u8>, heading: Heading) -> Result<(), Fault> {
     put_bytes(text, b"scan ")?;
-    put_number(text, u64::from(number))?;
+    put_number(text, u64::from(heading.number))?;
     put_bytes(text, b" at ")?;
-    put_number(text, ms)?;
+    put_number(text, heading.ms)?;
+    if heading.is_changed {
+        return put_bytes(text, b" ms, next program\n");
+    }
     put_bytes(text, b" ms\n")
+}
+
+/// Puts that none of so many scans was chosen.
+pub(crate) fn put_none_chosen(text: &mut Vec<u8>, scans: u32) -> Result<(), Fault> {
+    if scans == 0 {
+        return put_bytes(text, b"the log has no scan\n");
+    }
+    put_bytes(text, b"none of ")?;
+    put_number(text, u64::from(scans))?;
+    put_bytes(text, b" scans is chosen\n")
 }
 
 /// Puts how many steps a scan took, and how many one takes at most.
@@ -189,12 +211,11 @@ pub(crate) fn put_scan(
     alloc: Global,
     text: &mut Vec<u8>,
     legend: &Legend,
-    number: u32,
-    ms: u64,
+    heading: Heading,
     bound: u32,
     lines: &[SeenLine],
 ) -> Result<(), Fault> {
-    put_heading(text, number, ms)?;
+    put_heading(text, heading)?;
     let mut levels = Levels::new(alloc);
     for seen in lines {
         let said = levels.follow(alloc, legend, seen)?;

@@ -27,8 +27,8 @@ fn end_watched(ending: Ending, fault: Option<TraceFault>) -> Ending
 }
 
 /// Runs a log with a program as `run_files` does, and in place of its report writes what is seen of the scans that are chosen:
-/// a heading, a row for each item that the scan executes, in order, and its steps. What is refused is told as there, behind
-/// the scans before. A write fault and want of memory end what is shown, and are told when the log is run; the scans
+/// a heading, a row for each item that the scan executes, in order, and its steps; or that none is chosen, where the run ends
+/// well. What is refused is told as there, behind the scans before. A write fault and want of memory end what is shown, and are told when the log is run; the scans
 /// themselves need none.
 pub fn trace_files<P: ByteIn, T: ByteIn, N: ByteIn, L: ByteIn, W: ByteOut>(
     alloc: Global,
@@ -86,6 +86,9 @@ pub fn trace_files<P: ByteIn, T: ByteIn, N: ByteIn, L: ByteIn, W: ByteOut>(
         &mut Unwritten,
         told,
     );
+    if let Ending::Done = ending {
+        watch.finish();
+    }
     let fault = watch.fault();
     drop(watch);
     end_shown(alloc, end_watched(ending, fault), writer)

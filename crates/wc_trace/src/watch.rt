@@ -1,6 +1,6 @@
 use crate::chosen::Chosen;
 use crate::legend::Legend;
-use crate::rows::put_scan;
+use crate::rows::{Heading, put_none_chosen, put_scan};
 use std::alloc::Global;
 use wc_controller::{Scanner, Unwatched};
 use wc_cost::Loaded;
@@ -28,6 +28,8 @@ pub(crate) struct Watch<'w, W> {
     legend: Option<Legend>,
     next: Option<Legend>,
     scans: u32,
+    shown: u32,
+    is_changed: bool,
     text: Vec<u8>,
     fault: Option<TraceFault>,
 }
@@ -42,6 +44,8 @@ impl<'w, W: ByteOut> Watch<'w, W> {
             legend: None,
             next: None,
             scans: 0,
+            shown: 0,
+            is_changed: false,
             text: Vec::new(alloc),
             fault: None,
         }
@@ -55,17 +59,25 @@ impl<'w, W: ByteOut> Watch<'w, W> {
     /// Makes the rows of a scan.
     fn make_rows(&mut self, ms: u64, bound: u32, lines: &[SeenLine]) -> Result<(), Fault> {
         self.text.clear();
+        let heading = Heading {
+            number: self.scans,
+            ms,
+            is_changed: self.is_changed,
+        };
         match &self.legend {
-            Some(legend) => put_scan(
-                self.alloc,
-                &mut self.text,
-                legend,
-                self.scans,
-                ms,
-                bound,
-                lines,
-            ),
+            Some(legend) => put_scan(self.alloc, &mut self.text, legend, heading, bound, lines),
             None => Ok(()),
+        }
+    }
+
+    /// Writes what was made, unless memory was refused to it.
+    fn write(&mut self, made: Result<(), Fault>) {
+        if made.is_err() {
+            self.fault = Some(TraceFault::Memory);
+            return;
+        }
+        if write_whole(self.writer, &self.text).is_err() {
+            self.fault = Some(TraceFault::Write);
         }
     }
 
@@ -75,13 +87,19 @@ impl<'w, W: ByteOut> Watch<'w, W> {
             self.fault = Some(TraceFault::Memory);
             return;
         };
-        if self.make_rows(ms, bound, &lines).is_err() {
-            self.fault = Some(TraceFault::Memory);
+        self.shown = self.shown.saturating_add(1);
+        let made = self.make_rows(ms, bound, &lines);
+        self.write(made);
+    }
+
+    /// Says at the end of a log that none of its scans was chosen, where none was.
+    pub(crate) fn finish(&mut self) {
+        if self.shown > 0 || self.fault.is_some() {
             return;
         }
-        if write_whole(self.writer, &self.text).is_err() {
-            self.fault = Some(TraceFault::Write);
-        }
+        self.text.clear();
+        let made = put_none_chosen(&mut self.text, self.scans);
+        self.write(made);
     }
 }
 
@@ -116,6 +134,7 @@ impl<W: ByteOut> Scanner for Watch<'_, W> {
 
     fn change(&mut self) {
         self.legend = self.next.take();
+        self.is_changed = true;
     }
 
     fn see(&mut self, _row: Row, _bytes: &[u8], _indicator: &Indicator, _answers: &[u8]) {}
