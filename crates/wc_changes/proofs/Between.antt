@@ -12,9 +12,10 @@ use Rattle.wc_model.specs.Language.Tree.{ProgramUnit, Text}
 use Rattle.wc_names.specs.Numbered.{numbered_type}
 use Rattle.wc_names.specs.declared.declared_type.DeclaredType.TheVariants as numbered
 use Rattle.wc_soundness.proofs.Carrying.{is_field}
-use Rattle.wc_changes.specs.ChangeReport.{line_text, path_text, type_text_by, type_text_from}
+use Rattle.wc_changes.specs.ChangeReport.{Found, found_by, found_from, path_text}
 use Rattle.wc_changes.specs.Shown.{Form, Plain, Instance, Shown, inside, names_of, paths_at, paths_of}
-use Rattle.wc_changes.specs.Sides.{IsSide, kept_between, line_between, numbered_side, side_behind, side_lead, side_text, type_behind, unit_numbered}
+use Rattle.wc_changes.specs.Sides.{IsSide, kept_between, line_between, numbered_side, pass_text, side_behind, side_found, side_lead, type_behind, unit_numbered}
+use Rattle.wc_changes.specs.declared.describing.Pass.{Pass}
 use Rattle.wc_changes.proofs.Leads.{lead_is, never_field, not_field}
 use Rattle.wc_changes.proofs.Units.{block_unit}
 
@@ -36,7 +37,7 @@ side_is text (Some k) (Some scope) name h = by (type_of scope name)
     by (Some (Standard block)) = tt
     by (Some (Block block)) = found block (block_named scope.before block) refl
 
--- what a name and those behind it lead to in the old text may be told from the unit to which the name leads
+-- what a name and those behind it lead to in the other text may be told from the unit to which the name leads
 same_behind : (type_before : List ProgramUnit) (type : Option VariableType) (us : List ProgramUnit) (u : ProgramUnit) (path : List Name) →
     same_lead (lead_by (lead_from path) type_before type path) (lead_from path us u) ≡ same_lead (side_lead (type_behind type_before type) path) (lead_from path us u)
 same_behind before None us u path = refl
@@ -68,22 +69,22 @@ step_kept side scope name block u us typed found path =
     by None = refl
     by (Some old) = ap (λ l. same_lead l (lead_from path us u)) (lead_is name path old) ∙ same_behind old.before (type_of old name) us u path
 
--- and the type as it is spelled
-text_behind : (before : List ProgramUnit) (type : Option VariableType) (name : Name) (names : List Name) → type_text_by (type_text_from (name ∷ names)) before type (name ∷ names) ≡ side_text (type_behind before type) (name ∷ names)
-text_behind before None name names = refl
-text_behind before (Some (Elementary kind)) name names = refl
-text_behind before (Some (Standard block)) name names = refl
-text_behind before (Some (Block block)) name names = by (block_named before block)
+-- and what is found there
+found_behind : (before : List ProgramUnit) (type : Option VariableType) (name : Name) (names : List Name) → found_by (found_from (name ∷ names)) before type (name ∷ names) ≡ side_found (type_behind before type) (name ∷ names)
+found_behind before None name names = refl
+found_behind before (Some (Elementary kind)) name names = refl
+found_behind before (Some (Standard block)) name names = refl
+found_behind before (Some (Block block)) name names = by (block_named before block)
   where
-    by : (o : Option (ProgramUnit × List ProgramUnit)) → (elim o as (λ x. Option (List ℕ)) [ Some found ↦ type_text_from (name ∷ names) found.1 found.0 | None ↦ None ])
-        ≡ side_text (option_map (λ found. record { before = found.1; unit = found.0 }) o) (name ∷ names)
+    by : (o : Option (ProgramUnit × List ProgramUnit)) → (elim o as (λ x. Option Found) [ Some found ↦ found_from (name ∷ names) found.1 found.0 | None ↦ None ])
+        ≡ side_found (option_map (λ found. record { before = found.1; unit = found.0 }) o) (name ∷ names)
     by None = refl
     by (Some found) = refl
 
-step_text : (side : Option Scope) (first : Name) (instances : List (List ℕ)) (last : Name) → side_text side (first ∷ (map name_of instances ++ last ∷ [])) ≡ side_text (side_behind side first) (map name_of instances ++ last ∷ [])
-step_text None first instances last = refl
-step_text (Some old) first [] last = text_behind old.before (type_of old first) last []
-step_text (Some old) first (i ∷ instances) last = text_behind old.before (type_of old first) (name_of i) (map name_of instances ++ last ∷ [])
+step_found : (side : Option Scope) (first : Name) (instances : List (List ℕ)) (last : Name) → side_found side (first ∷ (map name_of instances ++ last ∷ [])) ≡ side_found (side_behind side first) (map name_of instances ++ last ∷ [])
+step_found None first instances last = refl
+step_found (Some old) first [] last = found_behind old.before (type_of old first) last []
+step_found (Some old) first (i ∷ instances) last = found_behind old.before (type_of old first) (name_of i) (map name_of instances ++ last ∷ [])
 
 -- places behind one name more
 paths_behind : (form : Form) (name : Name) (names : List Name) (p : List Name → Bool) → list_all p (paths_at form (name ∷ names)) ≡ list_all (λ path. p (name ∷ path)) (paths_at form names)
@@ -97,9 +98,9 @@ all_same p q h [] = refl
 all_same p q h (x ∷ xs) = ap (λ b. b && list_all p xs) (h x) ∙ ap (λ b. q x && b) (all_same p q h xs)
 
 -- the line of a variable inside an instance
-line_inside : (side : Option Scope) (scope : Scope) (prefix instance : List ℕ) (block : Name) (u : ProgramUnit) (us : List ProgramUnit) → type_of scope (name_of instance) ≡ Some (Block block) → block_named scope.before block ≡ Some (u, us) → (s : Shown) →
-    line_between side scope prefix (inside instance s) ≡ line_between (side_behind side (name_of instance)) (record { before = us; unit = u }) (prefix ++ (instance ++ 46 ∷ [])) s
-line_inside side scope prefix instance block u us typed found s =
+line_inside : (pass : Pass) (side : Option Scope) (scope : Scope) (prefix instance : List ℕ) (block : Name) (u : ProgramUnit) (us : List ProgramUnit) → type_of scope (name_of instance) ≡ Some (Block block) → block_named scope.before block ≡ Some (u, us) → (s : Shown) →
+    line_between pass side scope prefix (inside instance s) ≡ line_between pass (side_behind side (name_of instance)) (record { before = us; unit = u }) (prefix ++ (instance ++ 46 ∷ [])) s
+line_inside pass side scope prefix instance block u us typed found s =
     let n = name_of instance in
     let kept : kept_between side scope (inside instance s) ≡ kept_between (side_behind side n) (record { before = us; unit = u }) s =
     paths_behind s.form n (names_of s) (λ path. same_lead (side_lead side path) (lead_from path scope.before scope.unit))
@@ -109,13 +110,13 @@ line_inside side scope prefix instance block u us typed found s =
     let path : prefix ++ path_text (inside instance s) ≡ (prefix ++ (instance ++ 46 ∷ [])) ++ path_text s =
     ap (λ x. prefix ++ x) (append_assoc (instance ++ 46 ∷ []) rest s.name) ∙ sym (append_assoc prefix (instance ++ 46 ∷ []) (rest ++ s.name))
     in
-    ap (λ k. line_text k (prefix ++ path_text (inside instance s)) s.form (side_text side (names_of (inside instance s)))) kept
-    ∙ ap (λ p. line_text (kept_between (side_behind side n) (record { before = us; unit = u }) s) p s.form (side_text side (names_of (inside instance s)))) path
-    ∙ ap (line_text (kept_between (side_behind side n) (record { before = us; unit = u }) s) ((prefix ++ (instance ++ 46 ∷ [])) ++ path_text s) s.form) (step_text side n s.instances (name_of s.name))
+    ap (λ k. pass_text pass k (prefix ++ path_text (inside instance s)) s.form (side_found side (names_of (inside instance s)))) kept
+    ∙ ap (λ p. pass_text pass (kept_between (side_behind side n) (record { before = us; unit = u }) s) p s.form (side_found side (names_of (inside instance s)))) path
+    ∙ ap (pass_text pass (kept_between (side_behind side n) (record { before = us; unit = u }) s) ((prefix ++ (instance ++ 46 ∷ [])) ++ path_text s) s.form) (step_found side n s.instances (name_of s.name))
 
-pub lines_inside : (side : Option Scope) (scope : Scope) (prefix instance : List ℕ) (block : Name) (u : ProgramUnit) (us : List ProgramUnit) → type_of scope (name_of instance) ≡ Some (Block block) → block_named scope.before block ≡ Some (u, us) → (ss : List Shown) →
-    flat_map (line_between side scope prefix) (map (inside instance) ss) ≡ flat_map (line_between (side_behind side (name_of instance)) (record { before = us; unit = u }) (prefix ++ (instance ++ 46 ∷ []))) ss
-lines_inside side scope prefix instance block u us typed found [] = refl
-lines_inside side scope prefix instance block u us typed found (s ∷ ss) =
-    ap (λ x. x ++ flat_map (line_between side scope prefix) (map (inside instance) ss)) (line_inside side scope prefix instance block u us typed found s)
-    ∙ ap (λ x. line_between (side_behind side (name_of instance)) (record { before = us; unit = u }) (prefix ++ (instance ++ 46 ∷ [])) s ++ x) (lines_inside side scope prefix instance block u us typed found ss)
+pub lines_inside : (pass : Pass) (side : Option Scope) (scope : Scope) (prefix instance : List ℕ) (block : Name) (u : ProgramUnit) (us : List ProgramUnit) → type_of scope (name_of instance) ≡ Some (Block block) → block_named scope.before block ≡ Some (u, us) → (ss : List Shown) →
+    flat_map (line_between pass side scope prefix) (map (inside instance) ss) ≡ flat_map (line_between pass (side_behind side (name_of instance)) (record { before = us; unit = u }) (prefix ++ (instance ++ 46 ∷ []))) ss
+lines_inside pass side scope prefix instance block u us typed found [] = refl
+lines_inside pass side scope prefix instance block u us typed found (s ∷ ss) =
+    ap (λ x. x ++ flat_map (line_between pass side scope prefix) (map (inside instance) ss)) (line_inside pass side scope prefix instance block u us typed found s)
+    ∙ ap (λ x. line_between pass (side_behind side (name_of instance)) (record { before = us; unit = u }) (prefix ++ (instance ++ 46 ∷ [])) s ++ x) (lines_inside pass side scope prefix instance block u us typed found ss)

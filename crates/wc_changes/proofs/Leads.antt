@@ -1,4 +1,4 @@
--- Where names lead in the old text, step by step beside the new one.
+-- Where names lead in the other text, step by step beside the one that is gone through.
 use Rattle.std.proofs.Common.{◌≡◌, Bool, true, false, ◌&&◌, List, [], ◌∷◌, map, length, Option, Some, None, option_map, refl, sym, ap, subst, ◌∙◌}
 use Rattle.std.proofs.Math.Bool.{and-true}
 use Rattle.std.proofs.lemmas.List.Folds.{list_all-map}
@@ -38,7 +38,7 @@ not_field None block never = (refl, refl)
 not_field (Some (ToPlace kind)) block never = (refl, refl)
 not_field (Some (ToField b)) block never = absurd (never b refl)
 
--- the old lead of one name is that of a place of the kind just where the type is the kind
+-- the other lead of one name is that of a place of the kind just where the type is the kind
 plain_old : (before : List ProgramUnit) (type : Option VariableType) (kind : Kind) (content : Content) → same_lead (lead_by (lead_from []) before type []) (Some (ToPlace kind)) ≡ has_form (option_and_then (numbered_type before) type) (Plain kind content)
 plain_old before None kind content = refl
 plain_old before (Some (Elementary k)) kind content = refl
@@ -64,7 +64,7 @@ field_old b block field is true e s f = f
 field_old b block field is false e true f = let same = one_block b block f in absurd (let x : is_field block field ≡ false = subst (λ c. is_field c field ≡ false) same e in let y : false ≡ true = sym x ∙ is in cc)
 field_old b block field is false e false f = refl
 
--- the old lead of a field of an instance is that of a field of the same block just where the type is the block
+-- the other lead of a field of an instance is that of a field of the same block just where the type is the block
 standard_old : (before : List ProgramUnit) (type : Option VariableType) (block : StandardBlock) (field : Name) → is_field block field ≡ true → same_lead (lead_by (lead_from (field ∷ [])) before type (field ∷ [])) (Some (ToField block)) ≡ has_form (option_and_then (numbered_type before) type) (Instance block)
 standard_old before None block field is = refl
 standard_old before (Some (Elementary k)) block field is = refl

@@ -3,5 +3,5 @@ pub mod Leads
 pub mod Between
 pub mod Nothing
 pub mod Wholes
-pub mod Olds
+pub mod Others
 pub mod Variables

@@ -19,10 +19,10 @@ use Rattle.wc_model.specs.declared.source.Unit.{Unit as CodeUnit}
 use Rattle.wc_names.specs.Numbered.{numbered_type}
 use Rattle.wc_names.specs.declared.declared_type.DeclaredType.TheVariants as numbered
 use Rattle.wc_names.proofs.Places.{TypeCase, of_block, of_elementary, of_standard, type_case}
-use Rattle.wc_changes.specs.ChangeReport.{line_text}
 use Rattle.wc_changes.specs.Forms.{has_form}
 use Rattle.wc_changes.specs.Shown.{Plain, Instance, Declared, declared_of, inside, seen, shown_by, shown_from, shown_in}
-use Rattle.wc_changes.specs.Sides.{IsAt, line_between, lines_between, numbered_side, side_behind, side_text, variable_lines}
+use Rattle.wc_changes.specs.Sides.{IsAt, line_between, lines_between, numbered_side, pass_text, side_behind, side_found, variable_lines}
+use Rattle.wc_changes.specs.declared.describing.Pass.{Pass}
 use Rattle.wc_changes.proofs.Between.{lines_inside}
 use Rattle.wc_changes.proofs.Leads.{plain_kept, standard_kept}
 use Rattle.wc_changes.proofs.Nothing.{nothing_shown}
@@ -51,32 +51,32 @@ standard_type before type block e = by (type_case before type (numbered.Standard
     by (of_block n u us t f d) = cc
 
 -- a name of no type has no line
-pub no_lines : (side : Option Scope) (before : List CodeUnit) (u : CodeUnit) (prefix : List ℕ) (v : Declared) (out : List ℕ) → is_some (type_of (seen before u) (name_of v.name)) ≡ false → out ≡ out ++ variable_lines side before u prefix v
-no_lines side before u prefix v out none = by (type_of (seen before u) (name_of v.name)) none
+pub no_lines : (pass : Pass) (side : Option Scope) (before : List CodeUnit) (u : CodeUnit) (prefix : List ℕ) (v : Declared) (out : List ℕ) → is_some (type_of (seen before u) (name_of v.name)) ≡ false → out ≡ out ++ variable_lines pass side before u prefix v
+no_lines pass side before u prefix v out none = by (type_of (seen before u) (name_of v.name)) none
   where
-    by : (type : Option VariableType) → is_some type ≡ false → out ≡ out ++ flat_map (line_between side (seen before u) prefix) (shown_by (shown_in before) v type)
+    by : (type : Option VariableType) → is_some type ≡ false → out ≡ out ++ flat_map (line_between pass side (seen before u) prefix) (shown_by (shown_in before) v type)
     by None e = sym (append-nil out)
     by (Some type) e = cc
 
 -- a plain variable
-pub plain_line : (side : Option Scope) (before : List CodeUnit) (u : CodeUnit) (prefix name : List ℕ) (initial : Option Initial) (kind : Kind) (content : Content) → type_of (seen before u) (name_of name) ≡ Some (Elementary kind) → content ≡ first_content kind initial →
-    line_text (has_form (numbered_side side (name_of name)) (Plain kind content)) (prefix ++ name) (Plain kind content) (side_text side (name_of name ∷ [])) ≡ variable_lines side before u prefix (record { name = name; initial = initial })
-plain_line side before u prefix name initial kind content typed is =
+pub plain_line : (pass : Pass) (side : Option Scope) (before : List CodeUnit) (u : CodeUnit) (prefix name : List ℕ) (initial : Option Initial) (kind : Kind) (content : Content) → type_of (seen before u) (name_of name) ≡ Some (Elementary kind) → content ≡ first_content kind initial →
+    pass_text pass (has_form (numbered_side side (name_of name)) (Plain kind content)) (prefix ++ name) (Plain kind content) (side_found side (name_of name ∷ [])) ≡ variable_lines pass side before u prefix (record { name = name; initial = initial })
+plain_line pass side before u prefix name initial kind content typed is =
     let n = name_of name in
-    let line = line_between side (seen before u) prefix in
-    let text = λ (b : Bool) (c : Content). line_text b (prefix ++ name) (Plain kind c) (side_text side (n ∷ [])) in
+    let line = line_between pass side (seen before u) prefix in
+    let text = λ (b : Bool) (c : Content). pass_text pass b (prefix ++ name) (Plain kind c) (side_found side (n ∷ [])) in
     ap (λ c. text (has_form (numbered_side side n) (Plain kind c)) c) is
     ∙ ap (λ b. text b (first_content kind initial)) (sym (and-true _ ∙ plain_kept side (seen before u) n kind (first_content kind initial) typed))
     ∙ sym (append-nil (line (record { instances = []; name = name; form = Plain kind (first_content kind initial) })))
     ∙ ap (λ t. flat_map line (shown_by (shown_in before) (record { name = name; initial = initial }) t)) (sym typed)
 
 -- an instance of a standard block
-pub instance_line : (side : Option Scope) (before : List CodeUnit) (u : CodeUnit) (prefix name : List ℕ) (initial : Option Initial) (block : StandardBlock) → type_of (seen before u) (name_of name) ≡ Some (Standard block) →
-    line_text (has_form (numbered_side side (name_of name)) (Instance block)) (prefix ++ name) (Instance block) (side_text side (name_of name ∷ [])) ≡ variable_lines side before u prefix (record { name = name; initial = initial })
-instance_line side before u prefix name initial block typed =
+pub instance_line : (pass : Pass) (side : Option Scope) (before : List CodeUnit) (u : CodeUnit) (prefix name : List ℕ) (initial : Option Initial) (block : StandardBlock) → type_of (seen before u) (name_of name) ≡ Some (Standard block) →
+    pass_text pass (has_form (numbered_side side (name_of name)) (Instance block)) (prefix ++ name) (Instance block) (side_found side (name_of name ∷ [])) ≡ variable_lines pass side before u prefix (record { name = name; initial = initial })
+instance_line pass side before u prefix name initial block typed =
     let n = name_of name in
-    let line = line_between side (seen before u) prefix in
-    ap (λ b. line_text b (prefix ++ name) (Instance block) (side_text side (n ∷ []))) (sym (standard_kept side (seen before u) n block typed))
+    let line = line_between pass side (seen before u) prefix in
+    ap (λ b. pass_text pass b (prefix ++ name) (Instance block) (side_found side (n ∷ []))) (sym (standard_kept side (seen before u) n block typed))
     ∙ sym (append-nil (line (record { instances = []; name = name; form = Instance block })))
     ∙ ap (λ t. flat_map line (shown_by (shown_in before) (record { name = name; initial = initial }) t)) (sym typed)
 
@@ -112,26 +112,26 @@ into source unit number before u name at e = by (type_case (map unit_view before
           below = omega (arith, l, same);
         }
 
-pub block_lines : (source : Source) (unit number : ℕ) (side : Option Scope) (before : List CodeUnit) (u : CodeUnit) (prefix name : List ℕ) (initial : Option Initial) (i : Into source unit number before u (name_of name)) →
-    lines_between (side_behind side (name_of name)) i.code.earlier i.code.unit (prefix ++ (name ++ 46 ∷ [])) (declared_of i.code.unit) ≡ variable_lines side before u prefix (record { name = name; initial = initial })
-block_lines source unit number side before u prefix name initial i =
+pub block_lines : (source : Source) (unit number : ℕ) (pass : Pass) (side : Option Scope) (before : List CodeUnit) (u : CodeUnit) (prefix name : List ℕ) (initial : Option Initial) (i : Into source unit number before u (name_of name)) →
+    lines_between pass (side_behind side (name_of name)) i.code.earlier i.code.unit (prefix ++ (name ++ 46 ∷ [])) (declared_of i.code.unit) ≡ variable_lines pass side before u prefix (record { name = name; initial = initial })
+block_lines source unit number pass side before u prefix name initial i =
     let behind = side_behind side (name_of name) in
     let longer = prefix ++ (name ++ 46 ∷ []) in
     let ss = shown_from i.code.earlier i.code.unit in
-    ap (λ (g : ProgramUnit). flat_map (line_between behind (record { before = map unit_view i.code.earlier; unit = g }) longer) ss) i.code.unit_is
-    ∙ ap (λ (gs : List ProgramUnit). flat_map (line_between behind (record { before = gs; unit = i.found }) longer) ss) i.code.earlier_is
-    ∙ sym (lines_inside side (seen before u) prefix name i.block i.found i.earlier i.typed i.there ss)
-    ∙ ap (λ xs. flat_map (line_between side (seen before u) prefix) (map (inside name) xs)) (sym i.code.shown)
-    ∙ ap (λ t. flat_map (line_between side (seen before u) prefix) (shown_by (shown_in before) (record { name = name; initial = initial }) t)) (sym i.typed)
+    ap (λ (g : ProgramUnit). flat_map (line_between pass behind (record { before = map unit_view i.code.earlier; unit = g }) longer) ss) i.code.unit_is
+    ∙ ap (λ (gs : List ProgramUnit). flat_map (line_between pass behind (record { before = gs; unit = i.found }) longer) ss) i.code.earlier_is
+    ∙ sym (lines_inside pass side (seen before u) prefix name i.block i.found i.earlier i.typed i.there ss)
+    ∙ ap (λ xs. flat_map (line_between pass side (seen before u) prefix) (map (inside name) xs)) (sym i.code.shown)
+    ∙ ap (λ t. flat_map (line_between pass side (seen before u) prefix) (shown_by (shown_in before) (record { name = name; initial = initial }) t)) (sym i.typed)
 
 -- one whose block has no place
-pub passed_lines : (source : Source) (unit number : ℕ) (side : Option Scope) (before : List CodeUnit) (u : CodeUnit) (prefix name : List ℕ) (initial : Option Initial) (out : List ℕ) (i : Into source unit number before u (name_of name)) →
-    length (frame_of (seen i.code.earlier i.code.unit)) ≡ 0 → out ≡ out ++ variable_lines side before u prefix (record { name = name; initial = initial })
-passed_lines source unit number side before u prefix name initial out i none =
+pub passed_lines : (source : Source) (unit number : ℕ) (pass : Pass) (side : Option Scope) (before : List CodeUnit) (u : CodeUnit) (prefix name : List ℕ) (initial : Option Initial) (out : List ℕ) (i : Into source unit number before u (name_of name)) →
+    length (frame_of (seen i.code.earlier i.code.unit)) ≡ 0 → out ≡ out ++ variable_lines pass side before u prefix (record { name = name; initial = initial })
+passed_lines source unit number pass side before u prefix name initial out i none =
     let none_shown : shown_in before i.block ≡ [] = i.code.shown ∙ nothing_shown i.code.earlier i.code.unit none in
     sym (append-nil out)
-    ∙ ap (λ xs. out ++ flat_map (line_between side (seen before u) prefix) (map (inside name) xs)) (sym none_shown)
-    ∙ ap (λ t. out ++ flat_map (line_between side (seen before u) prefix) (shown_by (shown_in before) (record { name = name; initial = initial }) t)) (sym i.typed)
+    ∙ ap (λ xs. out ++ flat_map (line_between pass side (seen before u) prefix) (map (inside name) xs)) (sym none_shown)
+    ∙ ap (λ t. out ++ flat_map (line_between pass side (seen before u) prefix) (shown_by (shown_in before) (record { name = name; initial = initial }) t)) (sym i.typed)
 
 -- one piece more, and all
 pub one_more : {X : Type 0} (f : X → List ℕ) (start old new : List ℕ) (xs : List X) (i : ℕ) (x : X) → take (i + 1) xs ≡ take i xs ++ x ∷ [] → old ≡ start ++ flat_map f (take i xs) → new ≡ old ++ f x → new ≡ start ++ flat_map f (take (i + 1) xs)

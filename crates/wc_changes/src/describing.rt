@@ -4,18 +4,37 @@ ghost use Rattle.wc_model.specs.Language.Scopes.{Scope};
 ghost use Rattle.wc_model.specs.Language.Views.{text_view};
 ghost use Rattle.wc_model.specs.declared.source.Initial.{Initial};
 ghost use Rattle.wc_model.specs.declared.source.Unit.{Unit as CodeUnit};
-ghost use Rattle.wc_changes.specs.ChangeReport.{line_text};
+ghost use Rattle.wc_changes.specs.ChangeReport.{found_type, line_text, lost_text};
 ghost use Rattle.wc_changes.specs.Forms.{form_view, has_form};
 ghost use Rattle.wc_changes.specs.Shown.{declared_of};
-ghost use Rattle.wc_changes.specs.Sides.{IsAt, IsSide, declaration_lines, lines_between, numbered_side, side_text, variable_lines};
+ghost use Rattle.wc_changes.specs.Sides.{IsAt, IsSide, declaration_lines, line_numbered, lines_between, numbered_side, pass_text, side_found, variable_lines};
 
 use crate::form::{Form, first_value, is_kept};
-use crate::lines::{put_first, put_kept};
-use crate::old::{old_type, type_text, unit_of};
+use crate::lines::{put_first, put_kept, put_lost};
+use crate::other::{is_line, other_type, type_text, unit_of};
 use std::alloc::Global;
 use wc_model::{Decl, Fault, Value, put_bytes};
 use wc_names::DeclaredType;
 use wc_verify::Checked;
+
+/// Whose variables are told.
+#[derive(Clone, Copy)]
+pub(crate) enum Pass {
+    /// Those of the new text: each keeps its value or begins with its first one.
+    New,
+    /// Those of the old text, where they are lost.
+    Old,
+}
+
+/// Two texts that are gone through side by side.
+#[derive(Clone, Copy)]
+pub(crate) struct Texts<'a, 'b, 'c, 'd> {
+    pub pass: Pass,
+    /// The text whose variables are told.
+    pub own: &'a Checked<'b>,
+    /// The text beside it.
+    pub other: &'c Checked<'d>,
+}
 
 /// The names so far and one more, each with a dot behind it.
 fn longer(alloc: Global, prefix: &[u8], name: &[u8]) -> Result<Vec<u8>, Fault>
@@ -30,8 +49,8 @@ fn longer(alloc: Global, prefix: &[u8], name: &[u8]) -> Result<Vec<u8>, Fault>
     Ok(longer)
 }
 
-/// Puts the line of a variable of one place, or of a standard block's instance.
-fn describe_form(
+/// Puts the line of a variable of the new text: that it keeps its value, or begins with its first one and why.
+fn describe_new(
     alloc: Global,
     out: &mut Vec<u8>,
     prefix: &[u8],
@@ -45,7 +64,7 @@ fn describe_form(
         → was ≡ numbered_side side (name_of name.now)
         → out.new.items ≡ out.old.items
         ++ line_text (has_form was (form_view form)) (prefix.now ++ name.now) (form_view form)
-        (side_text side (name_of name.now ∷ []))) }
+        (option_map found_type (side_found side (name_of name.now ∷ [])))) }
     ensures memory { IsOkUnless result Fault.Memory }
 {
     if is_kept(form, was) {
@@ -54,68 +73,117 @@ fn describe_form(
     put_first(alloc, out, prefix, name, form, type_text(old, was))
 }
 
-/// Puts the lines of what a declared name of a unit of the new text adds.
+/// Puts the line of a variable of the old text, where it is lost.
+fn describe_old(
+    out: &mut Vec<u8>,
+    prefix: &[u8],
+    name: &[u8],
+    form: Form,
+    becomes: Option<DeclaredType>,
+) -> Result<(), Fault>
+    ensures line { OnOk result
+        (out.new.items ≡ out.old.items
+        ++ lost_text (line_numbered becomes) (prefix.now ++ name.now) (form_view form)) }
+    ensures memory { IsOkUnless result Fault.Memory }
+{
+    if is_line(becomes) {
+        return Ok(());
+    }
+    put_lost(out, prefix, name, form)
+}
+
+/// Puts the line of a variable of one place, or of a standard block's instance.
+fn describe_form(
+    alloc: Global,
+    out: &mut Vec<u8>,
+    texts: Texts<'_, '_, '_, '_>,
+    prefix: &[u8],
+    name: &[u8],
+    form: Form,
+    there: Option<DeclaredType>,
+) -> Result<(), Fault>
+    ensures line { OnOk result ((unit : Option ℕ) (side : Option Scope)
+        → IsSide (text_view texts.entry.other.now.source) unit side
+        → there ≡ numbered_side side (name_of name.now)
+        → out.new.items ≡ out.old.items
+        ++ pass_text texts.entry.pass (has_form there (form_view form)) (prefix.now ++ name.now)
+        (form_view form) (side_found side (name_of name.now ∷ []))) }
+    ensures memory { IsOkUnless result Fault.Memory }
+{
+    match texts.pass {
+        Pass::New => describe_new(alloc, out, prefix, name, form, texts.other, there),
+        Pass::Old => describe_old(out, prefix, name, form, there),
+    }
+}
+
+/// Puts the lines of what a declared name of a unit of a text adds.
 #[cycle(describing)]
 fn describe_variable(
     alloc: Global,
     out: &mut Vec<u8>,
+    texts: Texts<'_, '_, '_, '_>,
     prefix: &[u8],
-    old: &Checked<'_>,
-    old_unit: Option<usize>,
-    new: &Checked<'_>,
+    other_unit: Option<usize>,
     unit: usize,
     name: &[u8],
     literal: Option<Value>,
 ) -> Result<(), Fault>
     ensures lines { OnOk result ((side : Option Scope) (before : List CodeUnit) (u : CodeUnit)
         (initial : Option Initial)
-        → IsSide (text_view old.now.source) old_unit side
-        → IsAt new.now.source unit before u
+        → IsSide (text_view texts.entry.other.now.source) other_unit side
+        → IsAt texts.entry.own.now.source unit before u
         → literal ≡ option_map (λ i. i.value) initial
-        → out.new.items ≡ out.old.items ++ variable_lines side before u prefix.now
+        → out.new.items ≡ out.old.items ++ variable_lines texts.entry.pass side before u prefix.now
         (record { name = name.now; initial = initial })) }
     ensures memory { IsOkUnless result Fault.Memory }
 {
-    let Some(located) = new.tables().variable(unit, name) else {
+    let Some(located) = texts.own.tables().variable(unit, name) else {
         return Ok(());
     };
-    let was = old_type(old, old_unit, name);
+    let there = other_type(texts.other, other_unit, name);
     match located.declared {
         DeclaredType::Elementary(kind) => {
             let form = Form::Plain(kind, first_value(kind, literal));
-            describe_form(alloc, out, prefix, name, form, old, was)
+            describe_form(alloc, out, texts, prefix, name, form, there)
         }
         DeclaredType::Standard(block) => {
-            describe_form(alloc, out, prefix, name, Form::Instance(block), old, was)
+            describe_form(
+                alloc,
+                out,
+                texts,
+                prefix,
+                name,
+                Form::Instance(block),
+                there,
+            )
         }
         DeclaredType::Block(block) => {
             // A block stands before the unit that has its instance, so only what has no place is passed over.
-            if unit <= block || new.tables().size(block) == 0 {
+            if unit <= block || texts.own.tables().size(block) == 0 {
                 return Ok(());
             }
             let longer = longer(alloc, prefix, name)?;
-            describe_unit(alloc, out, &longer, old, unit_of(was), new, block)
+            describe_unit(alloc, out, texts, &longer, unit_of(there), block)
         }
     }
 }
 
-/// Puts the lines of what a declaration of a unit of the new text adds.
+/// Puts the lines of what a declaration of a unit of a text adds.
 #[cycle(describing)]
 fn describe_declaration(
     alloc: Global,
     out: &mut Vec<u8>,
+    texts: Texts<'_, '_, '_, '_>,
     prefix: &[u8],
-    old: &Checked<'_>,
-    old_unit: Option<usize>,
-    new: &Checked<'_>,
+    other_unit: Option<usize>,
     unit: usize,
     declaration: &Decl<'_>,
 ) -> Result<(), Fault>
     ensures lines { OnOk result ((side : Option Scope) (before : List CodeUnit) (u : CodeUnit)
-        → IsSide (text_view old.now.source) old_unit side
-        → IsAt new.now.source unit before u
+        → IsSide (text_view texts.entry.other.now.source) other_unit side
+        → IsAt texts.entry.own.now.source unit before u
         → out.new.items ≡ out.old.items
-        ++ declaration_lines side before u prefix.now declaration.now) }
+        ++ declaration_lines texts.entry.pass side before u prefix.now declaration.now) }
     ensures memory { IsOkUnless result Fault.Memory }
 {
     let literal = match declaration.initial {
@@ -124,41 +192,39 @@ fn describe_declaration(
     };
     for word in &declaration.names {
         describe_variable(
-            alloc, out, prefix, old, old_unit, new, unit, word.text, literal,
+            alloc, out, texts, prefix, other_unit, unit, word.text, literal,
         )?;
     }
     Ok(())
 }
 
-/// Puts the lines of the variables of a unit of the new text, beside the unit of the old text to which the same names lead.
+/// Puts the lines of the variables of a unit of a text, beside the unit of the other text to which the same names lead.
 #[cycle(describing)]
 pub(crate) fn describe_unit(
     alloc: Global,
     out: &mut Vec<u8>,
+    texts: Texts<'_, '_, '_, '_>,
     prefix: &[u8],
-    old: &Checked<'_>,
-    old_unit: Option<usize>,
-    new: &Checked<'_>,
+    other_unit: Option<usize>,
     unit: usize,
 ) -> Result<(), Fault>
     ensures lines { OnOk result ((side : Option Scope) (before : List CodeUnit) (u : CodeUnit)
-        → IsSide (text_view old.now.source) old_unit side
-        → IsAt new.now.source unit before u
+        → IsSide (text_view texts.entry.other.now.source) other_unit side
+        → IsAt texts.entry.own.now.source unit before u
         → out.new.items ≡ out.old.items
-        ++ lines_between side before u prefix.now (declared_of u)) }
+        ++ lines_between texts.entry.pass side before u prefix.now (declared_of u)) }
     ensures memory { IsOkUnless result Fault.Memory }
 {
-    let Some(u) = new.source().units.get(unit) else {
+    let Some(u) = texts.own.source().units.get(unit) else {
         return Ok(());
     };
     for declaration in &u.declarations {
         if let Err(fault) = describe_declaration(
             alloc,
             out,
+            texts,
             prefix,
-            old,
-            old_unit,
-            new,
+            other_unit,
             unit,
             declaration,
         ) {

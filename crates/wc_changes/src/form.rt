@@ -71,3 +71,13 @@ pub(crate) fn block_text(block: StandardBlock) -> &'static [u8]
         StandardBlock::Tp => b"TP",
     }
 }
+
+/// The type of what has this form, as a text spells it.
+pub(crate) fn form_type(form: Form) -> &'static [u8]
+    ensures { result.now ≡ texts.form_type (form_view form) }
+{
+    match form {
+        Form::Plain(kind, _) => kind_text(kind),
+        Form::Instance(block) => block_text(block),
+    }
+}

@@ -1,10 +1,11 @@
-//! What a change of the program keeps, told before it is made: a line for each variable of the new program.
+//! What a change of the program keeps, told before it is made: a line for each variable of the new program, and for each
+//! of the old one that is lost.
 #![tactic(auto)]
 
 mod describing;
 mod form;
 mod lines;
-mod old;
+mod other;
 mod report;
 
 pub use lines::put_value;

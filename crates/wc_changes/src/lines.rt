@@ -1,12 +1,12 @@
 ghost use Rattle.std.specs.Prelude.{◌≡◌, ◌++◌, ◌∷◌, [], ℕ, List, Option, OnOk, IsOkUnless, true, false, option_map};
 ghost use Rattle.std.specs.Fmt.{signed_decimal};
 ghost use Rattle.wc_model.specs.Language.Store.{Plain};
-ghost use Rattle.wc_changes.specs.ChangeReport.{content_text, line_text, reason_text};
+ghost use Rattle.wc_changes.specs.ChangeReport.{content_text, line_text, lost_text, reason_text};
 ghost use Rattle.wc_changes.specs.ChangeReport as texts;
 ghost use Rattle.wc_changes.specs.Shown as shown;
 ghost use Rattle.wc_changes.specs.Forms.{form_view};
 
-use crate::form::{Form, block_text, kind_text};
+use crate::form::{Form, block_text, form_type, kind_text};
 use std::alloc::Global;
 use wc_model::{Fault, Value, put_bytes};
 
@@ -115,4 +115,22 @@ pub(crate) fn put_first(
     put_form(alloc, out, form)?;
     put_bytes(out, b" ")?;
     put_reason(out, old_type)
+}
+
+/// Puts the line of a variable of the old program that is lost.
+pub(crate) fn put_lost(
+    out: &mut Vec<u8>,
+    prefix: &[u8],
+    name: &[u8],
+    form: Form,
+) -> Result<(), Fault>
+    ensures line { OnOk result
+        (out.new.items ≡ out.old.items
+        ++ lost_text false (prefix.now ++ name.now) (form_view form)) }
+    ensures memory { IsOkUnless result Fault.Memory }
+{
+    put_names(out, b"lost ", prefix, name)?;
+    put_bytes(out, b" ")?;
+    put_bytes(out, form_type(form))?;
+    put_bytes(out, b"\n")
 }

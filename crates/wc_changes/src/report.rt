@@ -1,28 +1,57 @@
-ghost use Rattle.std.specs.Prelude.{◌≡◌, IfOk, IsOkUnless};
+ghost use Rattle.std.specs.Prelude.{◌≡◌, ◌++◌, IfOk, IsOkUnless, OnOk};
 ghost use Rattle.wc_model.specs.Language.Views.{text_view};
 ghost use Rattle.wc_changes.specs.ChangeReport.{change_report};
+ghost use Rattle.wc_changes.specs.Sides.{lines_beside};
 
-use crate::describing::describe_unit;
+use crate::describing::{Pass, Texts, describe_unit};
 use std::alloc::Global;
 use wc_cost::Loaded;
 use wc_model::Fault;
 
+/// Puts the lines of the variables of a text's program, beside the program of the other text.
+fn describe_program(
+    alloc: Global,
+    out: &mut Vec<u8>,
+    texts: Texts<'_, '_, '_, '_>,
+) -> Result<(), Fault>
+    ensures lines { OnOk result
+        (out.new.items ≡ out.old.items
+        ++ lines_beside texts.entry.pass (text_view texts.entry.other.now.source)
+        texts.entry.own.now.source) }
+    ensures memory { IsOkUnless result Fault.Memory }
+{
+    let Some(program) = texts.own.source().units.len().checked_sub(1) else {
+        return Ok(());
+    };
+    let other_program = texts.other.source().units.len().checked_sub(1);
+    describe_unit(alloc, out, texts, b"", other_program, program)
+}
+
 /// What a change from a program to another would keep, with no change made: a line for each variable of the new program,
 /// through all depths of instances and in the order of declaration. `kept` and its names stand where it keeps its value,
 /// else `first`, its names, its type, its first value, and why: `new`, or `was` and the type that the old program has under
-/// these names. A standard function block is kept whole or not at all, and has one line. `Memory` is the only fault.
+/// these names. A standard function block is kept whole or not at all, and has one line. Behind them stands a line for each
+/// variable of the old program that is lost, in its order of declaration: `lost`, its names and its type, where the new
+/// program has no variable and no standard function block of these names. `Memory` is the only fault.
 pub fn changes(alloc: Global, old: &Loaded<'_>, new: &Loaded<'_>) -> Result<Vec<u8>, Fault>
     ensures report { IfOk result
-        (λ lines. lines.items ≡ change_report (text_view old.now.source) new.now.source) }
+        (λ lines. lines.items ≡ change_report old.now.source new.now.source) }
     ensures memory { IsOkUnless result Fault.Memory }
 {
     let old = old.checked();
     let new = new.checked();
     let mut lines = Vec::new(alloc);
-    let Some(program) = new.source().units.len().checked_sub(1) else {
-        return Ok(lines);
+    let kept = Texts {
+        pass: Pass::New,
+        own: new,
+        other: old,
     };
-    let old_program = old.source().units.len().checked_sub(1);
-    describe_unit(alloc, &mut lines, b"", old, old_program, new, program)?;
+    describe_program(alloc, &mut lines, kept)?;
+    let lost = Texts {
+        pass: Pass::Old,
+        own: old,
+        other: new,
+    };
+    describe_program(alloc, &mut lines, lost)?;
     Ok(lines)
 }

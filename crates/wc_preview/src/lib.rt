@@ -1,5 +1,5 @@
 //! A change of the program is looked at before it is made: both programs are read and loaded, and what the change keeps
-//! is written.
+//! and loses is written.
 #![tactic(auto)]
 
 mod previewing;

@@ -2,7 +2,6 @@ ghost use Rattle.std.specs.Prelude.{◌≡◌, ◌+◌, IfErr, IfOk, IfSome, IsO
 ghost use Rattle.wc_controller.specs.Blames.{Blames, RefusesProgram, RefusesText, StopsFor};
 ghost use Rattle.wc_controller.specs.Endings.{EndsAs, IsAt, IsReadFaultAt, StopsAt, TellsFailures, TellsReadEndings, TellsReadFaults, TellsWriteFaults, WritesUpTo, met};
 ghost use Rattle.wc_job.specs.Reads.{TakesAtMost};
-ghost use Rattle.wc_model.specs.Language.Views.{text_view};
 ghost use Rattle.wc_model.specs.Run.JobSections.{longest_job};
 ghost use Rattle.wc_preview.specs.Previews.{AnswersNew, AnswersPreview, IsOfWriting, IsPreview};
 
@@ -14,8 +13,8 @@ use wc_controller::{
 use wc_cost::Loaded;
 use wc_model::{ByteIn, ByteOut, write_whole};
 
-/// What is written of two programs: the lines of the new one's units, and what a change from the old one keeps. `Memory` is
-/// the only fault.
+/// What is written of two programs: the lines of the new one's units, and what a change from the old one keeps and loses.
+/// `Memory` is the only fault.
 fn preview_text(
     alloc: Global,
     paths: bool,
@@ -23,7 +22,7 @@ fn preview_text(
     new: &Loaded<'_>,
 ) -> Result<Vec<u8>, RunFault>
     ensures preview { IfOk result
-        (λ text. IsPreview paths (text_view old.now.source) new.now.source
+        (λ text. IsPreview paths old.now.source new.now.source
         (record { output = text.items; status = 0 })) }
     ensures memory { IsOkUnless result RunFault.Memory }
 {
@@ -49,7 +48,7 @@ fn write_preview<W: ByteOut>(
     new: &Loaded<'_>,
     writer: &mut W,
 ) -> Result<(), Stopped>
-    ensures writes { WritesUpTo (IsPreview paths (text_view old.now.source) new.now.source)
+    ensures writes { WritesUpTo (IsPreview paths old.now.source new.now.source)
         (met result) (W.bytes_taken writer.old) (W.bytes_taken writer.new) }
     // No input is refused here, and none is read.
     ensures held { IfErr result
@@ -83,7 +82,7 @@ fn preview_next<W: ByteOut>(
     text: &[u8],
     writer: &mut W,
 ) -> Result<(), Stopped>
-    ensures writes { WritesUpTo (AnswersNew paths (text_view old.now.source) text.now)
+    ensures writes { WritesUpTo (AnswersNew paths old.now.source text.now)
         (met result) (W.bytes_taken writer.old) (W.bytes_taken writer.new) }
     ensures blames { IfErr result (λ stopped. stopped.input ≡ Input.Next
         → RefusesText text.now stopped.fault) }
@@ -152,10 +151,10 @@ fn preview_inputs<T: ByteIn, N: ByteIn, W: ByteOut>(
 
 /// Looks at a change of the program before it is made: the old program is read and judged first, then the new one; then the
 /// lines of the new one's units are written, with `paths` with their paths, and behind them a line for each variable of the
-/// new program, which says whether it keeps its value. The first program that breaks a rule is refused, by its line alone,
-/// and what follows it is not read. A read fault names the program whose reader failed in this call; a write fault comes
-/// where the writer failed in this call and only there. At such a fault, and for want of memory, a front of the output is
-/// written, or nothing.
+/// new program, which says whether it keeps its value, and one for each variable of the old program that is lost. The first
+/// program that breaks a rule is refused, by its line alone, and what follows it is not read. A read fault names the program
+/// whose reader failed in this call; a write fault comes where the writer failed in this call and only there. At such a
+/// fault, and for want of memory, a front of the output is written, or nothing.
 pub fn preview_files<T: ByteIn, N: ByteIn, W: ByteOut>(
     alloc: Global,
     paths: bool,

@@ -1,4 +1,4 @@
-use Rattle.std.proofs.Common.{◌≡◌, ◌+◌, ◌++◌, ◌∷◌, [], Some, ap, sym, subst, ◌∙◌, map, option_map, arith}
+use Rattle.std.proofs.Common.{◌≡◌, ◌++◌, ◌∷◌, [], Some, ap, sym, subst, ◌∙◌, map, option_map, arith}
 use Rattle.std.proofs.lemmas.Grind.{common_steps}
 use Rattle.std.specs.List.{flat_map}
 use Rattle.std.specs.Prelude.{slice_get}
@@ -12,10 +12,9 @@ use Rattle.wc_model.specs.declared.source.Unit.{Unit as CodeUnit}
 use Rattle.wc_names.proofs.Lists.{got_some}
 use Rattle.wc_names.specs.StandsFor.{AreTables}
 use Rattle.wc_soundness.proofs.Places.{Some-same}
-use Rattle.wc_changes.specs.ChangeReport.{line_text}
 use Rattle.wc_changes.specs.Forms.{has_form}
 use Rattle.wc_changes.specs.Shown.{Plain, Instance, declared_of, seen}
-use Rattle.wc_changes.specs.Sides.{IsSide, declaration_lines, lines_between, side_behind, side_text, unit_numbered, variable_lines}
+use Rattle.wc_changes.specs.Sides.{IsSide, declaration_lines, lines_between, pass_text, side_behind, side_found, unit_numbered, variable_lines}
 use Rattle.wc_changes.proofs.Between.{side_is}
 use Rattle.wc_changes.proofs.Units.{at_there, seen_unit}
 use Rattle.wc_changes.proofs.Variables.{all_told, block_lines, elementary_type, instance_line, into, no_lines, on_ok, passed_lines, plain_line, standard_type}
@@ -39,39 +38,39 @@ pub describe_declaration-returns-clause-lines : goal.describe_declaration-return
 describe_declaration-returns-clause-lines t c = λ side before u h at.
     let d = c.args.declaration.now in
     let start = c.args.out.now.items in
-    let f = λ (w : Word). variable_lines side before u c.args.prefix.now (record { name = w.text.now; initial = d.initial }) in
+    let f = λ (w : Word). variable_lines c.args.texts.pass side before u c.args.prefix.now (record { name = w.text.now; initial = d.initial }) in
     all_told f start c.loop-word.out.items c.deref-word-items.result.now c.loop-word.word-index c.loop-word-test.false (c.loop-word.invariant side before u h at)
     ∙ ap (λ words. start ++ flat_map f words) c.deref-word-items.ensures.value
-    ∙ ap (λ x. start ++ x) (declaration_told side before u c.args.prefix.now d)
+    ∙ ap (λ x. start ++ x) (declaration_told c.args.texts.pass side before u c.args.prefix.now d)
 
 pub describe_unit-returns-clause-lines : goal.describe_unit-returns-clause-lines
 describe_unit-returns-clause-lines t c = λ side before u h at.
     let start = c.args.out.now.items in
-    let f = declaration_lines side before u c.args.prefix.now in
+    let f = declaration_lines c.args.texts.pass side before u c.args.prefix.now in
     let found = got_some c.deref.result.now c.args.unit c.in-Some.u.now c.in-Some.ensures.lookup.3.0 c.in-Some.ensures.lookup.1 in
-    let units : c.deref.result.now ≡ c.args.new.now.source.units.items = c.deref.ensures.value ∙ ap (λ s. s.units.items) c.source.ensures.source in
-    let same : c.in-Some.u.now ≡ u = Some-same u c.in-Some.u.now (sym (at_there c.args.new.now.source c.args.unit before u at) ∙ ap (λ xs. slice_get xs c.args.unit) (sym units) ∙ found) in
+    let units : c.deref.result.now ≡ c.args.texts.own.now.source.units.items = c.deref.ensures.value ∙ ap (λ s. s.units.items) c.source.ensures.source in
+    let same : c.in-Some.u.now ≡ u = Some-same u c.in-Some.u.now (sym (at_there c.args.texts.own.now.source c.args.unit before u at) ∙ ap (λ xs. slice_get xs c.args.unit) (sym units) ∙ found) in
     all_told f start c.loop-declaration.out.items c.deref-declaration-items.result.now c.loop-declaration.declaration-index c.loop-declaration-test.false (c.loop-declaration.invariant side before u h at)
     ∙ ap (λ ds. start ++ flat_map f ds) (c.deref-declaration-items.ensures.value ∙ ap (λ (v : CodeUnit). v.declarations.items) same)
-    ∙ ap (λ x. start ++ x) (by_declarations side before u c.args.prefix.now u.declarations.items)
+    ∙ ap (λ x. start ++ x) (by_declarations c.args.texts.pass side before u c.args.prefix.now u.declarations.items)
 
 pub describe_variable-returns-in_default-clause-lines : goal.describe_variable-returns-in_default-clause-lines
 describe_variable-returns-in_default-clause-lines t c = λ side before u initial h at literal.
-    let source = c.args.new.now.source in
+    let source = c.args.texts.own.now.source in
     let tables = subst (λ ts. AreTables ts (text_view source)) (sym c.tables.ensures.tables) c.tables.ensures.stand in
-    no_lines side before u c.args.prefix.now (record { name = c.args.name.now; initial = initial }) c.args.out.now.items
+    no_lines c.args.texts.pass side before u c.args.prefix.now (record { name = c.args.name.now; initial = initial }) c.args.out.now.items
     (sym (c.in_default.ensures.known (text_view source) (seen before u) tables (seen_unit source c.args.unit before u at)))
 
 pub describe_variable-returns-then-unit-block-clause-lines : goal.describe_variable-returns-then-unit-block-clause-lines
 describe_variable-returns-then-unit-block-clause-lines t c = λ side before u initial h at literal.
-    let source = c.args.new.now.source in
+    let source = c.args.texts.own.now.source in
     let text = text_view source in
     let tables = subst (λ ts. AreTables ts text) (sym c.tables.ensures.tables) c.tables.ensures.stand in
     let i = into source c.args.unit c.in-Block.block before u (name_of c.args.name.now) at (ap Some (sym c.in-Block.is) ∙ c.in-Some.ensures.declared text (seen before u) tables (seen_unit source c.args.unit before u at)) in
     elim c.then-unit-block.branch [
       | describe_variable-then-unit-block-via-then-unit-block w ↦ absurd (let l = i.below in let m = w.if-unit-block.true in omega (arith, l, m))
       | describe_variable-then-unit-block-via-else-unit-block+then-size-eq0 w ↦
-          passed_lines source c.args.unit c.in-Block.block side before u c.args.prefix.now c.args.name.now initial c.args.out.now.items i
+          passed_lines source c.args.unit c.in-Block.block c.args.texts.pass side before u c.args.prefix.now c.args.name.now initial c.args.out.now.items i
           (sym (w.size.ensures text (seen i.code.earlier i.code.unit) (subst (λ ts. AreTables ts text) (sym w.tables-else-unit-block.ensures.tables) w.tables-else-unit-block.ensures.stand)
           (seen_unit source c.in-Block.block i.code.earlier i.code.unit i.at)) ∙ w.if-size-eq0.true)
     ]
@@ -80,7 +79,7 @@ pub describe_variable-returns-in-Elementary-clause-lines : goal.describe_variabl
 describe_variable-returns-in-Elementary-clause-lines t c =
     on_ok c.describe_form.result _ _
     (λ w side before u initial h at literal.
-    let source = c.args.new.now.source in
+    let source = c.args.texts.own.now.source in
     let text = text_view source in
     let n = name_of c.args.name.now in
     let path = c.args.prefix.now ++ c.args.name.now in
@@ -88,16 +87,16 @@ describe_variable-returns-in-Elementary-clause-lines t c =
     let form = Plain c.in-Elementary.kind (store.Plain c.first_value.result) in
     let tables = subst (λ ts. AreTables ts text) (sym c.tables.ensures.tables) c.tables.ensures.stand in
     let typed = elementary_type (map unit_view before) (type_of (seen before u) n) c.in-Elementary.kind (ap Some (sym c.in-Elementary.is) ∙ c.in-Some.ensures.declared text (seen before u) tables (seen_unit source c.args.unit before u at)) in
-    w c.args.old_unit side h (c.old_type-was.ensures side h)
-    ∙ ap (λ x. start ++ line_text (has_form x form) path form (side_text side (n ∷ []))) (c.old_type-was.ensures side h)
-    ∙ ap (λ x. start ++ x) (plain_line side before u c.args.prefix.now c.args.name.now initial c.in-Elementary.kind (store.Plain c.first_value.result) typed (c.first_value.ensures initial literal)))
+    w c.args.other_unit side h (c.other_type-there.ensures side h)
+    ∙ ap (λ x. start ++ pass_text c.args.texts.pass (has_form x form) path form (side_found side (n ∷ []))) (c.other_type-there.ensures side h)
+    ∙ ap (λ x. start ++ x) (plain_line c.args.texts.pass side before u c.args.prefix.now c.args.name.now initial c.in-Elementary.kind (store.Plain c.first_value.result) typed (c.first_value.ensures initial literal)))
     c.describe_form.ensures.line
 
 pub describe_variable-returns-in-Standard-clause-lines : goal.describe_variable-returns-in-Standard-clause-lines
 describe_variable-returns-in-Standard-clause-lines t c =
     on_ok c.describe_form-in-Standard.result _ _
     (λ w side before u initial h at literal.
-    let source = c.args.new.now.source in
+    let source = c.args.texts.own.now.source in
     let text = text_view source in
     let n = name_of c.args.name.now in
     let path = c.args.prefix.now ++ c.args.name.now in
@@ -105,24 +104,24 @@ describe_variable-returns-in-Standard-clause-lines t c =
     let form = Instance c.in-Standard.block in
     let tables = subst (λ ts. AreTables ts text) (sym c.tables.ensures.tables) c.tables.ensures.stand in
     let typed = standard_type (map unit_view before) (type_of (seen before u) n) c.in-Standard.block (ap Some (sym c.in-Standard.is) ∙ c.in-Some.ensures.declared text (seen before u) tables (seen_unit source c.args.unit before u at)) in
-    w c.args.old_unit side h (c.old_type-was.ensures side h)
-    ∙ ap (λ x. start ++ line_text (has_form x form) path form (side_text side (n ∷ []))) (c.old_type-was.ensures side h)
-    ∙ ap (λ x. start ++ x) (instance_line side before u c.args.prefix.now c.args.name.now initial c.in-Standard.block typed))
+    w c.args.other_unit side h (c.other_type-there.ensures side h)
+    ∙ ap (λ x. start ++ pass_text c.args.texts.pass (has_form x form) path form (side_found side (n ∷ []))) (c.other_type-there.ensures side h)
+    ∙ ap (λ x. start ++ x) (instance_line c.args.texts.pass side before u c.args.prefix.now c.args.name.now initial c.in-Standard.block typed))
     c.describe_form-in-Standard.ensures.line
 
 pub describe_variable-returns-in_ok-longer-in-Block-clause-lines : goal.describe_variable-returns-in_ok-longer-in-Block-clause-lines
 describe_variable-returns-in_ok-longer-in-Block-clause-lines t c =
     on_ok c.describe_unit.result _ _
     (λ w side before u initial h at literal.
-    let source = c.args.new.now.source in
+    let source = c.args.texts.own.now.source in
     let text = text_view source in
     let n = name_of c.args.name.now in
     let start = c.args.out.now.items in
     let behind = side_behind side n in
     let tables = subst (λ ts. AreTables ts text) (sym c.tables.ensures.tables) c.tables.ensures.stand in
     let i = into source c.args.unit c.in-Block.block before u n at (ap Some (sym c.in-Block.is) ∙ c.in-Some.ensures.declared text (seen before u) tables (seen_unit source c.args.unit before u at)) in
-    let old_at = subst (λ k. IsSide (text_view c.args.old.now.source) k behind) (sym (c.unit_of.ensures ∙ ap unit_numbered (c.old_type-was.ensures side h))) (side_is (text_view c.args.old.now.source) c.args.old_unit side n h) in
+    let old_at = subst (λ k. IsSide (text_view c.args.texts.other.now.source) k behind) (sym (c.unit_of.ensures ∙ ap unit_numbered (c.other_type-there.ensures side h))) (side_is (text_view c.args.texts.other.now.source) c.args.other_unit side n h) in
     w behind i.code.earlier i.code.unit old_at i.at
-    ∙ ap (λ p. start ++ lines_between behind i.code.earlier i.code.unit p (declared_of i.code.unit)) (c.deref.ensures.value ∙ c.in_ok-longer-in-Block.ensures.longer)
-    ∙ ap (λ x. start ++ x) (block_lines source c.args.unit c.in-Block.block side before u c.args.prefix.now c.args.name.now initial i))
+    ∙ ap (λ p. start ++ lines_between c.args.texts.pass behind i.code.earlier i.code.unit p (declared_of i.code.unit)) (c.deref.ensures.value ∙ c.in_ok-longer-in-Block.ensures.longer)
+    ∙ ap (λ x. start ++ x) (block_lines source c.args.unit c.in-Block.block c.args.texts.pass side before u c.args.prefix.now c.args.name.now initial i))
     c.describe_unit.ensures.lines

@@ -19,11 +19,11 @@ decreases-describe_unit l = 3 * l.unit + 2
 -- the lines of the names so far are written
 abbrev pub invariant-describe_declaration-loop-word : goal.invariant-describe_declaration-loop-word
 invariant-describe_declaration-loop-word l =
-    (side : Option Scope) (before : List CodeUnit) (u : CodeUnit) → IsSide (text_view l.fn.old.source) l.fn.old_unit side → IsAt l.fn.new.source l.fn.unit before u →
-    l.out.items ≡ l.fn.out.items ++ flat_map (λ (w : Word). variable_lines side before u l.fn.prefix (record { name = w.text.now; initial = l.fn.declaration.initial })) (take l.word-index l.word-items)
+    (side : Option Scope) (before : List CodeUnit) (u : CodeUnit) → IsSide (text_view l.fn.texts.other.now.source) l.fn.other_unit side → IsAt l.fn.texts.own.now.source l.fn.unit before u →
+    l.out.items ≡ l.fn.out.items ++ flat_map (λ (w : Word). variable_lines l.fn.texts.pass side before u l.fn.prefix (record { name = w.text.now; initial = l.fn.declaration.initial })) (take l.word-index l.word-items)
 
 -- the lines of the declarations so far are written
 abbrev pub invariant-describe_unit-loop-declaration : goal.invariant-describe_unit-loop-declaration
 invariant-describe_unit-loop-declaration l =
-    (side : Option Scope) (before : List CodeUnit) (u : CodeUnit) → IsSide (text_view l.fn.old.source) l.fn.old_unit side → IsAt l.fn.new.source l.fn.unit before u →
-    l.out.items ≡ l.fn.out.items ++ flat_map (declaration_lines side before u l.fn.prefix) (take l.declaration-index l.declaration-items)
+    (side : Option Scope) (before : List CodeUnit) (u : CodeUnit) → IsSide (text_view l.fn.texts.other.now.source) l.fn.other_unit side → IsAt l.fn.texts.own.now.source l.fn.unit before u →
+    l.out.items ≡ l.fn.out.items ++ flat_map (declaration_lines l.fn.texts.pass side before u l.fn.prefix) (take l.declaration-index l.declaration-items)

@@ -1,25 +1,27 @@
-use Rattle.std.proofs.Common.{◌++◌, [], ◌∷◌, None, false, ap, sym, ◌∙◌}
+use Rattle.std.proofs.Common.{◌++◌, [], ◌∷◌, ap, sym, ◌∙◌}
 use Rattle.wc_model.specs.Language.Names.{name_of}
-use Rattle.wc_changes.specs.ChangeReport.{line_text}
-use Rattle.wc_changes.specs.Forms.{form_view}
-use Rattle.wc_changes.specs.Sides.{side_text}
+use Rattle.wc_changes.specs.ChangeReport.{lost_text}
+use Rattle.wc_changes.specs.Forms.{form_view, has_form}
+use Rattle.wc_changes.specs.Sides.{line_numbered, pass_text, side_found}
+use Rattle.wc_changes.proofs.Others.{side_line}
 use Rattle.wc_changes.proofs.Variables.{on_ok}
 use Rattle.wc_changes.proofs.describing.describe_form.Goals as goal
 
-pub returns-then-is_kept-clause-line : goal.returns-then-is_kept-clause-line
-returns-then-is_kept-clause-line c =
+pub returns-in-New-clause-line : goal.returns-in-New-clause-line
+returns-in-New-clause-line c =
     let form = form_view c.args.form in
     let path = c.args.prefix.now ++ c.args.name.now in
-    on_ok c.put_kept.result _ _
-    (λ w unit side h e. w ∙ ap (λ b. c.args.out.now.items ++ line_text b path form (side_text side (name_of c.args.name.now ∷ []))) (sym c.if-is_kept.true ∙ c.is_kept.ensures))
-    (c.put_kept.ensures.line form None)
+    on_ok c.describe_new.result _ _
+    (λ w unit side h e. w unit side h e
+    ∙ ap (λ p. c.args.out.now.items ++ pass_text p (has_form c.args.there form) path form (side_found side (name_of c.args.name.now ∷ []))) (sym c.in-New.is))
+    c.describe_new.ensures.line
 
-pub returns-clause-line : goal.returns-clause-line
-returns-clause-line c =
+pub returns-in-Old-clause-line : goal.returns-in-Old-clause-line
+returns-in-Old-clause-line c =
     let form = form_view c.args.form in
     let path = c.args.prefix.now ++ c.args.name.now in
     let n = name_of c.args.name.now in
-    on_ok c.put_first.result _ _
-    (λ w unit side h e. w ∙ ap (λ o. c.args.out.now.items ++ line_text false path form o) (c.type_text.ensures unit side n h e)
-    ∙ ap (λ b. c.args.out.now.items ++ line_text b path form (side_text side (n ∷ []))) (sym c.if-is_kept.false ∙ c.is_kept.ensures))
-    c.put_first.ensures.line
+    on_ok c.describe_old.result _ _
+    (λ w unit side h e. w ∙ ap (λ b. c.args.out.now.items ++ lost_text b path form) (ap line_numbered e ∙ sym (side_line side n))
+    ∙ ap (λ p. c.args.out.now.items ++ pass_text p (has_form c.args.there form) path form (side_found side (n ∷ []))) (sym c.in-Old.is))
+    c.describe_old.ensures.line
