@@ -8,11 +8,9 @@ use Rattle.narbeddo.proofs.rows.narbeddo_inputs.Code as code
 use Rattle.wc_scale.specs.contracts.scale.Scale.inputs as g
 use Rattle.wc_scale.proofs.scale.Scale.inputs.Met.{met}
 
-abbrev stayed : Stays f.ended.signature.params f.ended.kept
-stayed = (stay_dropped _ yes, (stay_dropped _ yes, tt))
-
 pub narbeddo_inputs_spec : {M : Type 1} → statement M
 narbeddo_inputs_spec 𝓤 𝓛 𝓜 𝓡 wired =
+    let stayed : Stays f.ended.signature.params f.ended.kept = (stay_dropped _ yes, (stay_dropped _ yes, tt)) in
     let c = f.clauses 𝓛 𝓜.mem 𝓡.returns in let W = walk_of 𝓛 f.ended stayed c in let 𝓣 = tables 𝓤 𝓛.H 𝓜 𝓡 𝓡.env in
     proved 𝓛 f.ended stayed c 𝓜 𝓡 (Goes-dropped 𝓛 0 (plain (λ _. RawPtr)) yes (λ κs x w. refl), (Goes-dropped 𝓛 0 (plain (λ _. u16)) yes (λ κs x w. refl), tt))
     f.Key.name code.function (code.unfolded 𝓤 𝓛.H 𝓜 𝓡 wired)
