@@ -1,5 +1,5 @@
 ghost use Rattle.std.specs.Prelude.{◌≡◌, map};
-ghost use Rattle.wc_model.specs.Language.Declarations.{named_in, same_name};
+ghost use Rattle.wc_model.specs.Language.Declarations.{named_in};
 ghost use Rattle.wc_model.specs.Language.Names.{name_of};
 ghost use Rattle.wc_built_in.specs.Keywords.{keyword_row, keywords};
 
@@ -93,24 +93,12 @@ fn all_words() -> &'static [KeywordRow]
     }
 }
 
-/// Whether the text is the word of a row. Words of another length are passed over at once.
-#[inline(always)]
-fn is_row_of(row: &KeywordRow, text: &[u8]) -> bool
-    ensures { result ≡ same_name (name_of row.now.word.now) (name_of text.now) }
-{
-    if row.word.len() == text.len() {
-        is_word(row.word, text)
-    } else {
-        false
-    }
-}
-
 /// The first of these that the text is.
 fn keyword_in(rows: &[KeywordRow], text: &[u8]) -> Option<Keyword>
     ensures { result ≡ named_in (map keyword_row rows.now) (name_of text.now) }
 {
     for row in rows {
-        if is_row_of(row, text) {
+        if is_word(row.word, text) {
             return Some(row.keyword);
         }
     }
