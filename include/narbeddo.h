@@ -30,7 +30,17 @@
 extern "C" {
 #endif
 
-/* What a call says of itself. */
+/* What a call says of itself. Of the statuses that a call may answer the first of its line is told:
+ *
+ *     narbeddo_open                      ALREADY_OPEN, then REFUSED or NO_MEMORY
+ *     narbeddo_load                      CLOSED, then REFUSED or NO_MEMORY; behind it any moment is accepted
+ *     narbeddo_change                    CLOSED, NO_PROGRAM, then REFUSED or NO_MEMORY; the moment of the last scan stays
+ *     narbeddo_sample                    CLOSED, COUNTS_OUT_OF_RANGE
+ *     narbeddo_byte, _inputs, _read, _plate    CLOSED (and of a byte LINE_FAILED, which never comes)
+ *     narbeddo_scan                      CLOSED, NO_PROGRAM, MOMENT_OUT_OF_RANGE, MOMENT_BACK
+ *     narbeddo_about, narbeddo_path      REFUSED, NO_MEMORY or NO_UNIT; of a path also NO_ROOM
+ *     narbeddo_close                     DONE alone
+ */
 #define NARBEDDO_DONE 0                /* it did what it is for */
 #define NARBEDDO_REFUSED 1             /* a text breaks a rule: number and place say which and where (docs/REFUSALS.md) */
 #define NARBEDDO_NO_MEMORY 2           /* your allocator gave none */

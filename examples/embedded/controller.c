@@ -82,14 +82,15 @@ static int operator_looks(void) /* 1 where the display is to be written anew */
 static void display(const narbeddo_engraved *engraved, const narbeddo_reading *reading)
 {
     const char *motion = reading->flags & NARBEDDO_STABLE ? "" : ", in motion";
+    const char *net = reading->flags & NARBEDDO_TARE_ACTIVE ? " NET" : "";
     double units = 1; /* of the last decimal in one of the plate's unit */
     int32_t digit;
     for (digit = 0; digit < engraved->decimals; digit++) {
         units *= 10;
     }
     if (reading->flags & NARBEDDO_VALID) {
-        printf("%5lu ms  display %.*f %.2s%s\n", (unsigned long)ticks, (int)engraved->decimals, reading->weights[1] / units,
-               (const char *)engraved->unit, motion);
+        printf("%5lu ms  display %.*f %.2s%s%s\n", (unsigned long)ticks, (int)engraved->decimals, reading->weights[1] / units,
+               (const char *)engraved->unit, net, motion);
     } else {
         printf("%5lu ms  display ----\n", (unsigned long)ticks);
     }

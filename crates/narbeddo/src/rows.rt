@@ -47,7 +47,7 @@ pub unsafe extern "C" fn narbeddo_scan(scale: *mut u8, moment: u64) -> Scanned
     requires* { sem 𝓛 (lies_at the_row full_share scale before) }
     ensures* { ∃ₛ (λ (after : Scale). sem 𝓛 (lies_at the_row full_share scale after)
         ∗ ⌜ (TakesScan before after moment result)
-        × (RefusesScan before after moment result.status) ⌝) }
+        × (RefusesScan before after moment result) ⌝) }
 {
     (&mut *(scale as *mut Scale)).scan(moment)
 }

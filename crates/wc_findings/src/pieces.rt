@@ -57,7 +57,9 @@ fn number_fault(text: &[u8]) -> &'static str {
 /// What to write in place of a byte that is not allowed, if there is one thing to say.
 fn byte_help(byte: u8) -> Option<&'static str> {
     match byte {
-        b'=' => Some("to assign write :=, to compare write EQ"),
+        b'=' => Some(
+            "to store a result write ST, to compare write EQ, GE or LE; a declaration and a call have :=",
+        ),
         b'>' => Some("to compare write GT or GE"),
         b'<' => Some("to compare write LT, LE or NE"),
         b'*' => Some("to multiply write MUL; a comment is (* .. *)"),

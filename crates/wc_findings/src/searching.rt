@@ -173,7 +173,7 @@ fn find_name(alloc: Global, list: &[u8], start: usize, length: usize) -> Result<
         tell_name(&mut finding, rest, length)?;
     }
     finding.help = Some(
-        "name a variable, or a field behind its instance, as `t.ET`, with commas between",
+        "name a variable, or a field behind its instance, as `t.ET`, with commas and no spaces between",
     );
     finding.point(start, length);
     finding.line = 1;

@@ -43,6 +43,9 @@ fn words_of(awaits: Awaits) -> &'static str {
     }
 }
 
+/// What is said of a reserved word that stands for nothing here.
+const LEFT_OUT: &str = "is a word of the standard that this language leaves out";
+
 /// Says that a word begins no line, where only a colon could stand behind it.
 fn tell_word(finding: &mut Finding, word: &[u8]) -> Result<(), AllocError>
     ensures spot { finding.new.spot ≡ finding.old.spot }
@@ -59,12 +62,26 @@ fn tell_word(finding: &mut Finding, word: &[u8]) -> Result<(), AllocError>
             );
             finding.tell(word, "is not the end of this unit")
         }
+        Some(Keyword::Kept) => finding.tell(word, LEFT_OUT),
         _ => {
             finding.help = Some(
-                "the operators are LD, ST, S, R, AND, OR, XOR, NOT, ADD, SUB, MUL, DIV, MOD, GT, GE, EQ, NE, LE, LT, JMP, CAL and RET; a label has `:` behind it",
+                "the operators are LD, ST, AND, OR and XOR, also with N, S, R, NOT, ADD, SUB, MUL, DIV, MOD, GT, GE, EQ, NE, LE, LT, and JMP, CAL and RET, also with C or CN; a block is called by CAL; a label has `:` behind it",
             );
             finding.tell(word, "is no operator")
         }
+    }
+}
+
+/// What to write where a token can't stand, if there is more to say than what could stand there.
+fn help_at(piece: &[u8], awaits: Awaits) -> Option<&'static str> {
+    match (awaits, piece.first()) {
+        (Awaits::Nothing, _) => Some("nothing stands behind the END_PROGRAM of the program"),
+        (Awaits::Field, Some(b'0'..=b'9')) => Some("an address begins with `%`, as %IX0.0"),
+        (Awaits::LineEnd, Some(b')')) => Some("a `)` stands on a line of its own"),
+        (Awaits::Operand, Some(_)) if keyword_named(piece).is_some() => Some(
+            "an operand is a variable, an address, a field or a literal: compute it on lines before, and store it",
+        ),
+        _ => None,
     }
 }
 
@@ -74,12 +91,13 @@ fn tell_token(finding: &mut Finding, piece: &[u8], awaits: Awaits) -> Result<(),
     ensures line { finding.new.line ≡ finding.old.line }
 {
     finding.expected = words_of(awaits);
-    if awaits == Awaits::Nothing {
-        finding.help = Some("nothing stands behind the END_PROGRAM of the program");
-    }
+    finding.help = help_at(piece, awaits);
     if piece.first() == Some(&b'\n') {
         finding.says = Some("the line can't end here");
         return Ok(());
+    }
+    if matches!(keyword_named(piece), Some(Keyword::Kept)) {
+        return finding.tell(piece, LEFT_OUT);
     }
     finding.tell(piece, "can't stand here")
 }

@@ -80,7 +80,7 @@ fn token_entry(number: u16) -> Option<&'static Entry>
             help "write the parts from days to milliseconds in order, as T#1d2h3m4s5ms, or one part with a point, as T#1.5s";
         107 "tokens": "the text has more than 65536 bytes"
             at "0", "(65537 spaces)" => 0,
-            help "split the text: it may have 65536 bytes";
+            help "shorten the text: it may have 65536 bytes";
     }
 }
 
@@ -164,10 +164,10 @@ fn body_entry(number: u16) -> Option<&'static Entry>
             help "declare the name in VAR, VAR_INPUT or VAR_OUTPUT of this unit";
         402 "verify": "the kinds do not fit"
             at "the line of the instruction, or of the )", "PROGRAM P / LDN 1 / END_PROGRAM" => 2,
-            help "operators work on two BOOL, two DINT or two TIME values; compare a number first to get a BOOL, and write a time as T#500ms";
+            help "AND, OR, XOR, NOT, S, R and conditions take BOOL, MUL, DIV and MOD DINT, ADD, SUB and comparisons two DINT or two TIME (EQ and NE also two BOOL); a comparison gives a BOOL, ST stores a number, T#500ms is a TIME";
         403 "verify": "there is no current result"
             at "the line of the instruction", "PROGRAM P / NOT / END_PROGRAM" => 2,
-            help "begin with LD: behind a jump, a label or a call there may be no current result";
+            help "begin with LD: there may be no current result here, or the ways to this line bring results of different kinds";
         404 "verify": "this may not be written"
             at "the line of the instruction", "PROGRAM P / ST 1 / END_PROGRAM" => 2,
             help "only variables, outputs, and inputs of instances can be written";

@@ -1,6 +1,6 @@
 -- What each call with a row's work does to a scale and what it answers, for whatever plate and whatever has come the scale
 -- stands for. A call that answers any status but 0 changes nothing. (The profile's own.)
-use Rattle.std.specs.Prelude.{◌≡◌, ℕ, ◌<◌, ◌≤◌, List, [], ◌∷◌, ◌++◌, take, ℤ, pos, ◌≤ℤ◌, Some}
+use Rattle.std.specs.Prelude.{◌≡◌, ℕ, ◌<◌, ◌≤◌, List, [], ◌∷◌, ◌++◌, take, replicate, ℤ, pos, ◌≤ℤ◌, Some}
 use Rattle.wc_model.specs.Instrument.Answers.{after_requests, answers_to}
 use Rattle.wc_model.specs.Instrument.Plates.{PlateData, greatest_sample, least_sample}
 use Rattle.wc_model.specs.Instrument.Requests.{requests_in}
@@ -94,14 +94,16 @@ abbrev pub TakesScan : Scale → Scale → ℕ → Scanned → Type 0
 TakesScan old new ms scanned = scanned.status ≡ 0 →
     (plate : PlateData) (came : Came) (running : Running) → came.program ≡ Some running → Stands old plate came → IsScanned new plate came running ms scanned
 
--- a scan is done unless the scale is closed, has no program, or the moment is out of range or goes back
-pub record RefusesScan (old new : Scale) (ms : ℕ) (status : ℕ) : Type 0 where
-  pub kept : IsKept old new status
-  pub closed : IsClosed old → status ≡ 3
-  pub program : ¬ (IsClosed old) → HasNoProgram old → status ≡ 5
-  pub range : ¬ (IsClosed old) → ¬ (HasNoProgram old) → 1099511627775 < ms → status ≡ 7
-  pub back : ¬ (IsClosed old) → ¬ (HasNoProgram old) → ms ≤ 1099511627775 → ¬ (IsNotBehind old ms) → status ≡ 8
-  pub else : ¬ (IsClosed old) → ¬ (HasNoProgram old) → ms ≤ 1099511627775 → IsNotBehind old ms → status ≡ 0
+-- a scan is done unless the scale is closed, has no program, or the moment is out of range or goes back; of one that is not done
+-- no step and no output is told
+pub record RefusesScan (old new : Scale) (ms : ℕ) (scanned : Scanned) : Type 0 where
+  pub kept : IsKept old new scanned.status
+  pub empty : ¬ (scanned.status ≡ 0) → (scanned.steps ≡ 0) × (scanned.bits ≡ 0) × (scanned.words ≡ replicate 4 (pos 0))
+  pub closed : IsClosed old → scanned.status ≡ 3
+  pub program : ¬ (IsClosed old) → HasNoProgram old → scanned.status ≡ 5
+  pub range : ¬ (IsClosed old) → ¬ (HasNoProgram old) → 1099511627775 < ms → scanned.status ≡ 7
+  pub back : ¬ (IsClosed old) → ¬ (HasNoProgram old) → ms ≤ 1099511627775 → ¬ (IsNotBehind old ms) → scanned.status ≡ 8
+  pub else : ¬ (IsClosed old) → ¬ (HasNoProgram old) → ms ≤ 1099511627775 → IsNotBehind old ms → scanned.status ≡ 0
 
 -- ---- what is shown
 -- the status and the weights of the process image

@@ -52,7 +52,7 @@ impl Scale {
     /// no memory.
     pub fn scan(&mut self, ms: u64) -> Scanned
         ensures taken { TakesScan self.old self.new ms result }
-        ensures refused { RefusesScan self.old self.new ms result.status }
+        ensures refused { RefusesScan self.old self.new ms result }
     {
         let Some(indicator) = &self.indicator else {
             return no_scan(CLOSED);

@@ -35,7 +35,7 @@ narbeddo_scan_spec 𝓤 𝓛 𝓜 𝓡 wired =
     calls_at ! (framed 𝓤 𝓛.H 𝓜 (tables 𝓤 𝓛.H 𝓜 𝓡 𝓡.env)) G (met 𝓤 𝓛 𝓜 𝓡 (code.calls-wc_scale::scale::Scale::scan 𝓡.env wired)) z
     (and_then ! (get ! refl) (and_then ! (get ! refl) (no_more !))) (λ v.
     use1 𝓛 (later (some (λ (r : T.Denot). ((‵ (flft (α ∷ []) full_share) ⊛ ‵ ftrue) ⊛ ‵ (T.own_val r (v ∷ []))) ⊛
-    some (λ (ws : (R.Denot × (Unit {0} × Unit {0}))). ‵ (lasts g.ended z.0.0 z.0.3 ws) ⊛ (raw (fact 𝓤 (TakesScan h ws.0 x r)) ⊛ raw (fact 𝓤 (RefusesScan h ws.0 x r.status))))))) (id⊢ 𝓤 _) $
+    some (λ (ws : (R.Denot × (Unit {0} × Unit {0}))). ‵ (lasts g.ended z.0.0 z.0.3 ws) ⊛ (raw (fact 𝓤 (TakesScan h ws.0 x r)) ⊛ raw (fact 𝓤 (RefusesScan h ws.0 x r))))))) (id⊢ 𝓤 _) $
     await ! tt $ pick ! (λ r. split ! $ split ! $ split ! $ lft_end ! tt $
     -- [α is over; the other tokens; the result; its facts; what the lender keeps]
     move ! (2 ∷ []) $ peeks ! T (Is T) (shows 𝓛 T) r (v ∷ []) (λ is. lands_as ! refl refl ((T-laws.lawful 𝓛).typed r _ is).0 $
@@ -45,4 +45,4 @@ narbeddo_scan_spec 𝓤 𝓛 𝓜 𝓡 wired =
     returns ! (look_at ! 0 refl) $ free_all ! refl $ keep ! (3 ∷ 0 ∷ []) $
     suffices ! _ (ends_at 𝓛 f.ended stayed c (y (block_ptr b o)) v r (tt, (tt, tt)) (tt, (tt, tt))) $
     nothing ! $ nothing ! $ join ! $ nothing ! $ join ! $ nothing ! $ group ! 3 $ frame ! $
-    show ! (λ (k : R.Denot). sep 𝓤 (sem 𝓛 (lies_at R full_share (block_ptr b o) k)) (fact 𝓤 ((TakesScan h k x r) × (RefusesScan h k x r.status)))) ws.0 $ says ! (f0, f1) $ done !)))))))))))
+    show ! (λ (k : R.Denot). sep 𝓤 (sem 𝓛 (lies_at R full_share (block_ptr b o) k)) (fact 𝓤 ((TakesScan h k x r) × (RefusesScan h k x r)))) ws.0 $ says ! (f0, f1) $ done !)))))))))))
