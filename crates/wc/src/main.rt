@@ -87,7 +87,12 @@ fn tell_meant(rt: &HostRuntime, words: &[String]) -> io::Result<()> {
                 tell_call(rt, job, words, " < ", path)
             }
         }
-        _ => tell_call(rt, job, words, " < ", "job.txt"),
+        _ => {
+            rt.eprintln(
+                "help: the words are check, run, trace, show, line, decode, explain and help",
+            )?;
+            tell_call(rt, job, words, " < ", "job.txt")
+        }
     }
 }
 

@@ -78,8 +78,8 @@ fn help_at(piece: &[u8], awaits: Awaits) -> Option<&'static str> {
         (Awaits::Nothing, _) => Some("nothing stands behind the END_PROGRAM of the program"),
         (Awaits::Field, Some(b'0'..=b'9')) => Some("an address begins with `%`, as %IX0.0"),
         (Awaits::LineEnd, Some(b')')) => Some("a `)` stands on a line of its own"),
-        (Awaits::Operand, Some(_)) if keyword_named(piece).is_some() => Some(
-            "an operand is a variable, an address, a field or a literal: compute it on lines before, and store it",
+        (Awaits::CommaPointOrClosing | Awaits::CommaOrClosing, Some(_)) => Some(
+            "an input takes a variable, an address, a field or a literal: compute it on lines before, and store it",
         ),
         _ => None,
     }

@@ -238,7 +238,8 @@ fn with_word<'a>(
 fn check_command<'a>(alloc: Global) -> Result<Command<'a>, AllocError>
     ensures { IfOk result (Takes check_word) }
 {
-    let next = "The next program: print its numbers of steps, and what a change to it keeps";
+    let next =
+        "The next program: print its numbers of steps, and what a change to it keeps and loses";
     let word = Command::new(alloc, "check").about(
         "Load a program and print the greatest number of steps of each unit",
     );
