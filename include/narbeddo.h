@@ -144,6 +144,15 @@ narbeddo_reading narbeddo_read(narbeddo_scale *scale);
 /* What is engraved on the scale. */
 narbeddo_engraved narbeddo_plate(narbeddo_scale *scale);
 
+/* Your program has these three functions over its allocator (examples/embedded/memory.c has them over malloc): whether there was memory, and where,
+ * which is never null; a block aligned to `align`; of a block that grows its first `kept` bytes stay.
+ *
+ *     typedef struct { bool ok; void *at; } tried;
+ *     tried rattle_alloc(size_t size, size_t align);
+ *     tried rattle_realloc(void *at, size_t kept, size_t size, size_t align);
+ *     void rattle_dealloc(void *at);
+ */
+
 /* One unit of a program's text, which need not be loaded: units are counted in text order from 0, and the program is the last. */
 typedef struct narbeddo_unit {
     narbeddo_refusal text; /* NARBEDDO_NO_UNIT where the text has no unit of this number */
