@@ -1,4 +1,4 @@
-ghost use Rattle.std.specs.Prelude.{◌≡◌, ◌++◌, ◌∷◌, [], ℕ, List, Option, IfOk, OnOk, IsOkUnless, option_map};
+ghost use Rattle.std.specs.Prelude.{◌≡◌, ◌++◌, ◌∷◌, [], ℕ, List, Option, OnOk, IsOkUnless, option_map};
 ghost use Rattle.wc_model.specs.Language.Names.{name_of};
 ghost use Rattle.wc_model.specs.Language.Scopes.{Scope};
 ghost use Rattle.wc_model.specs.Language.Views.{text_view};
@@ -36,17 +36,14 @@ pub(crate) struct Texts<'a, 'b, 'c, 'd> {
     pub other: &'c Checked<'d>,
 }
 
-/// The names so far and one more, each with a dot behind it.
-fn longer(alloc: Global, prefix: &[u8], name: &[u8]) -> Result<Vec<u8>, Fault>
-    ensures longer { IfOk result
-        (λ longer. longer.items ≡ prefix.now ++ (name.now ++ (46 ∷ []))) }
+/// Puts one more name and a dot behind the names that have led so far.
+fn go_into(names: &mut Vec<u8>, name: &[u8]) -> Result<(), Fault>
+    ensures longer { OnOk result
+        (names.new.items ≡ names.old.items ++ (name.now ++ (46 ∷ []))) }
     ensures memory { IsOkUnless result Fault.Memory }
 {
-    let mut longer = Vec::new(alloc);
-    put_bytes(&mut longer, prefix)?;
-    put_bytes(&mut longer, name)?;
-    put_bytes(&mut longer, b".")?;
-    Ok(longer)
+    put_bytes(names, name)?;
+    put_bytes(names, b".")
 }
 
 /// Puts the line of a variable of the new text: that it keeps its value, or begins with its first one and why.
@@ -116,13 +113,14 @@ fn describe_form(
     }
 }
 
-/// Puts the lines of what a declared name of a unit of a text adds.
+/// Puts the lines of what a declared name of a unit of a text adds. The names that lead to the unit, each with a dot behind it,
+/// are lent for those that lead further, and stand as before.
 #[cycle(describing)]
 fn describe_variable(
     alloc: Global,
     out: &mut Vec<u8>,
     texts: Texts<'_, '_, '_, '_>,
-    prefix: &[u8],
+    names: &mut Vec<u8>,
     other_unit: Option<usize>,
     unit: usize,
     name: &[u8],
@@ -133,8 +131,9 @@ fn describe_variable(
         → IsSide (text_view texts.entry.other.now.source) other_unit side
         → IsAt texts.entry.own.now.source unit before u
         → literal ≡ option_map (λ i. i.value) initial
-        → out.new.items ≡ out.old.items ++ variable_lines texts.entry.pass side before u prefix.now
+        → out.new.items ≡ out.old.items ++ variable_lines texts.entry.pass side before u names.old.items
         (record { name = name.now; initial = initial })) }
+    ensures names { OnOk result (names.new.items ≡ names.old.items) }
     ensures memory { IsOkUnless result Fault.Memory }
 {
     let Some(located) = texts.own.tables().variable(unit, name) else {
@@ -144,14 +143,14 @@ fn describe_variable(
     match located.declared {
         DeclaredType::Elementary(kind) => {
             let form = Form::Plain(kind, first_value(kind, literal));
-            describe_form(alloc, out, texts, prefix, name, form, there)
+            describe_form(alloc, out, texts, names.as_slice(), name, form, there)
         }
         DeclaredType::Standard(block) => {
             describe_form(
                 alloc,
                 out,
                 texts,
-                prefix,
+                names.as_slice(),
                 name,
                 Form::Instance(block),
                 there,
@@ -162,8 +161,11 @@ fn describe_variable(
             if unit <= block || texts.own.tables().size(block) == 0 {
                 return Ok(());
             }
-            let longer = longer(alloc, prefix, name)?;
-            describe_unit(alloc, out, texts, &longer, unit_of(there), block)
+            let length = names.len();
+            go_into(names, name)?;
+            describe_unit(alloc, out, texts, names, unit_of(there), block)?;
+            names.truncate(length);
+            Ok(())
         }
     }
 }
@@ -174,7 +176,7 @@ fn describe_declaration(
     alloc: Global,
     out: &mut Vec<u8>,
     texts: Texts<'_, '_, '_, '_>,
-    prefix: &[u8],
+    names: &mut Vec<u8>,
     other_unit: Option<usize>,
     unit: usize,
     declaration: &Decl<'_>,
@@ -183,7 +185,8 @@ fn describe_declaration(
         → IsSide (text_view texts.entry.other.now.source) other_unit side
         → IsAt texts.entry.own.now.source unit before u
         → out.new.items ≡ out.old.items
-        ++ declaration_lines texts.entry.pass side before u prefix.now declaration.now) }
+        ++ declaration_lines texts.entry.pass side before u names.old.items declaration.now) }
+    ensures names { OnOk result (names.new.items ≡ names.old.items) }
     ensures memory { IsOkUnless result Fault.Memory }
 {
     let literal = match declaration.initial {
@@ -192,7 +195,7 @@ fn describe_declaration(
     };
     for word in &declaration.names {
         describe_variable(
-            alloc, out, texts, prefix, other_unit, unit, word.text, literal,
+            alloc, out, texts, names, other_unit, unit, word.text, literal,
         )?;
     }
     Ok(())
@@ -204,7 +207,7 @@ pub(crate) fn describe_unit(
     alloc: Global,
     out: &mut Vec<u8>,
     texts: Texts<'_, '_, '_, '_>,
-    prefix: &[u8],
+    names: &mut Vec<u8>,
     other_unit: Option<usize>,
     unit: usize,
 ) -> Result<(), Fault>
@@ -212,24 +215,23 @@ pub(crate) fn describe_unit(
         → IsSide (text_view texts.entry.other.now.source) other_unit side
         → IsAt texts.entry.own.now.source unit before u
         → out.new.items ≡ out.old.items
-        ++ lines_between texts.entry.pass side before u prefix.now (declared_of u)) }
+        ++ lines_between texts.entry.pass side before u names.old.items (declared_of u)) }
+    ensures names { OnOk result (names.new.items ≡ names.old.items) }
     ensures memory { IsOkUnless result Fault.Memory }
 {
     let Some(u) = texts.own.source().units.get(unit) else {
         return Ok(());
     };
     for declaration in &u.declarations {
-        if let Err(fault) = describe_declaration(
+        describe_declaration(
             alloc,
             out,
             texts,
-            prefix,
+            names,
             other_unit,
             unit,
             declaration,
-        ) {
-            return Err(fault);
-        }
+        )?;
     }
     Ok(())
 }

@@ -24,7 +24,15 @@ fn describe_program(
         return Ok(());
     };
     let other_program = texts.other.source().units.len().checked_sub(1);
-    describe_unit(alloc, out, texts, b"", other_program, program)
+    let mut names = Vec::new(alloc);
+    describe_unit(
+        alloc,
+        out,
+        texts,
+        &mut names,
+        other_program,
+        program,
+    )
 }
 
 /// What a change from a program to another would keep, with no change made: a line for each variable of the new program,

@@ -1,7 +1,9 @@
-use Rattle.std.proofs.Common.{◌≡◌, suc, length, vec_len, ap, sym, ◌∙◌, arith, rules}
+use Rattle.std.proofs.Common.{◌≡◌, ◌++◌, suc, length, vec_len, ap, sym, ◌∙◌, arith, rules}
 use Rattle.std.proofs.lemmas.List.{length-map}
 use Rattle.wc_model.specs.Language.Views.{text_view, unit_view}
 use Rattle.wc_model.specs.declared.source.Source.{Source}
+use Rattle.wc_changes.specs.Shown.{declared_of}
+use Rattle.wc_changes.specs.Sides.{lines_between}
 use Rattle.wc_changes.proofs.Variables.{on_ok}
 use Rattle.wc_changes.proofs.Wholes.{none_told, other_side, told}
 use Rattle.wc_changes.proofs.report.describe_program.Goals as goal
@@ -20,7 +22,8 @@ returns-clause-lines c =
     in
     on_ok c.describe_unit.result _ _
     (λ said. told c.args.texts.pass (text_view other) source c.in-Some.program c.checked_sub-other_program.result c.args.out.now.items c.describe_unit.new.out.items counted
-    (other_side (text_view other) c.len-2.result c.checked_sub-other_program.result other_counted c.checked_sub-other_program.ensures) said)
+    (other_side (text_view other) c.len-2.result c.checked_sub-other_program.result other_counted c.checked_sub-other_program.ensures)
+    (λ side before u h at. said side before u h at ∙ ap (λ p. c.args.out.now.items ++ lines_between c.args.texts.pass side before u p (declared_of u)) c.new-names.ensures.items))
     c.describe_unit.ensures.lines
 
 pub returns-in_default-clause-lines : goal.returns-in_default-clause-lines
