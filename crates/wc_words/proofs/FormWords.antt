@@ -1,5 +1,5 @@
 -- The form that the words give, behind a word or before it, and the words that are refused.
-use Rattle.std.proofs.Common.{◌≡◌, ◌∙◌, true, false, List, [], ◌∷◌, Option, Some, None, refl, ap, ap₂, sym, subst, inl, inr, codes, option_map, unwrap_or}
+use Rattle.std.proofs.Common.{◌≡◌, ◌∙◌, true, false, List, [], ◌∷◌, Option, Some, None, refl, ap, ap₂, subst, inl, inr, codes, option_map, unwrap_or}
 use Rattle.std.specs.Option.{option_map_or, option_or}
 use Rattle.clap.specs.Words.{App, HasKind, Kinds, Row, Text, fault_of, first_of, is_simple, is_simple_and_free, matches_of, subcommand_of}
 use Rattle.clap.specs.Kinds.{or_else}
@@ -50,26 +50,19 @@ is_plainly_simple : is_simple command_line ≡ true
 unfolding clap_on_literals
 is_plainly_simple = refl
 
-among : (f g : Kinds) (e : Error) → HasKind f e → HasKind (or_else f g) e
+-- a fault of the parse is one of the words
+pub among : (f g : Kinds) (e : Error) → HasKind f e → HasKind (or_else f g) e
 among [] g e (inl memory) = inl memory
 among [] g e (inr none) = absurd none
 among (k ∷ ks) g e h = h
 
 -- an error of the parse
-pub refused_by : (a : App) (words : List Text) (e : Error) → a ≡ command_line → (is_simple_and_free a ≡ true → HasKind (fault_of a words) e) → HasKind (fault_in words) e
-refused_by a words e line kinds = among _ _ e (subst (λ (b : App). HasKind (fault_of b words) e) line (kinds (ap is_simple_and_free line ∙ is_plain)))
+pub refused_by : (a : App) (words : List Text) (e : Error) → a ≡ command_line → (is_simple_and_free a ≡ true → HasKind (fault_of a words) e) → HasKind (fault_of command_line words) e
+refused_by a words e line kinds = subst (λ (b : App). HasKind (fault_of b words) e) line (kinds (ap is_simple_and_free line ∙ is_plain))
 
 -- the words are parsed
 pub parsed : (a : App) (words : List Text) → a ≡ command_line → (is_simple_and_free a ≡ true → fault_of a words ≡ []) → fault_of command_line words ≡ []
 parsed a words line kinds = subst (λ (b : App). fault_of b words ≡ []) line (kinds (ap is_simple_and_free line ∙ is_plain))
-
--- the form that was read is the one that is asked for
-pub form_is : (a : App) (words : List Text) (met : Option (Text × List Row)) (rows : List Row) (text : Option Text) (form : Form) → a ≡ command_line
-    → (is_simple a ≡ true → (rows ≡ matches_of a words) × (met ≡ subcommand_of a words)) → text ≡ form_in met rows
-    → Some form ≡ option_map_or form_named text (Some Long) → form_asked words ≡ Some form
-form_is a words met rows text form line matches given read =
-    let both = subst (λ (b : App). (rows ≡ matches_of b words) × (met ≡ subcommand_of b words)) line (matches (ap is_simple line ∙ is_plainly_simple)) in
-    sym (read ∙ ap (λ (o : Option Text). option_map_or form_named o (Some Long)) (given ∙ ap₂ form_in both.1 both.0))
 
 -- what was read of the words is what they ask for
 pub asked_is : (a : App) (words : List Text) (met : Option (Text × List Row)) (rows : List Row) (this : Asked) → a ≡ command_line
@@ -78,24 +71,24 @@ asked_is a words met rows this line matches given =
     let both = subst (λ (b : App). (rows ≡ matches_of b words) × (met ≡ subcommand_of b words)) line (matches (ap is_simple line ∙ is_plainly_simple)) in
     given ∙ ap (λ (m : Option (Text × List Row)). asked_by m) both.1
 
--- what was read is no form
-pub no_form_is : (a : App) (words : List Text) (met : Option (Text × List Row)) (rows : List Row) (text : Option Text) → a ≡ command_line
+-- the form that was read is the one that is asked for
+pub form_is : (a : App) (words : List Text) (met : Option (Text × List Row)) (rows : List Row) (text : Option Text) (form : Option Form) → a ≡ command_line
     → (is_simple a ≡ true → (rows ≡ matches_of a words) × (met ≡ subcommand_of a words)) → text ≡ form_in met rows
-    → None ≡ option_map_or form_named text (Some Long) → form_asked words ≡ None
-no_form_is a words met rows text line matches given read =
+    → form ≡ option_map_or form_named text (Some Long) → form ≡ form_asked words
+form_is a words met rows text form line matches given read =
     let both = subst (λ (b : App). (rows ≡ matches_of b words) × (met ≡ subcommand_of b words)) line (matches (ap is_simple line ∙ is_plainly_simple)) in
-    sym (read ∙ ap (λ (o : Option Text). option_map_or form_named o (Some Long)) (given ∙ ap₂ form_in both.1 both.0))
+    read ∙ ap (λ (o : Option Text). option_map_or form_named o (Some Long)) (given ∙ ap₂ form_in both.1 both.0)
 
 -- words that are parsed, with no form that there is, are refused
-pub refused_form : (words : List Text) (e : Error) → fault_of command_line words ≡ [] → form_asked words ≡ None → kind_of e ≡ kind.InvalidValue → HasKind (fault_in words) e
-refused_form words e none asked is = rw (none, asked) (inr (inl is))
+pub refused_form : (words : List Text) (e : Error) → fault_of command_line words ≡ [] → None ≡ form_asked words → kind_of e ≡ kind.InvalidValue → HasKind (fault_in words) e
+refused_form words e none asked is = rw (none, ← asked) (inr (inl is))
 
 -- words that are parsed, with a form that there is, are refused where a next program stands alone
-pub refused_next : (words : List Text) (form : Form) (this : Asked) (e : Error) → fault_of command_line words ≡ [] → form_asked words ≡ Some form → this ≡ asked words
+pub refused_next : (words : List Text) (form : Form) (this : Asked) (e : Error) → fault_of command_line words ≡ [] → Some form ≡ form_asked words → this ≡ asked words
     → true ≡ lacks_program this → kind_of e ≡ kind.MissingRequiredArgument → HasKind (fault_in words) e
-refused_next words form this e none given same lacks is = rw (none, given, ← same, ← lacks) (inr (inl is))
+refused_next words form this e none given same lacks is = rw (none, ← given, ← same, ← lacks) (inr (inl is))
 
 -- and are not, where none does
-pub not_refused : (words : List Text) (form : Form) (this : Asked) → fault_of command_line words ≡ [] → form_asked words ≡ Some form → this ≡ asked words
+pub not_refused : (words : List Text) (form : Form) (this : Asked) → fault_of command_line words ≡ [] → Some form ≡ form_asked words → this ≡ asked words
     → false ≡ lacks_program this → fault_in words ≡ []
-not_refused words form this none given same whole = rw (none, given, ← same, ← whole) refl
+not_refused words form this none given same whole = rw (none, ← given, ← same, ← whole) refl

@@ -11,6 +11,10 @@ use Rattle.clap.specs.declared.builder.value_parser.ValueParser.TheVariants.{Sig
 abbrev pub place : Text → Rule
 place name = record (new_rule name) { value_names = 1; required = true }
 
+-- a value
+abbrev pub valued : Text → Rule
+valued name = record (new_rule name) { value_names = 1 }
+
 -- `--NAME FILE`, which must be given
 abbrev pub file_option : Text → Rule
 file_option name = record (place name) { long = Some name }

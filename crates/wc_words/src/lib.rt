@@ -3,6 +3,7 @@
 
 mod forms;
 mod scan_choice;
+mod table;
 mod words;
 
 pub use forms::plain_forms;

@@ -1,19 +1,15 @@
-ghost use Rattle.std.specs.Prelude.{◌≡◌, IfOk, Some, false, codes, option_map};
+ghost use Rattle.std.specs.Prelude.{◌≡◌, IfOk, Some, codes, false, option_map};
 ghost use Rattle.std.specs.Option.{option_map_or};
-ghost use Rattle.clap.specs.Words.{FailsBy, found_of, subcommand_rows_of, rule_of, app_of, rows_of};
-ghost use Rattle.clap.specs.Words.{App, Rule, first_of, with_rule, with_subcommand};
+ghost use Rattle.clap.specs.Words.{FailsBy, app_of, fault_of, first_of, found_of, rows_of, subcommand_rows_of};
 ghost use Rattle.wc_words.specs.Asked.{asked, asked_at, asked_by, fault_in, file_in, flag_in};
 ghost use Rattle.wc_words.specs.Asked.{form_asked, form_in, form_named, lacks_program, number_in, texts_of, view};
 ghost use Rattle.wc_words.specs.Asked.{wide_number_in};
-ghost use Rattle.wc_words.specs.CommandLine.{Takes, command_line, check_word, run_word, show_word, trace_word, line_word};
-ghost use Rattle.wc_words.specs.CommandLine.{decode_word};
-ghost use Rattle.wc_words.specs.CommandLine.{explain_word, file_option, flag, message_option};
-ghost use Rattle.wc_words.specs.CommandLine.{number_option, number_place, place, value_option};
-ghost use Rattle.wc_words.specs.CommandLine.{wide_number_option};
+ghost use Rattle.wc_words.specs.CommandLine.{command_line};
 
 use crate::scan_choice::ScanChoice;
+use crate::table::{MESSAGE, WORDS, with_options, with_words};
 use clap::error::ErrorKind;
-use clap::{Arg, ArgAction, ArgMatches, Command, Error, value_parser};
+use clap::{ArgMatches, Command, Error};
 use std::alloc::{AllocError, Global};
 use wc_refusals::Form;
 
@@ -117,307 +113,13 @@ const NO_FORM: &str = "the form behind '--message' is none of long, short and js
 /// What is said where a next program is given alone.
 const NO_PROGRAM: &str = "'--next' is given, and no '--program' whose place it could take";
 
-/// An option that must have a file.
-fn file_option<'a>(alloc: Global, name: &'a str, help: &'a str) -> Arg<'a>
-    ensures rule { rule_of result ≡ file_option name.entry.now }
-    ensures local { result.global ≡ false }
-{
-    Arg::new(alloc, name)
-        .long(name)
-        .value_name("FILE")
-        .required(true)
-        .help(help)
-}
-
-/// The plate's option.
-fn plate_option<'a>(alloc: Global) -> Arg<'a>
-    ensures rule { rule_of result ≡ file_option (codes "plate") }
-    ensures local { result.global ≡ false }
-{
-    file_option(
-        alloc,
-        "plate",
-        "The plate: the scale's unit, capacity, interval, counts and window (TOML)",
-    )
-}
-
-/// The log's option.
-fn log_option<'a>(alloc: Global) -> Arg<'a>
-    ensures rule { rule_of result ≡ file_option (codes "log") }
-    ensures local { result.global ≡ false }
-{
-    file_option(
-        alloc,
-        "log",
-        "The log: samples, line bytes, inputs and scans (CSV)",
-    )
-}
-
-/// The program's place.
-fn program_place<'a>(alloc: Global) -> Arg<'a>
-    ensures rule { rule_of result ≡ place (codes "program") }
-    ensures local { result.global ≡ false }
-{
-    Arg::new(alloc, "program")
-        .value_name("PROGRAM")
-        .required(true)
-        .help("The program text (Instruction List)")
-}
-
-/// The option that prints paths.
-fn path_flag<'a>(alloc: Global) -> Arg<'a>
-    ensures rule { rule_of result ≡ flag (codes "path") }
-    ensures local { result.global ≡ false }
-{
-    Arg::new(alloc, "path")
-        .long("path")
-        .action(ArgAction::SetTrue)
-        .help("Print the lines of a longest path behind each unit too")
-}
-
-/// The option of the next program.
-fn next_option<'a>(alloc: Global, help: &'a str) -> Arg<'a>
-    ensures rule { rule_of result ≡ value_option (codes "next") }
-    ensures local { result.global ≡ false }
-{
-    Arg::new(alloc, "next")
-        .long("next")
-        .value_name("FILE")
-        .help(help)
-}
-
-/// An option that may be given, and has a value.
-fn value_option<'a>(alloc: Global, name: &'a str, value: &'a str, help: &'a str) -> Arg<'a>
-    ensures rule { rule_of result ≡ value_option name.entry.now }
-    ensures local { result.global ≡ false }
-{
-    Arg::new(alloc, name)
-        .long(name)
-        .value_name(value)
-        .help(help)
-}
-
-/// The option that chooses in which form a refusal is told.
-fn message_option<'a>(alloc: Global) -> Arg<'a>
-    ensures rule { rule_of result ≡ message_option }
-    ensures local { result.global ≡ false }
-{
-    Arg::new(alloc, "message")
-        .long("message")
-        .value_name("FORM")
-        .help("Tell a refusal in this form: long (else taken), short or json")
-}
-
-/// A word with one more option. As it takes what may have failed, no word has a way out for each of its options.
-fn with_option<'a>(
-    word: Result<Command<'a>, AllocError>,
-    option: Arg<'a>,
-) -> Result<Command<'a>, AllocError>
-    ensures { (app : App) → (rule : Rule) → IfOk word.entry (Takes app)
-        → rule_of option.entry ≡ rule
-        → option.entry.global ≡ false → IfOk result (Takes (with_rule app rule)) }
-{
-    let word = word?;
-    word.arg(option)
-}
-
-/// A command line with one more word.
-fn with_word<'a>(
-    line: Result<Command<'a>, AllocError>,
-    word: Result<Command<'a>, AllocError>,
-) -> Result<Command<'a>, AllocError>
-    ensures { (app : App) → (named : App) → IfOk line.entry (Takes app)
-        → IfOk word.entry (Takes named)
-        → IfOk result (Takes (with_subcommand app named.top)) }
-{
-    let line = line?;
-    line.subcommand(word?)
-}
-
-/// The word `check`.
-fn check_command<'a>(alloc: Global) -> Result<Command<'a>, AllocError>
-    ensures { IfOk result (Takes check_word) }
-{
-    let next =
-        "The next program: print its numbers of steps, and what a change to it keeps and loses";
-    let word = Command::new(alloc, "check").about(
-        "Load a program and print the greatest number of steps of each unit",
-    );
-    let word = with_option(Ok(word), program_place(alloc));
-    let word = with_option(word, next_option(alloc, next));
-    let word = with_option(word, path_flag(alloc));
-    with_option(word, message_option(alloc))
-}
-
-/// The option that prints the last scans alone.
-fn last_option<'a>(alloc: Global) -> Arg<'a>
-    ensures rule { rule_of result ≡ number_option (codes "last") 1 1000 }
-    ensures local { result.global ≡ false }
-{
-    Arg::new(alloc, "last")
-        .long("last")
-        .value_name("N")
-        .value_parser(value_parser!(u16).range(1..=1000))
-        .help("Print the last N scans alone, 1 to 1000, behind the answers of the line")
-}
-
-/// The program's option.
-fn program_option<'a>(alloc: Global) -> Arg<'a>
-    ensures rule { rule_of result ≡ file_option (codes "program") }
-    ensures local { result.global ≡ false }
-{
-    file_option(alloc, "program", "The program text (Instruction List)")
-}
-
-/// What is said of the next program of a run.
-const NEXT: &str = "The next program, which a row of kind P takes (Instruction List)";
-
-/// The option that names variables.
-fn watch_option<'a>(alloc: Global) -> Arg<'a>
-    ensures rule { rule_of result ≡ value_option (codes "watch") }
-    ensures local { result.global ≡ false }
-{
-    let help = "Print the values of these variables behind each scan, as filling,t.ET";
-    value_option(alloc, "watch", "NAME,..", help)
-}
-
-/// The word `run`.
-fn run_command<'a>(alloc: Global) -> Result<Command<'a>, AllocError>
-    ensures { IfOk result (Takes run_word) }
-{
-    let word = Command::new(alloc, "run").about(
-        "Run a log with a program: print each scan, and each answer of the line",
-    );
-    let word = with_option(Ok(word), plate_option(alloc));
-    let word = with_option(word, program_option(alloc));
-    let word = with_option(word, next_option(alloc, NEXT));
-    let word = with_option(word, log_option(alloc));
-    let word = with_option(word, last_option(alloc));
-    let word = with_option(word, watch_option(alloc));
-    with_option(word, message_option(alloc))
-}
-
-/// An option that chooses scans by a number.
-fn choosing_option<'a>(alloc: Global, name: &'a str, value: &'a str, help: &'a str) -> Arg<'a>
-    ensures rule { rule_of result ≡ wide_number_option name.entry.now }
-    ensures local { result.global ≡ false }
-{
-    Arg::new(alloc, name)
-        .long(name)
-        .value_name(value)
-        .value_parser(value_parser!(u64))
-        .help(help)
-}
-
-/// The word `trace`.
-fn trace_command<'a>(alloc: Global) -> Result<Command<'a>, AllocError>
-    ensures { IfOk result (Takes trace_word) }
-{
-    let (at, scan) = (
-        "Show the scans at this moment",
-        "Show the scan of this number, from 1",
-    );
-    let (from, to) = (
-        "Show no scan before this moment",
-        "Show no scan behind this moment",
-    );
-    let word = Command::new(alloc, "trace").about(
-        "Run a log with a program, and show its scans line by line",
-    );
-    let word = with_option(Ok(word), plate_option(alloc));
-    let word = with_option(word, program_option(alloc));
-    let word = with_option(word, next_option(alloc, NEXT));
-    let word = with_option(word, log_option(alloc));
-    let word = with_option(word, choosing_option(alloc, "at", "MS", at));
-    let word = with_option(word, choosing_option(alloc, "scan", "N", scan));
-    let word = with_option(word, choosing_option(alloc, "from", "MS", from));
-    let word = with_option(word, choosing_option(alloc, "to", "MS", to));
-    with_option(word, message_option(alloc))
-}
-
-/// The word `show`.
-fn show_command<'a>(alloc: Global) -> Result<Command<'a>, AllocError>
-    ensures { IfOk result (Takes show_word) }
-{
-    let program =
-        "The program text (Instruction List); where none is given the log is run with none";
-    let next = "The next program, which a row of kind P puts in place of that of --program";
-    let word = Command::new(alloc, "show").about("Run a log, and write a picture of it (SVG)");
-    let word = with_option(Ok(word), plate_option(alloc));
-    let word = with_option(word, value_option(alloc, "program", "FILE", program));
-    let word = with_option(word, next_option(alloc, next));
-    let word = with_option(word, log_option(alloc));
-    with_option(word, message_option(alloc))
-}
-
-/// The word `line`.
-fn line_command<'a>(alloc: Global) -> Result<Command<'a>, AllocError>
-    ensures { IfOk result (Takes line_word) }
-{
-    let word = Command::new(alloc, "line").about(
-        "Run a log with no program: print each answer of the line",
-    );
-    let word = with_option(Ok(word), plate_option(alloc));
-    let word = with_option(word, log_option(alloc));
-    with_option(word, message_option(alloc))
-}
-
-/// The option of a table.
-fn table_flag<'a>(alloc: Global) -> Arg<'a>
-    ensures rule { rule_of result ≡ flag (codes "csv") }
-    ensures local { result.global ≡ false }
-{
-    Arg::new(alloc, "csv")
-        .long("csv")
-        .action(ArgAction::SetTrue)
-        .help("Write a table for a spreadsheet (CSV)")
-}
-
-/// The word `decode`.
-fn decode_command<'a>(alloc: Global) -> Result<Command<'a>, AllocError>
-    ensures { IfOk result (Takes decode_word) }
-{
-    let word = Command::new(alloc, "decode").about(
-        "Write a report, as a run prints it, from standard input for people",
-    );
-    with_option(Ok(word), table_flag(alloc))
-}
-
-/// The place of a refusal's number.
-fn number_place<'a>(alloc: Global) -> Arg<'a>
-    ensures rule { rule_of result ≡ number_place (codes "number") }
-    ensures local { result.global ≡ false }
-{
-    Arg::new(alloc, "number")
-        .value_name("NUMBER")
-        .required(true)
-        .value_parser(value_parser!(u16))
-        .help("The number of a refusal, as 403")
-}
-
-/// The word `explain`.
-fn explain_command<'a>(alloc: Global) -> Result<Command<'a>, AllocError>
-    ensures { IfOk result (Takes explain_word) }
-{
-    let word = Command::new(alloc, "explain").about(
-        "Say what a refusal means, where it is met, and how to mend it",
-    );
-    with_option(Ok(word), number_place(alloc))
-}
-
 /// The whole command line.
 fn command<'a>(alloc: Global) -> Result<Command<'a>, AllocError>
     ensures { IfOk result (λ c. app_of c ≡ command_line) }
 {
     let line = Command::new(alloc, "wc").version(VERSION).about(ABOUT);
-    let line = with_option(Ok(line), message_option(alloc));
-    let line = with_word(line, check_command(alloc));
-    let line = with_word(line, run_command(alloc));
-    let line = with_word(line, trace_command(alloc));
-    let line = with_word(line, show_command(alloc));
-    let line = with_word(line, line_command(alloc));
-    let line = with_word(line, decode_command(alloc));
-    with_word(line, explain_command(alloc))
+    let line = with_options(alloc, line, &[MESSAGE])?;
+    with_words(alloc, line, &WORDS)
 }
 
 /// The file behind an option that must be there.
@@ -584,6 +286,48 @@ fn lacks_program(wanted: &Wanted<'_>) -> bool
     }
 }
 
+/// What the command line reads of these words, and the form that they name; or a fault in them, or help or the version that
+/// was asked for.
+fn read_by<'a>(
+    line: &mut Command<'a>,
+    words: &'a [String],
+) -> Result<(Wanted<'a>, Option<Form>), Error>
+    requires { app_of line.old ≡ command_line }
+    ensures asked { IfOk result (λ read. view read.0 ≡ asked (texts_of words.now)) }
+    ensures form { IfOk result (λ read. read.1 ≡ form_asked (texts_of words.now)) }
+    ensures refused { FailsBy (fault_of command_line (texts_of words.now)) result }
+{
+    match line.try_get_matches_from_mut(words) {
+        Ok(matches) => {
+            let (wanted, text) = asked_in(&matches);
+            Ok((wanted, form_of(text)))
+        }
+        Err(error) => Err(error),
+    }
+}
+
+/// What the command line reads of these words; or a fault in them, one of their form or a missing program too.
+fn asked_by<'a>(line: &mut Command<'a>, words: &'a [String]) -> Result<AskedCommand<'a>, Error>
+    requires { app_of line.old ≡ command_line }
+    ensures asked { IfOk result (λ request. view request.wanted ≡ asked (texts_of words.now)) }
+    ensures form { IfOk result (λ request. form_asked (texts_of words.now) ≡ Some request.form) }
+    ensures refused { FailsBy (fault_in (texts_of words.now)) result }
+{
+    let (wanted, form) = match read_by(line, words) {
+        Ok(read) => read,
+        Err(error) => return Err(error),
+    };
+    match form {
+        Some(form) => {
+            if lacks_program(&wanted) {
+                return Err(line.error(ErrorKind::MissingRequiredArgument, NO_PROGRAM)?);
+            }
+            Ok(AskedCommand { wanted, form })
+        }
+        None => Err(line.error(ErrorKind::InvalidValue, NO_FORM)?),
+    }
+}
+
 /// What these words ask for, the first of which is the program's own name; or a fault in them, or help or the version that
 /// was asked for.
 pub fn read_words<'a>(alloc: Global, words: &'a [String]) -> Result<AskedCommand<'a>, Error>
@@ -591,19 +335,6 @@ pub fn read_words<'a>(alloc: Global, words: &'a [String]) -> Result<AskedCommand
     ensures form { IfOk result (λ request. form_asked (texts_of words.now) ≡ Some request.form) }
     ensures refused { FailsBy (fault_in (texts_of words.now)) result }
 {
-    let mut command = command(alloc)?;
-    let matches = match command.try_get_matches_from_mut(words) {
-        Ok(matches) => matches,
-        Err(error) => return Err(error),
-    };
-    let (wanted, text) = asked_in(&matches);
-    match form_of(text) {
-        Some(form) => {
-            if lacks_program(&wanted) {
-                return Err(command.error(ErrorKind::MissingRequiredArgument, NO_PROGRAM)?);
-            }
-            Ok(AskedCommand { wanted, form })
-        }
-        None => Err(command.error(ErrorKind::InvalidValue, NO_FORM)?),
-    }
+    let mut line = command(alloc)?;
+    asked_by(&mut line, words)
 }
