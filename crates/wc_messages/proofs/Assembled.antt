@@ -26,11 +26,6 @@ pub fourth_behind : {X : Type 0} (old a b c d first second third all : List X) �
 fourth_behind old a b c d first second third all e f g h =
     rw (h, g, f, e, append_assoc old a b, append_assoc old (a ++ b) c, append_assoc old (a ++ b ++ c) d) refl
 
--- what stands in the pieces of a long message may be written otherwise
-pub same_pieces : (f : List ℕ → List ℕ → List ℕ) (head help margin margin' beside beside' excerpt excerpt' all : List ℕ) → margin ≡ margin' → beside ≡ beside' → excerpt ≡ excerpt'
-    → all ≡ head ++ f margin beside ++ excerpt ++ help → all ≡ head ++ f margin' beside' ++ excerpt' ++ help
-same_pieces f head help margin margin' beside beside' excerpt excerpt' all d e g h = cc
-
 -- seven pieces in an empty message
 pub seven_pieces : (a b c d e f g start first second third fourth fifth sixth all : List ℕ) → start ≡ [] → first ≡ start ++ a → second ≡ first ++ b → third ≡ second ++ c → fourth ≡ third ++ d
     → fifth ≡ fourth ++ e → sixth ≡ fifth ++ f → all ≡ sixth ++ g

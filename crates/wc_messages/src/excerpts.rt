@@ -124,28 +124,24 @@ fn write_quoted(message: &mut Message, number: u32, part: &[u8]) -> Result<(), A
     message.end_line()
 }
 
-/// The line that is meant, with its marks, where it is known.
-pub(crate) fn excerpt(
+/// Writes the line that is meant, with its marks, where it is known.
+pub(crate) fn write_excerpt(
     alloc: Global,
+    message: &mut Message,
     number: u32,
     finding: &Finding,
     words: &Message,
-) -> Result<Message, AllocError>
-    ensures { IfOk result (λ message. message.bytes.items
-        ≡ excerpt_text number finding.now.shown.items finding.now.spot words.now.bytes.items) }
+) -> Result<(), AllocError>
+    ensures { OnOk result (message.new.bytes.items
+        ≡ message.old.bytes.items
+        ++ excerpt_text number finding.now.shown.items finding.now.spot words.now.bytes.items) }
 {
-    let mut message = Message::new(alloc);
     if finding.shown.is_empty() {
-        return Ok(message);
+        return Ok(());
     }
     let margin = margin(alloc, number)?;
+    write_bar(message, &margin, &Message::new(alloc))?;
+    write_quoted(message, number, shown_part(&finding.shown, finding.spot))?;
     let marked = marks_under(alloc, &finding.shown, finding.spot, words)?;
-    write_bar(&mut message, &margin, &Message::new(alloc))?;
-    write_quoted(
-        &mut message,
-        number,
-        shown_part(&finding.shown, finding.spot),
-    )?;
-    write_bar(&mut message, &margin, &marked)?;
-    Ok(message)
+    write_bar(message, &margin, &marked)
 }

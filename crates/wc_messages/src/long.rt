@@ -1,9 +1,10 @@
-ghost use Rattle.std.specs.Prelude.{◌≡◌, ℕ, List, ◌++◌, IfOk, OnOk};
+ghost use Rattle.std.specs.Prelude.{◌≡◌, ◌≤◌, ℕ, List, [], ◌++◌, IfOk, IfSome, OnOk, length};
 ghost use Rattle.wc_messages.specs.Explanations.{Explains, headline, help_line, page_text, place_line};
 ghost use Rattle.wc_messages.specs.Known.{IsKnown};
+ghost use Rattle.wc_messages.specs.Locations.{beside_text, margin_text};
 ghost use Rattle.wc_messages.specs.Plain.{shown_text};
 
-use crate::excerpts::excerpt;
+use crate::excerpts::write_excerpt;
 use crate::message::Message;
 use crate::parts::Parts;
 use crate::placing::{beside, margin, write_line};
@@ -22,8 +23,8 @@ fn write_headline(message: &mut Message, number: u16, told: &Message) -> Result<
     message.end_line()
 }
 
-/// Writes where it is wrong.
-fn write_place(
+/// Writes the line with what is named.
+fn write_place_line(
     message: &mut Message,
     margin: &Message,
     name: &[u8],
@@ -40,6 +41,25 @@ fn write_place(
     write_line(message, line)?;
     message.append(beside)?;
     message.end_line()
+}
+
+/// Writes where it is wrong.
+fn write_place(
+    alloc: Global,
+    message: &mut Message,
+    refusal: &Refusal<'_>,
+    parts: &Parts,
+) -> Result<(), AllocError>
+    requires { IfSome parts.now.finding.spot
+        (λ spot. spot.start ≤ length parts.now.finding.shown.items) }
+    ensures { OnOk result (message.new.bytes.items
+        ≡ message.old.bytes.items
+        ++ place_line (margin_text parts.now.line) refusal.now.name.now parts.now.line
+        (beside_text refusal.now parts.now.finding.spot)) }
+{
+    let margin = margin(alloc, parts.line)?;
+    let beside = beside(alloc, refusal, &parts.finding)?;
+    write_place_line(message, &margin, refusal.name, parts.line, &beside)
 }
 
 /// Writes which page says more.
@@ -64,6 +84,24 @@ fn write_help(message: &mut Message, number: u16, advice: &Message) -> Result<()
     write_page(message, number)
 }
 
+/// Writes what is wrong, where, the line with what is meant in it, and what to write instead.
+fn write_explanation(
+    alloc: Global,
+    message: &mut Message,
+    refusal: &Refusal<'_>,
+    parts: &Parts,
+) -> Result<(), AllocError>
+    requires known { IsKnown refusal.now parts.now }
+    requires empty { message.old.bytes.items ≡ [] }
+    ensures { OnOk result (Explains refusal.now message.new.bytes.items) }
+{
+    write_headline(message, refusal.number, &parts.told)?;
+    write_place(alloc, message, refusal, parts)?;
+    write_excerpt(alloc, message, parts.line, &parts.finding, &parts.expected)?;
+    write_help(message, refusal.number, &parts.advice)?;
+    Ok(())
+}
+
 /// What is wrong, where, the line with what is meant in it, and what to write instead.
 pub(crate) fn long(
     alloc: Global,
@@ -73,13 +111,7 @@ pub(crate) fn long(
     requires { IsKnown refusal.now parts.now }
     ensures { IfOk result (λ message. Explains refusal.now message.bytes.items) }
 {
-    let margin = margin(alloc, parts.line)?;
-    let beside = beside(alloc, refusal, &parts.finding)?;
-    let excerpt = excerpt(alloc, parts.line, &parts.finding, &parts.expected)?;
     let mut message = Message::new(alloc);
-    write_headline(&mut message, refusal.number, &parts.told)?;
-    write_place(&mut message, &margin, refusal.name, parts.line, &beside)?;
-    message.append(&excerpt)?;
-    write_help(&mut message, refusal.number, &parts.advice)?;
+    write_explanation(alloc, &mut message, refusal, parts)?;
     Ok(message)
 }

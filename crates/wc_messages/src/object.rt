@@ -93,10 +93,10 @@ fn write_position(
         ≡ writer.old.tokens
         ++ position_members refusal.now parts.now.line parts.now.finding) }
 {
-    let place = place_words(alloc, refusal)?;
     write_number_if_any(writer, "line", parts.line as usize)?;
     write_number_if_any(writer, "column", first_column(&parts.finding))?;
     write_number_if_any(writer, "endColumn", column_behind(&parts.finding))?;
+    let place = place_words(alloc, refusal)?;
     write_words_if_any(writer, "place", &place)?;
     Ok(())
 }

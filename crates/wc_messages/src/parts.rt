@@ -1,7 +1,7 @@
-ghost use Rattle.std.specs.Prelude.{◌≡◌, ◌++◌, IfOk, OnOk};
+ghost use Rattle.std.specs.Prelude.{◌≡◌, ℕ, List, ◌++◌, IfOk, OnOk};
 ghost use Rattle.wc_messages.specs.Explanations.{left_out_text, quoted_text};
 ghost use Rattle.wc_messages.specs.Known.{IsKnown};
-ghost use Rattle.wc_messages.specs.Plain.{IsShown};
+ghost use Rattle.wc_messages.specs.Plain.{IsShown, shown_text};
 
 use crate::excerpts::{WIDEST, piece};
 use crate::message::Message;
@@ -116,15 +116,38 @@ fn advice_of<'a>(number: u16, finding: &'a Finding) -> &'a str {
     &finding.advice
 }
 
+/// What is wrong, in words.
+fn told_of(alloc: Global, number: u16, finding: &Finding) -> Result<Message, AllocError>
+    ensures { IfOk result (λ told. (said : List ℕ) × (told.bytes.items
+        ≡ quoted_text finding.now.subject.items ++ shown_text said)) }
+{
+    let said = statement_of(alloc, number, finding)?;
+    what_is_wrong(alloc, finding, &said)
+}
+
+/// What is wrong, what could stand there, and what to write instead.
+fn words_of(
+    alloc: Global,
+    number: u16,
+    finding: &Finding,
+) -> Result<(Message, Message, Message), AllocError>
+    ensures told { IfOk result (λ words. (said : List ℕ) × (words.0.bytes.items
+        ≡ quoted_text finding.now.subject.items ++ shown_text said)) }
+    ensures expected { IfOk result (λ words. IsShown words.1.bytes.items) }
+    ensures advice { IfOk result (λ words. IsShown words.2.bytes.items) }
+{
+    let told = told_of(alloc, number, finding)?;
+    let expected = words(alloc, finding.expected)?;
+    let advice = words(alloc, advice_of(number, finding))?;
+    Ok((told, expected, advice))
+}
+
 /// What is said of a refusal.
 pub(crate) fn parts_of(alloc: Global, refusal: &Refusal<'_>) -> Result<Parts, AllocError>
     ensures { IfOk result (λ parts. IsKnown refusal.now parts) }
 {
     let finding = find(alloc, refusal)?;
-    let said = statement_of(alloc, refusal.number, &finding)?;
-    let told = what_is_wrong(alloc, &finding, &said)?;
-    let expected = words(alloc, finding.expected)?;
-    let advice = words(alloc, advice_of(refusal.number, &finding))?;
+    let (told, expected, advice) = words_of(alloc, refusal.number, &finding)?;
     Ok(Parts {
         line: named_line(refusal, finding.line),
         told,
