@@ -93,7 +93,44 @@ fn recorder_of(alloc: Global, last: Option<u16>) -> Result<Option<Recorder>, Run
 
 /// Runs the log that the reader has to give with a scale to which no row has come, and a recorder
 /// of the last so many scans where they are asked for.
-fn run_recorded<'a, V: Scanner, R: ByteIn, W: ByteOut>(
+fn run_recorded<V: Scanner, R: ByteIn, W: ByteOut>(
+    alloc: Global,
+    last: Option<u16>,
+    scanner: &mut V,
+    scale: &mut Scale<'_>,
+    reader: &mut R,
+    writer: &mut W,
+    told: &mut RefusedRow,
+) -> Result<u32, RunFault>
+    requires few { IfSome last (λ n. (1 ≤ n) × (n ≤ 1000)) }
+    requires first { IsNotBehind scale.old 0 }
+    ensures reports { IfSome (R.bytes_left reader.old)
+        (λ bytes. (plate : PlateData) (logic : Option Logic) → Stands scale.old plate logic []
+        → Reports last plate logic (log_for logic (log_of (records_of bytes))) result
+        (W.bytes_taken writer.old) (W.bytes_taken writer.new)) }
+    ensures told { TellsRefused (R.bytes_left reader.old) (fields_told told.new) result }
+    ensures failures { TellsWrites result (W.failure_count writer.old)
+        (W.failure_count writer.new) }
+    ensures reader { HasNotFailed result (R.failure_count reader.old)
+        (R.failure_count reader.new) }
+{
+    match recorder_of(alloc, last) {
+        Ok(mut recorder) => run_to_end(
+            alloc,
+            scanner,
+            scale,
+            &mut recorder,
+            reader,
+            writer,
+            told,
+        ),
+        Err(fault) => Err(fault),
+    }
+}
+
+/// Runs the log that the reader has to give with a scale of this plate, beside this machine and the
+/// next program, if there are any.
+fn run_scale<'a, V: Scanner, R: ByteIn, W: ByteOut>(
     alloc: Global,
     last: Option<u16>,
     scanner: &mut V,
@@ -116,20 +153,8 @@ fn run_recorded<'a, V: Scanner, R: ByteIn, W: ByteOut>(
     ensures reader { HasNotFailed result (R.failure_count reader.old)
         (R.failure_count reader.new) }
 {
-    let mut recorder = match recorder_of(alloc, last) {
-        Ok(recorder) => recorder,
-        Err(fault) => return Err(fault),
-    };
     match Scale::new(alloc, plate, machine, next) {
-        Ok(mut scale) => run_to_end(
-            alloc,
-            scanner,
-            &mut scale,
-            &mut recorder,
-            reader,
-            writer,
-            told,
-        ),
+        Ok(mut scale) => run_recorded(alloc, last, scanner, &mut scale, reader, writer, told),
         Err(fault) => Err(fault),
     }
 }
@@ -210,7 +235,7 @@ pub fn run<'a, V: Scanner, R: ByteIn, W: ByteOut>(
 {
     let failures = reader.failures();
     let spent = reader.spent();
-    match run_recorded(
+    match run_scale(
         alloc, last, scanner, plate, machine, next, reader, writer, told,
     ) {
         Ok(count) => Ok(count),

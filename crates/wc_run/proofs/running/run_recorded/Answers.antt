@@ -5,8 +5,8 @@ use Rattle.wc_record.specs.Reading.{records_of}
 use Rattle.wc_run.proofs.Texts.{ends_reported}
 use Rattle.wc_run.proofs.running.run_recorded.Goals as goal
 
-pub returns-in-Ok-new-clause-reports : goal.returns-in-Ok-new-clause-reports
-returns-in-Ok-new-clause-reports g c = IfSome_then (g.R.ByteIn.bytes_left c.args.reader.now) c.run_to_end.ensures.ends
-    (λ bytes says logic stands. ends_reported c.args.last c.args.plate.now logic (log_for logic (log_of (records_of bytes))) c.run_to_end.result
+pub returns-in-Ok-clause-reports : goal.returns-in-Ok-clause-reports
+returns-in-Ok-clause-reports g c = IfSome_then (g.R.ByteIn.bytes_left c.args.reader.now) c.run_to_end.ensures.ends
+    (λ bytes says plate logic stands. ends_reported c.args.last plate logic (log_for logic (log_of (records_of bytes))) c.run_to_end.result
     (g.W.ByteOut.bytes_taken c.args.writer.now) (g.W.ByteOut.bytes_taken c.run_to_end.new.writer)
-    (says c.args.plate.now logic c.args.last (c.in-Ok-new.ensures.stands logic stands) c.in-Ok.ensures.holds))
+    (says plate logic c.args.last stands c.in-Ok.ensures.holds))
