@@ -1,7 +1,7 @@
-use crate::notes::{Note, Notes, notes_of};
+use crate::notes::{Note, Notes, note_units};
 use std::alloc::Global;
 use wc_cost::Loaded;
-use wc_model::{Fault, Kind, Place, SlotKind};
+use wc_model::{Fault, Kind, Place, SlotKind, or_memory, put_bytes};
 
 /// What the rows of a scan are told from: the lines of a program's text, what they name, and the kinds of its places.
 #[derive(Drop)]
@@ -12,43 +12,43 @@ pub(crate) struct Legend {
     kinds: Vec<SlotKind>,
 }
 
-/// Where the lines of a text start, and the end of the last.
-fn line_starts(alloc: Global, text: &[u8]) -> Result<Vec<usize>, Fault> {
-    let mut starts = Vec::new(alloc);
-    let mut next = 0_usize;
-    for line in text.split(|byte| *byte == b'\n') {
-        if starts.push(next).is_err() {
-            return Err(Fault::Memory);
-        }
-        next = next.saturating_add(line.len()).saturating_add(1);
-    }
-    match starts.push(next) {
-        Ok(()) => Ok(starts),
+/// Puts where a line starts.
+fn put_start(starts: &mut Vec<usize>, start: usize) -> Result<(), Fault> {
+    match starts.push(start) {
+        Ok(()) => Ok(()),
         Err(_) => Err(Fault::Memory),
     }
 }
 
-/// A copy, since the text and the program are lent for the time of a call.
-fn copy_of<T: Copy>(alloc: Global, items: &[T]) -> Result<Vec<T>, Fault> {
-    match Vec::from_slice(alloc, items) {
-        Ok(items) => Ok(items),
-        Err(_) => Err(Fault::Memory),
+/// Puts where the lines of a text start, and the end of the last.
+fn put_starts(starts: &mut Vec<usize>, text: &[u8]) -> Result<(), Fault> {
+    let mut next = 0_usize;
+    for line in text.split(|byte| *byte == b'\n') {
+        put_start(starts, next)?;
+        next = next.saturating_add(line.len()).saturating_add(1);
     }
+    put_start(starts, next)
 }
 
 impl Legend {
     /// The legend of a text that is loaded. `Memory` is the only fault.
     pub(crate) fn new(alloc: Global, text: &[u8], loaded: &Loaded<'_>) -> Result<Legend, Fault> {
-        let starts = line_starts(alloc, text)?;
-        let notes = notes_of(alloc, loaded.checked().source())?;
-        let kinds = copy_of(alloc, loaded.kinds())?;
-        let text = copy_of(alloc, text)?;
-        Ok(Legend {
-            text,
-            starts,
-            notes,
-            kinds,
-        })
+        let mut legend = Legend {
+            text: Vec::new(alloc),
+            starts: Vec::new(alloc),
+            notes: Notes::new(alloc),
+            kinds: Vec::new(alloc),
+        };
+        legend.copy(text, loaded)?;
+        Ok(legend)
+    }
+
+    /// Takes over what is told from a text and its program, since both are lent for the time of a call.
+    fn copy(&mut self, text: &[u8], loaded: &Loaded<'_>) -> Result<(), Fault> {
+        put_bytes(&mut self.text, text)?;
+        put_starts(&mut self.starts, text)?;
+        note_units(&mut self.notes, loaded.checked().source())?;
+        or_memory(self.kinds.extend_from_slice(loaded.kinds()))
     }
 
     /// The bytes of a line of the text, counted from 1, without its end.

@@ -23,6 +23,14 @@ pub(crate) struct Notes {
 }
 
 impl Notes {
+    /// No notes.
+    pub(crate) fn new(alloc: Global) -> Notes {
+        Notes {
+            notes: Vec::new(alloc),
+            names: Vec::new(alloc),
+        }
+    }
+
     /// Adds a note of a name, with a field of it where that is not empty. `Memory` is the only fault.
     fn add(
         &mut self,
@@ -139,14 +147,10 @@ fn note_lines(notes: &mut Notes, lines: &[Line<'_>]) -> Result<(), Fault> {
     Ok(())
 }
 
-/// The notes of a text. `Memory` is the only fault.
-pub(crate) fn notes_of(alloc: Global, source: &Source<'_>) -> Result<Notes, Fault> {
-    let mut notes = Notes {
-        notes: Vec::new(alloc),
-        names: Vec::new(alloc),
-    };
+/// Notes all units of a text. `Memory` is the only fault.
+pub(crate) fn note_units(notes: &mut Notes, source: &Source<'_>) -> Result<(), Fault> {
     for unit in &source.units {
-        note_lines(&mut notes, &unit.body)?;
+        note_lines(notes, &unit.body)?;
     }
-    Ok(notes)
+    Ok(())
 }

@@ -15,14 +15,18 @@ const WRITTEN: usize = 58;
 /// How many bytes of a line are shown at most.
 const LONGEST: usize = 72;
 
-/// Puts spaces up to a column of the row that starts there, and two at least.
-fn put_gap(text: &mut Vec<u8>, start: usize, column: usize) -> Result<(), Fault> {
-    let there = text.len().saturating_sub(start);
-    let count = column.saturating_sub(there).max(2);
+/// Puts so many spaces.
+fn put_spaces(text: &mut Vec<u8>, count: usize) -> Result<(), Fault> {
     for _space in 0..count {
         put_bytes(text, b" ")?;
     }
     Ok(())
+}
+
+/// Puts spaces up to a column of the row that starts there, and two at least.
+fn put_gap(text: &mut Vec<u8>, start: usize, column: usize) -> Result<(), Fault> {
+    let there = text.len().saturating_sub(start);
+    put_spaces(text, column.saturating_sub(there).max(2))
 }
 
 /// A byte as it is shown: what a terminal would act on is not.
@@ -34,45 +38,41 @@ fn printable(byte: u8) -> u8 {
     }
 }
 
-/// Whether a byte is blank.
-fn is_blank(byte: u8) -> bool {
-    byte == b' ' || byte == b'\t' || byte == b'\r'
-}
-
-/// A line without the blanks at its ends.
-fn without_blanks(line: &[u8]) -> &[u8] {
-    let before = line.iter().take_while(|byte| is_blank(**byte)).count();
-    let behind = line
-        .iter()
-        .rev()
-        .take_while(|byte| is_blank(**byte))
-        .count();
-    let end = line.len().saturating_sub(behind);
-    match line.get(before..end) {
-        Some(rest) => rest,
-        None => b"",
-    }
-}
-
-/// Puts a line of the text, or the first part of one that is long.
-fn put_line(text: &mut Vec<u8>, line: &[u8]) -> Result<(), Fault> {
-    let line = without_blanks(line);
-    for byte in line.iter().take(LONGEST) {
+/// Puts bytes as they are shown.
+fn put_shown(text: &mut Vec<u8>, bytes: &[u8]) -> Result<(), Fault> {
+    for byte in bytes {
         put_bytes(text, &[printable(*byte)])?;
-    }
-    if line.len() > LONGEST {
-        return put_bytes(text, b"..");
     }
     Ok(())
 }
 
+/// Puts a line of the text without the blanks at its ends, or the first part of one that is long.
+fn put_line(text: &mut Vec<u8>, line: &[u8]) -> Result<(), Fault> {
+    let line = line.trim_ascii();
+    match line.get(..LONGEST) {
+        Some(first) if first.len() < line.len() => {
+            put_shown(text, first)?;
+            put_bytes(text, b"..")
+        }
+        _ => put_shown(text, line),
+    }
+}
+
+/// How many spaces stand before a number in six columns.
+fn spaces_before(number: u32) -> usize {
+    match number {
+        0..10 => 5,
+        10..100 => 4,
+        100..1_000 => 3,
+        1_000..10_000 => 2,
+        10_000..100_000 => 1,
+        _ => 0,
+    }
+}
+
 /// Puts a number, with spaces before it up to six columns.
 fn put_aligned(text: &mut Vec<u8>, number: u32) -> Result<(), Fault> {
-    for least in [100_000, 10_000, 1_000, 100, 10] {
-        if number < least {
-            put_bytes(text, b" ")?;
-        }
-    }
+    put_spaces(text, spaces_before(number))?;
     put_number(text, u64::from(number))
 }
 
@@ -85,21 +85,15 @@ fn is_body_line(line: &Code) -> bool {
     }
 }
 
-/// Puts the number of the line and its text, or room for them beside a part of a call; deeper calls stand further right.
+/// Puts the number of the line and its text, or room for the number beside a part of a call; deeper calls stand further right.
 fn put_place(text: &mut Vec<u8>, legend: &Legend, seen: &SeenLine) -> Result<(), Fault> {
-    if is_body_line(&seen.line) {
-        put_aligned(text, seen.source)?;
-    } else {
-        put_bytes(text, b"      ")?;
+    let indent = 2 + 2 * seen.depth.min(8) as usize;
+    if !is_body_line(&seen.line) {
+        return put_spaces(text, 6 + indent);
     }
-    for _call in 0..seen.depth.min(8) {
-        put_bytes(text, b"  ")?;
-    }
-    put_bytes(text, b"  ")?;
-    if is_body_line(&seen.line) {
-        return put_line(text, legend.line(seen.source));
-    }
-    Ok(())
+    put_aligned(text, seen.source)?;
+    put_spaces(text, indent)?;
+    put_line(text, legend.line(seen.source))
 }
 
 /// Puts a number as a literal of its kind, or in digits where none is known.
@@ -174,16 +168,22 @@ pub(crate) struct Heading {
     pub(crate) is_changed: bool,
 }
 
+/// Puts a number between two texts.
+fn put_between(text: &mut Vec<u8>, before: &[u8], number: u64, behind: &[u8]) -> Result<(), Fault> {
+    put_bytes(text, before)?;
+    put_number(text, number)?;
+    put_bytes(text, behind)
+}
+
 /// Puts the heading of a scan.
 fn put_heading(text: &mut Vec<u8>, heading: Heading) -> Result<(), Fault> {
-    put_bytes(text, b"scan ")?;
-    put_number(text, u64::from(heading.number))?;
-    put_bytes(text, b" at ")?;
-    put_number(text, heading.ms)?;
-    if heading.is_changed {
-        return put_bytes(text, b" ms, next program\n");
-    }
-    put_bytes(text, b" ms\n")
+    let end: &[u8] = if heading.is_changed {
+        b" ms, next program\n"
+    } else {
+        b" ms\n"
+    };
+    put_between(text, b"scan ", u64::from(heading.number), b" at ")?;
+    put_between(text, b"", heading.ms, end)
 }
 
 /// Puts that none of so many scans was chosen.
@@ -191,18 +191,13 @@ pub(crate) fn put_none_chosen(text: &mut Vec<u8>, scans: u32) -> Result<(), Faul
     if scans == 0 {
         return put_bytes(text, b"the log has no scan\n");
     }
-    put_bytes(text, b"none of ")?;
-    put_number(text, u64::from(scans))?;
-    put_bytes(text, b" scans is chosen\n")
+    put_between(text, b"none of ", u64::from(scans), b" scans is chosen\n")
 }
 
 /// Puts how many steps a scan took, and how many one takes at most.
 fn put_steps(text: &mut Vec<u8>, steps: usize, bound: u32) -> Result<(), Fault> {
-    put_bytes(text, b"steps ")?;
-    put_number(text, steps as u64)?;
-    put_bytes(text, b" of at most ")?;
-    put_number(text, u64::from(bound))?;
-    put_bytes(text, b"\n")
+    put_between(text, b"steps ", steps as u64, b" of at most ")?;
+    put_between(text, b"", u64::from(bound), b"\n")
 }
 
 /// Puts the rows of a scan behind a text: a heading, a row for each item that was seen of it, in the order of execution, and
