@@ -115,15 +115,7 @@ fn run_recorded<V: Scanner, R: ByteIn, W: ByteOut>(
         (R.failure_count reader.new) }
 {
     match recorder_of(alloc, last) {
-        Ok(mut recorder) => run_to_end(
-            alloc,
-            scanner,
-            scale,
-            &mut recorder,
-            reader,
-            writer,
-            told,
-        ),
+        Ok(mut recorder) => run_to_end(alloc, scanner, scale, &mut recorder, reader, writer, told),
         Err(fault) => Err(fault),
     }
 }
