@@ -137,32 +137,34 @@ fn end_unit<'a>(units: &mut Vec<Unit<'a>, Global>, body: Body<'a>) -> Result<(),
     Ok(())
 }
 
-/// How far the text has been read whose body has been read so far. A unit that is done is added to
-/// the whole ones.
+/// How far the text has been read whose body has been read so far, where it goes on. A unit that is
+/// done is added to the whole ones.
 #[inline(always)]
 fn body_state<'a>(
     units: &mut Vec<Unit<'a>, Global>,
     body: Body<'a>,
-    place: BodyPlace<'a>,
-) -> Result<TextState<'a>, AllocError>
-    requires { IsCounted body }
+    place: Option<BodyPlace<'a>>,
+) -> Result<Option<TextState<'a>>, AllocError>
+    requires { IfSome place (λ it. IsCounted body) }
     ensures behind { IfOk result
         (λ state.
-        state_view (map unit_view units.new.items) state
-        ≡ place_view (position_view (map unit_view units.old.items) body.entry) place.entry) }
-    ensures counted { IfOk result (λ state. IsStateCounted state) }
+        option_map (state_view (map unit_view units.new.items)) state
+        ≡ option_map (place_view (position_view (map unit_view units.old.items) body.entry))
+        place.entry) }
+    ensures counted { IfOk result (λ state. IfSome state (λ it. IsStateCounted it)) }
 {
     match place {
-        BodyPlace::Within(place) => Ok(TextState::InBody(body, place)),
-        BodyPlace::InSection(section) => Ok(TextState::Declaring(
+        Some(BodyPlace::Within(place)) => Ok(Some(TextState::InBody(body, place))),
+        Some(BodyPlace::InSection(section)) => Ok(Some(TextState::Declaring(
             body.unit,
             section,
             DeclarationState::Undeclared,
-        )),
-        BodyPlace::BehindUnit => {
+        ))),
+        Some(BodyPlace::BehindUnit) => {
             end_unit(units, body)?;
-            Ok(TextState::Outside)
+            Ok(Some(TextState::Outside))
         }
+        None => Ok(None),
     }
 }
 
@@ -186,13 +188,8 @@ fn in_body<'a>(
     ensures counted { IfOk result (λ next. IfSome next (λ it. IsStateCounted it)) }
 {
     let mut body = body;
-    match place_move(alloc, &mut body, place, token, colon)? {
-        Some(place) => {
-            let state = body_state(units, body, place)?;
-            Ok(Some(state))
-        }
-        None => Ok(None),
-    }
+    let next = place_move(alloc, &mut body, place, token, colon)?;
+    body_state(units, body, next)
 }
 
 /// Behind one more token; none where no text goes on so. `colon` says whether a colon follows it. A
