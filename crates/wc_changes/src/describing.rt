@@ -223,15 +223,7 @@ pub(crate) fn describe_unit(
         return Ok(());
     };
     for declaration in &u.declarations {
-        describe_declaration(
-            alloc,
-            out,
-            texts,
-            names,
-            other_unit,
-            unit,
-            declaration,
-        )?;
+        describe_declaration(alloc, out, texts, names, other_unit, unit, declaration)?;
     }
     Ok(())
 }

@@ -25,14 +25,7 @@ fn describe_program(
     };
     let other_program = texts.other.source().units.len().checked_sub(1);
     let mut names = Vec::new(alloc);
-    describe_unit(
-        alloc,
-        out,
-        texts,
-        &mut names,
-        other_program,
-        program,
-    )
+    describe_unit(alloc, out, texts, &mut names, other_program, program)
 }
 
 /// What a change from a program to another would keep, with no change made: a line for each variable of the new program,

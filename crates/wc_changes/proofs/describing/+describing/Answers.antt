@@ -24,26 +24,26 @@ use Rattle.wc_changes.proofs.describing.+describing.Goals.{describe_declaration-
 
 pub describe_declaration-loop-word-preserved : goal.describe_declaration-loop-word-preserved
 describe_declaration-loop-word-preserved t c = record {
-    names = c.in_ok-describe_variable.ensures.names ∙ c.loop-word.invariant.names;
-    lines = λ side before u h at.
-    let literal : c.match-declaration.literal ≡ option_map (λ (i : Initial). i.value) c.args.declaration.now.initial =
-    elim c.match-declaration.branch [
-      | describe_declaration-in-Some w ↦ w.literal-is ∙ ap (option_map (λ (i : Initial). i.value)) (sym w.in-Some.is)
-      | describe_declaration-in-None w ↦ w.literal-is ∙ ap (option_map (λ (i : Initial). i.value)) (sym w.in-None.is)
-    ]
-    in
-    let said = rw c.loop-word.invariant.names at (c.in_ok-describe_variable.ensures.lines side before u c.args.declaration.now.initial h at literal) in
-    let so = c.loop-word.invariant.lines side before u h at in
-    grind (arith, common_steps)
+  names = c.in_ok-describe_variable.ensures.names ∙ c.loop-word.invariant.names;
+  lines = λ side before u h at.
+      let literal : c.match-declaration.literal ≡ option_map (λ (i : Initial). i.value) c.args.declaration.now.initial =
+      elim c.match-declaration.branch [
+        | describe_declaration-in-Some w ↦ w.literal-is ∙ ap (option_map (λ (i : Initial). i.value)) (sym w.in-Some.is)
+        | describe_declaration-in-None w ↦ w.literal-is ∙ ap (option_map (λ (i : Initial). i.value)) (sym w.in-None.is)
+      ]
+      in
+      let said = rw c.loop-word.invariant.names at (c.in_ok-describe_variable.ensures.lines side before u c.args.declaration.now.initial h at literal) in
+      let so = c.loop-word.invariant.lines side before u h at in
+      grind (arith, common_steps);
 }
 
 pub describe_unit-loop-declaration-preserved : goal.describe_unit-loop-declaration-preserved
 describe_unit-loop-declaration-preserved t c = record {
-    names = c.in_ok-describe_declaration.ensures.names ∙ c.loop-declaration.invariant.names;
-    lines = λ side before u h at.
-    let said = rw c.loop-declaration.invariant.names at (c.in_ok-describe_declaration.ensures.lines side before u h at) in
-    let so = c.loop-declaration.invariant.lines side before u h at in
-    grind (arith, common_steps)
+  names = c.in_ok-describe_declaration.ensures.names ∙ c.loop-declaration.invariant.names;
+  lines = λ side before u h at.
+      let said = rw c.loop-declaration.invariant.names at (c.in_ok-describe_declaration.ensures.lines side before u h at) in
+      let so = c.loop-declaration.invariant.lines side before u h at in
+      grind (arith, common_steps);
 }
 
 pub describe_declaration-returns-clause-lines : goal.describe_declaration-returns-clause-lines
