@@ -3,7 +3,7 @@ use Rattle.std.proofs.Common.{◌≡◌, ℕ, ◌≤◌, List, length, Result, O
 use Rattle.std.specs.Prelude.{Option, Some, None, IfErr, IfSome, IsSome, is_some}
 use Rattle.wc_controller.proofs.Allowing.{on_known}
 use Rattle.wc_controller.specs.Blames.{Blames, IsNextUnloaded, IsUnloaded, RefusesLog, RefusesProgram, RefusesText, StopsFor}
-use Rattle.wc_controller.specs.Endings.{EndsBehind, EndsBehindFault, EndsRefused, HasNotFailedAt, StopsAt, TellsMemory, met, of_refused_log, of_unread_log, run_fault_of}
+use Rattle.wc_controller.specs.Endings.{EndsBehind, EndsBehindFault, EndsRefused, HasNotFailedAt, IsReadFaultAt, StopsAt, TellsMemory, met, of_refused_log, of_unread_log, run_fault_of}
 use Rattle.wc_controller.specs.Loads.{IsRefusedLoad}
 use Rattle.wc_model.specs.declared.fault.Fault.{Fault}
 use Rattle.wc_model.specs.declared.fault.Fault.TheVariants as fault
@@ -145,3 +145,33 @@ module _ (taken : List ℕ → LogOf) (told : Record) (known : Option (List ℕ)
         (λ at. subst (λ one. HasNotFailed (Err one) before failures) same (well at))
     by_fault Memory same h = memory (ap Some same)
     by_fault why same h = absurd (cc (sym h.0 ∙ e))
+
+-- they are one input
+abbrev pub IsOne : Input → Input → Type 0
+IsOne input.Job input.Job = Unit {0}
+IsOne input.Plate input.Plate = Unit {0}
+IsOne input.Program input.Program = Unit {0}
+IsOne input.Next input.Next = Unit {0}
+IsOne input.Log input.Log = Unit {0}
+IsOne one other = ⊥
+
+is_one : (at : Input) → IsOne at at
+is_one input.Job = tt
+is_one input.Plate = tt
+is_one input.Program = tt
+is_one input.Next = tt
+is_one input.Log = tt
+
+-- what stopped at one input did not stop at another
+pub one_input : (one other at : Input) → at ≡ one → at ≡ other → IsOne one other
+one_input one other at first second = subst (λ i. IsOne i other) (sym second ∙ first) (is_one other)
+
+-- what did not stop at an input blames it for nothing
+pub not_blamed : {X : Type 0} (at : Input) (refuses : List ℕ → RunFault → Type 0) (known : Option (List ℕ)) (answer : Result X Stopped) → (StopsAt at answer → ⊥) → StopsFor at refuses known answer
+not_blamed at refuses known (Ok done) other = tt
+not_blamed at refuses known (Err stopped) other = λ same. absurd (other same)
+
+-- nor is it a read fault of that input
+pub not_unread : {X : Type 0} (at : Input) (answer : Result X Stopped) → (StopsAt at answer → ⊥) → IsReadFaultAt at answer → ⊥
+not_unread at (Ok done) other fault = fault
+not_unread at (Err stopped) other fault = other fault.0

@@ -1,11 +1,11 @@
-use Rattle.std.proofs.Common.{◌≡◌, [], List, ℕ, arith, ap, ◌∙◌, subst}
+use Rattle.std.proofs.Common.{◌≡◌, [], List, ℕ, arith, refl, ap, ◌∙◌, subst}
 use Rattle.std.proofs.KnownBytes.{Consumes-nil}
 use Rattle.std.specs.Prelude.{IfErr, IfSome, Option, Some, Err, is_some, option_map}
-use Rattle.wc_controller.proofs.Blaming.{next_read, program_read, same_next, text_refused}
+use Rattle.wc_controller.proofs.Blaming.{next_read, not_blamed, not_unread, one_input, program_read, same_next, text_refused}
 use Rattle.wc_controller.proofs.FileRuns.{at_log, at_next, at_plate, at_program, at_text}
 use Rattle.wc_controller.proofs.running.run_inputs.Goals as goal
-use Rattle.wc_controller.specs.Blames.{IsNextUnloaded, IsUnloaded, RefusesLog, StopsFor}
-use Rattle.wc_controller.specs.Endings.{TellsMemory, WritesUpTo, met}
+use Rattle.wc_controller.specs.Blames.{IsNextUnloaded, IsUnloaded, RefusesLog, RefusesProgram, StopsFor}
+use Rattle.wc_controller.specs.Endings.{RefusesPlate, TellsMemory, WritesUpTo, met, of_unread_log}
 use Rattle.wc_controller.specs.Files.{AnswersPrinting}
 use Rattle.wc_controller.specs.TakenLogs.{known_of, log_beside}
 use Rattle.wc_controller.specs.declared.input.Input.TheVariants as input
@@ -93,3 +93,149 @@ returns-in-Err-read_input-clause-taken_next g c = ([], Consumes-nil (known_of g.
 
 pub returns-in-Err-load_input-clause-taken_next : goal.returns-in-Err-load_input-clause-taken_next
 returns-in-Err-load_input-clause-taken_next g c = ([], Consumes-nil (known_of g.N.ByteIn.bytes_left c.args.next.now), omega arith)
+
+-- what stops at an input before the log is no fault of another, and the log is not read
+pub returns-in-Err-clause-blames_program : goal.returns-in-Err-clause-blames_program
+returns-in-Err-clause-blames_program g c = λ at. absurd (one_input input.Plate input.Program _ c.in-Err.ensures.input at)
+
+pub returns-in-Err-clause-blames_next : goal.returns-in-Err-clause-blames_next
+returns-in-Err-clause-blames_next g c = λ at. absurd (one_input input.Plate input.Next _ c.in-Err.ensures.input at)
+
+pub returns-in-Err-clause-blames_log : goal.returns-in-Err-clause-blames_log
+returns-in-Err-clause-blames_log g c = λ at. absurd (one_input input.Plate input.Log _ c.in-Err.ensures.input at)
+
+pub returns-in-Err-clause-program : goal.returns-in-Err-clause-program
+returns-in-Err-clause-program g c = (λ at. absurd (one_input input.Plate input.Program _ c.in-Err.ensures.input at.0), λ no. refl)
+
+pub returns-in-Err-clause-next : goal.returns-in-Err-clause-next
+returns-in-Err-clause-next g c = (λ at. absurd (one_input input.Plate input.Next _ c.in-Err.ensures.input at.0), λ no. refl)
+
+pub returns-in-Err-clause-log : goal.returns-in-Err-clause-log
+returns-in-Err-clause-log g c = λ at. absurd (one_input input.Plate input.Log _ c.in-Err.ensures.input at.0)
+
+pub returns-in-Err-clause-reader : goal.returns-in-Err-clause-reader
+returns-in-Err-clause-reader g c = λ at. absurd (one_input input.Plate input.Log _ c.in-Err.ensures.input at)
+
+pub returns-in-Err-clause-memory : goal.returns-in-Err-clause-memory
+returns-in-Err-clause-memory g c = λ e. of_unread_log refl
+
+pub returns-in-Err-read_input-clause-blames_plate : goal.returns-in-Err-read_input-clause-blames_plate
+returns-in-Err-read_input-clause-blames_plate g c = λ at. absurd (one_input input.Program input.Plate _ c.in-Err-read_input.ensures.input at)
+
+pub returns-in-Err-read_input-clause-blames_next : goal.returns-in-Err-read_input-clause-blames_next
+returns-in-Err-read_input-clause-blames_next g c = λ at. absurd (one_input input.Program input.Next _ c.in-Err-read_input.ensures.input at)
+
+pub returns-in-Err-read_input-clause-blames_log : goal.returns-in-Err-read_input-clause-blames_log
+returns-in-Err-read_input-clause-blames_log g c = λ at. absurd (one_input input.Program input.Log _ c.in-Err-read_input.ensures.input at)
+
+pub returns-in-Err-read_input-clause-plate : goal.returns-in-Err-read_input-clause-plate
+returns-in-Err-read_input-clause-plate g c = (λ at. absurd (one_input input.Program input.Plate _ c.in-Err-read_input.ensures.input at.0), λ no. c.in-Ok.ensures.failures.1 (λ none. none))
+
+pub returns-in-Err-read_input-clause-next : goal.returns-in-Err-read_input-clause-next
+returns-in-Err-read_input-clause-next g c = (λ at. absurd (one_input input.Program input.Next _ c.in-Err-read_input.ensures.input at.0), λ no. refl)
+
+pub returns-in-Err-read_input-clause-log : goal.returns-in-Err-read_input-clause-log
+returns-in-Err-read_input-clause-log g c = λ at. absurd (one_input input.Program input.Log _ c.in-Err-read_input.ensures.input at.0)
+
+pub returns-in-Err-read_input-clause-reader : goal.returns-in-Err-read_input-clause-reader
+returns-in-Err-read_input-clause-reader g c = λ at. absurd (one_input input.Program input.Log _ c.in-Err-read_input.ensures.input at)
+
+pub returns-in-Err-read_input-clause-memory : goal.returns-in-Err-read_input-clause-memory
+returns-in-Err-read_input-clause-memory g c = λ e. of_unread_log refl
+
+pub returns-in-Err-load_input-clause-blames_plate : goal.returns-in-Err-load_input-clause-blames_plate
+returns-in-Err-load_input-clause-blames_plate g c = λ at. absurd (one_input input.Program input.Plate _ c.in-Err-load_input.ensures.input at)
+
+pub returns-in-Err-load_input-clause-blames_next : goal.returns-in-Err-load_input-clause-blames_next
+returns-in-Err-load_input-clause-blames_next g c = λ at. absurd (one_input input.Program input.Next _ c.in-Err-load_input.ensures.input at)
+
+pub returns-in-Err-load_input-clause-blames_log : goal.returns-in-Err-load_input-clause-blames_log
+returns-in-Err-load_input-clause-blames_log g c = λ at. absurd (one_input input.Program input.Log _ c.in-Err-load_input.ensures.input at)
+
+pub returns-in-Err-load_input-clause-plate : goal.returns-in-Err-load_input-clause-plate
+returns-in-Err-load_input-clause-plate g c = (λ at. absurd (one_input input.Program input.Plate _ c.in-Err-load_input.ensures.input at.0), λ no. c.in-Ok.ensures.failures.1 (λ none. none))
+
+pub returns-in-Err-load_input-clause-program : goal.returns-in-Err-load_input-clause-program
+returns-in-Err-load_input-clause-program g c = (λ at. absurd (c.in-Err-load_input.ensures.held input.Program at), λ no. c.in-Ok-read_input.ensures.failures.1 (λ none. none))
+
+pub returns-in-Err-load_input-clause-next : goal.returns-in-Err-load_input-clause-next
+returns-in-Err-load_input-clause-next g c = (λ at. absurd (one_input input.Program input.Next _ c.in-Err-load_input.ensures.input at.0), λ no. refl)
+
+pub returns-in-Err-load_input-clause-log : goal.returns-in-Err-load_input-clause-log
+returns-in-Err-load_input-clause-log g c = λ at. absurd (one_input input.Program input.Log _ c.in-Err-load_input.ensures.input at.0)
+
+pub returns-in-Err-load_input-clause-reader : goal.returns-in-Err-load_input-clause-reader
+returns-in-Err-load_input-clause-reader g c = λ at. absurd (one_input input.Program input.Log _ c.in-Err-load_input.ensures.input at)
+
+pub returns-in-Err-load_input-clause-memory : goal.returns-in-Err-load_input-clause-memory
+returns-in-Err-load_input-clause-memory g c = λ e. of_unread_log refl
+
+pub returns-in-Err-read_next-clause-blames_plate : goal.returns-in-Err-read_next-clause-blames_plate
+returns-in-Err-read_next-clause-blames_plate g c = λ at. absurd (one_input input.Next input.Plate _ c.in-Err-read_next.ensures.input at)
+
+pub returns-in-Err-read_next-clause-blames_program : goal.returns-in-Err-read_next-clause-blames_program
+returns-in-Err-read_next-clause-blames_program g c = λ at. absurd (one_input input.Next input.Program _ c.in-Err-read_next.ensures.input at)
+
+pub returns-in-Err-read_next-clause-blames_log : goal.returns-in-Err-read_next-clause-blames_log
+returns-in-Err-read_next-clause-blames_log g c = λ at. absurd (one_input input.Next input.Log _ c.in-Err-read_next.ensures.input at)
+
+pub returns-in-Err-read_next-clause-plate : goal.returns-in-Err-read_next-clause-plate
+returns-in-Err-read_next-clause-plate g c = (λ at. absurd (one_input input.Next input.Plate _ c.in-Err-read_next.ensures.input at.0), λ no. c.in-Ok.ensures.failures.1 (λ none. none))
+
+pub returns-in-Err-read_next-clause-program : goal.returns-in-Err-read_next-clause-program
+returns-in-Err-read_next-clause-program g c = (λ at. absurd (one_input input.Next input.Program _ c.in-Err-read_next.ensures.input at.0), λ no. c.in-Ok-read_input.ensures.failures.1 (λ none. none))
+
+pub returns-in-Err-read_next-clause-log : goal.returns-in-Err-read_next-clause-log
+returns-in-Err-read_next-clause-log g c = λ at. absurd (one_input input.Next input.Log _ c.in-Err-read_next.ensures.input at.0)
+
+pub returns-in-Err-read_next-clause-reader : goal.returns-in-Err-read_next-clause-reader
+returns-in-Err-read_next-clause-reader g c = λ at. absurd (one_input input.Next input.Log _ c.in-Err-read_next.ensures.input at)
+
+pub returns-in-Err-read_next-clause-memory : goal.returns-in-Err-read_next-clause-memory
+returns-in-Err-read_next-clause-memory g c = λ e. of_unread_log refl
+
+pub returns-in-Err-clause-own : goal.returns-in-Err-clause-own
+returns-in-Err-clause-own g c = λ at. one_input input.Plate input.Job _ c.in-Err.ensures.input at
+
+pub returns-in-Err-read_input-clause-own : goal.returns-in-Err-read_input-clause-own
+returns-in-Err-read_input-clause-own g c = λ at. one_input input.Program input.Job _ c.in-Err-read_input.ensures.input at
+
+pub returns-in-Err-read_input-clause-unread_behind_plate : goal.returns-in-Err-read_input-clause-unread_behind_plate
+returns-in-Err-read_input-clause-unread_behind_plate g c = λ at. absurd (one_input input.Program input.Plate _ c.in-Err-read_input.ensures.input at)
+
+pub returns-in-Err-load_input-clause-own : goal.returns-in-Err-load_input-clause-own
+returns-in-Err-load_input-clause-own g c = λ at. one_input input.Program input.Job _ c.in-Err-load_input.ensures.input at
+
+pub returns-in-Err-load_input-clause-unread_behind_plate : goal.returns-in-Err-load_input-clause-unread_behind_plate
+returns-in-Err-load_input-clause-unread_behind_plate g c = λ at. absurd (one_input input.Program input.Plate _ c.in-Err-load_input.ensures.input at)
+
+pub returns-in-Err-read_next-clause-own : goal.returns-in-Err-read_next-clause-own
+returns-in-Err-read_next-clause-own g c = λ at. one_input input.Next input.Job _ c.in-Err-read_next.ensures.input at
+
+pub returns-in-Err-read_next-clause-unread_behind_program : goal.returns-in-Err-read_next-clause-unread_behind_program
+returns-in-Err-read_next-clause-unread_behind_program g c = λ at. absurd (one_input input.Next input.Program _ c.in-Err-read_next.ensures.input at)
+
+pub returns-in-Err-read_next-clause-unread_behind_plate : goal.returns-in-Err-read_next-clause-unread_behind_plate
+returns-in-Err-read_next-clause-unread_behind_plate g c = λ at. absurd (one_input input.Next input.Plate _ c.in-Err-read_next.ensures.input at)
+
+-- what stops behind them is no fault of the plate or the program
+pub returns-clause-blames_plate : goal.returns-clause-blames_plate
+returns-clause-blames_plate g c = not_blamed input.Plate RefusesPlate (g.P.ByteIn.bytes_left c.args.plate.now) c.run_loaded.result c.run_loaded.ensures.later.1
+
+pub returns-clause-blames_program : goal.returns-clause-blames_program
+returns-clause-blames_program g c = not_blamed input.Program RefusesProgram (g.T.ByteIn.bytes_left c.args.program.now) c.run_loaded.result c.run_loaded.ensures.later.2
+
+pub returns-clause-unread_behind_plate : goal.returns-clause-unread_behind_plate
+returns-clause-unread_behind_plate g c = λ at. absurd (c.run_loaded.ensures.later.1 at)
+
+pub returns-clause-unread_behind_program : goal.returns-clause-unread_behind_program
+returns-clause-unread_behind_program g c = λ at. absurd (c.run_loaded.ensures.later.2 at)
+
+pub returns-clause-plate : goal.returns-clause-plate
+returns-clause-plate g c = (λ at. absurd (not_unread input.Plate c.run_loaded.result c.run_loaded.ensures.later.1 at), λ no. c.in-Ok.ensures.failures.1 (λ none. none))
+
+pub returns-clause-program : goal.returns-clause-program
+returns-clause-program g c = (λ at. absurd (not_unread input.Program c.run_loaded.result c.run_loaded.ensures.later.2 at), λ no. c.in-Ok-read_input.ensures.failures.1 (λ none. none))
+
+pub returns-clause-next : goal.returns-clause-next
+returns-clause-next g c = (λ at. absurd (c.run_loaded.ensures.held at), λ no. c.in-Ok-read_next.ensures.failures.1 (λ none. none))
