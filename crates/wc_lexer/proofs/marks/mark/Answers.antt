@@ -1,0 +1,24 @@
+use Rattle.std.proofs.Common.{arith}
+use Rattle.std.proofs.lemmas.Grind.{common_steps}
+use Rattle.wc_lexer.proofs.marks.mark.Goals as goal
+
+pub returns-in_default : goal.returns-in_default
+returns-in_default c = grind (arith, common_steps)
+
+pub returns-in_default-2 : goal.returns-in_default-2
+returns-in_default-2 c = grind (arith, common_steps)
+
+pub returns-in_default-3 : goal.returns-in_default-3
+returns-in_default-3 c = grind (arith, common_steps)
+
+pub returns-in_default-4 : goal.returns-in_default-4
+returns-in_default-4 c = grind (arith, common_steps)
+
+pub returns-in_default-5 : goal.returns-in_default-5
+returns-in_default-5 c = grind (arith, common_steps)
+
+pub returns-in_default-6 : goal.returns-in_default-6
+returns-in_default-6 c = grind (arith, common_steps)
+
+pub returns-in_default-7 : goal.returns-in_default-7
+returns-in_default-7 c = grind (arith, common_steps)
