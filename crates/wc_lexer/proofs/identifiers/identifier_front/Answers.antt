@@ -1,5 +1,4 @@
-use Rattle.std.proofs.Common.{arith, sym, ◌∙◌, ◌&&◌, ◌≡◌, Bool, false, true, refl}
-use Rattle.std.proofs.lemmas.Grind.{common_steps}
+use Rattle.std.proofs.Common.{sym, ◌∙◌, ◌&&◌, ◌≡◌, Bool, false, true, refl}
 use Rattle.wc_lexer.proofs.NameFronts.{digit_step, letter_step, passed_step, underscore_step}
 use Rattle.wc_lexer.proofs.identifiers.identifier_front.Goals as goal
 use Rattle.wc_lexer.proofs.identifiers.identifier_front.Goals.{then-not-is_ascii_alphabetic+then-first-eq95+then-not-begins_plain, then-not-is_ascii_alphabetic+then-first-eq95+else-not-begins_plain, then-not-is_ascii_alphabetic+else-first-eq95+else-not-is_ascii_digit, else-not-is_ascii_alphabetic}
@@ -28,15 +27,3 @@ loop-rest-preserved c =
           letter_step c.loop-rest.rest.now c.loop-rest.single c.if-not-is_ascii_alphabetic.single (sym c.is_ascii_alphabetic.ensures.value ∙ w.if-not-is_ascii_alphabetic.false) w.single-is
     ])
     c.loop-rest.invariant
-
-pub returns-then-not-is_ascii_digit-clause-longest : goal.returns-then-not-is_ascii_digit-clause-longest
-returns-then-not-is_ascii_digit-clause-longest c = grind (arith, common_steps)
-
-pub returns-then-not-is_ascii_digit-clause-single : goal.returns-then-not-is_ascii_digit-clause-single
-returns-then-not-is_ascii_digit-clause-single c = grind (arith, common_steps)
-
-pub returns-clause-longest : goal.returns-clause-longest
-returns-clause-longest c = grind (arith, common_steps)
-
-pub returns-clause-single : goal.returns-clause-single
-returns-clause-single c = grind (arith, common_steps)
