@@ -1,17 +1,19 @@
-ghost use Rattle.std.specs.Prelude.{◌≡◌, ◌+◌, ◌++◌, List, Some, IfOk, OnOk, IsOkUnless, length, slice_get};
+ghost use Rattle.std.specs.Prelude.{◌≡◌, ◌+◌, ◌++◌, List, Some, IfOk, OnOk, IsOkUnless, length, option_map, slice_get};
 ghost use Rattle.wc_model.specs.Language.Frames.{first_numbers, frame_of, slot_kinds};
-ghost use Rattle.wc_model.specs.Language.Store.{unit_places};
-ghost use Rattle.wc_model.specs.Language.Declarations.{is_block};
+ghost use Rattle.wc_model.specs.Language.Store.{block_places, unit_places, variable_places};
+ghost use Rattle.wc_model.specs.Language.Declarations.{Variable as Declared, is_block, type_named};
 ghost use Rattle.wc_model.specs.Language.Scopes.{Scope};
 ghost use Rattle.wc_model.specs.Language.Tree.{ProgramUnit};
 ghost use Rattle.wc_names.specs.Slots.{AreFinished, EachHoldsFirst, HoldsFirst, IsBegun, IsGrown, contents_of};
-ghost use Rattle.wc_names.specs.StandsFor.{Stands};
+ghost use Rattle.wc_names.specs.StandsFor.{Stands, type_at};
+ghost use Rattle.wc_names.specs.declared.unit_table.UnitTable.{UnitTable};
 
 use crate::declared_type::DeclaredType;
 use crate::frame::{
     Frame, append, first_number, no_slots, push, push_direct, push_standard, slot_of,
 };
 use crate::unit_table::UnitTable;
+use crate::variable::Variable;
 use std::alloc::Global;
 use wc_model::Fault;
 
@@ -33,6 +35,29 @@ fn push_finished(frame: &mut Frame, finished: &[Frame], unit: usize) -> Result<(
     }
 }
 
+/// Adds the slots of a variable. Those of an instance of a unit before are finished.
+fn push_row(frame: &mut Frame, finished: &[Frame], row: &Variable) -> Result<(), Fault>
+    ensures grown { (units : List UnitTable) (before : List ProgramUnit) (u : ProgramUnit)
+        (v : Declared) → Stands units before u → AreFinished units (length before) finished.now
+        → row.now.initial ≡ option_map (λ i. i.value) v.initial
+        → type_at before v.type_name ≡ Some row.now.declared
+        → OnOk result
+        (IsGrown frame.old frame.new
+        (contents_of
+        (variable_places (block_places before) (type_named before v.type_name) v.initial))) }
+    ensures first { OnOk result
+        (EachHoldsFirst finished.now → HoldsFirst frame.old → HoldsFirst frame.new) }
+    ensures memory { IsOkUnless result Fault.Memory }
+{
+    match row.declared {
+        DeclaredType::Elementary(kind) => {
+            push(frame, slot_of(kind), first_number(kind, row.initial))
+        }
+        DeclaredType::Standard(block) => push_standard(frame, block),
+        DeclaredType::Block(block) => push_finished(frame, finished, block),
+    }
+}
+
 /// Adds the slots of a unit's variables. It goes over each variable once: the slots of instances are finished.
 fn push_unit<'a>(
     frame: &mut Frame,
@@ -51,17 +76,7 @@ fn push_unit<'a>(
         return Ok(());
     };
     for row in &table.rows {
-        match row.declared {
-            DeclaredType::Elementary(kind) => {
-                push(frame, slot_of(kind), first_number(kind, row.initial))?;
-            }
-            DeclaredType::Standard(block) => {
-                push_standard(frame, block)?;
-            }
-            DeclaredType::Block(block) => {
-                push_finished(frame, finished, block)?;
-            }
-        }
+        push_row(frame, finished, row)?;
     }
     Ok(())
 }

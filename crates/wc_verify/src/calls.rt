@@ -1,4 +1,4 @@
-ghost use Rattle.std.specs.Prelude.{◌≡◌, ℕ, ◌<◌, ◌∷◌, ◌++◌, List, Option, Some, IfErr, OnOk, length, map, option_and_then, is_some};
+ghost use Rattle.std.specs.Prelude.{◌≡◌, ℕ, ◌<◌, [], ◌∷◌, ◌++◌, List, Option, Some, IfErr, OnOk, length, map, option_and_then, is_some};
 ghost use Rattle.std.specs.List.{flat_map};
 ghost use Rattle.wc_model.specs.Language.BodyRules.{actual_checks, argument_checks, call_checks, suits_input, suits_output};
 ghost use Rattle.wc_model.specs.Language.Checks.{Check, first_broken, spots_of};
@@ -109,6 +109,30 @@ fn judge_argument<'a>(
     refuse(found, line)
 }
 
+/// Judges the arguments of a call in written order, and keeps their names, of which there are none.
+fn judge_each<'a>(
+    tables: &Tables<'a>,
+    unit: usize,
+    declared: DeclaredType,
+    names: &mut Names<'a>,
+    arguments: &[Argument<'a>],
+    line: u32,
+) -> Result<(), Fault>
+    requires { names.old ≡ [] }
+    ensures judged { (scope : Scope) (type : VariableType) (rest : List Check)
+        → IsScope tables.now unit scope → numbered_type scope.before type ≡ Some declared
+        → Judges
+        (first_broken
+        (flat_map (argument_checks scope line (members_of scope.before type))
+        (spots_of (map assignment_view arguments.now)) ++ rest)) (first_broken rest) result }
+    ensures room { IfErr result (λ fault. fault ≡ Fault.Memory → 0 < length arguments.now) }
+{
+    for argument in arguments {
+        judge_argument(tables, unit, declared, names, argument, line)?;
+    }
+    Ok(())
+}
+
 /// Judges the arguments of a call in written order.
 fn judge_arguments<'a>(
     alloc: Global,
@@ -128,10 +152,7 @@ fn judge_arguments<'a>(
     ensures room { IfErr result (λ fault. fault ≡ Fault.Memory → 0 < length arguments.now) }
 {
     let mut names = Names::new(alloc);
-    for argument in arguments {
-        judge_argument(tables, unit, declared, &mut names, argument, line)?;
-    }
-    Ok(())
+    judge_each(tables, unit, declared, &mut names, arguments, line)
 }
 
 /// Whether a type is that of an instance.

@@ -1,4 +1,5 @@
-use Rattle.std.proofs.Common.{◌∙◌, subst, sym}
+use Rattle.std.proofs.Common.{arith, ◌∙◌, subst, sym}
+use Rattle.std.proofs.lemmas.Grind.{common_steps}
 use Rattle.wc_lexer.proofs.PartSums.{text_all, text_unfit}
 use Rattle.wc_lexer.proofs.durations.all_billionths.Goals as goal
 use Rattle.wc_lexer.specs.Parts.{IsPartTold}
@@ -11,3 +12,6 @@ returns c =
 pub returns-then-not-may_stand_first : goal.returns-then-not-may_stand_first
 returns-then-not-may_stand_first c =
     text_unfit c.args.text.now c.first_part.result.0.now c.first_part.result.1.now c.first_part.result.2.now c.is_last.result c.in-Some.first c.first_part.ensures.first (subst (IsPartTold (part c.first_part.result.0.now c.first_part.result.1.now)) c.in-Some.is c.judged_part.ensures) c.is_last.ensures (sym c.may_stand_first.ensures ∙ c.if-not-may_stand_first.true)
+
+pub returns-in_default : goal.returns-in_default
+returns-in_default c = grind (arith, common_steps)

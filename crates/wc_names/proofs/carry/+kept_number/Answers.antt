@@ -1,5 +1,6 @@
 use Rattle.std.proofs.Common.{◌≡◌, ◌+◌, ◌-◌, List, ◌∷◌, Some, refl, ap, sym, subst, ◌∙◌, arith}
 use Rattle.std.specs.Prelude.{slice_get}
+use Rattle.std.proofs.lemmas.Grind.{common_steps}
 use Rattle.wc_model.specs.Language.Declarations.{type_named}
 use Rattle.wc_model.specs.Language.Names.{Name, name_of}
 use Rattle.wc_model.specs.Language.Store.{Content, unit_places}
@@ -94,3 +95,6 @@ returns-in_default-declared t c = λ before u old_before old entry h e o f least
     let b = in_block c.args.units.now before u h (type_named before m.v.type_name) m.v.initial c.in-Block.block case in
     ap (λ x. Rattle.std.proofs.Common.option_map (λ n. c.in-Some-row.old.first + n) x) (unlike_block c.args.units.now before old_before (type_named before m.v.type_name) (type_named old_before m.w.type_name) m.v.initial m.w.initial c.in-Block.block c.in-Some-row.old.declared b old_case c.in_default-declared.not-Block m.inner.0)
     ∙ m.is
+
+pub kept_number-requires : goal.kept_number-requires
+kept_number-requires t c = grind (arith, common_steps)

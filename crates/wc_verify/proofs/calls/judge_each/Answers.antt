@@ -15,7 +15,7 @@ use Rattle.wc_names.specs.declared.kept.Tables.{Tables}
 use Rattle.wc_verify.proofs.Calling.{ArgumentsBehind, one_behind}
 use Rattle.wc_declare.proofs.Judging.{judges_on, judges_ok}
 use Rattle.wc_names.proofs.Lists.{from_index_or}
-use Rattle.wc_verify.proofs.calls.judge_arguments.Goals as goal
+use Rattle.wc_verify.proofs.calls.judge_each.Goals as goal
 
 -- the arguments that are left begin with this one
 abbrev one : Argument

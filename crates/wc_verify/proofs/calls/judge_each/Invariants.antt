@@ -1,7 +1,7 @@
 use Rattle.std.proofs.Common.{map, drop}
 use Rattle.wc_model.specs.Language.Views.{assignment_view}
 use Rattle.wc_verify.proofs.Calling.{ArgumentsBehind}
-use Rattle.wc_verify.proofs.calls.judge_arguments.Given as goal
+use Rattle.wc_verify.proofs.calls.judge_each.Given as goal
 
 -- the arguments that are left stand behind those so far
 abbrev pub invariant-loop-argument : goal.invariant-loop-argument
