@@ -121,8 +121,10 @@ uint32_t narbeddo_close(narbeddo_scale *scale);
  * THE TEXT IS NOT COPIED: it must stay where it is, unchanged, until the scale is closed or has got another program. */
 narbeddo_refusal narbeddo_load(narbeddo_scale *scale, const uint8_t *text, size_t length);
 
-/* Changes the program between two scans: what both have by the same names and of the same kind keeps its value, all else begins anew. The old
- * program stays where the text is refused. This text is not copied either; the old one may go once this call was done. */
+/* Changes the program between two scans: outputs, and what both have by the same names and of the same kind keep their values, whatever stands
+ * behind := in the new text; all else begins anew. AN OUTPUT THAT THE NEW PROGRAM NEVER WRITES STAYS AS THE OLD ONE LEFT IT: a valve that is
+ * open stays open. The old program stays where the text is refused. This text is not copied either; the old one may go once this call was
+ * done. */
 narbeddo_refusal narbeddo_change(narbeddo_scale *scale, const uint8_t *text, size_t length);
 
 /* Takes a sample: -8388608 to 8388607 counts. */
