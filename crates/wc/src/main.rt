@@ -96,6 +96,26 @@ fn tell_meant(rt: &HostRuntime, words: &[String]) -> io::Result<()> {
     }
 }
 
+/// Says which words print what a word takes.
+fn tell_taken(rt: &HostRuntime, words: &[String]) -> io::Result<()> {
+    let taken = "help: what may be given is printed by: ";
+    match words.get(1) {
+        Some(word) if !word.as_str().starts_with("-") => {
+            tell_call(rt, taken, words, " help ", word)
+        }
+        _ => tell_call(rt, taken, words, " help", ""),
+    }
+}
+
+/// Says what helps where words are wrong.
+fn tell_help(rt: &HostRuntime, kind: ErrorKind, words: &[String]) -> io::Result<()> {
+    match kind {
+        ErrorKind::InvalidSubcommand => tell_meant(rt, words),
+        ErrorKind::UnknownArgument => tell_taken(rt, words),
+        _ => Ok(()),
+    }
+}
+
 /// Says why a page or help was not printed: the exit status.
 fn end_unprinted(rt: &HostRuntime, error: io::Error) -> u8 {
     if error.kind() == io::ErrorKind::OutOfMemory {
@@ -112,9 +132,7 @@ fn show(rt: &HostRuntime, error: &Error, words: &[String]) -> u8 {
     }
     match error.print(rt) {
         Ok(()) => {
-            if error.kind() == ErrorKind::InvalidSubcommand {
-                let _told = tell_meant(rt, words);
-            }
+            let _told = tell_help(rt, error.kind(), words);
             error.exit_code() as u8
         }
         Err(error) => end_unprinted(rt, error),

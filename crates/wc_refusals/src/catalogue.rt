@@ -164,7 +164,7 @@ fn body_entry(number: u16) -> Option<&'static Entry>
             help "declare the name in VAR, VAR_INPUT or VAR_OUTPUT of this unit";
         402 "verify": "the kinds do not fit"
             at "the line of the instruction, or of the )", "PROGRAM P / LDN 1 / END_PROGRAM" => 2,
-            help "AND, OR, XOR, NOT, S, R and conditions take BOOL, MUL, DIV and MOD DINT, ADD, SUB and comparisons two DINT or two TIME (EQ and NE also two BOOL); a comparison gives a BOOL, ST stores a number, T#500ms is a TIME";
+            help "AND, OR, XOR, NOT, S, R and conditions take BOOL, MUL, DIV and MOD DINT, ADD, SUB and comparisons two DINT or two TIME (EQ and NE also two BOOL); a comparison gives a BOOL, ST wants a variable of the kind of the result, T#500ms is a TIME";
         403 "verify": "there is no current result"
             at "the line of the instruction", "PROGRAM P / NOT / END_PROGRAM" => 2,
             help "begin with LD: there may be no current result here, or the ways to this line bring results of different kinds";
@@ -275,7 +275,7 @@ fn job_entry(number: u16) -> Option<&'static Entry>
         number;
         701 "job": "a job has the lines @plate, @program and @log, in this order, the first of them first"
             at "0", "(the empty job)" => 0,
-            help "a job is a line @plate and the plate, a line @program and the program, a line @log and the log";
+            help "a job is a line @plate and the plate, a line @program and the program, a line @log and the log; each of the three is alone on its line, in small letters";
         702 "job, files": "there are more than 1048576 bytes"
             at "0", "(1048577 spaces)" => 0,
             help "a plate and a job may have 1048576 bytes, a program 65536";
