@@ -33,7 +33,7 @@ extern "C" {
 /* What a call says of itself. Of the statuses that a call may answer the first of its line is told:
  *
  *     narbeddo_open                      ALREADY_OPEN, then REFUSED or NO_MEMORY
- *     narbeddo_load                      CLOSED, then REFUSED or NO_MEMORY; behind it any moment is accepted
+ *     narbeddo_load                      CLOSED, then REFUSED or NO_MEMORY; after it any moment is accepted
  *     narbeddo_change                    CLOSED, NO_PROGRAM, then REFUSED or NO_MEMORY; the moment of the last scan stays
  *     narbeddo_sample                    CLOSED, COUNTS_OUT_OF_RANGE
  *     narbeddo_byte, _inputs, _read, _plate    CLOSED (and of a byte LINE_FAILED, which never comes)
@@ -85,8 +85,8 @@ typedef struct narbeddo_scanned {
 /* What is engraved on the scale, beside which a display shows its weights. */
 typedef struct narbeddo_engraved {
     uint32_t status;
-    uint8_t unit[3];  /* as on the line: "kg ", "g  " or "t  ", with no zero behind it */
-    int32_t decimals; /* digits behind the point of a weight, 0 to 3 */
+    uint8_t unit[3];  /* as on the line: "kg ", "g  " or "t  ", with no zero after it */
+    int32_t decimals; /* digits after the point of a weight, 0 to 3 */
     int32_t max;      /* the greatest load (Max), in units of the last decimal */
     int32_t e;        /* the scale interval (e), in units of the last decimal */
 } narbeddo_engraved;
@@ -122,7 +122,7 @@ uint32_t narbeddo_close(narbeddo_scale *scale);
 narbeddo_refusal narbeddo_load(narbeddo_scale *scale, const uint8_t *text, size_t length);
 
 /* Changes the program between two scans: outputs, and what both have by the same names and of the same kind keep their values, whatever stands
- * behind := in the new text; all else begins anew. AN OUTPUT THAT THE NEW PROGRAM NEVER WRITES STAYS AS THE OLD ONE LEFT IT: a valve that is
+ * after := in the new text; all else begins anew. AN OUTPUT THAT THE NEW PROGRAM NEVER WRITES STAYS AS THE OLD ONE LEFT IT: a valve that is
  * open stays open. The old program stays where the text is refused. This text is not copied either; the old one may go once this call was
  * done. */
 narbeddo_refusal narbeddo_change(narbeddo_scale *scale, const uint8_t *text, size_t length);

@@ -98,14 +98,14 @@ fn reading_entry(number: u16) -> Option<&'static Entry>
             at "the line of the unit's keyword", "PROGRAM" => 1,
             help "close the unit with END_PROGRAM or END_FUNCTION_BLOCK";
         203 "reader": "there must be exactly one PROGRAM, as the last unit"
-            at "the line of the unit behind PROGRAM, or the text's last line", "(the empty text)" => 1,
+            at "the line of the unit after PROGRAM, or the text's last line", "(the empty text)" => 1,
             help "write the function blocks first, and then one PROGRAM";
         204 "reader": "a parenthesis is empty"
             at "the line of the )", "PROGRAM P&( / )" => 2,
             help "write at least one line between ( and )";
         205 "reader": "a jump, a call, a return or a label may not stand in a parenthesis"
             at "its line", "PROGRAM P&( / x:" => 2,
-            help "move the jump, the call, the return or the label behind the parenthesis";
+            help "move the jump, the call, the return or the label to a line after the parenthesis";
         206 "reader": "a parenthesis is not closed, or none is open"
             at "the line of the ); the line of the innermost opening", "PROGRAM P)" => 1,
             help "write one ) on a line of its own for each ( that is open";

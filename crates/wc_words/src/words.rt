@@ -108,7 +108,7 @@ pub struct AskedCommand<'a> {
 }
 
 /// What is said of a form that there is not.
-const NO_FORM: &str = "the form behind '--message' is none of long, short and json";
+const NO_FORM: &str = "the form after '--message' is none of long, short and json";
 
 /// What is said where a next program is given alone.
 const NO_PROGRAM: &str = "'--next' is given, and no '--program' whose place it could take";
