@@ -1,7 +1,8 @@
 ghost use Rattle.std.specs.Prelude.{ℕ, ◌≤◌, ◌∷◌, [], ◌++◌, codes};
 ghost use Rattle.wc_text_examples.specs.Texts.{mark, ident, end_of};
 ghost use Rattle.wc_text_examples.specs.Faulty.{loaded, opened, opened_short, one_program, eight_opened, jmpnc_before, jmpnc_left, bare_load_before, blocks, program_of_loads};
-ghost use Rattle.wc_model.specs.Text.Grammar.{IsFront};
+ghost use Rattle.wc_model.specs.Language.Tree.{Step};
+ghost use Rattle.wc_model.specs.Text.Grammar.{IsFront, IsOperatorOf};
 ghost use Rattle.wc_model.specs.Text.Marks.{OpeningBracket, ClosingBracket, Colon};
 ghost use Rattle.wc_model.specs.Text.ReadingFaults.{IsMet, IsFirstReadingFault, UnexpectedToken, UnitNotClosed, NotOneProgramLast, EmptyParentheses, NotAllowedInParentheses, ParenthesisNotPaired, TooDeep, TooMany};
 
@@ -78,6 +79,11 @@ pub fn an_empty_text()
 /// `LD TRUE`, and `AND(` on the lines 3 to 11: the ninth parenthesis is one too many.
 pub fn nine_parentheses()
     ensures { IsMet TooDeep eight_opened (mark OpeningBracket 11 ∷ end_of 11 ∷ []) 12 11 }
+{}
+
+/// No instruction begins with JMPNC.
+pub fn jmpnc_is_no_operator()
+    ensures { (step : Step) (line : ℕ) → ¬ (IsOperatorOf step (ident (codes "JMPNC") line)) }
 {}
 
 /// `PROGRAM P / JMPNC L / END_PROGRAM`: JMPNC is no operator, though it could be a label. So the first

@@ -1,11 +1,23 @@
-ghost use Rattle.std.specs.Prelude.{◌∷◌, [], ◌++◌, codes};
+ghost use Rattle.std.specs.Prelude.{List, ◌∷◌, [], ◌++◌, ◌⊎◌, codes};
 ghost use Rattle.wc_text_examples.specs.Texts.{ident, copy_tokens, copy_lines, jump_tokens, jump_lines, declaration_tokens, declaring_program, call_tokens, call_lines, ampersand_tokens, ampersand_lines, program_of, program_text, bare_call_lines, bare_call_tokens, block_b, block_tokens};
-ghost use Rattle.wc_model.specs.Text.Grammar.{Spells};
+ghost use Rattle.wc_model.specs.Text.Grammar.{InBody, Spells, identifier, lines};
+ghost use Rattle.wc_model.specs.Text.Keywords.{end_word};
+ghost use Rattle.wc_model.specs.Text.Languages.{◌then◌};
+ghost use Rattle.wc_model.specs.Text.Marks.{IsSymbol, LineEnd, Mark};
 ghost use Rattle.wc_model.specs.Language.Tree.{End};
+ghost use Rattle.wc_model.specs.declared.source.UnitKind.{UnitKind};
 
 /// The text `PROGRAM P / LD %IX0.0 / ST %QX0.0 / END_PROGRAM`.
 pub fn a_copy_of_one_bit()
     ensures { Spells copy_tokens (program_of copy_lines ∷ []) }
+{}
+
+/// A body without lines is line ends, and then the last word of its unit.
+pub fn an_empty_body_is_line_ends()
+    ensures { (kind : UnitKind) (token : Mark) (tokens : List Mark)
+        → (lines InBody End then identifier (end_word kind)) (token ∷ tokens)
+        → identifier (end_word kind) (token ∷ tokens) ⊎ (IsSymbol LineEnd token
+        × (lines InBody End then identifier (end_word kind)) tokens) }
 {}
 
 /// `PROGRAM P END_PROGRAM` on one line.
