@@ -41,7 +41,10 @@ fn are_addresses_at_places(tables: &Tables<'_>) -> bool {
 
 /// How many plain variables a unit has, and the place of the last; nothing of no unit.
 fn fields(tables: &Tables<'_>, unit: usize) -> Option<(usize, Option<Place>)> {
-    let fields = tables.fields(unit)?;
+    if unit >= tables.units() {
+        return None;
+    }
+    let fields = tables.fields(unit);
     match fields.last() {
         Some(field) => Some((fields.len(), Some(field.place))),
         None => Some((0, None)),

@@ -57,11 +57,10 @@ as_many (unit ∷ before) ts h =
     let all = ap length h.2 ∙ length-append others (table ∷ []) in
     omega (arith, fewer, all)
 
--- no table stands at the number of no unit
-pub at_no_unit : (xs : Text) (b : List ProgramUnit) (ts : List UnitTable) (n : ℕ) → AreUnits (onto xs b) ts → slice_get (map scope_of_spot (spots_behind b xs)) n ≡ None → length ts ≤ length b + n
-at_no_unit [] b ts n h e = let all = as_many b ts h in omega (arith, all)
-at_no_unit (x ∷ xs) b ts zero h e = absurd (cc)
-at_no_unit (x ∷ xs) b ts (suc n) h e = let behind = at_no_unit xs (x ∷ b) ts n h e in omega (arith, behind)
+-- there are as many tables as units
+pub all_units : (xs : Text) (b : List ProgramUnit) (ts : List UnitTable) → AreUnits (onto xs b) ts → length ts ≡ length b + length xs
+all_units [] b ts h = let all = as_many b ts h in omega (arith, all)
+all_units (x ∷ xs) b ts h = let rest = all_units xs (x ∷ b) ts h in omega (arith, rest)
 
 -- a path in a unit's frame
 path_in : (ns : List Name) (i : ℕ) (places : List (List Name × Content)) → position_from (λ (e : Location × Content). same_place e.0 (Path ns)) i (map (λ p. (Path p.0, p.1)) places) ≡ position_from (λ e. same_path e.0 ns) i places

@@ -20,10 +20,6 @@ use Rattle.wc_names.specs.declared.formal.Formal.{Formal}
 abbrev pub IsUnit : Text → ℕ → Scope → Type 0
 IsUnit text unit scope = slice_get (scopes_of text) unit ≡ Some scope
 
--- the text has no unit of that number
-abbrev pub IsNoUnit : Text → ℕ → Type 0
-IsNoUnit text unit = slice_get (scopes_of text) unit ≡ None
-
 -- a type by the number of its block: how many units stand before the block
 abbrev pub numbered_type : List ProgramUnit → VariableType → Option DeclaredType
 numbered_type before (Elementary kind) = Some (numbered.Elementary kind)

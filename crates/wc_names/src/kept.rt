@@ -12,7 +12,7 @@ ghost use Rattle.wc_soundness.specs.FirstNumbers.{AreFirst};
 ghost use Rattle.wc_names.specs.StandsFor.{AreTables, first_number};
 ghost use Rattle.wc_model.specs.declared.source.Source.{Source};
 ghost use Rattle.wc_names.specs.Spelled.{AreSpelledAs, spelled, spelled_of_unit};
-ghost use Rattle.wc_names.specs.Numbered.{IsNoUnit, IsUnit, StandsFrom, numbered_entity, numbered_formal, numbered_type, plain_of_field};
+ghost use Rattle.wc_names.specs.Numbered.{IsUnit, StandsFrom, numbered_entity, numbered_formal, numbered_type, plain_of_field};
 
 use crate::carry::kept_number;
 use crate::declared_type::DeclaredType;
@@ -119,24 +119,28 @@ impl<'a> Tables<'a> {
         formal_of(&self.units, declared, direction, name)
     }
 
-    /// The plain variables of a unit, in the order of declaration; `None` where there is no such unit.
-    pub fn fields(&self, unit: usize) -> Option<&[Field<'a>]>
+    /// The number of units, as many as the text has.
+    pub fn units(&self) -> usize
+        ensures count { result ≡ length self.now.units.items }
+        ensures text { (text : Text) → AreTables self.now text → result ≡ length text }
+    {
+        self.units.len()
+    }
+
+    /// The plain variables of a unit, in the order of declaration.
+    pub fn fields(&self, unit: usize) -> &[Field<'a>]
+        requires { unit < length self.now.units.items }
         ensures fields { (text : Text) (scope : Scope)
             → AreTables self.now text
             → IsUnit text unit scope
-            → option_map (λ fields. map plain_of_field fields.now) result
-            ≡ Some (plain_variables scope) }
-        ensures no_unit { (text : Text) → AreTables self.now text → IsNoUnit text unit
-            → result ≡ None }
+            → map plain_of_field result.now ≡ plain_variables scope }
         // The definitions fold letter case; the names are the bytes of the tree, as they are spelled.
         ensures spelled { (source : Source) → AreSpelledAs self.now source
-            → option_map (λ fields. map spelled fields.now) result
-            ≡ slice_get (map spelled_of_unit source.units.items) unit }
+            → slice_get (map spelled_of_unit source.units.items) unit
+            ≡ Some (map spelled result.now) }
     {
-        match self.units.get(unit) {
-            Some(table) => Some(table.fields.as_slice()),
-            None => None,
-        }
+        let table = &self.units[unit];
+        table.fields.as_slice()
     }
 
     /// How many places a unit's frame has.

@@ -1,3 +1,6 @@
+ghost use Rattle.std.specs.Prelude.{◌≡◌, ◌<◌, Some, length, slice_get, slice_set};
+ghost use Rattle.wc_store.specs.Slots.{IsInRangeAt};
+
 use crate::store::Store;
 use crate::tagged::TaggedNumber;
 use crate::zeros::zeros;
@@ -24,6 +27,33 @@ impl Model for NamedStore {
     ghost invariant = { AreNamesSound };
 }
 
+impl NamedStore {
+    /// The number of the entry with this key.
+    fn number_at(&self, at: usize) -> i64
+        requires { at < length self.now.kinds }
+        ensures number { slice_get self.now.numbers at ≡ Some result }
+        ensures range { IsInRangeAt self.now.kinds at result }
+    {
+        match self.slots.get(&at) {
+            Some(tagged) => tagged.number(),
+            // Below the size there is a number at each place, so this is not reached.
+            None => 0,
+        }
+    }
+
+    /// Writes a number in its range to the entry with this key.
+    fn put_at(&mut self, at: usize, number: i64)
+        requires place { at < length self.old.kinds }
+        requires range { IsInRangeAt self.old.kinds at number }
+        ensures numbers { self.new.numbers ≡ slice_set self.old.numbers at number }
+        ensures kinds { self.new.kinds ≡ self.old.kinds }
+    {
+        if let Some(tagged) = self.slots.get_mut(&at) {
+            *tagged = tagged.with_number(number);
+        }
+    }
+}
+
 impl Store for NamedStore {
     ghost slot_kinds = { λ store. store.kinds };
 
@@ -41,33 +71,10 @@ impl Store for NamedStore {
     }
 
     fn get(&self, place: Place) -> i64 {
-        self.get_at(usize::from(place.0))
+        self.number_at(usize::from(place.0))
     }
 
     fn set(&mut self, place: Place, number: i64) {
-        self.set_at(usize::from(place.0), number);
-    }
-
-    fn get_at(&self, at: usize) -> i64 {
-        match self.slots.get(&at) {
-            Some(tagged) => tagged.number(),
-            // Below the size there is a number at each place, so this is not reached.
-            None => 0,
-        }
-    }
-
-    fn set_at(&mut self, at: usize, number: i64) {
-        if let Some(tagged) = self.slots.get_mut(&at) {
-            *tagged = tagged.with_number(number);
-        }
-    }
-
-    fn set_four(&mut self, at: usize, a: i64, b: i64, c: i64, d: i64) {
-        // So it is known that no number of a place is too great.
-        let _size = self.size();
-        self.set_at(at, a);
-        self.set_at(at + 1, b);
-        self.set_at(at + 2, c);
-        self.set_at(at + 3, d);
+        self.put_at(usize::from(place.0), number);
     }
 }

@@ -38,26 +38,45 @@ pub trait Store: Drop + Sized {
         ensures numbers { numbers self.new ≡ slice_set (numbers self.old) place.0 number }
         ensures kinds { slot_kinds self.new ≡ slot_kinds self.old };
 
-    /// The number at the place of this number, counted from 0: so no sum of places has to fit a place.
+    /// The number at the place with this index, counted from 0. A store for which an index is cheaper than a place
+    /// has a body of its own.
+    #[inline(always)]
     fn get_at(&self, at: usize) -> i64
-        requires { at < length (slot_kinds self.now) }
+        requires place { at < length (slot_kinds self.now) }
+        requires fits { at < 65536 }
         ensures number { slice_get (numbers self.now) at ≡ Some result }
-        ensures range { IsInRangeAt (slot_kinds self.now) at result };
+        ensures range { IsInRangeAt (slot_kinds self.now) at result }
+    {
+        self.get(Place(at as u16))
+    }
 
-    /// Writes a number that is in its range to the place of this number. No other place changes.
+    /// Writes a number that is in its range to the place with this index, counted from 0. No other place changes.
+    #[inline(always)]
     fn set_at(&mut self, at: usize, number: i64)
         requires place { at < length (slot_kinds self.old) }
+        requires fits { at < 65536 }
         requires range { IsInRangeAt (slot_kinds self.old) at number }
         ensures numbers { numbers self.new ≡ slice_set (numbers self.old) at number }
-        ensures kinds { slot_kinds self.new ≡ slot_kinds self.old };
+        ensures kinds { slot_kinds self.new ≡ slot_kinds self.old }
+    {
+        self.set(Place(at as u16), number);
+    }
 
     /// Writes four numbers to places that follow one another, each in its place's range. No other place changes.
+    #[inline(always)]
     fn set_four(&mut self, at: usize, a: i64, b: i64, c: i64, d: i64)
         requires places { at + 4 ≤ length (slot_kinds self.old) }
+        requires fit { at + 4 ≤ 65536 }
         requires first { IsInRangeAt (slot_kinds self.old) at a }
         requires second { IsInRangeAt (slot_kinds self.old) (at + 1) b }
         requires third { IsInRangeAt (slot_kinds self.old) (at + 2) c }
         requires fourth { IsInRangeAt (slot_kinds self.old) (at + 3) d }
         ensures numbers { numbers self.new ≡ with_four (numbers self.old) at a b c d }
-        ensures kinds { slot_kinds self.new ≡ slot_kinds self.old };
+        ensures kinds { slot_kinds self.new ≡ slot_kinds self.old }
+    {
+        self.set_at(at, a);
+        self.set_at(at + 1, b);
+        self.set_at(at + 2, c);
+        self.set_at(at + 3, d);
+    }
 }

@@ -6,12 +6,12 @@ use Rattle.wc_store.specs.Slots.{SlotNumbers}
 
 pub index-requires : goal.index-requires
 index-requires c =
-    omega (arith, same_length _ _ c.self.invariant, ap (λ (s : SlotNumbers). length s.kinds) c.self.view_is, c.requires, c.self.inside.numbers.ok)
+    omega (arith, same_length _ _ c.self.invariant, ap (λ (s : SlotNumbers). length s.kinds) c.self.view_is, c.requires.place, c.self.inside.numbers.ok)
 
 -- what is read at a place of a store
 read : (c : goal.After-result-1) → IsRead c.args.self.now.kinds c.args.self.now.numbers c.args.at c.index.result.now
 read c =
-    let within : c.args.at < length c.self.inside.kinds.items = subst (λ (s : SlotNumbers). c.args.at < length s.kinds) (sym c.self.view_is) c.requires in
+    let within : c.args.at < length c.self.inside.kinds.items = subst (λ (s : SlotNumbers). c.args.at < length s.kinds) (sym c.self.view_is) c.requires.place in
     subst (λ (s : SlotNumbers). IsRead s.kinds s.numbers c.args.at c.index.result.now) c.self.view_is
     (is_read c.self.inside.kinds.items c.self.inside.numbers.items c.args.at c.index.result.now c.self.invariant within c.index.ensures)
 

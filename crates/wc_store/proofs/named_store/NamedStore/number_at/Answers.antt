@@ -3,7 +3,7 @@ use Rattle.std.proofs.Common.{◌≡◌, ◌<◌, ap, sym, ◌∙◌, subst, len
 use Rattle.std.specs.Prelude.{slice_get}
 use Rattle.wc_store.proofs.Numbered.{IsKept, is_kept, not_missing}
 use Rattle.wc_store.proofs.Ranges.{has_64_bits}
-use Rattle.wc_store.proofs.named_store.NamedStoreStore.get_at.Goals as goal
+use Rattle.wc_store.proofs.named_store.NamedStore.number_at.Goals as goal
 use Rattle.wc_store.specs.Inside.{number_view, tag_view}
 use Rattle.wc_store.specs.Slots.{SlotNumbers, IsInRangeAt}
 

@@ -4,8 +4,8 @@ use Rattle.std.specs.Prelude.{slice_set}
 use Rattle.wc_model.specs.Language.Frames.{IsInRange}
 use Rattle.wc_store.proofs.Numbered.{is_kept, IsWritten, is_written, in_kind, not_missing}
 use Rattle.wc_store.proofs.Ranges.{in_range_has_64_bits}
-use Rattle.wc_store.proofs.named_store.NamedStoreStore.set_at.Goals as goal
-use Rattle.wc_store.proofs.named_store.NamedStoreStore.set_at.Goals.{in-Some, in_default}
+use Rattle.wc_store.proofs.named_store.NamedStore.put_at.Goals as goal
+use Rattle.wc_store.proofs.named_store.NamedStore.put_at.Goals.{in-Some, in_default}
 use Rattle.wc_store.specs.Inside.{kinds_in, tag_view}
 use Rattle.wc_store.specs.Slots.{SlotNumbers, IsInRangeAt}
 
