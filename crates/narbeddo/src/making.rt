@@ -1,7 +1,8 @@
 ghost use types.Logic.{sem};
 ghost use Rattle.std.specs.Borrow.{full_share};
 ghost use Rattle.std.specs.Ptr.{lies_at, room_at};
-ghost use Rattle.std.specs.Prelude.{◌≤◌};
+ghost use Rattle.std.specs.Mem.{type_size};
+ghost use Rattle.std.specs.Prelude.{◌≡◌, ◌≤◌};
 ghost use Rattle.wc_scale.specs.Standing.{IsClosed};
 ghost use Rattle.wc_scale.specs.contracts.scale.Scale.{the_row};
 
@@ -18,10 +19,11 @@ pub unsafe extern "C" fn narbeddo_make(alloc: Global, scale: *mut u8)
     std::ptr::write(scale as *mut Scale, Scale::new(alloc));
 }
 
-/// How many bytes a scale takes: no more than the header gives it.
+/// The number of bytes that a scale takes, which `narbeddo_make` needs at its pointer: at most 384, as the header has it.
 #[unsafe(no_mangle)]
 pub extern "C" fn narbeddo_size() -> usize
-    ensures { result ≤ 384 }
+    ensures exact { result ≡ type_size the_row }
+    ensures most { result ≤ 384 }
 {
     std::mem::size_of::<Scale>()
 }

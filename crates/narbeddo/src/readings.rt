@@ -3,7 +3,7 @@ ghost use Rattle.std.specs.Borrow.{full_share};
 ghost use Rattle.std.specs.Ptr.{lies_at};
 ghost use Rattle.wc_scale.specs.contracts.scale.Scale.{the_row};
 ghost use Rattle.std.specs.Prelude.{◌≡◌};
-ghost use Rattle.wc_scale.specs.Calls.{TellsEngraved, TellsReading};
+ghost use Rattle.wc_scale.specs.Calls.{ShowsNoPlate, ShowsNothing, TellsEngraved, TellsReading};
 ghost use Rattle.wc_scale.specs.Standing.{IsClosed};
 
 use wc_scale::{Engraved, Reading, Scale};
@@ -11,7 +11,7 @@ use wc_scale::{Engraved, Reading, Scale};
 /// What the indicator shows. The scale stays as it is.
 fn reading_of(scale: &mut Scale) -> Reading
     ensures shows { TellsReading scale.old result }
-    ensures closed { IsClosed scale.old → result.status ≡ 3 }
+    ensures closed { IsClosed scale.old → ShowsNothing result }
     ensures kept { scale.new ≡ scale.old }
 {
     scale.reading()
@@ -23,7 +23,7 @@ pub unsafe extern "C" fn narbeddo_read(scale: *mut u8) -> Reading
     ghost before: { Scale }
     requires* { sem 𝓛 (lies_at the_row full_share scale before) }
     ensures* { ∃ₛ (λ (after : Scale). sem 𝓛 (lies_at the_row full_share scale after)
-        ∗ ⌜ (TellsReading before result) × (IsClosed before → result.status ≡ 3)
+        ∗ ⌜ (TellsReading before result) × (IsClosed before → ShowsNothing result)
         × (after ≡ before) ⌝) }
 {
     reading_of(&mut *(scale as *mut Scale))
@@ -32,7 +32,7 @@ pub unsafe extern "C" fn narbeddo_read(scale: *mut u8) -> Reading
 /// What is engraved on the scale. The scale stays as it is.
 fn engraved_of(scale: &mut Scale) -> Engraved
     ensures shows { TellsEngraved scale.old result }
-    ensures closed { IsClosed scale.old → result.status ≡ 3 }
+    ensures closed { IsClosed scale.old → ShowsNoPlate result }
     ensures kept { scale.new ≡ scale.old }
 {
     scale.engraved()
@@ -44,7 +44,7 @@ pub unsafe extern "C" fn narbeddo_plate(scale: *mut u8) -> Engraved
     ghost before: { Scale }
     requires* { sem 𝓛 (lies_at the_row full_share scale before) }
     ensures* { ∃ₛ (λ (after : Scale). sem 𝓛 (lies_at the_row full_share scale after)
-        ∗ ⌜ (TellsEngraved before result) × (IsClosed before → result.status ≡ 3)
+        ∗ ⌜ (TellsEngraved before result) × (IsClosed before → ShowsNoPlate result)
         × (after ≡ before) ⌝) }
 {
     engraved_of(&mut *(scale as *mut Scale))

@@ -58,7 +58,11 @@ impl Message {
     pub(crate) fn as_str(&self) -> &str
         ensures { result.now ≡ self.now.bytes.items }
     {
-        unsafe { str::from_utf8_unchecked(self.as_bytes()) }
+        match str::from_utf8(self.as_bytes()) {
+            Ok(text) => text,
+            // Every byte is ASCII, so this is not reached.
+            Err(_) => "",
+        }
     }
 
     /// Whether it has no byte.

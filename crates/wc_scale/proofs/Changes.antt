@@ -23,5 +23,6 @@ is_changed old machine new loaded is changes same =
         program = changes running.text running.store
             (subst (λ program. IsRunning (Some machine) program) runs (subst (λ held. IsRunning held came.program) is stands.program));
       };
+      stays = λ ms late. subst (λ held. IfSome held (λ m. m.last ≤ ms)) (sym is) (subst (λ last. last ≤ ms) same late);
       last = λ ms early. subst (λ last. last ≤ ms) (sym same) (subst (λ held. IfSome held (λ m. m.last ≤ ms)) is early);
     }

@@ -8,7 +8,7 @@ use Rattle.wc_scale.specs.Beginning.{IsRefusedAt}
 use Rattle.wc_scale.specs.Programs.{RefusesChange, RefusesLoad}
 use Rattle.wc_scale.specs.Standing.{HasNoProgram, IsClosed}
 use Rattle.wc_scale.specs.declared.scale.Scale.{Scale}
-use Rattle.wc_scale.specs.Refusals.{TellsFault}
+use Rattle.wc_scale.specs.Refusals.{IsBare, TellsFault}
 use Rattle.wc_scale.specs.declared.results.Refusal.{Refusal}
 
 -- of a program's text
@@ -24,6 +24,11 @@ refused_at bytes Memory told refused only tells is = absurd (omega arith)
 pub fault_status : (fault : Fault) (told : Refusal) → TellsFault fault told → (told.status ≤ 2) × ¬ (told.status ≡ 0)
 fault_status (Refused number place) told tells = (omega arith, λ none. absurd (omega arith))
 fault_status Memory told tells = (omega arith, λ none. absurd (omega arith))
+
+-- unless it is refused, its number and position are 0
+pub fault_is_bare : (fault : Fault) (told : Refusal) → TellsFault fault told → IsBare told
+fault_is_bare (Refused number place) told tells = λ other. absurd (other tells.0)
+fault_is_bare Memory told tells = λ other. (tells.1, tells.2)
 
 pub no_unit_told : (bytes : List ℕ) (unit : ℕ) (fault : Fault) (told : Refusal) → TellsFault fault told → TellsNoUnit bytes unit told
 no_unit_told bytes unit fault told tells = λ is. absurd (omega (arith, (fault_status fault told tells).0, is))
@@ -41,6 +46,7 @@ refuses_load old bytes fault told opened refused only tells =
       kept = λ other. refl;
       closed = λ is. absurd (opened is);
       says = refused_at bytes fault told refused only tells;
+      bare = fault_is_bare fault told tells;
       else = λ is. (fault_status fault told tells).0;
     }
 
@@ -53,5 +59,6 @@ refuses_change old bytes fault told opened loaded refused only tells =
       closed = λ is. absurd (opened is);
       program = λ is none. absurd (loaded none);
       says = refused_at bytes fault told refused only tells;
+      bare = fault_is_bare fault told tells;
       else = λ is has. (fault_status fault told tells).0;
     }

@@ -1,6 +1,6 @@
 -- What each call with a row's work does to a scale and what it answers, for whatever plate and whatever has come the scale
 -- stands for. A call that answers any status but 0 changes nothing. (The profile's own.)
-use Rattle.std.specs.Prelude.{◌≡◌, ℕ, ◌<◌, ◌≤◌, List, [], ◌∷◌, ◌++◌, take, replicate, ℤ, pos, ◌≤ℤ◌, Some}
+use Rattle.std.specs.Prelude.{◌≡◌, ℕ, ◌<◌, ◌≤◌, List, [], ◌∷◌, ◌++◌, take, replicate, ℤ, pos, ◌≤ℤ◌, IfSome, Some}
 use Rattle.wc_model.specs.Instrument.Answers.{after_requests, answers_to}
 use Rattle.wc_model.specs.Instrument.Plates.{PlateData, greatest_sample, least_sample}
 use Rattle.wc_model.specs.Instrument.Requests.{requests_in}
@@ -9,7 +9,9 @@ use Rattle.wc_model.specs.Language.Paths.{IsProgramBound}
 use Rattle.wc_model.specs.Run.ProcessImage.{image_with}
 use Rattle.wc_model.specs.Say.ProgramReport.{scans_of}
 use Rattle.wc_scale.specs.Opening.{GivesPlate, RefusesPlate}
-use Rattle.wc_scale.specs.Scanning.{IsToldOf}
+use Rattle.wc_scale.specs.Refusals.{IsBare}
+use Rattle.wc_model.specs.Language.Scans.{scan_of}
+use Rattle.wc_scale.specs.Scanning.{IsDone, IsToldOf}
 use Rattle.wc_scale.specs.Standing.{Came, HasNoProgram, IsClosed, IsKept, IsNotBehind, Running, Stands, nothing_yet}
 use Rattle.wc_scale.specs.declared.results.Answer.{Answer}
 use Rattle.wc_scale.specs.declared.results.Engraved.{Engraved}
@@ -33,6 +35,7 @@ pub record RefusesOpen (old new : Scale) (text : List ℕ) (told : Refusal) : Ty
   pub kept : IsKept old new told.status
   pub twice : ¬ (IsClosed old) → told.status ≡ 4
   pub says : told.status ≡ 1 → RefusesPlate text told.number told.place
+  pub bare : IsBare told
   pub else : IsClosed old → told.status ≤ 2
 
 -- ---- a sample
@@ -84,11 +87,13 @@ pub record RefusesByte (old new : Scale) (answer : Answer) : Type 0 where
   pub short : answer.length ≤ 20
 
 -- ---- a scan
--- the scan does what the text means, within its bound, from the inputs and the indicator as they are
+-- the scan does what the text means, without a trap and within its bound, from the inputs and the indicator as they are
 pub record IsScanned (new : Scale) (plate : PlateData) (came : Came) (running : Running) (ms : ℕ) (scanned : Scanned) : Type 0 where
+  pub done : IsDone (scan_of running.text running.store (image_with plate came.inputs came.history) ms)
   pub told : IsToldOf scanned (scans_of running.text running.store (image_with plate came.inputs came.history) ms)
   pub stands : Stands new plate (record came { program = Some (record { text = running.text; store = (scans_of running.text running.store (image_with plate came.inputs came.history) ms).after }) })
   pub within : (n : ℕ) → IsProgramBound running.text n → scanned.steps ≤ n
+  pub last : IfSome new.machine (λ machine. machine.last ≡ ms)
 
 abbrev pub TakesScan : Scale → Scale → ℕ → Scanned → Type 0
 TakesScan old new ms scanned = scanned.status ≡ 0 →
@@ -115,3 +120,12 @@ TellsReading scale reading = (plate : PlateData) (came : Came) → Stands scale 
 abbrev pub TellsEngraved : Scale → Engraved → Type 0
 TellsEngraved scale engraved = (plate : PlateData) (came : Came) → Stands scale plate came →
     (engraved.status ≡ 0) × (engraved.unit ≡ plate.unit) × (engraved.decimals ≡ pos plate.decimals) × (engraved.max ≡ pos plate.max) × (engraved.e ≡ pos plate.e)
+
+-- nothing is shown of a closed scale: no flag is set, so that it is not valid, and each weight is 0
+abbrev pub ShowsNothing : Reading → Type 0
+ShowsNothing reading = (reading.status ≡ 3) × (reading.flags ≡ 0) × (reading.weights ≡ replicate 3 (pos 0))
+
+-- nothing is engraved on a closed scale: the unit's bytes are 0, and so is each number
+abbrev pub ShowsNoPlate : Engraved → Type 0
+ShowsNoPlate engraved =
+    (engraved.status ≡ 3) × (engraved.unit ≡ replicate 3 0) × (engraved.decimals ≡ pos 0) × (engraved.max ≡ pos 0) × (engraved.e ≡ pos 0)

@@ -8,6 +8,7 @@ use Rattle.wc_model.specs.Language.Loading.{IsLoaded}
 use Rattle.wc_model.specs.Language.Tree.{Text}
 use Rattle.wc_model.specs.Language.Views.{text_view}
 use Rattle.wc_scale.specs.Beginning.{IsRefusedAt}
+use Rattle.wc_scale.specs.Refusals.{IsBare}
 use Rattle.wc_scale.specs.Standing.{Came, HasNoProgram, IsClosed, IsKept, IsNotBehind, Running, Stands, begun}
 use Rattle.wc_scale.specs.declared.results.Refusal.{Refusal}
 use Rattle.wc_scale.specs.declared.scale.Scale.{Scale}
@@ -31,6 +32,7 @@ pub record RefusesLoad (old new : Scale) (bytes : List ℕ) (told : Refusal) : T
   pub kept : IsKept old new told.status
   pub closed : IsClosed old → told.status ≡ 3
   pub says : told.status ≡ 1 → IsRefusedAt bytes told.number told.place
+  pub bare : IsBare told
   pub else : ¬ (IsClosed old) → told.status ≤ 2
 
 -- the store of the new text is what is carried over to it, and the moment of the last scan stays
@@ -38,6 +40,7 @@ pub record IsChangedTo (old new : Scale) (text : Text) : Type 0 where
   pub stands : (plate : PlateData) (came : Came) (running : Running) → came.program ≡ Some running → Stands old plate came →
       Stands new plate (with_program (record { text = text; store = carried running.text running.store text }) came)
   pub last : (ms : ℕ) → IsNotBehind old ms → IsNotBehind new ms
+  pub stays : (ms : ℕ) → IsNotBehind new ms → IsNotBehind old ms
 
 abbrev pub TakesChangeTo : Scale → Scale → LoadedText → ℕ → Type 0
 TakesChangeTo old new loaded status = status ≡ 0 → IsChangedTo old new (text_view loaded.source)
@@ -61,4 +64,5 @@ pub record RefusesChange (old new : Scale) (bytes : List ℕ) (told : Refusal) :
   pub closed : IsClosed old → told.status ≡ 3
   pub program : ¬ (IsClosed old) → HasNoProgram old → told.status ≡ 5
   pub says : told.status ≡ 1 → IsRefusedAt bytes told.number told.place
+  pub bare : IsBare told
   pub else : ¬ (IsClosed old) → ¬ (HasNoProgram old) → told.status ≤ 2

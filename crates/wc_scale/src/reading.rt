@@ -1,5 +1,4 @@
-ghost use Rattle.wc_scale.specs.Calls.{TellsEngraved, TellsReading};
-ghost use Rattle.std.specs.Prelude.{◌≡◌};
+ghost use Rattle.wc_scale.specs.Calls.{ShowsNoPlate, ShowsNothing, TellsEngraved, TellsReading};
 ghost use Rattle.wc_scale.specs.Standing.{IsClosed};
 
 use crate::results::{Engraved, Reading};
@@ -11,7 +10,7 @@ impl Scale {
     /// What the indicator shows. It takes no memory.
     pub fn reading(&self) -> Reading
         ensures shows { TellsReading self.now result }
-        ensures closed { IsClosed self.now → result.status ≡ 3 }
+        ensures closed { IsClosed self.now → ShowsNothing result }
     {
         match &self.indicator {
             Some(indicator) => {
@@ -34,7 +33,7 @@ impl Scale {
     /// What is engraved on the scale: the unit, the point and the range of what it shows. It takes no memory.
     pub fn engraved(&self) -> Engraved
         ensures shows { TellsEngraved self.now result }
-        ensures closed { IsClosed self.now → result.status ≡ 3 }
+        ensures closed { IsClosed self.now → ShowsNoPlate result }
     {
         match &self.indicator {
             Some(indicator) => {

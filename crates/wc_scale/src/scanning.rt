@@ -2,7 +2,7 @@ ghost use Rattle.std.specs.Prelude.{◌≡◌, ◌<◌, ◌≤◌, ℕ, pos, rep
 ghost use Rattle.wc_model.specs.Language.Paths.{IsProgramBound};
 ghost use Rattle.wc_machine.specs.Machines.{text_of};
 ghost use Rattle.wc_scale.specs.Calls.{RefusesScan, TakesScan};
-ghost use Rattle.wc_scale.specs.Scanning.{ShowsScan, LeavesScan};
+ghost use Rattle.wc_scale.specs.Scanning.{EndsScan, LeavesScan, ShowsScan};
 
 use crate::results::Scanned;
 use crate::scale::Scale;
@@ -35,6 +35,7 @@ fn scan_of(ms: u64, image: &Image, machine: &mut Machine<'_, SlotStore>) -> Scan
     ensures shows { ShowsScan machine.old ms image.now result }
     ensures within { (n : ℕ) → IsProgramBound (text_of machine.old) n → result.steps ≤ n }
     ensures last { machine.new.last ≡ ms }
+    ensures ends { EndsScan machine.old ms image.now }
 {
     let steps = machine.scan(ms, image);
     let outputs = machine.outputs();
