@@ -70,11 +70,13 @@ fn row_of_bytes(alloc: Global, count: usize) -> Result<Vec<u8, Global>, AllocErr
 
 /// The next row brings so many bytes to the line.
 fn brings<R: ByteIn>(rows: &mut Rows<'_, R>, count: usize) -> bool {
-    let is_bytes = match rows.next() {
-        Ok(Some(row)) => matches!(row.kind, RowKind::Bytes),
+    match rows.next() {
+        Ok(Some(row)) => match &row.kind {
+            RowKind::Bytes(bytes) => bytes.len() == count,
+            _ => false,
+        },
         _ => false,
-    };
-    is_bytes && rows.bytes().len() == count
+    }
 }
 
 /// The first row behind the heading brings so many bytes.

@@ -1,23 +1,37 @@
 //! The rows of a log, one by one.
 use std::alloc::Global;
 use wc_model::{ByteIn, Device};
-use wc_record::{RowKind, Rows};
+use wc_record::{HeadKind, RowKind, Rows};
 
 /// A log with a row of each kind, blank lines, quotes, and counts and moments at their ends.
 const EACH_KIND: &[u8] =
     b"ms,kind,data\r\n\r\n0,C,-8388608\r\n\n5,L,0a5A0d\n\"5\",\"I\",\"fF01\"\n0000000000006,S,\n7,L,\n7,P,\n8,C,-0\n1099511627775,C,0008388607";
 
-/// The next row has this number and this moment; its kind in a letter and its number; nothing where it has not.
-fn next<R: ByteIn>(rows: &mut Rows<'_, R>, number: u32, ms: u64) -> Option<(u8, i64)> {
+/// What a row brings: its kind in a letter, its number, and its bytes.
+fn brought(kind: &RowKind) -> (u8, i64, &[u8]) {
+    match kind {
+        RowKind::Counts(counts) => (b'C', i64::from(*counts), b""),
+        RowKind::Bytes(bytes) => (b'L', 0, bytes.as_slice()),
+        RowKind::Inputs(inputs) => (b'I', i64::from(*inputs), b""),
+        RowKind::Scan => (b'S', 0, b""),
+        RowKind::Change => (b'P', 0, b""),
+    }
+}
+
+/// The next row has this number and this moment, and brings this.
+fn is_next<R: ByteIn>(
+    rows: &mut Rows<'_, R>,
+    number: u32,
+    ms: u64,
+    wanted: (u8, i64),
+    bytes: &[u8],
+) -> bool {
     match rows.next() {
-        Ok(Some(row)) if row.number == number && row.ms == ms => match row.kind {
-            RowKind::Counts(counts) => Some((b'C', i64::from(counts))),
-            RowKind::Bytes => Some((b'L', 0)),
-            RowKind::Inputs(inputs) => Some((b'I', i64::from(inputs))),
-            RowKind::Scan => Some((b'S', 0)),
-            RowKind::Change => Some((b'P', 0)),
-        },
-        _ => None,
+        Ok(Some(row)) => {
+            let (kind, value, own) = brought(&row.kind);
+            row.number == number && row.ms == ms && (kind, value) == wanted && own == bytes
+        }
+        _ => false,
     }
 }
 
@@ -35,7 +49,7 @@ fn has_ended<R: ByteIn>(rows: &mut Rows<'_, R>) -> bool {
 /// The rows are these: the number, the moment, the kind with its number, and the bytes of each.
 fn are_rows<R: ByteIn>(rows: &mut Rows<'_, R>, wanted: &[(u32, u64, (u8, i64), &[u8])]) -> bool {
     for (number, ms, kind, bytes) in wanted {
-        if next(rows, *number, *ms) != Some(*kind) || (kind.0 == b'L' && rows.bytes() != *bytes) {
+        if !is_next(rows, *number, *ms, *kind, bytes) {
             return false;
         }
     }
@@ -70,7 +84,7 @@ fn rows_of_each_kind(rt: HostRuntime) {
 const BYTES: &[u8] = b"ms,kind,data\n0,L,0a5a0d\n0,L,41\n1,S,\n2,L,\n3,L,0d0d0d0d\n";
 
 #[test]
-fn rows_lend_their_bytes(rt: HostRuntime) {
+fn rows_own_their_bytes(rt: HostRuntime) {
     let wanted = [
         (2, 0, (b'L', 0), b"\nZ\r".as_slice()),
         (3, 0, (b'L', 0), b"A".as_slice()),
@@ -79,4 +93,42 @@ fn rows_lend_their_bytes(rt: HostRuntime) {
         (6, 3, (b'L', 0), b"\r\r\r\r".as_slice()),
     ];
     assert!(rt; has_rows(rt.alloc(), BYTES, &wanted));
+}
+
+/// The head of the next row has this number; if it is one of bytes, these are borrowed with it.
+fn is_next_head<R: ByteIn>(rows: &mut Rows<'_, R>, number: u32, bytes: Option<&[u8]>) -> bool {
+    match rows.next_head() {
+        Ok(Some(head)) => match bytes {
+            Some(bytes) => matches!(head.kind, HeadKind::Bytes) && rows.bytes() == bytes,
+            None => head.number == number && matches!(head.kind, HeadKind::Scan),
+        },
+        _ => false,
+    }
+}
+
+/// Heads and rows of one log, in turn: a row that was read before keeps its bytes.
+fn in_turn<R: ByteIn>(rows: &mut Rows<'_, R>) -> bool {
+    let Ok(Some(first)) = rows.next() else {
+        return false;
+    };
+    let heads = is_next_head(rows, 3, Some(b"A")) && is_next_head(rows, 4, None);
+    heads
+        && is_next(rows, 5, 2, (b'L', 0), b"")
+        && is_next_head(rows, 6, Some(b"\r\r\r\r"))
+        && has_ended(rows)
+        && brought(&first.kind) == (b'L', 0, b"\nZ\r".as_slice())
+}
+
+/// Heads and rows of a log, in turn.
+fn are_in_turn(alloc: Global, log: &[u8]) -> bool {
+    let mut device = Device::new(log);
+    let mut rows = Rows::new(alloc, &mut device);
+    let right = in_turn(&mut rows);
+    drop(rows);
+    right
+}
+
+#[test]
+fn heads_and_rows_in_turn(rt: HostRuntime) {
+    assert!(rt; are_in_turn(rt.alloc(), BYTES));
 }

@@ -7,7 +7,7 @@ use wc_indicator::Indicator;
 use wc_machine::Machine;
 use wc_model::{Image, Outputs};
 use wc_plate::Plate;
-use wc_record::{Record, Row, RowKind};
+use wc_record::{HeadKind, Record, RowHead};
 use wc_store::SlotStore;
 
 /// What is kept of a run for its picture. Its room is made at the first row.
@@ -63,22 +63,22 @@ impl Picture {
     }
 
     /// What happened at a row.
-    fn events(&mut self, row: Row, bytes: &[u8], answers: &[u8]) -> Events {
+    fn events(&mut self, row: RowHead, bytes: &[u8], answers: &[u8]) -> Events {
         let mut events = Events::none();
         match row.kind {
-            RowKind::Bytes => return self.tracker.follow(row.ms, bytes, answers),
-            RowKind::Inputs(inputs) => self.inputs = inputs,
-            RowKind::Scan => {
+            HeadKind::Bytes => return self.tracker.follow(row.ms, bytes, answers),
+            HeadKind::Inputs(inputs) => self.inputs = inputs,
+            HeadKind::Scan => {
                 if let Some(steps) = self.steps {
                     events.scan(steps);
                 }
             }
-            RowKind::Change => {
+            HeadKind::Change => {
                 if self.running.is_some() {
                     events.changes = 1;
                 }
             }
-            RowKind::Counts(_) => {}
+            HeadKind::Counts(_) => {}
         }
         events
     }
@@ -166,7 +166,7 @@ impl Scanner for Picture {
         }
     }
 
-    fn see(&mut self, row: Row, bytes: &[u8], indicator: &Indicator, answers: &[u8]) {
+    fn see(&mut self, row: RowHead, bytes: &[u8], indicator: &Indicator, answers: &[u8]) {
         self.rows = self.rows.saturating_add(1);
         if self.plate.is_none() {
             self.plate = Some(*indicator.plate());

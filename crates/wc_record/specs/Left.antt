@@ -1,28 +1,28 @@
 -- What is left of a log: its rows and its refusal, where the bytes of the reader are known.
 use Rattle.std.specs.Prelude.{◌≡◌, ◌≤◌, ◌<◌, ◌^◌, ◌⊎◌, ⊤, ℕ, ◌-◌, true, List, [], ◌∷◌, length, Option, Some, None, Result, Ok, Err}
 use Rattle.wc_model.specs.Run.Log.{Record, LogOf, log_of, log_after, last_moment, refused_at, with_row}
+use Rattle.wc_model.specs.Run.Rows.{LogRow}
 use Rattle.csv.specs.Reading.{reader_source}
 use Rattle.wc_record.specs.Bound.{is_used_up}
 use Rattle.wc_record.specs.Reading.{HasRecords, lent}
-use Rattle.wc_record.specs.Views.{IsDataInRange, data_view, row_view}
+use Rattle.wc_record.specs.Views.{IsDataInRange}
 use Rattle.wc_record.specs.declared.log.LogEnd.{LogEnd}
 use Rattle.wc_record.specs.declared.log.LogEnd.TheVariants.{AllRead, Met}
 use Rattle.wc_record.specs.declared.log.Rows.{Rows}
 use Rattle.wc_record.specs.declared.row_kind.LogFault.{LogFault}
 use Rattle.wc_record.specs.declared.row_kind.LogFault.TheVariants as fault
-use Rattle.wc_record.specs.declared.row_kind.Row.{Row}
 
--- what a call answers
-abbrev pub Answer : Type 0
-Answer = Result (Option Row) LogFault
+-- what a call answers: a row or its head, nothing where no row is left, or a fault
+abbrev pub Answer : Type 0 → Type 0
+Answer A = Result (Option A) LogFault
 
 -- what each call answers behind an end
-abbrev pub answer_at : LogEnd → Answer
+abbrev pub answer_at : {A : Type 0} → LogEnd → Answer A
 answer_at AllRead = Ok None
 answer_at (Met met) = Err met
 
 -- how an answer ends the log, if it does
-abbrev pub end_behind : Answer → Option LogEnd
+abbrev pub end_behind : {A : Type 0} → Answer A → Option LogEnd
 end_behind (Ok (Some row)) = None
 end_behind (Ok None) = Some AllRead
 end_behind (Err met) = Some (Met met)
@@ -92,24 +92,28 @@ IsLeft bytes_left None rows log = (before : List Record) × (left : List Record)
 abbrev pub HasLeft : {R : Type 0} → (R → Option (List ℕ)) → Rows R → LogOf → Type 0
 HasLeft bytes_left rows log = IsLeft bytes_left rows.end rows log
 
--- an answer takes the first row that is left, or tells that none is left, or the refusal; a fault
--- of the reader or of memory says nothing
-abbrev pub Takes : {R : Type 0} → (R → Option (List ℕ)) → LogOf → Answer → Rows R → Type 0
-Takes bytes_left log (Ok (Some row)) rows = (rest : LogOf) × (log ≡ with_row (row_view (row_bytes rows) row) rest) × HasLeft bytes_left rows rest
-Takes bytes_left log (Ok None) rows = (log ≡ nothing_left) × HasLeft bytes_left rows log
-Takes bytes_left log (Err (fault.Refused number place)) rows = (log ≡ refused_at number place) × HasLeft bytes_left rows log
-Takes bytes_left log (Err fault.Read) rows = ⊤
-Takes bytes_left log (Err fault.Memory) rows = ⊤
+-- a fault is the refusal that is left; a fault of the reader or of memory says nothing
+abbrev pub IsRefusalLeft : {R : Type 0} → (R → Option (List ℕ)) → LogOf → LogFault → Rows R → Type 0
+IsRefusalLeft bytes_left log (fault.Refused number place) rows = (log ≡ refused_at number place) × HasLeft bytes_left rows log
+IsRefusalLeft bytes_left log fault.Read rows = ⊤
+IsRefusalLeft bytes_left log fault.Memory rows = ⊤
+
+-- an answer takes the first row that is left, which is the view of what it gives, or tells that
+-- none is left, or the refusal; a fault of the reader or of memory says nothing
+abbrev pub Takes : {R A : Type 0} → (A → LogRow) → (R → Option (List ℕ)) → LogOf → Answer A → Rows R → Type 0
+Takes view bytes_left log (Ok (Some given)) rows = (rest : LogOf) × (log ≡ with_row (view given) rest) × HasLeft bytes_left rows rest
+Takes view bytes_left log (Ok None) rows = (log ≡ nothing_left) × HasLeft bytes_left rows log
+Takes view bytes_left log (Err met) rows = IsRefusalLeft bytes_left log met rows
 
 -- a row of that number, not before that moment, is the last that was read
-pub record IsNext {R : Type 0} (number ms : ℕ) (rows : Rows R) (row : Row) : Type 0 where
+pub record IsNext {R : Type 0} (number ms : ℕ) (rows : Rows R) (row : LogRow) : Type 0 where
   pub number_is : row.number ≡ number
   pub counted : rows_read rows ≡ row.number
   pub few : row.number ≤ 1000000
   pub in_order : ms ≤ row.ms
   pub kept : last_ms rows ≡ row.ms
   pub early : row.ms < 2 ^ 40
-  pub in_range : IsDataInRange (data_view (row_bytes rows) row.kind)
+  pub in_range : IsDataInRange row.brings
 
 -- a failed read has its cause in the reader: it has failed since, or its count of failures stands
 -- at its end, or as much was read as may be

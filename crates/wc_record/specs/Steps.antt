@@ -4,8 +4,9 @@ use Rattle.csv.specs.Records.{fields_of}
 use Rattle.wc_model.specs.Run.Log.{Record, LogOf, log_after, log_of, refused_at, with_row}
 use Rattle.wc_record.specs.Left.{Answer, StandsBehind, log_behind, nothing_left}
 use Rattle.wc_record.specs.Told.{HasRefused, IsAmong, all_records}
-use Rattle.wc_record.specs.Views.{row_view}
+use Rattle.wc_record.specs.Views.{head_view}
 use Rattle.wc_record.specs.declared.log.Rows.{Rows}
+use Rattle.wc_record.specs.declared.row_head.RowHead.{RowHead}
 use Rattle.wc_record.specs.declared.row_kind.LogFault.{LogFault}
 use Rattle.wc_record.specs.declared.row_kind.LogFault.TheVariants as fault
 
@@ -26,9 +27,9 @@ RefusesAt met before left rows = RefusesRow met (log_behind before left) × HasR
 
 -- where these records were read and these are left, an answer gives the first row that is left, with its bytes in the
 -- room and its record at hand, or tells that none is left, or the refusal
-abbrev pub GivesRecord : {R : Type 0} → (R → Option (List ℕ)) → List Record → List Record → Answer → Rows R → Type 0
+abbrev pub GivesRecord : {R : Type 0} → (R → Option (List ℕ)) → List Record → List Record → Answer RowHead → Rows R → Type 0
 GivesRecord bytes_left before left (Ok (Some row)) rows =
-    (read : List Record) × (rest : List Record) × (log_behind before left ≡ with_row (row_view rows.room.items row) (log_behind read rest))
+    (read : List Record) × (rest : List Record) × (log_behind before left ≡ with_row (head_view rows.room.items row) (log_behind read rest))
     × IsAmong bytes_left rows (all_records before left) read rest
 GivesRecord bytes_left before left (Ok None) rows = log_behind before left ≡ nothing_left
 GivesRecord bytes_left before left (Err met) rows = RefusesAt met before left rows

@@ -4,23 +4,38 @@ use Rattle.wc_model.specs.Run.Log.{Record}
 use Rattle.wc_model.specs.Instrument.Plates.{least_sample, greatest_sample}
 use Rattle.wc_model.specs.Run.Rows.{RowData, LogRow, Counts, Bytes, Inputs, Scan, Change}
 use Rattle.wc_record.specs.declared.fields.RowFields.{RowFields}
+use Rattle.wc_record.specs.declared.row_head.HeadKind.{HeadKind}
+use Rattle.wc_record.specs.declared.row_head.HeadKind.TheVariants as head
+use Rattle.wc_record.specs.declared.row_head.RowHead.{RowHead}
 use Rattle.wc_record.specs.declared.row_kind.Row.{Row}
 use Rattle.wc_record.specs.declared.row_kind.RowKind.{RowKind}
 use Rattle.wc_record.specs.declared.row_kind.RowKind.TheVariants as kind
 use Rattle.wc_record.specs.declared.row_data.RowFault.{RowFault}
 use Rattle.wc_record.specs.declared.row_data.RowFault.TheVariants.{Refused, Memory}
 
--- what a row brings, where these are the bytes that are lent with it
-abbrev pub data_view : List ℕ → RowKind → RowData
-data_view bytes (kind.Counts counts) = Counts counts
-data_view bytes kind.Bytes = Bytes bytes
-data_view bytes (kind.Inputs inputs) = Inputs inputs
-data_view bytes kind.Scan = Scan
-data_view bytes kind.Change = Change
+-- what a row brings
+abbrev pub data_view : RowKind → RowData
+data_view (kind.Counts counts) = Counts counts
+data_view (kind.Bytes bytes) = Bytes bytes.items
+data_view (kind.Inputs inputs) = Inputs inputs
+data_view kind.Scan = Scan
+data_view kind.Change = Change
 
--- the row of the log, where these are the bytes that are lent with it
-abbrev pub row_view : List ℕ → Row → LogRow
-row_view bytes row = record { number = row.number; ms = row.ms; brings = data_view bytes row.kind }
+-- the row of the log
+abbrev pub row_view : Row → LogRow
+row_view row = record { number = row.number; ms = row.ms; brings = data_view row.kind }
+
+-- what a row of that kind brings, if these are the bytes that are borrowed with it
+abbrev pub head_data_view : List ℕ → HeadKind → RowData
+head_data_view bytes (head.Counts counts) = Counts counts
+head_data_view bytes head.Bytes = Bytes bytes
+head_data_view bytes (head.Inputs inputs) = Inputs inputs
+head_data_view bytes head.Scan = Scan
+head_data_view bytes head.Change = Change
+
+-- the row of the log with that head, if these are the bytes that are borrowed with it
+abbrev pub head_view : List ℕ → RowHead → LogRow
+head_view bytes row = record { number = row.number; ms = row.ms; brings = head_data_view bytes row.kind }
 
 -- what a row brings is in its range
 abbrev pub IsDataInRange : RowData → Type 0
@@ -31,14 +46,14 @@ IsDataInRange Scan = ⊤
 IsDataInRange Change = ⊤
 
 -- the answer, with these bytes, says what is said, where memory was not refused
-abbrev pub SaysData : List ℕ → Result RowKind RowFault → Result RowData ℕ → Type 0
-SaysData bytes (Ok kind) said = said ≡ Ok (data_view bytes kind)
+abbrev pub SaysData : List ℕ → Result HeadKind RowFault → Result RowData ℕ → Type 0
+SaysData bytes (Ok kind) said = said ≡ Ok (head_data_view bytes kind)
 SaysData bytes (Err (Refused number)) said = said ≡ Err number
 SaysData bytes (Err Memory) said = ⊤
 
 -- the same of a whole row
-abbrev pub SaysRow : List ℕ → Result Row RowFault → Result LogRow ℕ → Type 0
-SaysRow bytes (Ok row) said = said ≡ Ok (row_view bytes row)
+abbrev pub SaysRow : List ℕ → Result RowHead RowFault → Result LogRow ℕ → Type 0
+SaysRow bytes (Ok row) said = said ≡ Ok (head_view bytes row)
 SaysRow bytes (Err (Refused number)) said = said ≡ Err number
 SaysRow bytes (Err Memory) said = ⊤
 

@@ -1,11 +1,11 @@
 ghost use Rattle.std.specs.Prelude.{◌≡◌, ◌∷◌, [], option_map, Some, IfOk};
 ghost use Rattle.csv.specs.Records.{fields_of};
 ghost use Rattle.wc_model.specs.Run.Log.{first_row, has_fields, row_of_fields};
-ghost use Rattle.wc_record.specs.Views.{IsDataInRange, SaysRow, data_view, three_of, fields_view};
+ghost use Rattle.wc_record.specs.Views.{IsDataInRange, SaysRow, head_data_view, three_of, fields_view};
 
 use crate::numbers::moment;
 use crate::row_data::{RowFault, row_data};
-use crate::row_kind::Row;
+use crate::row_head::RowHead;
 use csv::ByteRecord;
 
 /// The three fields of a row.
@@ -55,10 +55,10 @@ pub(crate) fn row_in(
     row: &ByteRecord,
     number: u32,
     last: u64,
-) -> Result<Row, RowFault>
+) -> Result<RowHead, RowFault>
     ensures says { SaysRow room.new.items result
         (row_of_fields number (Some last) (fields_of row.now)) }
-    ensures range { IfOk result (λ read. IsDataInRange (data_view room.new.items read.kind)) }
+    ensures range { IfOk result (λ read. IsDataInRange (head_data_view room.new.items read.kind)) }
 {
     let Some(fields) = three_fields(row) else {
         return Err(RowFault::Refused(601));
@@ -70,7 +70,7 @@ pub(crate) fn row_in(
         return Err(RowFault::Refused(603));
     }
     match row_data(room, fields.kind, fields.text) {
-        Ok(kind) => Ok(Row { number, ms, kind }),
+        Ok(kind) => Ok(RowHead { number, ms, kind }),
         Err(fault) => Err(fault),
     }
 }

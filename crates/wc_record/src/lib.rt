@@ -14,6 +14,7 @@ mod process_image;
 mod records;
 mod refused_row;
 mod row_data;
+mod row_head;
 mod row_kind;
 
 pub use bounded::is_used_up;
@@ -21,4 +22,5 @@ pub use last_scans::{Record, Recorder};
 pub use log::Rows;
 pub use process_image::image;
 pub use refused_row::RefusedRow;
+pub use row_head::{HeadKind, RowHead};
 pub use row_kind::{LogFault, Row, RowKind};

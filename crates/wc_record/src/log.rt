@@ -6,15 +6,17 @@ ghost use Rattle.wc_record.specs.Left as left;
 ghost use Rattle.wc_record.specs.Reading.{HasRecords, TakesFirst, records_of};
 ghost use Rattle.wc_record.specs.Steps.{GivesRecord, IsBehindFirst, Keeps, KeepsRow, RefusesAt};
 ghost use Rattle.wc_record.specs.Told.{Reads, at_hand, fields_told, records_read};
+ghost use Rattle.wc_record.specs.Views.{head_view, row_view};
 
 use crate::bounded::{Bounded, is_used_up};
 use crate::fields::{is_first_row, row_in};
 use crate::records::Records;
 use crate::refused_row::RefusedRow;
 use crate::row_data::RowFault;
+use crate::row_head::{RowHead, owned_kind};
 use crate::row_kind::{LogFault, Row};
 use csv::ByteRecord;
-use std::alloc::Global;
+use std::alloc::{AllocError, Global};
 use std::mem::replace;
 use wc_model::{ByteIn, MOST_ROWS};
 
@@ -49,7 +51,7 @@ pub(crate) enum LogEnd {
 
 /// What each further call answers.
 #[inline(always)]
-fn answer_at(end: LogEnd) -> Result<Option<Row>, LogFault>
+fn answer_at(end: LogEnd) -> Result<Option<RowHead>, LogFault>
     ensures { result ≡ left.answer_at end }
 {
     match end {
@@ -60,7 +62,7 @@ fn answer_at(end: LogEnd) -> Result<Option<Row>, LogFault>
 
 /// How the log has ended, where that answer ends it.
 #[inline(always)]
-fn end_behind(answer: &Result<Option<Row>, LogFault>) -> Option<LogEnd>
+fn end_behind(answer: &Result<Option<RowHead>, LogFault>) -> Option<LogEnd>
     ensures { result ≡ left.end_behind answer.now }
 {
     match answer {
@@ -187,7 +189,7 @@ impl<'r, R: ByteIn> Rows<'r, R> {
 
     /// The row that the record writes.
     #[inline(always)]
-    fn judged(&mut self) -> Result<Option<Row>, LogFault>
+    fn judged(&mut self) -> Result<Option<RowHead>, LogFault>
         ensures gives { (first : Record) (before rest : List Record)
             → StandsBehind R.bytes_left self.old (first ∷ before) rest
             → GivesRecord R.bytes_left (first ∷ before) (fields_of self.old.row ∷ rest)
@@ -195,7 +197,8 @@ impl<'r, R: ByteIn> Rows<'r, R> {
         ensures row { IfOk result
             (λ given.
             IfSome given
-            (λ row. IsNext (suc (rows_read self.old)) (last_ms self.old) self.new row)) }
+            (λ head. IsNext (suc (rows_read self.old)) (last_ms self.old) self.new
+            (head_view (row_bytes self.new) head))) }
         ensures no_device { IfErr result (λ met. met ≡ LogFault.Read → ⊥) }
         ensures keeps { Keeps self.old self.new }
     {
@@ -222,14 +225,15 @@ impl<'r, R: ByteIn> Rows<'r, R> {
 
     /// The next row behind the first.
     #[inline(always)]
-    fn later_row(&mut self) -> Result<Option<Row>, LogFault>
+    fn later_row(&mut self) -> Result<Option<RowHead>, LogFault>
         ensures gives { (first : Record) (before left : List Record)
             → StandsBehind R.bytes_left self.old (first ∷ before) left
             → GivesRecord R.bytes_left (first ∷ before) left result self.new }
         ensures row { IfOk result
             (λ given.
             IfSome given
-            (λ row. IsNext (suc (rows_read self.old)) (last_ms self.old) self.new row)) }
+            (λ head. IsNext (suc (rows_read self.old)) (last_ms self.old) self.new
+            (head_view (row_bytes self.new) head))) }
         ensures no_device { IfErr result (λ met. met ≡ LogFault.Read → ⊥) }
         ensures keeps { Keeps self.old self.new }
     {
@@ -242,13 +246,14 @@ impl<'r, R: ByteIn> Rows<'r, R> {
 
     /// The next row, where nothing has ended the log.
     #[inline(always)]
-    fn next_row(&mut self) -> Result<Option<Row>, LogFault>
+    fn next_row(&mut self) -> Result<Option<RowHead>, LogFault>
         ensures gives { (before left : List Record) → StandsBehind R.bytes_left self.old before left
             → GivesRecord R.bytes_left before left result self.new }
         ensures row { IfOk result
             (λ given.
             IfSome given
-            (λ row. IsNext (suc (max 1 (rows_read self.old))) (last_ms self.old) self.new row)) }
+            (λ head. IsNext (suc (max 1 (rows_read self.old))) (last_ms self.old) self.new
+            (head_view (row_bytes self.new) head))) }
         ensures no_device { IfErr result (λ met. met ≡ LogFault.Read → ⊥) }
         ensures keeps { Keeps self.old self.new }
     {
@@ -265,13 +270,14 @@ impl<'r, R: ByteIn> Rows<'r, R> {
     /// The next row, where nothing has ended the log, with the cause of what kept a record from
     /// being read.
     #[inline(always)]
-    fn told_row(&mut self) -> Result<Option<Row>, LogFault>
+    fn told_row(&mut self) -> Result<Option<RowHead>, LogFault>
         ensures gives { (before left : List Record) → StandsBehind R.bytes_left self.old before left
             → GivesRecord R.bytes_left before left result self.new }
         ensures row { IfOk result
             (λ given.
             IfSome given
-            (λ row. IsNext (suc (max 1 (rows_read self.old))) (last_ms self.old) self.new row)) }
+            (λ head. IsNext (suc (max 1 (rows_read self.old))) (last_ms self.old) self.new
+            (head_view (row_bytes self.new) head))) }
         ensures cause { IsErrOf result LogFault.Read
             → HasCauseIn R.failure_count R.spent_count
             (count_in R.failure_count self.old) self.new }
@@ -290,22 +296,23 @@ impl<'r, R: ByteIn> Rows<'r, R> {
         }
     }
 
-    /// The next row behind the first, or `None` where none is left; `bytes` lends what a row of
-    /// bytes brings. `Refused` names the first rule that is broken, 601 to 608, and its row. `Read`
-    /// comes only where the reader failed in this call or its count of failures is at its end, or
-    /// where as much was read as may be: 134217728 bytes and calls since `new`. `Memory` comes
-    /// where a growth was refused, and where a read failed, without such a cause. After `None` or a
-    /// fault each call answers the same again and reads nothing.
+    /// The head of the next row after the first, or `None` if no row is left; `bytes` borrows what
+    /// a row of bytes brings. `Refused` names the first rule that is broken, 601 to 608, and its
+    /// row. `Read` comes only if the reader failed in this call or its count of failures is at its
+    /// end, or if as much was read as may be: 134217728 bytes and calls since `new`. `Memory` comes
+    /// if an allocation failed, or a read, without such a cause. After `None` or a fault each call
+    /// of this and of `next` answers the same again and reads nothing.
     #[inline(always)]
-    pub fn next(&mut self) -> Result<Option<Row>, LogFault>
+    pub fn next_head(&mut self) -> Result<Option<RowHead>, LogFault>
         ensures takes { (log : LogOf) → HasLeft R.bytes_left self.old log
-            → Takes R.bytes_left log result self.new }
+            → Takes (head_view (row_bytes self.new)) R.bytes_left log result self.new }
         ensures records { (records : List Record) → Reads R.bytes_left self.old records
             → Reads R.bytes_left self.new records }
         ensures row { IfOk result
             (λ given.
             IfSome given
-            (λ row. IsNext (suc (max 1 (rows_read self.old))) (last_ms self.old) self.new row)) }
+            (λ head. IsNext (suc (max 1 (rows_read self.old))) (last_ms self.old) self.new
+            (head_view (row_bytes self.new) head))) }
         ensures ends { ended self.new ≡ left.end_behind result }
         ensures again { IfSome (ended self.old)
             (λ end. (result ≡ left.answer_at end) × (self.new ≡ self.old)) }
@@ -330,8 +337,79 @@ impl<'r, R: ByteIn> Rows<'r, R> {
         }
     }
 
-    /// The bytes that the last row brought, where it is one of bytes. They stand until the next row
-    /// is read.
+    /// The row of that head with a copy of the bytes that the last row brought.
+    fn owned(&self, head: RowHead) -> Result<Row, AllocError>
+        ensures { IfOk result (λ row. row_view row ≡ head_view (row_bytes self.now) head) }
+    {
+        match owned_kind(self.alloc, head.kind, self.bytes()) {
+            Ok(kind) => Ok(Row {
+                number: head.number,
+                ms: head.ms,
+                kind,
+            }),
+            Err(fault) => Err(fault),
+        }
+    }
+
+    /// Ends the log because a row could not be copied: with the cause in the reader if there is
+    /// one, else out of memory.
+    #[cold]
+    #[inline(never)]
+    fn end_uncopied(&mut self, failures_before: u64) -> LogFault
+        ensures read { (result ≡ LogFault.Read)
+            → HasCauseIn R.failure_count R.spent_count failures_before self.new }
+        ensures memory { (result ≡ LogFault.Memory)
+            → ¬ HasCauseIn R.failure_count R.spent_count failures_before self.new }
+        ensures fault { (result ≡ LogFault.Read) ⊎ (result ≡ LogFault.Memory) }
+        ensures ends { self.new ≡ record self.old { end = Some (LogEnd.Met result) } }
+    {
+        let fault = self.cause(failures_before);
+        self.end = Some(LogEnd::Met(fault));
+        fault
+    }
+
+    /// The next row after the first, with its bytes, or `None` if no row is left. The faults are
+    /// those of `next_head`; `Memory` comes also if the bytes could not be copied, and then that
+    /// row is lost and the log has ended. Only a `Bytes` row takes memory to be copied. After
+    /// `None` or a fault each call of this and of `next_head` answers the same again and reads
+    /// nothing.
+    pub fn next(&mut self) -> Result<Option<Row>, LogFault>
+        ensures takes { (log : LogOf) → HasLeft R.bytes_left self.old log
+            → Takes row_view R.bytes_left log result self.new }
+        ensures records { (records : List Record) → Reads R.bytes_left self.old records
+            → Reads R.bytes_left self.new records }
+        ensures row { IfOk result
+            (λ given.
+            IfSome given
+            (λ row. IsNext (suc (max 1 (rows_read self.old))) (last_ms self.old) self.new
+            (row_view row))) }
+        ensures ends { ended self.new ≡ left.end_behind result }
+        ensures again { IfSome (ended self.old)
+            (λ end. (result ≡ left.answer_at end) × (self.new ≡ self.old)) }
+        ensures cause { ended self.old ≡ None → IsErrOf result LogFault.Read
+            → HasCauseIn R.failure_count R.spent_count
+            (count_in R.failure_count self.old) self.new }
+        // A fault of the reader, or the bound that was met, is not reported as out of memory.
+        ensures memory { ended self.old ≡ None → IsErrOf result LogFault.Memory
+            → ¬ HasCauseIn R.failure_count R.spent_count
+            (count_in R.failure_count self.old) self.new }
+        ensures start { started_at self.new ≡ started_at self.old }
+    {
+        let failures_before = self.records.failures();
+        match self.next_head() {
+            Ok(given) => match given {
+                Some(head) => match self.owned(head) {
+                    Ok(row) => Ok(Some(row)),
+                    Err(_) => Err(self.end_uncopied(failures_before)),
+                },
+                None => Ok(None),
+            },
+            Err(fault) => Err(fault),
+        }
+    }
+
+    /// The bytes that the last row brought, if it is one of bytes. They are borrowed until the next
+    /// row is read.
     #[inline(always)]
     pub fn bytes(&self) -> &[u8]
         ensures { result.now ≡ row_bytes self.now }

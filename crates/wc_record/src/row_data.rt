@@ -2,11 +2,11 @@ ghost use Rattle.std.specs.Prelude.{◌≡◌, ℕ, List, IfOk};
 ghost use Rattle.wc_model.specs.Run.Log.{row_data_of};
 ghost use Rattle.wc_model.specs.Run.Log as log;
 ghost use Rattle.wc_model.specs.Run.Rows as rows;
-ghost use Rattle.wc_record.specs.Views.{IsDataInRange, SaysData, data_view};
+ghost use Rattle.wc_record.specs.Views.{IsDataInRange, SaysData, head_data_view};
 
 use crate::hexadecimal::{inputs_word, line_piece};
 use crate::numbers::counts;
-use crate::row_kind::RowKind;
+use crate::row_head::HeadKind;
 
 /// Why fields are no row.
 pub(crate) enum RowFault {
@@ -27,26 +27,26 @@ fn refused(rule: u16) -> RowFault
 
 /// A sample.
 #[inline(always)]
-fn sample(text: &[u8]) -> Result<RowKind, RowFault>
+fn sample(text: &[u8]) -> Result<HeadKind, RowFault>
     ensures says { (bytes : List ℕ)
         → SaysData bytes result (log.brings_or 605 rows.Counts (log.counts_of text.now)) }
     ensures range { (bytes : List ℕ)
-        → IfOk result (λ kind. IsDataInRange (data_view bytes kind)) }
+        → IfOk result (λ kind. IsDataInRange (head_data_view bytes kind)) }
 {
     match counts(text) {
-        Some(counts) => Ok(RowKind::Counts(counts)),
+        Some(counts) => Ok(HeadKind::Counts(counts)),
         None => Err(refused(605)),
     }
 }
 
 /// Bytes on the line, which stand in the room then.
-fn line_bytes(room: &mut Vec<u8>, text: &[u8]) -> Result<RowKind, RowFault>
+fn line_bytes(room: &mut Vec<u8>, text: &[u8]) -> Result<HeadKind, RowFault>
     ensures says { SaysData room.new.items result
         (log.brings_or 606 rows.Bytes (log.line_piece_of text.now)) }
-    ensures range { IfOk result (λ kind. IsDataInRange (data_view room.new.items kind)) }
+    ensures range { IfOk result (λ kind. IsDataInRange (head_data_view room.new.items kind)) }
 {
     match line_piece(room, text) {
-        Ok(true) => Ok(RowKind::Bytes),
+        Ok(true) => Ok(HeadKind::Bytes),
         Ok(false) => Err(refused(606)),
         Err(_) => Err(RowFault::Memory),
     }
@@ -54,40 +54,40 @@ fn line_bytes(room: &mut Vec<u8>, text: &[u8]) -> Result<RowKind, RowFault>
 
 /// Inputs.
 #[inline(always)]
-fn inputs(text: &[u8]) -> Result<RowKind, RowFault>
+fn inputs(text: &[u8]) -> Result<HeadKind, RowFault>
     ensures says { (bytes : List ℕ)
         → SaysData bytes result (log.brings_or 606 rows.Inputs (log.inputs_word_of text.now)) }
     ensures range { (bytes : List ℕ)
-        → IfOk result (λ kind. IsDataInRange (data_view bytes kind)) }
+        → IfOk result (λ kind. IsDataInRange (head_data_view bytes kind)) }
 {
     match inputs_word(text) {
-        Some(inputs) => Ok(RowKind::Inputs(inputs)),
+        Some(inputs) => Ok(HeadKind::Inputs(inputs)),
         None => Err(refused(606)),
     }
 }
 
 /// A scan, which has no data.
 #[inline(always)]
-fn scan(text: &[u8]) -> Result<RowKind, RowFault>
+fn scan(text: &[u8]) -> Result<HeadKind, RowFault>
     ensures says { (bytes : List ℕ) → SaysData bytes result (log.scan_of_data text.now) }
     ensures range { (bytes : List ℕ)
-        → IfOk result (λ kind. IsDataInRange (data_view bytes kind)) }
+        → IfOk result (λ kind. IsDataInRange (head_data_view bytes kind)) }
 {
     if text.is_empty() {
-        Ok(RowKind::Scan)
+        Ok(HeadKind::Scan)
     } else {
         Err(refused(608))
     }
 }
 
 /// A change of the program, which has no data either.
-fn change(text: &[u8]) -> Result<RowKind, RowFault>
+fn change(text: &[u8]) -> Result<HeadKind, RowFault>
     ensures says { (bytes : List ℕ) → SaysData bytes result (log.change_of_data text.now) }
     ensures range { (bytes : List ℕ)
-        → IfOk result (λ kind. IsDataInRange (data_view bytes kind)) }
+        → IfOk result (λ kind. IsDataInRange (head_data_view bytes kind)) }
 {
     if text.is_empty() {
-        Ok(RowKind::Change)
+        Ok(HeadKind::Change)
     } else {
         Err(refused(608))
     }
@@ -95,9 +95,9 @@ fn change(text: &[u8]) -> Result<RowKind, RowFault>
 
 /// What a kind and its data bring; bytes stand in the room then.
 #[inline(always)]
-pub(crate) fn row_data(room: &mut Vec<u8>, kind: &[u8], text: &[u8]) -> Result<RowKind, RowFault>
+pub(crate) fn row_data(room: &mut Vec<u8>, kind: &[u8], text: &[u8]) -> Result<HeadKind, RowFault>
     ensures says { SaysData room.new.items result (row_data_of kind.now text.now) }
-    ensures range { IfOk result (λ kind. IsDataInRange (data_view room.new.items kind)) }
+    ensures range { IfOk result (λ kind. IsDataInRange (head_data_view room.new.items kind)) }
 {
     match kind {
         b"C" => sample(text),

@@ -1,7 +1,7 @@
 use thiserror::Error;
 
-/// A row of a log.
-#[derive(Clone, Copy)]
+/// A row of a log. It owns its bytes.
+#[derive(Drop)]
 pub struct Row {
     /// Its number; that of the first row, `ms,kind,data`, is 1. At most 1000000.
     pub number: u32,
@@ -12,12 +12,12 @@ pub struct Row {
 }
 
 /// What a row of a log brings.
-#[derive(Clone, Copy)]
+#[derive(Drop)]
 pub enum RowKind {
     /// A sample of the sensor, -8388608..8388607.
     Counts(i32),
-    /// Bytes on the line, at most 4096. `bytes` of the log lends them until the next row is read.
-    Bytes,
+    /// Bytes on the line, at most 4096.
+    Bytes(Vec<u8>),
     /// The inputs from now on; bit i is `%IX0.i`.
     Inputs(u16),
     /// A scan.

@@ -8,11 +8,11 @@ use Rattle.wc_model.specs.Run.Rows.{LogRow, Past}
 use Rattle.wc_model.specs.Say.Report.{ReportLine, report_text}
 use Rattle.wc_record.specs.Left.{HasLeft, Takes, nothing_left, row_bytes}
 use Rattle.wc_record.specs.Recorders.{RecorderState}
-use Rattle.wc_record.specs.Views.{row_view}
+use Rattle.wc_record.specs.Views.{head_view}
 use Rattle.wc_record.specs.declared.log.Rows.{Rows}
 use Rattle.wc_record.specs.declared.row_kind.LogFault.{LogFault}
 use Rattle.wc_record.specs.declared.row_kind.LogFault.TheVariants as fault
-use Rattle.wc_record.specs.declared.row_kind.Row.{Row}
+use Rattle.wc_record.specs.declared.row_head.RowHead.{RowHead}
 use Rattle.wc_run.proofs.Fronts.{front_behind, front_of_more}
 use Rattle.wc_run.specs.Deferring.{HoldsScans, lines_at_once, text_at_once}
 use Rattle.wc_run.specs.Doing.{Does, Puts, RunsRows, answer_to}
@@ -105,16 +105,16 @@ module _ {R : Type 0} (bytes_left : R → Option (List ℕ)) (rows : Rows R) (sc
   row_coming row rest is taken = ap (λ l. log_for (logic_after plate logic r.past) l) is ∙ taken rest
 
   -- behind one row more
-  pub one_more : (rows' : Rows R) (scale' : Scale) (recorder' : Option RecorderState) (new : Option (List ℕ)) (row : Row) {X : Type 0} (x : X)
-      → Takes bytes_left r.left (Ok (Some row)) rows'
-      → Does plate logic number (lines_so_far plate logic r.past) r.past (row_view (row_bytes rows') row) scale' recorder' (Ok x) mid new
+  pub one_more : (rows' : Rows R) (scale' : Scale) (recorder' : Option RecorderState) (new : Option (List ℕ)) (row : RowHead) {X : Type 0} (x : X)
+      → Takes (head_view (row_bytes rows')) bytes_left r.left (Ok (Some row)) rows'
+      → Does plate logic number (lines_so_far plate logic r.past) r.past (head_view (row_bytes rows') row) scale' recorder' (Ok x) mid new
       → Running bytes_left rows' scale' recorder' plate logic number log (count + 1) old new
   one_more rows' scale' recorder' new row x takes does =
-      let here : List ReportLine = lines_of_row plate logic r.past (row_view (row_bytes rows') row) in
+      let here : List ReportLine = lines_of_row plate logic r.past (head_view (row_bytes rows') row) in
       let before : List ReportLine = lines_so_far plate logic r.past in
-      let one = row_coming (row_view (row_bytes rows') row) takes.0 takes.1 does.0 in
+      let one = row_coming (head_view (row_bytes rows') row) takes.0 takes.1 does.0 in
       record {
-        past = row_view (row_bytes rows') row ∷ r.past;
+        past = head_view (row_bytes rows') row ∷ r.past;
         left = takes.0;
         has_left = takes.2;
         same_refusal = r.same_refusal ∙ ap (λ l. l.refusal) one;
@@ -140,7 +140,7 @@ module _ {R : Type 0} (bytes_left : R → Option (List ℕ)) (rows : Rows R) (sc
   all_held recorder' none holds = subst (λ l. HoldsScans recorder' number l) (sym (all_lines none)) holds
 
   -- none is left
-  pub at_end : (rows' : Rows R) → Takes bytes_left r.left (Ok None) rows' → RunsRows number plate logic log recorder (Ok count) old mid
+  pub at_end : (rows' : Rows R) → Takes (head_view (row_bytes rows')) bytes_left r.left (Ok None) rows' → RunsRows number plate logic log recorder (Ok count) old mid
   at_end rows' takes =
       let nothing : log_for (logic_after plate logic r.past) r.left ≡ nothing_left =
       ap (λ l. log_for (logic_after plate logic r.past) l) takes.0 ∙ nothing_taken (logic_after plate logic r.past) in
@@ -171,7 +171,7 @@ module _ {R : Type 0} (bytes_left : R → Option (List ℕ)) (rows : Rows R) (sc
       )
 
   -- the log gives no further row
-  pub at_fault : (rows' : Rows R) (met : LogFault) → Takes bytes_left r.left (Err met) rows' → RunsRows number plate logic log recorder (Err (answer_to met)) old mid
+  pub at_fault : (rows' : Rows R) (met : LogFault) → Takes (head_view (row_bytes rows')) bytes_left r.left (Err met) rows' → RunsRows number plate logic log recorder (Err (answer_to met)) old mid
   at_fault rows' (fault.Refused code place) takes =
       at_refusal recorder mid code place
       (ap (λ l. log_for (logic_after plate logic r.past) l) takes.0 ∙ refusal_taken (logic_after plate logic r.past) code place) r.holds (Keeps-refl mid)
@@ -196,15 +196,15 @@ module _ {R : Type 0} (bytes_left : R → Option (List ℕ)) (rows : Rows R) (sc
       subst (λ t. AppendsFront old new t) (sym all) (front_behind old mid new done (this ++ later) r.written (front_of_more mid new this later cut))
 
   -- a row that was refused, or not done to its end
-  pub at_row : (rows' : Rows R) (scale' : Scale) (recorder' : Option RecorderState) (new : Option (List ℕ)) (row : Row) (X : Type 0)
-      → Takes bytes_left r.left (Ok (Some row)) rows' → (met : RunFault)
-      → Does {X = X} plate logic number (lines_so_far plate logic r.past) r.past (row_view (row_bytes rows') row) scale' recorder' (Err met) mid new
+  pub at_row : (rows' : Rows R) (scale' : Scale) (recorder' : Option RecorderState) (new : Option (List ℕ)) (row : RowHead) (X : Type 0)
+      → Takes (head_view (row_bytes rows')) bytes_left r.left (Ok (Some row)) rows' → (met : RunFault)
+      → Does {X = X} plate logic number (lines_so_far plate logic r.past) r.past (head_view (row_bytes rows') row) scale' recorder' (Err met) mid new
       → RunsRows number plate logic log recorder' (Err met) old new
   at_row rows' scale' recorder' new row X takes (Refused code place) does =
       at_refusal recorder' new code place (ap (λ l. log_for (logic_after plate logic r.past) l) takes.1 ∙ does.0 takes.0) does.1 does.2
   at_row rows' scale' recorder' new row X takes Read does = absurd does
   at_row rows' scale' recorder' new row X takes Write does =
-      front_of_row new (row_view (row_bytes rows') row) (log_for (logic_after plate logic (row_view (row_bytes rows') row ∷ r.past)) takes.0)
-      (row_coming (row_view (row_bytes rows') row) takes.0 takes.1 does.0) does.1
+      front_of_row new (head_view (row_bytes rows') row) (log_for (logic_after plate logic (head_view (row_bytes rows') row ∷ r.past)) takes.0)
+      (row_coming (head_view (row_bytes rows') row) takes.0 takes.1 does.0) does.1
   at_row rows' scale' recorder' new row X takes Memory does =
       (first_written.0, first_written.1, first_written.2, Appends-kept old mid new (text_at_once number plate logic first_written.0) first_written.3 does)

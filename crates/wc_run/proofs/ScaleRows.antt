@@ -9,8 +9,8 @@ use Rattle.wc_model.specs.Run.ProcessImage.{image_after, image_with}
 use Rattle.wc_model.specs.Say.ProgramReport.{Logic, logic_behind, scans_of}
 use Rattle.wc_model.specs.Run.Rows.{RowData, Counts, Bytes, Inputs, Scan, Change, LogRow, Past, history_of, line_bytes}
 use Rattle.wc_model.specs.declared.image.Image.{Image}
-use Rattle.wc_record.specs.Views.{data_view, row_view}
-use Rattle.wc_record.specs.declared.row_kind.Row.{Row}
+use Rattle.wc_record.specs.Views.{head_data_view, head_view}
+use Rattle.wc_record.specs.declared.row_head.RowHead.{RowHead}
 use Rattle.wc_run.specs.Logics.{IsTaken, StandsAt, logic_after}
 use Rattle.wc_run.specs.Standing.{Stands}
 use Rattle.wc_run.specs.Taking.{row_at, RunsRow, StopsAtRow, TakesRow, TakesScan}
@@ -80,8 +80,8 @@ takes_scan old machine new ms image is told takes plate logic past number stands
     }
 
 -- the scale stands after the row that brings this
-pub takes_row : (old new : Scale) (bytes : List ℕ) (row : Row) (brings : RowData) → data_view bytes row.kind ≡ brings → TakesRow old new row.ms brings →
-    (plate : PlateData) (logic : Option Logic) (past : Past) → Stands old plate logic past → Stands new plate logic (row_view bytes row ∷ past)
+pub takes_row : (old new : Scale) (bytes : List ℕ) (row : RowHead) (brings : RowData) → head_data_view bytes row.kind ≡ brings → TakesRow old new row.ms brings →
+    (plate : PlateData) (logic : Option Logic) (past : Past) → Stands old plate logic past → Stands new plate logic (head_view bytes row ∷ past)
 takes_row old new bytes row brings is takes plate logic past stands =
     subst (λ kind. Stands new plate logic (row_at row.number row.ms kind ∷ past)) (sym is) (takes plate logic past row.number stands)
 
@@ -96,7 +96,7 @@ taken_with plate (Some logic) past number ms Scan none rest = refl
 taken_with plate (Some logic) past number ms Change none rest = absurd none
 
 -- so of the row that brings this
-pub runs_row : (old : Scale) (bytes : List ℕ) (row : Row) (brings : RowData) → data_view bytes row.kind ≡ brings → IsNoChange brings → RunsRow old (row_view bytes row)
+pub runs_row : (old : Scale) (bytes : List ℕ) (row : RowHead) (brings : RowData) → head_data_view bytes row.kind ≡ brings → IsNoChange brings → RunsRow old (head_view bytes row)
 runs_row old bytes row brings is none plate logic past stands =
     subst (λ kind. IsTaken (logic_after plate logic past) (logic_after plate logic (row_at row.number row.ms kind ∷ past)) (row_at row.number row.ms kind)) (sym is)
     (taken_with plate logic past row.number row.ms brings none)
@@ -107,11 +107,11 @@ stops_for_memory old row (Ok x) h = tt
 stops_for_memory old row (Err fault) h = subst (λ f. StopsAtRow old row f) (sym h) tt
 
 -- the row that brings this keeps a scale from it
-pub stops_at : (old : Scale) (bytes : List ℕ) (row : Row) (brings : RowData) (fault : RunFault) → data_view bytes row.kind ≡ brings →
-    StopsAtRow old (row_at row.number row.ms brings) fault → StopsAtRow old (row_view bytes row) fault
+pub stops_at : (old : Scale) (bytes : List ℕ) (row : RowHead) (brings : RowData) (fault : RunFault) → head_data_view bytes row.kind ≡ brings →
+    StopsAtRow old (row_at row.number row.ms brings) fault → StopsAtRow old (head_view bytes row) fault
 stops_at old bytes row brings fault is stops = subst (λ kind. StopsAtRow old (row_at row.number row.ms kind) fault) (sym is) stops
 
 -- and takes it
-pub runs_this : (old : Scale) (bytes : List ℕ) (row : Row) (brings : RowData) → data_view bytes row.kind ≡ brings →
-    RunsRow old (row_at row.number row.ms brings) → RunsRow old (row_view bytes row)
+pub runs_this : (old : Scale) (bytes : List ℕ) (row : RowHead) (brings : RowData) → head_data_view bytes row.kind ≡ brings →
+    RunsRow old (row_at row.number row.ms brings) → RunsRow old (head_view bytes row)
 runs_this old bytes row brings is runs = subst (λ kind. RunsRow old (row_at row.number row.ms kind)) (sym is) runs

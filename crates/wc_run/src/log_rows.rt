@@ -6,7 +6,7 @@ ghost use Rattle.wc_model.specs.Say.Report.{ReportLine};
 ghost use Rattle.wc_record.specs.Left.{HasLeft, last_ms, rows_read};
 ghost use Rattle.wc_record.specs.Reading.{records_of};
 ghost use Rattle.wc_record.specs.Told.{Reads, at_hand, fields_told};
-ghost use Rattle.wc_record.specs.Views.{IsDataInRange, data_view, row_view};
+ghost use Rattle.wc_record.specs.Views.{IsDataInRange, head_data_view, head_view};
 ghost use Rattle.wc_run.specs.Deferring.{HoldsScans};
 ghost use Rattle.wc_run.specs.Doing.{Does, RunsRows};
 ghost use Rattle.wc_run.specs.Doing as doing;
@@ -22,7 +22,7 @@ use crate::scale::Scale;
 use crate::scanner::Scanner;
 use std::alloc::Global;
 use wc_model::{ByteIn, ByteOut};
-use wc_record::{LogFault, Recorder, RefusedRow, Row, Rows};
+use wc_record::{LogFault, Recorder, RefusedRow, RowHead, Rows};
 
 /// Does a row, with the bytes that are lent with it, and puts what is printed of it.
 #[inline(always)]
@@ -31,18 +31,18 @@ fn run_row<V: Scanner, W: ByteOut>(
     scanner: &mut V,
     room: &mut Room,
     scale: &mut Scale<'_>,
-    row: Row,
+    row: RowHead,
     bytes: &[u8],
     recorder: &mut Option<Recorder>,
     writer: &mut W,
 ) -> Result<(), RunFault>
-    requires in_range { IsDataInRange (data_view bytes.now row.kind) }
+    requires in_range { IsDataInRange (head_data_view bytes.now row.kind) }
     requires early { row.ms < 2 ^ 40 }
     requires in_order { IsNotBehind scale.old row.ms }
     ensures does { (plate : PlateData) (logic : Option Logic) (past : Past)
         (number : Option ℕ) (before : List ReportLine)
         → Stands scale.old plate logic past → HoldsScans recorder.old number before
-        → Does plate logic number before past (row_view bytes.now row) scale.new recorder.new result
+        → Does plate logic number before past (head_view bytes.now row) scale.new recorder.new result
         (W.bytes_taken writer.old) (W.bytes_taken writer.new) }
     ensures place { IfErr result (IsFaultAt row.number) }
     ensures in_order { OnOk result (IsNotBehind scale.new row.ms) }
@@ -93,7 +93,7 @@ fn run_rows<V: Scanner, R: ByteIn, W: ByteOut>(
 {
     let mut count = 0;
     loop {
-        match rows.next() {
+        match rows.next_head() {
             Ok(given) => match given {
                 Some(row) => match run_row(
                     alloc,

@@ -1,7 +1,7 @@
 ghost use Rattle.std.specs.Prelude.{◌≡◌, ◌<◌, ◌^◌, ℕ, List, [], ◌∷◌, Option, IfErr, IfOk, IsOkUnless, OnOk};
 ghost use Rattle.wc_model.specs.Instrument.Plates.{PlateData};
 ghost use Rattle.wc_model.specs.Run.Rows.{Past, Counts, Bytes, Inputs, Scan, Change};
-ghost use Rattle.wc_record.specs.Views.{IsDataInRange, data_view, row_view};
+ghost use Rattle.wc_record.specs.Views.{IsDataInRange, head_data_view, head_view};
 ghost use Rattle.wc_model.specs.Say.ProgramReport.{Logic};
 ghost use Rattle.wc_run.specs.Logics.{StandsAt, lines_of_row};
 ghost use Rattle.wc_run.specs.Outputs.{IsOutput};
@@ -20,7 +20,7 @@ use wc_cost::Loaded;
 use wc_indicator::Indicator;
 use wc_machine::Machine;
 use wc_plate::Plate;
-use wc_record::{Row, RowKind, image};
+use wc_record::{HeadKind, RowHead, image};
 use wc_sma::Line;
 use wc_store::SlotStore;
 
@@ -69,39 +69,39 @@ impl<'a> Scale<'a> {
         alloc: Global,
         scanner: &mut V,
         room: &mut Room,
-        row: Row,
+        row: RowHead,
         bytes: &[u8],
     ) -> Result<RowOutput, RunFault>
-        requires in_range { IsDataInRange (data_view bytes.now row.kind) }
+        requires in_range { IsDataInRange (head_data_view bytes.now row.kind) }
         requires early { row.ms < 2 ^ 40 }
         requires in_order { IsNotBehind self.old row.ms }
         ensures stands { OnOk result
             ((plate : PlateData) (logic : Option Logic) (past : Past)
             → Stands self.old plate logic past
-            → Stands self.new plate logic (row_view bytes.now row ∷ past)) }
+            → Stands self.new plate logic (head_view bytes.now row ∷ past)) }
         ensures output { IfOk result
             (λ output. (plate : PlateData) (logic : Option Logic) (past : Past)
             → Stands self.old plate logic past
             → IsOutput output room.new.text.items
-            (lines_of_row plate logic past (row_view bytes.now row))) }
-        ensures runs { OnOk result (RunsRow self.old (row_view bytes.now row)) }
+            (lines_of_row plate logic past (head_view bytes.now row))) }
+        ensures runs { OnOk result (RunsRow self.old (head_view bytes.now row)) }
         ensures place { IfErr result (IsFaultAt row.number) }
         ensures stops { IfErr result
-            (λ fault. StopsAtRow self.old (row_view bytes.now row) fault) }
+            (λ fault. StopsAtRow self.old (head_view bytes.now row) fault) }
         ensures in_order { OnOk result (IsNotBehind self.new row.ms) }
     {
         match row.kind {
-            RowKind::Counts(counts) => {
+            HeadKind::Counts(counts) => {
                 self.take_sample(counts);
                 Ok(RowOutput::Nothing)
             }
-            RowKind::Bytes => self.take_bytes(room, row.ms, bytes),
-            RowKind::Inputs(inputs) => {
+            HeadKind::Bytes => self.take_bytes(room, row.ms, bytes),
+            HeadKind::Inputs(inputs) => {
                 self.take_inputs(inputs);
                 Ok(RowOutput::Nothing)
             }
-            RowKind::Scan => Ok(self.take_scan(scanner, row.ms)),
-            RowKind::Change => match self.take_change(alloc, row.number) {
+            HeadKind::Scan => Ok(self.take_scan(scanner, row.ms)),
+            HeadKind::Change => match self.take_change(alloc, row.number) {
                 Ok(()) => {
                     scanner.change();
                     Ok(RowOutput::Nothing)
@@ -113,9 +113,15 @@ impl<'a> Scale<'a> {
 
     /// Shows who does the scans a row that was done, with the answers to it that stand in the room.
     #[inline(always)]
-    pub(crate) fn show<V: Scanner>(&self, scanner: &mut V, room: &Room, row: Row, bytes: &[u8]) {
+    pub(crate) fn show<V: Scanner>(
+        &self,
+        scanner: &mut V,
+        room: &Room,
+        row: RowHead,
+        bytes: &[u8],
+    ) {
         match row.kind {
-            RowKind::Bytes => scanner.see(row, bytes, &self.indicator, &room.answers.bytes),
+            HeadKind::Bytes => scanner.see(row, bytes, &self.indicator, &room.answers.bytes),
             _ => scanner.see(row, bytes, &self.indicator, b""),
         }
     }

@@ -6,7 +6,7 @@ use wc_cost::Loaded;
 use wc_indicator::Indicator;
 use wc_machine::Machine;
 use wc_model::Image;
-use wc_record::{Record, Row};
+use wc_record::{Record, RowHead};
 use wc_store::SlotStore;
 
 /// Who does the scans of a run. `Unwatched` does them alone; another may show what is seen of them, and of the rows. Whoever
@@ -29,7 +29,7 @@ pub trait Scanner {
     fn change(&mut self);
 
     /// Is shown a row that was done, with its line bytes, the indicator behind it and what the line answered to it.
-    fn see(&mut self, row: Row, bytes: &[u8], indicator: &Indicator, answers: &[u8]);
+    fn see(&mut self, row: RowHead, bytes: &[u8], indicator: &Indicator, answers: &[u8]);
 }
 
 /// Does the scans of a run, and shows nothing of them.
@@ -50,5 +50,5 @@ impl Scanner for Unwatched {
     fn change(&mut self) {}
 
     #[inline(always)]
-    fn see(&mut self, _row: Row, _bytes: &[u8], _indicator: &Indicator, _answers: &[u8]) {}
+    fn see(&mut self, _row: RowHead, _bytes: &[u8], _indicator: &Indicator, _answers: &[u8]) {}
 }

@@ -7,7 +7,7 @@ use wc_cost::Loaded;
 use wc_indicator::Indicator;
 use wc_machine::{Machine, SeenLine};
 use wc_model::{ByteOut, Fault, Image, write_whole};
-use wc_record::{Record, Row};
+use wc_record::{Record, RowHead};
 use wc_store::SlotStore;
 
 /// Why scans are no longer shown.
@@ -137,5 +137,5 @@ impl<W: ByteOut> Scanner for Watch<'_, W> {
         self.is_changed = true;
     }
 
-    fn see(&mut self, _row: Row, _bytes: &[u8], _indicator: &Indicator, _answers: &[u8]) {}
+    fn see(&mut self, _row: RowHead, _bytes: &[u8], _indicator: &Indicator, _answers: &[u8]) {}
 }

@@ -9,7 +9,7 @@ use wc_cost::Loaded;
 use wc_indicator::Indicator;
 use wc_machine::Machine;
 use wc_model::{Fault, Image, put_bytes};
-use wc_record::{Record, Row};
+use wc_record::{Record, RowHead};
 use wc_report::put_number;
 use wc_store::SlotStore;
 
@@ -184,5 +184,5 @@ impl Scanner for Watcher<'_> {
         self.watched = std::mem::replace(&mut self.next, next);
     }
 
-    fn see(&mut self, _row: Row, _bytes: &[u8], _indicator: &Indicator, _answers: &[u8]) {}
+    fn see(&mut self, _row: RowHead, _bytes: &[u8], _indicator: &Indicator, _answers: &[u8]) {}
 }

@@ -1,10 +1,10 @@
 use Rattle.wc_record.proofs.ThreeFields.{row_read, row_refused}
 use Rattle.wc_record.proofs.fields.row_in.Goals as goal
-use Rattle.wc_record.specs.Views.{data_view}
+use Rattle.wc_record.specs.Views.{head_data_view}
 
 pub returns-in-Ok-clause-says : goal.returns-in-Ok-clause-says
 returns-in-Ok-clause-says c =
-    row_read _ c.in-Some.fields.moment.now c.in-Some.fields.kind.now c.in-Some.fields.text.now c.args.number c.args.last c.in-Some-moment.ms (data_view c.row_data.new.room.items c.in-Ok.kind) c.in-Some.ensures c.in-Some-moment.ensures c.if-ms-last.false c.in-Ok.ensures.says
+    row_read _ c.in-Some.fields.moment.now c.in-Some.fields.kind.now c.in-Some.fields.text.now c.args.number c.args.last c.in-Some-moment.ms (head_data_view c.row_data.new.room.items c.in-Ok.kind) c.in-Some.ensures c.in-Some-moment.ensures c.if-ms-last.false c.in-Ok.ensures.says
 
 pub returns-in-Err : goal.returns-in-Err
 returns-in-Err c = record {

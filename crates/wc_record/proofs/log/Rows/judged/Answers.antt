@@ -3,18 +3,18 @@ use Rattle.csv.specs.Records.{fields_of}
 use Rattle.wc_record.proofs.LogSteps.{one_read, record_there, row_facts, step_refused, step_row, step_too_many}
 use Rattle.wc_record.proofs.log.Rows.judged.Goals as goal
 use Rattle.wc_record.specs.Left.{moment_or_zero}
-use Rattle.wc_record.specs.Views.{row_view}
+use Rattle.wc_record.specs.Views.{head_view}
 
 pub returns-in-Ok-clause-gives : goal.returns-in-Ok-clause-gives
 returns-in-Ok-clause-gives g c =
     λ first before rest stands.
     let fields = fields_of c.args.self.now.row in
     let says = c.in-Ok.ensures.says in
-    let facts = row_facts _ c.args.self.now.last fields (row_view c.row_in.new.room.items c.in-Ok.row) says in
+    let facts = row_facts _ c.args.self.now.last fields (head_view c.row_in.new.room.items c.in-Ok.row) says in
     let counted = stands.number in (
       fields ∷ (first ∷ before),
       rest,
-      step_row (first ∷ before) rest fields c.args.self.now.number c.args.self.now.last (row_view c.row_in.new.room.items c.in-Ok.row) stands.number c.if-self-ge-MOST_ROWS.false stands.last says,
+      step_row (first ∷ before) rest fields c.args.self.now.number c.args.self.now.last (head_view c.row_in.new.room.items c.in-Ok.row) stands.number c.if-self-ge-MOST_ROWS.false stands.last says,
       record {
         stands = record {
           has = stands.has;
@@ -29,7 +29,7 @@ returns-in-Ok-clause-gives g c =
 
 pub returns-in-Ok-clause-row : goal.returns-in-Ok-clause-row
 returns-in-Ok-clause-row g c =
-    let facts = row_facts _ c.args.self.now.last (fields_of c.args.self.now.row) (row_view c.row_in.new.room.items c.in-Ok.row) c.in-Ok.ensures.says in
+    let facts = row_facts _ c.args.self.now.last (fields_of c.args.self.now.row) (head_view c.row_in.new.room.items c.in-Ok.row) c.in-Ok.ensures.says in
     record {
       number_is = facts.number ∙ add-one c.args.self.now.number;
       counted = sym facts.number;
