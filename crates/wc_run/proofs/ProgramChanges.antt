@@ -36,7 +36,7 @@ changed_at machine new (Some next) place changes plate (Some logic) past number 
     changed_logic machine new next (logic_behind plate logic past) (logic_behind plate logic past).next stands.1 changes.1 stands.0
 
 -- a machine that is changed takes the row
-pub takes_change : (old : Scale) (machine new : MachineState) (place ms : ℕ) → old.machine ≡ Some machine → Changes machine old.next place (Ok new) →
+pub takes_change : {S : Type 0} (old : Scale S) (machine new : MachineState) (place ms : ℕ) → old.machine ≡ Some machine → Changes machine old.next place (Ok new) →
     TakesRow old (record old { machine = Some new; next = None }) ms Change
 takes_change old machine new place ms is changes plate logic past number stands =
     record {
@@ -62,7 +62,7 @@ runs_at machine new (Some next) place changes plate (Some logic) past number ms 
     goes_on (logic_behind plate logic past) (text_view next.source) (logic_behind plate logic past).next stands.1 (row_at number ms Change) rest
 
 -- and a run with whatever logic it stands for takes it
-pub runs_change : (old : Scale) (machine new : MachineState) (place number ms : ℕ) → old.machine ≡ Some machine → Changes machine old.next place (Ok new) →
+pub runs_change : {S : Type 0} (old : Scale S) (machine new : MachineState) (place number ms : ℕ) → old.machine ≡ Some machine → Changes machine old.next place (Ok new) →
     RunsRow old (row_at number ms Change)
 runs_change old machine new place number ms is changes plate logic past stands =
     runs_at machine new old.next place changes plate logic past number ms
@@ -79,7 +79,7 @@ refuses_at : (machine : MachineState) (plate : PlateData) (logic : Option Logic)
 refuses_at machine plate None past number ms stands rest = absurd stands
 refuses_at machine plate (Some logic) past number ms stands rest = refused_at_row (logic_behind plate logic past).next stands.1 (row_at number ms Change) rest
 
-stops_by : (old : Scale) (machine : MachineState) (number ms : ℕ) (fault : RunFault) → old.machine ≡ Some machine → (next : Option LoadedText) → old.next ≡ next →
+stops_by : {S : Type 0} (old : Scale S) (machine : MachineState) (number ms : ℕ) (fault : RunFault) → old.machine ≡ Some machine → (next : Option LoadedText) → old.next ≡ next →
     Changes machine next number (Err fault) → StopsAtRow old (row_at number ms Change) fault
 stops_by old machine number ms fault is None left changes =
     let same : fault ≡ Refused 609 number = cc in
@@ -90,7 +90,7 @@ stops_by old machine number ms fault is None left changes =
 stops_by old machine number ms fault is (Some next) left changes = subst (λ f. StopsAtRow old (row_at number ms Change) f) (sym changes) tt
 
 -- a machine that is not changed keeps the scale from the row
-pub stops_change : (old : Scale) (machine : MachineState) (number ms : ℕ) (fault : RunFault) → old.machine ≡ Some machine → Changes machine old.next number (Err fault) →
+pub stops_change : {S : Type 0} (old : Scale S) (machine : MachineState) (number ms : ℕ) (fault : RunFault) → old.machine ≡ Some machine → Changes machine old.next number (Err fault) →
     StopsAtRow old (row_at number ms Change) fault
 stops_change old machine number ms fault is changes = stops_by old machine number ms fault is old.next refl changes
 

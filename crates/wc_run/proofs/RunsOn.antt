@@ -29,7 +29,7 @@ use Rattle.wc_run.proofs.Texts.{length-onto, lines_at_last, lines_of_all, lines_
 
 -- So many rows of the log are done, and the scale stands for them; with those that a run takes of what
 -- is left they are the log. What is written at once of their lines is written, and the rest is held.
-pub record Running {R : Type 0} (bytes_left : R → Option (List ℕ)) (rows : Rows R) (scale : Scale) (recorder : Option RecorderState)
+pub record Running {R : Type 0} {S : Type 0} (bytes_left : R → Option (List ℕ)) (rows : Rows R) (scale : Scale S) (recorder : Option RecorderState)
     (plate : PlateData) (logic : Option Logic) (number : Option ℕ) (log : LogOf) (count : ℕ) (old new : Option (List ℕ)) : Type 0 where
   pub past : Past
   pub left : LogOf
@@ -47,8 +47,8 @@ nothing_written None taken = Appends-nil taken
 nothing_written (Some number) taken = Appends-nil taken
 
 -- a row that is done by the scale, and whose lines are put
-pub does_row : {X : Type 0} (answer : Result X RunFault) (plate : PlateData) (logic : Option Logic) (number : Option ℕ) (before : List ReportLine) (past : Past)
-    (row : LogRow) (scale : Scale) (recorder : Option RecorderState) (old new : Option (List ℕ))
+pub does_row : {S : Type 0} {X : Type 0} (answer : Result X RunFault) (plate : PlateData) (logic : Option Logic) (number : Option ℕ) (before : List ReportLine) (past : Past)
+    (row : LogRow) (scale : Scale S) (recorder : Option RecorderState) (old new : Option (List ℕ))
     → IsTaken (logic_after plate logic past) (logic_after plate logic (row ∷ past)) row → Stands scale plate logic (row ∷ past)
     → Puts number before (lines_of_row plate logic past row) recorder answer old new → Does plate logic number before past row scale recorder answer old new
 does_row (Ok x) plate logic number before past row scale recorder old new taken stands puts = (taken, stands, puts.0, puts.1)
@@ -58,8 +58,8 @@ does_row (Err Write) plate logic number before past row scale recorder old new t
 does_row (Err Memory) plate logic number before past row scale recorder old new taken stands puts = puts
 
 -- a row from which the scale is kept
-pub stops_row : (X : Type 0) (fault : RunFault) (plate : PlateData) (logic : Option Logic) (number : Option ℕ) (before : List ReportLine) (past : Past)
-    (row : LogRow) (old scale : Scale) (recorder : Option RecorderState) (taken : Option (List ℕ)) → StopsAtRow old row fault → Stands old plate logic past
+pub stops_row : {S : Type 0} (X : Type 0) (fault : RunFault) (plate : PlateData) (logic : Option Logic) (number : Option ℕ) (before : List ReportLine) (past : Past)
+    (row : LogRow) (old scale : Scale S) (recorder : Option RecorderState) (taken : Option (List ℕ)) → StopsAtRow old row fault → Stands old plate logic past
     → HoldsScans recorder number before → Does {X = X} plate logic number before past row scale recorder (Err fault) taken taken
 stops_row X (Refused code place) plate logic number before past row old scale recorder taken stops stands holds = (stops plate logic past stands, holds, Keeps-refl taken)
 stops_row X Read plate logic number before past row old scale recorder taken stops stands holds = absurd stops
@@ -81,7 +81,7 @@ refusal_taken None code place = refl
 refusal_taken (Some logic) code place = refl
 
 -- before the first row
-pub at_first : {R : Type 0} (bytes_left : R → Option (List ℕ)) (rows : Rows R) (scale : Scale) (recorder : Option RecorderState)
+pub at_first : {R : Type 0} {S : Type 0} (bytes_left : R → Option (List ℕ)) (rows : Rows R) (scale : Scale S) (recorder : Option RecorderState)
     (plate : PlateData) (logic : Option Logic) (number : Option ℕ) (log : LogOf) (taken : Option (List ℕ)) → HasLeft bytes_left rows log
     → Stands scale plate logic [] → HoldsScans recorder number [] → Running bytes_left rows scale recorder plate logic number (log_for logic log) 0 taken taken
 at_first bytes_left rows scale recorder plate logic number log taken has stands holds = record {
@@ -96,7 +96,7 @@ at_first bytes_left rows scale recorder plate logic number log taken has stands 
   written = nothing_written number taken;
 }
 
-module _ {R : Type 0} (bytes_left : R → Option (List ℕ)) (rows : Rows R) (scale : Scale) (recorder : Option RecorderState)
+module _ {R : Type 0} {S : Type 0} (bytes_left : R → Option (List ℕ)) (rows : Rows R) (scale : Scale S) (recorder : Option RecorderState)
     (plate : PlateData) (logic : Option Logic) (number : Option ℕ) (log : LogOf) (count : ℕ) (old mid : Option (List ℕ))
     (r : Running bytes_left rows scale recorder plate logic number log count old mid) where
   -- a row that is taken stands before the rest that is
@@ -105,7 +105,7 @@ module _ {R : Type 0} (bytes_left : R → Option (List ℕ)) (rows : Rows R) (sc
   row_coming row rest is taken = ap (λ l. log_for (logic_after plate logic r.past) l) is ∙ taken rest
 
   -- behind one row more
-  pub one_more : (rows' : Rows R) (scale' : Scale) (recorder' : Option RecorderState) (new : Option (List ℕ)) (row : RowHead) {X : Type 0} (x : X)
+  pub one_more : (rows' : Rows R) (scale' : Scale S) (recorder' : Option RecorderState) (new : Option (List ℕ)) (row : RowHead) {X : Type 0} (x : X)
       → Takes (head_view (row_bytes rows')) bytes_left r.left (Ok (Some row)) rows'
       → Does plate logic number (lines_so_far plate logic r.past) r.past (head_view (row_bytes rows') row) scale' recorder' (Ok x) mid new
       → Running bytes_left rows' scale' recorder' plate logic number log (count + 1) old new
@@ -196,7 +196,7 @@ module _ {R : Type 0} (bytes_left : R → Option (List ℕ)) (rows : Rows R) (sc
       subst (λ t. AppendsFront old new t) (sym all) (front_behind old mid new done (this ++ later) r.written (front_of_more mid new this later cut))
 
   -- a row that was refused, or not done to its end
-  pub at_row : (rows' : Rows R) (scale' : Scale) (recorder' : Option RecorderState) (new : Option (List ℕ)) (row : RowHead) (X : Type 0)
+  pub at_row : (rows' : Rows R) (scale' : Scale S) (recorder' : Option RecorderState) (new : Option (List ℕ)) (row : RowHead) (X : Type 0)
       → Takes (head_view (row_bytes rows')) bytes_left r.left (Ok (Some row)) rows' → (met : RunFault)
       → Does {X = X} plate logic number (lines_so_far plate logic r.past) r.past (head_view (row_bytes rows') row) scale' recorder' (Err met) mid new
       → RunsRows number plate logic log recorder' (Err met) old new

@@ -38,7 +38,7 @@ still_of_bytes machine next plate None past number ms bytes h = h
 still_of_bytes machine next plate (Some logic) past number ms bytes h = h
 
 -- a line that is fed takes the row
-pub takes_bytes : (old : Scale) (line : Line) (indicator : IndicatorKept) (taken taken' : Option (List ℕ)) (ms : ℕ) (bytes : List ℕ) →
+pub takes_bytes : {S : Type 0} (old : Scale S) (line : Line) (indicator : IndicatorKept) (taken taken' : Option (List ℕ)) (ms : ℕ) (bytes : List ℕ) →
     Feeds old.line old.indicator taken line indicator taken' bytes →
     TakesRow old (record old { indicator = indicator; line = line }) ms (Bytes bytes)
 takes_bytes old line indicator taken taken' ms bytes feeds plate logic past number stands =
@@ -50,7 +50,7 @@ takes_bytes old line indicator taken taken' ms bytes feeds plate logic past numb
     }
 
 -- what a scan sees is the image of the rows so far
-seen_image : (old : Scale) (image : Image) (plate : PlateData) (logic : Option Logic) (past : Past) →
+seen_image : {S : Type 0} (old : Scale S) (image : Image) (plate : PlateData) (logic : Option Logic) (past : Past) →
     Tells (λ p history. image_with p old.inputs history) old.indicator image → Stands old plate logic past → image ≡ image_after plate past
 seen_image old image plate logic past told stands =
     told plate (history_of past) stands.indicator ∙ ap (λ inputs. image_with plate inputs (history_of past)) stands.inputs
@@ -67,7 +67,7 @@ scanned machine new next ms image plate (Some logic) past number takes same stan
     )
 
 -- with a machine the scan takes the row
-pub takes_scan : (old : Scale) (machine new : MachineState) (ms : ℕ) (image : Image) → old.machine ≡ Some machine →
+pub takes_scan : {S : Type 0} (old : Scale S) (machine new : MachineState) (ms : ℕ) (image : Image) → old.machine ≡ Some machine →
     Tells (λ p history. image_with p old.inputs history) old.indicator image → TakesScan machine new ms image →
     TakesRow old (record old { machine = Some new }) ms Scan
 takes_scan old machine new ms image is told takes plate logic past number stands =
@@ -80,7 +80,7 @@ takes_scan old machine new ms image is told takes plate logic past number stands
     }
 
 -- the scale stands after the row that brings this
-pub takes_row : (old new : Scale) (bytes : List ℕ) (row : RowHead) (brings : RowData) → head_data_view bytes row.kind ≡ brings → TakesRow old new row.ms brings →
+pub takes_row : {S : Type 0} (old new : Scale S) (bytes : List ℕ) (row : RowHead) (brings : RowData) → head_data_view bytes row.kind ≡ brings → TakesRow old new row.ms brings →
     (plate : PlateData) (logic : Option Logic) (past : Past) → Stands old plate logic past → Stands new plate logic (head_view bytes row ∷ past)
 takes_row old new bytes row brings is takes plate logic past stands =
     subst (λ kind. Stands new plate logic (row_at row.number row.ms kind ∷ past)) (sym is) (takes plate logic past row.number stands)
@@ -96,22 +96,22 @@ taken_with plate (Some logic) past number ms Scan none rest = refl
 taken_with plate (Some logic) past number ms Change none rest = absurd none
 
 -- so of the row that brings this
-pub runs_row : (old : Scale) (bytes : List ℕ) (row : RowHead) (brings : RowData) → head_data_view bytes row.kind ≡ brings → IsNoChange brings → RunsRow old (head_view bytes row)
+pub runs_row : {S : Type 0} (old : Scale S) (bytes : List ℕ) (row : RowHead) (brings : RowData) → head_data_view bytes row.kind ≡ brings → IsNoChange brings → RunsRow old (head_view bytes row)
 runs_row old bytes row brings is none plate logic past stands =
     subst (λ kind. IsTaken (logic_after plate logic past) (logic_after plate logic (row_at row.number row.ms kind ∷ past)) (row_at row.number row.ms kind)) (sym is)
     (taken_with plate logic past row.number row.ms brings none)
 
 -- want of memory keeps a scale from any row
-pub stops_for_memory : {X : Type 0} (old : Scale) (row : LogRow) (answer : Result X RunFault) → IsOkUnless answer Memory → IfErr answer (λ fault. StopsAtRow old row fault)
+pub stops_for_memory : {S : Type 0} {X : Type 0} (old : Scale S) (row : LogRow) (answer : Result X RunFault) → IsOkUnless answer Memory → IfErr answer (λ fault. StopsAtRow old row fault)
 stops_for_memory old row (Ok x) h = tt
 stops_for_memory old row (Err fault) h = subst (λ f. StopsAtRow old row f) (sym h) tt
 
 -- the row that brings this keeps a scale from it
-pub stops_at : (old : Scale) (bytes : List ℕ) (row : RowHead) (brings : RowData) (fault : RunFault) → head_data_view bytes row.kind ≡ brings →
+pub stops_at : {S : Type 0} (old : Scale S) (bytes : List ℕ) (row : RowHead) (brings : RowData) (fault : RunFault) → head_data_view bytes row.kind ≡ brings →
     StopsAtRow old (row_at row.number row.ms brings) fault → StopsAtRow old (head_view bytes row) fault
 stops_at old bytes row brings fault is stops = subst (λ kind. StopsAtRow old (row_at row.number row.ms kind) fault) (sym is) stops
 
 -- and takes it
-pub runs_this : (old : Scale) (bytes : List ℕ) (row : RowHead) (brings : RowData) → head_data_view bytes row.kind ≡ brings →
+pub runs_this : {S : Type 0} (old : Scale S) (bytes : List ℕ) (row : RowHead) (brings : RowData) → head_data_view bytes row.kind ≡ brings →
     RunsRow old (row_at row.number row.ms brings) → RunsRow old (head_view bytes row)
 runs_this old bytes row brings is runs = subst (λ kind. RunsRow old (row_at row.number row.ms kind)) (sym is) runs

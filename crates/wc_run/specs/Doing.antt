@@ -38,7 +38,7 @@ Puts number before lines recorder (Err fault) old new = IsCutShort fault old new
 
 -- The row is done and its lines are put. Or it is refused, and nothing is put; or the writer failed
 -- at a front of what is written of it; or memory was refused, and nothing is written.
-abbrev pub Does : {X : Type 0} → PlateData → Option Logic → Option ℕ → List ReportLine → Past → LogRow → Scale → Option RecorderState → Result X RunFault → Option (List ℕ) → Option (List ℕ) → Type 0
+abbrev pub Does : {S : Type 0} {X : Type 0} → PlateData → Option Logic → Option ℕ → List ReportLine → Past → LogRow → Scale S → Option RecorderState → Result X RunFault → Option (List ℕ) → Option (List ℕ) → Type 0
 Does plate logic number before past row scale recorder (Ok x) old new =
     IsTaken (logic_after plate logic past) (logic_after plate logic (row ∷ past)) row
     × Stands scale plate logic (row ∷ past) × HoldsScans recorder number (before ++ lines_of_row plate logic past row)

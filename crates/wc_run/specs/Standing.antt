@@ -10,12 +10,12 @@ use Rattle.wc_run.specs.declared.scale.Scale.{Scale}
 use Rattle.wc_sma.specs.Standing.{StandsAfter}
 
 -- the scale stands for a plate, the logic with which it began, and the rows so far
-pub record Stands (scale : Scale) (plate : PlateData) (logic : Option Logic) (past : Past) : Type 0 where
+pub record Stands {S : Type 0} (scale : Scale S) (plate : PlateData) (logic : Option Logic) (past : Past) : Type 0 where
   pub indicator : StandsForHistory scale.indicator plate (history_of past)
   pub line : StandsAfter scale.line (line_bytes past)
   pub inputs : scale.inputs ≡ inputs_of past
   pub machine : StandsAt scale.machine scale.next (logic_after plate logic past)
 
 -- no scan so far was behind this moment
-abbrev pub IsNotBehind : Scale → ℕ → Type 0
+abbrev pub IsNotBehind : {S : Type 0} → Scale S → ℕ → Type 0
 IsNotBehind scale ms = IfSome scale.machine (λ machine. machine.last ≤ ms)

@@ -26,11 +26,11 @@ abbrev pub row_at : ℕ → ℕ → RowData → LogRow
 row_at number ms brings = record { number = number; ms = ms; brings = brings }
 
 -- the scale stands for what it stood for, and one row more
-abbrev pub TakesRow : Scale → Scale → ℕ → RowData → Type 0
+abbrev pub TakesRow : {S : Type 0} → Scale S → Scale S → ℕ → RowData → Type 0
 TakesRow old new ms brings = (plate : PlateData) (logic : Option Logic) (past : Past) (number : ℕ) → Stands old plate logic past → Stands new plate logic (row_at number ms brings ∷ past)
 
 -- the output is what the report has of that row, and this its text
-abbrev pub Gives : Scale → ℕ → RowData → RowOutput → List ℕ → Type 0
+abbrev pub Gives : {S : Type 0} → Scale S → ℕ → RowData → RowOutput → List ℕ → Type 0
 Gives old ms brings output text = (plate : PlateData) (logic : Option Logic) (past : Past) (number : ℕ) → Stands old plate logic past → IsOutput output text (lines_of_row plate logic past (row_at number ms brings))
 
 -- the machine stands for the store that the scan leaves
@@ -52,12 +52,12 @@ Changes old (Some next) number (Ok new) =
 Changes old (Some next) number (Err fault) = fault ≡ Memory
 
 -- a run with whatever logic the scale stands for takes the row
-abbrev pub RunsRow : Scale → LogRow → Type 0
+abbrev pub RunsRow : {S : Type 0} → Scale S → LogRow → Type 0
 RunsRow old row = (plate : PlateData) (logic : Option Logic) (past : Past) → Stands old plate logic past → IsTaken (logic_after plate logic past) (logic_after plate logic (row ∷ past)) row
 
 -- a scale is kept from a row by want of memory, or because a run with whatever logic it stands for
 -- refuses the row
-abbrev pub StopsAtRow : Scale → LogRow → RunFault → Type 0
+abbrev pub StopsAtRow : {S : Type 0} → Scale S → LogRow → RunFault → Type 0
 StopsAtRow old row (Refused code place) = (plate : PlateData) (logic : Option Logic) (past : Past) → Stands old plate logic past → IsRefusedRow (logic_after plate logic past) row code place
 StopsAtRow old row Read = ⊥
 StopsAtRow old row Write = ⊥

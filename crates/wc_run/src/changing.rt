@@ -6,17 +6,17 @@ use crate::fault::RunFault;
 use std::alloc::Global;
 use wc_cost::Loaded;
 use wc_machine::Machine;
-use wc_store::SlotStore;
+use wc_store::Store;
 
 /// The machine with the next program, at a row of that number, which is refused where none is left.
 #[cold]
 #[inline(never)]
-pub(crate) fn changed<'a>(
+pub(crate) fn changed<'a, S: Store>(
     alloc: Global,
-    machine: Machine<'a, SlotStore>,
+    machine: Machine<'a, S>,
     next: Option<Loaded<'a>>,
     number: u32,
-) -> Result<Machine<'a, SlotStore>, RunFault>
+) -> Result<Machine<'a, S>, RunFault>
     ensures changes { Changes machine.entry next.entry number result }
     ensures place { IfErr result (IsFaultAt number) }
 {

@@ -23,14 +23,15 @@ use crate::scanner::Scanner;
 use std::alloc::Global;
 use wc_model::{ByteIn, ByteOut};
 use wc_record::{LogFault, Recorder, RefusedRow, RowHead, Rows};
+use wc_store::Store;
 
 /// Does a row, with the bytes that are lent with it, and puts what is printed of it.
 #[inline(always)]
-fn run_row<V: Scanner, W: ByteOut>(
+fn run_row<S: Store, V: Scanner<S>, W: ByteOut>(
     alloc: Global,
     scanner: &mut V,
     room: &mut Room,
-    scale: &mut Scale<'_>,
+    scale: &mut Scale<'_, S>,
     row: RowHead,
     bytes: &[u8],
     recorder: &mut Option<Recorder>,
@@ -70,11 +71,11 @@ fn answer_to(fault: LogFault) -> RunFault
 }
 
 /// Runs the rows that are left: how many there were.
-fn run_rows<V: Scanner, R: ByteIn, W: ByteOut>(
+fn run_rows<S: Store, V: Scanner<S>, R: ByteIn, W: ByteOut>(
     alloc: Global,
     scanner: &mut V,
     room: &mut Room,
-    scale: &mut Scale<'_>,
+    scale: &mut Scale<'_, S>,
     rows: &mut Rows<'_, R>,
     recorder: &mut Option<Recorder>,
     writer: &mut W,
@@ -116,10 +117,10 @@ fn run_rows<V: Scanner, R: ByteIn, W: ByteOut>(
 }
 
 /// Runs the log that the reader has to give, and tells its refused row, if it has one.
-pub(crate) fn run_log<V: Scanner, R: ByteIn, W: ByteOut>(
+pub(crate) fn run_log<S: Store, V: Scanner<S>, R: ByteIn, W: ByteOut>(
     alloc: Global,
     scanner: &mut V,
-    scale: &mut Scale<'_>,
+    scale: &mut Scale<'_, S>,
     recorder: &mut Option<Recorder>,
     reader: &mut R,
     writer: &mut W,

@@ -23,7 +23,7 @@ use wc_machine::Machine;
 use wc_model::{ByteIn, ByteOut};
 use wc_plate::Plate;
 use wc_record::{Recorder, RefusedRow, is_used_up};
-use wc_store::SlotStore;
+use wc_store::Store;
 
 /// Whether a device failed or memory was refused before a log came to its end or to a refused row.
 fn is_cut_short(answer: &Result<u32, RunFault>) -> bool
@@ -41,10 +41,10 @@ fn is_cut_short(answer: &Result<u32, RunFault>) -> bool
 /// Runs a log, and behind its rows writes the lines of the scans that are kept, unless a device
 /// failed or memory was refused. Where its reader failed, that is told, also if every row was read
 /// all the same: the library that reads records does not promise to tell each failure.
-fn run_to_end<V: Scanner, R: ByteIn, W: ByteOut>(
+fn run_to_end<S: Store, V: Scanner<S>, R: ByteIn, W: ByteOut>(
     alloc: Global,
     scanner: &mut V,
-    scale: &mut Scale<'_>,
+    scale: &mut Scale<'_, S>,
     recorder: &mut Option<Recorder>,
     reader: &mut R,
     writer: &mut W,
@@ -93,11 +93,11 @@ fn recorder_of(alloc: Global, last: Option<u16>) -> Result<Option<Recorder>, Run
 
 /// Runs the log that the reader has to give with a scale to which no row has come, and a recorder
 /// of the last so many scans where they are asked for.
-fn run_recorded<V: Scanner, R: ByteIn, W: ByteOut>(
+fn run_recorded<S: Store, V: Scanner<S>, R: ByteIn, W: ByteOut>(
     alloc: Global,
     last: Option<u16>,
     scanner: &mut V,
-    scale: &mut Scale<'_>,
+    scale: &mut Scale<'_, S>,
     reader: &mut R,
     writer: &mut W,
     told: &mut RefusedRow,
@@ -122,12 +122,12 @@ fn run_recorded<V: Scanner, R: ByteIn, W: ByteOut>(
 
 /// Runs the log that the reader has to give with a scale of this plate, beside this machine and the
 /// next program, if there are any.
-fn run_scale<'a, V: Scanner, R: ByteIn, W: ByteOut>(
+fn run_scale<'a, S: Store, V: Scanner<S>, R: ByteIn, W: ByteOut>(
     alloc: Global,
     last: Option<u16>,
     scanner: &mut V,
     plate: &Plate,
-    machine: Option<Machine<'a, SlotStore>>,
+    machine: Option<Machine<'a, S>>,
     next: Option<Loaded<'a>>,
     reader: &mut R,
     writer: &mut W,
@@ -188,12 +188,12 @@ fn judged<R: ByteIn>(fault: RunFault, reader: &R, failures: u64, spent: u64) -> 
 /// `Machine::new` alone, of a text that every pass accepts, and its `scan` promises that each scan is
 /// done. That takes two things of whoever calls it: the machine has run no scan (`first`), and it
 /// stands for the logic that the report speaks of, as `new` promises of the text and its first store.
-pub fn run<'a, V: Scanner, R: ByteIn, W: ByteOut>(
+pub fn run<'a, S: Store, V: Scanner<S>, R: ByteIn, W: ByteOut>(
     alloc: Global,
     last: Option<u16>,
     scanner: &mut V,
     plate: &Plate,
-    machine: Option<Machine<'a, SlotStore>>,
+    machine: Option<Machine<'a, S>>,
     next: Option<Loaded<'a>>,
     reader: &mut R,
     writer: &mut W,

@@ -22,27 +22,27 @@ use wc_machine::Machine;
 use wc_plate::Plate;
 use wc_record::{HeadKind, RowHead, image};
 use wc_sma::Line;
-use wc_store::SlotStore;
+use wc_store::Store;
 
 /// A scale: its indicator, its line, the digital inputs, the machine beside it, if there is one,
 /// and the next program, if one is left.
 #[derive(Drop)]
-pub(crate) struct Scale<'a> {
+pub(crate) struct Scale<'a, S: Store> {
     indicator: Indicator,
     line: Line,
     inputs: u16,
-    machine: Option<Machine<'a, SlotStore>>,
+    machine: Option<Machine<'a, S>>,
     next: Option<Loaded<'a>>,
 }
 
-impl<'a> Scale<'a> {
+impl<'a, S: Store> Scale<'a, S> {
     /// A scale to which no row has come.
     pub(crate) fn new(
         alloc: Global,
         plate: &Plate,
-        machine: Option<Machine<'a, SlotStore>>,
+        machine: Option<Machine<'a, S>>,
         next: Option<Loaded<'a>>,
-    ) -> Result<Scale<'a>, RunFault>
+    ) -> Result<Scale<'a, S>, RunFault>
         ensures stands { IfOk result
             (λ scale. (logic : Option Logic) → StandsAt machine.entry next.entry logic
             → Stands scale plate.now logic []) }
@@ -64,7 +64,7 @@ impl<'a> Scale<'a> {
     /// Does a row, with the bytes that are lent with it, and gives what is to be printed of it; a
     /// line stands in the room then.
     #[inline(always)]
-    pub(crate) fn take<V: Scanner>(
+    pub(crate) fn take<V: Scanner<S>>(
         &mut self,
         alloc: Global,
         scanner: &mut V,
@@ -113,7 +113,7 @@ impl<'a> Scale<'a> {
 
     /// Shows who does the scans a row that was done, with the answers to it that stand in the room.
     #[inline(always)]
-    pub(crate) fn show<V: Scanner>(
+    pub(crate) fn show<V: Scanner<S>>(
         &self,
         scanner: &mut V,
         room: &Room,
@@ -166,7 +166,7 @@ impl<'a> Scale<'a> {
 
     /// Has a scan done where there is a machine, and gives its record.
     #[inline(always)]
-    fn take_scan<V: Scanner>(&mut self, scanner: &mut V, ms: u64) -> RowOutput
+    fn take_scan<V: Scanner<S>>(&mut self, scanner: &mut V, ms: u64) -> RowOutput
         requires early { ms < 2 ^ 40 }
         requires in_order { IsNotBehind self.old ms }
         ensures stands { TakesRow self.old self.new ms Scan }

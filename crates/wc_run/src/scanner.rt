@@ -7,13 +7,14 @@ use wc_indicator::Indicator;
 use wc_machine::Machine;
 use wc_model::Image;
 use wc_record::{Record, RowHead};
-use wc_store::SlotStore;
+use wc_store::Store;
 
 /// Who does the scans of a run. `Unwatched` does them alone; another may show what is seen of them, and of the rows. Whoever
 /// does them, a scan is the one that the text means.
-pub trait Scanner {
+/// `S` is the store of the machine whose scans are done.
+pub trait Scanner<S: Store> {
     /// Does one scan of an image at a moment, and gives its record.
-    fn scan(&mut self, ms: u64, image: &Image, machine: &mut Machine<'_, SlotStore>) -> Record
+    fn scan(&mut self, ms: u64, image: &Image, machine: &mut Machine<'_, S>) -> Record
         requires not_before { machine.old.last ≤ ms }
         requires early { ms < 2 ^ 40 }
         requires status { image.now.status < 64 }
@@ -36,9 +37,9 @@ pub trait Scanner {
 #[derive(Clone, Copy)]
 pub struct Unwatched;
 
-impl Scanner for Unwatched {
+impl<S: Store> Scanner<S> for Unwatched {
     #[inline(always)]
-    fn scan(&mut self, ms: u64, image: &Image, machine: &mut Machine<'_, SlotStore>) -> Record {
+    fn scan(&mut self, ms: u64, image: &Image, machine: &mut Machine<'_, S>) -> Record {
         scan_record(ms, image, machine)
     }
 

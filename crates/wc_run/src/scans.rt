@@ -9,11 +9,11 @@ use wc_machine::Machine;
 use wc_model::{Image, Steps};
 use wc_record::{Record, Recorder};
 use wc_report::put_scan_line;
-use wc_store::SlotStore;
+use wc_store::Store;
 
 /// Does one scan of an image at a moment, and gives its record. It takes no memory.
 #[inline(always)]
-pub(crate) fn scan_record(ms: u64, image: &Image, machine: &mut Machine<'_, SlotStore>) -> Record
+pub(crate) fn scan_record<S: Store>(ms: u64, image: &Image, machine: &mut Machine<'_, S>) -> Record
     requires not_before { machine.old.last ≤ ms }
     requires early { ms < 2 ^ 40 }
     requires status { image.now.status < 64 }
