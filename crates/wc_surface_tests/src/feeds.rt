@@ -22,7 +22,7 @@ fn fails_at_the_second_answer(
     writer: &mut FuseOut,
 ) -> bool {
     let first = fed(line, b"\nZ\r\nW\r", indicator, writer) == Err(WriteFault);
-    let written = writer.written() == b"\nZ1G       0.000kg \r\n 1G ";
+    let written = writer.written() == b"\nZ1G       0.000kg \r\nZ1G ".as_slice();
     first && written && indicator.gross() == Some(0) && writer.failures() == 1
 }
 

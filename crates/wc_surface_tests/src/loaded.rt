@@ -14,7 +14,7 @@ fn has_a_program(loaded: &Loaded<'_>) -> bool {
     let name: &str = loaded.name(1);
     let bounds: (u32, u32) = (loaded.bound(0), loaded.bound(1));
     let code: &[Code] = loaded.code(1);
-    name.as_bytes() == b"P" && bounds == (8, 24) && code.len() == 8
+    name.as_bytes() == b"P".as_slice() && bounds == (8, 24) && code.len() == 10
 }
 
 /// The calls that speak of the program's frame.

@@ -27,7 +27,10 @@ fn has_tokens(alloc: Global) -> bool {
         Ok(found) => match found.first() {
             Some(first) => {
                 let shape = first.shape == Shape::Identifier;
-                shape && first.text == b"FUNCTION_BLOCK" && first.start == 0 && first.line == 1
+                shape
+                    && first.text == b"FUNCTION_BLOCK".as_slice()
+                    && first.start == 0
+                    && first.line == 1
             }
             None => false,
         },
@@ -73,7 +76,7 @@ fn has_places(tables: &Tables<'_>) -> bool {
     let named = match fields_of(tables, 0).last() {
         Some(field) => {
             let kind = field.kind == Kind::Dint && field.section == Section::Output;
-            field.name == b"N" && kind && field.place == Place(1)
+            field.name == b"N".as_slice() && kind && field.place == Place(1)
         }
         None => false,
     };

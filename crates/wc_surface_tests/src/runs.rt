@@ -76,14 +76,15 @@ fn prints_its_scan(alloc: Global) -> bool {
     let mut reader = Device::new(JOB);
     let mut writer = Device::new(Vec::new(alloc));
     let status = job_of(alloc, &mut reader, &mut writer);
-    status == 0 && writer.get_ref().as_slice() == b"S 0 2 0001 0 0 0 0\n"
+    status == 0 && writer.get_ref().as_slice() == b"S 0 2 0001 0 0 0 0\n".as_slice()
 }
 
 /// The units' bounds are printed.
 fn prints_bounds(alloc: Global) -> bool {
     let mut writer = Device::new(Vec::new(alloc));
     let answer = check_of(alloc, COUNTING, false, &mut writer);
-    answer == Ok(()) && writer.get_ref().as_slice() == b"unit Cnt cost 8\nunit P cost 24\n"
+    answer == Ok(())
+        && writer.get_ref().as_slice() == b"unit Cnt cost 8\nunit P cost 24\n".as_slice()
 }
 
 /// A log of three scans, of which the first and the last come after an edge.
@@ -104,7 +105,7 @@ fn prints_all<S: Store>(alloc: Global, plate: &Plate) -> bool {
         &mut writer,
     );
     let all = b"S 0 21 0000 1 0 0 0\nS 10 18 0000 1 0 0 0\nS 20 21 0000 1 1 0 0\n";
-    answer == Ok(5) && writer.get_ref().as_slice() == all
+    answer == Ok(5) && writer.get_ref().as_slice() == all.as_slice()
 }
 
 /// Over a store the last scan is printed.
@@ -123,7 +124,7 @@ fn prints_the_last<S: Store>(alloc: Global, plate: &Plate) -> bool {
         &mut reader,
         &mut writer,
     );
-    answer == Ok(5) && writer.get_ref().as_slice() == b"S 20 21 0000 1 1 0 0\n"
+    answer == Ok(5) && writer.get_ref().as_slice() == b"S 20 21 0000 1 1 0 0\n".as_slice()
 }
 
 /// Over both stores.
