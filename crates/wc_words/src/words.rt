@@ -17,7 +17,7 @@ use wc_refusals::Form;
 /// tools/legal_digest computes. Whether a build was proved is not known to the program.
 const VERSION: &str = "0.1.0 (Narbeddo)
 toolchain rattle-kit-13 logic dac8208d650f15bf
-legal part sha256 bd7adca2554c6bae19a3880901272b44ef24a5689c6ae710100d71e57ae989ef";
+legal part sha256 3319970a5be15ee2560ca351eff0e0601233bf84338d6ecb587708465c4f0888";
 
 /// What the program does, with an example of each word.
 const ABOUT: &str =
