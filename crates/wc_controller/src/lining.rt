@@ -13,9 +13,10 @@ use std::alloc::Global;
 use wc_model::{ByteIn, ByteOut};
 use wc_record::RefusedRow;
 use wc_run::{RunFault, Scanner, run};
+use wc_store::SlotStore;
 
 /// Reads a plate, and runs a log with no program.
-fn line_inputs<V: Scanner, P: ByteIn, L: ByteIn, W: ByteOut>(
+fn line_inputs<V: Scanner<SlotStore>, P: ByteIn, L: ByteIn, W: ByteOut>(
     alloc: Global,
     scanner: &mut V,
     plate: &mut P,
@@ -64,7 +65,7 @@ fn line_inputs<V: Scanner, P: ByteIn, L: ByteIn, W: ByteOut>(
 /// Runs a log with no program, so that the answers of the line alone are written: the plate is read
 /// and judged first, and the log is not read where it is refused. Who would do scans is shown the
 /// rows. All else is as `run_files` has it.
-pub fn line_files<V: Scanner, P: ByteIn, L: ByteIn, W: ByteOut>(
+pub fn line_files<V: Scanner<SlotStore>, P: ByteIn, L: ByteIn, W: ByteOut>(
     alloc: Global,
     scanner: &mut V,
     plate: &mut P,

@@ -25,7 +25,7 @@ use wc_store::SlotStore;
 
 /// Loads a program, and shows it to who does the scans: where that says no, the run does not begin,
 /// and ends as for want of memory.
-pub(crate) fn load_input<'a, V: Scanner>(
+pub(crate) fn load_input<'a, V: Scanner<SlotStore>>(
     alloc: Global,
     scanner: &mut V,
     input: Input,
@@ -55,7 +55,7 @@ pub(crate) fn load_input<'a, V: Scanner>(
 }
 
 /// Loads the next program, if there is one.
-fn load_next<'a, V: Scanner>(
+fn load_next<'a, V: Scanner<SlotStore>>(
     alloc: Global,
     scanner: &mut V,
     text: Option<&'a [u8]>,
@@ -79,7 +79,7 @@ fn load_next<'a, V: Scanner>(
 
 /// Loads the next program, if there is one, and runs a log with a program that is loaded: every scan
 /// is printed, or the last so many. The log is not read where the next program is refused.
-pub(crate) fn run_loaded<'a, V: Scanner, L: ByteIn, W: ByteOut>(
+pub(crate) fn run_loaded<'a, V: Scanner<SlotStore>, L: ByteIn, W: ByteOut>(
     alloc: Global,
     last: Option<u16>,
     scanner: &mut V,

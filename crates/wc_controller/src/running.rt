@@ -14,10 +14,11 @@ use std::alloc::Global;
 use wc_model::{ByteIn, ByteOut};
 use wc_record::RefusedRow;
 use wc_run::{RunFault, Scanner};
+use wc_store::SlotStore;
 
 /// Reads a plate, a program and the next one, if there is one, and runs a log. What follows an input
 /// that is refused is not read.
-fn run_inputs<V: Scanner, P: ByteIn, T: ByteIn, N: ByteIn, L: ByteIn, W: ByteOut>(
+fn run_inputs<V: Scanner<SlotStore>, P: ByteIn, T: ByteIn, N: ByteIn, L: ByteIn, W: ByteOut>(
     alloc: Global,
     last: Option<u16>,
     scanner: &mut V,
@@ -111,7 +112,7 @@ fn run_inputs<V: Scanner, P: ByteIn, T: ByteIn, N: ByteIn, L: ByteIn, W: ByteOut
 /// names the input whose reader failed in this call, or the log where as much was read as may be; a
 /// write fault comes where the writer failed in this call and only there. At such a fault, and for
 /// want of memory, a front of the output is written, or nothing.
-pub fn run_files<V: Scanner, P: ByteIn, T: ByteIn, N: ByteIn, L: ByteIn, W: ByteOut>(
+pub fn run_files<V: Scanner<SlotStore>, P: ByteIn, T: ByteIn, N: ByteIn, L: ByteIn, W: ByteOut>(
     alloc: Global,
     last: Option<u16>,
     scanner: &mut V,

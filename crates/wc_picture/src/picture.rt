@@ -138,7 +138,7 @@ impl Picture {
     }
 }
 
-impl Scanner for Picture {
+impl Scanner<SlotStore> for Picture {
     fn scan(&mut self, ms: u64, image: &Image, machine: &mut Machine<'_, SlotStore>) -> Record {
         let record = Unwatched.scan(ms, image, machine);
         self.outputs = record.outputs;

@@ -103,7 +103,7 @@ impl<'w, W: ByteOut> Watch<'w, W> {
     }
 }
 
-impl<W: ByteOut> Scanner for Watch<'_, W> {
+impl<W: ByteOut> Scanner<SlotStore> for Watch<'_, W> {
     fn scan(&mut self, ms: u64, image: &Image, machine: &mut Machine<'_, SlotStore>) -> Record {
         self.scans = self.scans.saturating_add(1);
         if self.fault.is_some() || !self.chosen.has(self.scans, ms) {

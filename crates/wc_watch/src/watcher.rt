@@ -153,7 +153,7 @@ impl<'n> Watcher<'n> {
     }
 }
 
-impl Scanner for Watcher<'_> {
+impl Scanner<SlotStore> for Watcher<'_> {
     fn scan(&mut self, ms: u64, image: &Image, machine: &mut Machine<'_, SlotStore>) -> Record {
         let record = Unwatched.scan(ms, image, machine);
         if self.make_line(ms, machine).is_err() {
