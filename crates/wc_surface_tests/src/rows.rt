@@ -10,13 +10,21 @@ fn next_of<R: ByteIn>(rows: &mut Rows<'_, R>) -> Result<Option<Row>, LogFault> {
     rows.next()
 }
 
+/// What a row brings is these bytes.
+fn are_bytes(kind: RowKind, bytes: &[u8]) -> bool {
+    match kind {
+        RowKind::Bytes(found) => found.as_slice() == bytes,
+        _ => false,
+    }
+}
+
 /// The next row brings these bytes to the line.
 fn brings_bytes<R: ByteIn>(rows: &mut Rows<'_, R>, bytes: &[u8]) -> bool {
     match next_of(rows) {
-        Ok(Some(row)) => match row.kind {
-            RowKind::Bytes(found) => found.as_slice() == bytes && row.ms == 5 && row.number == 2,
-            _ => false,
-        },
+        Ok(Some(row)) => {
+            let Row { number, ms, kind } = row;
+            number == 2 && ms == 5 && are_bytes(kind, bytes)
+        }
         _ => false,
     }
 }
