@@ -3,3 +3,4 @@ mod MeaningsBefore
 mod PathsBefore
 mod RulesBefore
 mod Spelling
+mod WorstPaths

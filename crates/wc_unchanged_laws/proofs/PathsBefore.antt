@@ -13,7 +13,7 @@ use Rattle.wc_unchanged_laws.specs.TextLaws.{GivesNothingOut, StepGivesNothingOu
 use Rattle.wc_unchanged_laws.specs.TextsBefore.{IsBlockPathBefore, IsLongestBefore, IsPathBefore, IsPathFromBefore, MayStepBefore}
 
 -- the paths of blocks
-abbrev BlockPaths : Type 1
+abbrev pub BlockPaths : Type 1
 BlockPaths = Name → List Item → Type 0
 
 -- of a call
@@ -23,7 +23,7 @@ same_call_path block_path scope line instance arguments items e =
     λ i. (body : List Item) × IsBodyPath block_path (type_of scope instance) body × (items ≡ same_trace line arguments body e i)
 
 -- of a step
-same_may_step : (block_path : BlockPaths) (scope : Scope) (line : ℕ) (step : Step) → StepGivesNothingOut step → MayStep block_path scope line step ≡ MayStepBefore block_path scope line step
+pub same_may_step : (block_path : BlockPaths) (scope : Scope) (line : ℕ) (step : Step) → StepGivesNothingOut step → MayStep block_path scope line step ≡ MayStepBefore block_path scope line step
 same_may_step block_path scope line (Load negated operand) g = refl
 same_may_step block_path scope line (Store storing target) g = refl
 same_may_step block_path scope line (Apply operator operand) g = refl
@@ -34,7 +34,7 @@ same_may_step block_path scope line (Call condition instance arguments) g =
 same_may_step block_path scope line (Return condition) g = refl
 
 -- through the lines left
-same_lines : (block_path : BlockPaths) (scope : Scope) (lines : Lines) → GivesNothingOut lines → IsPathFrom block_path scope lines ≡ IsPathFromBefore block_path scope lines
+pub same_lines : (block_path : BlockPaths) (scope : Scope) (lines : Lines) → GivesNothingOut lines → IsPathFrom block_path scope lines ≡ IsPathFromBefore block_path scope lines
 same_lines block_path scope End g = refl
 same_lines block_path scope (Alone word rest) g = λ i way path. same_lines block_path scope rest g i (arriving_way (Some word) way) path
 same_lines block_path scope (Plain word line step rest) g =
@@ -56,7 +56,7 @@ one_block_paths unit before g rest =
     λ i name path. elim (same_name unit.name.name name) as (λ b. Type 0) [ true ↦ body i path | false ↦ rest i name path ]
 
 -- of the blocks of a text
-same_block_paths : (units : List ProgramUnit) → UnitsGiveNothingOut units → IsBlockPath units ≡ IsBlockPathBefore units
+pub same_block_paths : (units : List ProgramUnit) → UnitsGiveNothingOut units → IsBlockPath units ≡ IsBlockPathBefore units
 same_block_paths [] g = λ i name path. ⊥
 same_block_paths (unit ∷ before) g = one_block_paths unit before g.0 (same_block_paths before g.1)
 

@@ -2,6 +2,7 @@
 //! are such, is what it was before outputs could be given out. Each function has an empty body: its clause is the law.
 #![tactic(auto)]
 
+ghost use Rattle.wc_unchanged_laws.specs.CheckLaws.{ACheckPrintsWhatItPrinted, AUnitHasTheWorstPathItHad};
 ghost use Rattle.wc_unchanged_laws.specs.Laws.{ACallHasThePathsItHad, ACallIsJudgedAsItWas, ACallMeansWhatItDid, AnInputIsSpelledAsItWas};
 ghost use Rattle.wc_unchanged_laws.specs.TextLaws.{ATextIsJudgedAsItWas, ATextIsSpelledAsItWas, ATextMeansWhatItDid, AUnitHasTheBoundItHad, AUnitHasThePathsItHad};
 
@@ -48,4 +49,14 @@ pub fn a_text_is_judged_as_it_was()
 /// Such a text is spelled by the tokens by which it was, and by no others.
 pub fn a_text_is_spelled_as_it_was()
     ensures { ATextIsSpelledAsItWas }
+{}
+
+/// Each unit of such a text has the worst path that it had, with the same lines.
+pub fn a_unit_has_the_worst_path_it_had()
+    ensures { AUnitHasTheWorstPathItHad }
+{}
+
+/// A check of such a text prints what it printed: of each unit the name, the bound and, if asked for, the worst path.
+pub fn a_check_prints_what_it_printed()
+    ensures { ACheckPrintsWhatItPrinted }
 {}
