@@ -1,3 +1,6 @@
+mod Bodies
+mod Merging
+mod Declared
 mod Unchanged
 mod MeaningsBefore
 mod PathsBefore

@@ -1,6 +1,8 @@
 pub mod Before
 pub mod CheckLaws
+pub mod DeclarationLaws
 pub mod Laws
+pub mod OutputsRemoved
 pub mod SpelledBefore
 pub mod TextsBefore
 pub mod TextLaws

@@ -3,6 +3,7 @@
 #![tactic(auto)]
 
 ghost use Rattle.wc_unchanged_laws.specs.CheckLaws.{ACheckPrintsWhatItPrinted, AUnitHasTheWorstPathItHad};
+ghost use Rattle.wc_unchanged_laws.specs.DeclarationLaws.{DeclarationsIgnoreDirections, OutputsAddOnlyTheirAddresses, OutputsFailOnlyByTheirAddresses};
 ghost use Rattle.wc_unchanged_laws.specs.Laws.{ACallHasThePathsItHad, ACallIsJudgedAsItWas, ACallMeansWhatItDid, AnInputIsSpelledAsItWas};
 ghost use Rattle.wc_unchanged_laws.specs.TextLaws.{ATextIsJudgedAsItWas, ATextIsSpelledAsItWas, ATextMeansWhatItDid, AUnitHasTheBoundItHad, AUnitHasThePathsItHad};
 
@@ -59,4 +60,20 @@ pub fn a_unit_has_the_worst_path_it_had()
 /// A check of such a text prints what it printed: of each unit the name, the bound and, if asked for, the worst path.
 pub fn a_check_prints_what_it_printed()
     ensures { ACheckPrintsWhatItPrinted }
+{}
+
+/// The pass on declarations (refusals 301 to 308) does not look at the direction of an argument: of any text it asks what it
+/// asks of the text in which each output is written as an input.
+pub fn declarations_ignore_directions()
+    ensures { DeclarationsIgnoreDirections }
+{}
+
+/// Outputs add to the rules of that pass those on their addresses (304 and 305), and no others.
+pub fn outputs_add_only_their_addresses()
+    ensures { OutputsAddOnlyTheirAddresses }
+{}
+
+/// The first fault of that pass is that of the text without its outputs, or one at an address to which an output goes.
+pub fn outputs_fail_only_by_their_addresses()
+    ensures { OutputsFailOnlyByTheirAddresses }
 {}
