@@ -4,11 +4,13 @@ use Rattle.std.specs.List.{flat_map}
 use Rattle.std.specs.Prelude.{if◌then◌else◌}
 use Rattle.wc_model.specs.Language.Checks.{Check, Spot, first_broken, spots_behind}
 use Rattle.wc_model.specs.Language.DeclarationRules.{body_name_checks, label_checks, not_reserved, operand_checks, step_checks, term_checks, text_declaration_checks, unit_checks}
-use Rattle.wc_model.specs.Language.Faults.{declaration_fault}
 use Rattle.wc_model.specs.Language.Tree.{Address, Alone, Apply, Assignment, Call, Constant, End, Field, Jump, Lines, Load, Negate, Nested, Plain, ProgramUnit, Return, Step, Store, Term, Text, Variable, goes_in, inputs_of, outputs_of}
+use Rattle.wc_model.specs.declared.operator.Direction.{Direction}
+use Rattle.wc_model.specs.declared.operator.Direction.TheVariants.{Into, OutOf}
 use Rattle.wc_unchanged_laws.proofs.Bodies.{head_checks, same_head}
 use Rattle.wc_unchanged_laws.proofs.Merging.{first_of_merged, first_of_other, merged_then, one_alone, other_alone}
-use Rattle.wc_unchanged_laws.specs.DeclarationLaws.{OutputsFailOnlyByTheirAddresses, DeclarationsIgnoreDirections, OutputsAddOnlyTheirAddresses}
+use Rattle.wc_unchanged_laws.proofs.Unchanged.{all_go_in, first_goes_in}
+use Rattle.wc_unchanged_laws.specs.DeclarationLaws.{AnOldTextStaysAsItIs, OutputsFailOnlyByTheirAddresses, DeclarationsIgnoreDirections, OutputsAddOnlyTheirAddresses}
 use Rattle.wc_unchanged_laws.specs.OutputsRemoved.{AreMerged, ListChange, as_input, body_output_checks, body_with, outputs_as_inputs, step_output_checks, step_with, text_output_checks, text_with, unit_with, without_outputs}
 use Rattle.wc_unchanged_laws.specs.TextLaws.{GivesNothingOut, StepGivesNothingOut, UnitsGiveNothingOut}
 
@@ -173,3 +175,44 @@ fail_only_by_addresses text = (
   first_of_merged (text_output_checks text) (text_declaration_checks (without_outputs text)) (text_declaration_checks text) (merged_units text [] text),
   λ allowed. first_of_other (text_output_checks text) (text_declaration_checks (without_outputs text)) (text_declaration_checks text) (merged_units text [] text) allowed,
 )
+
+-- a change that leaves a list that gives no output out leaves a text that gives none out
+abbrev Leaves : ListChange → Type 0
+Leaves change = (arguments : List Assignment) → outputs_of arguments ≡ [] → change arguments ≡ arguments
+
+old_step : (change : ListChange) (leaves : Leaves change) (step : Step) → StepGivesNothingOut step → step_with change step ≡ step
+old_step change leaves (Load negated operand) g = refl
+old_step change leaves (Store storing target) g = refl
+old_step change leaves (Apply operator operand) g = refl
+old_step change leaves Negate g = refl
+old_step change leaves (Jump condition label) g = refl
+old_step change leaves (Call condition instance arguments) g = ap (λ (list : List Assignment). Call condition instance list) (leaves arguments g)
+old_step change leaves (Return condition) g = refl
+
+old_body : (change : ListChange) (leaves : Leaves change) (body : Lines) → GivesNothingOut body → body_with change body ≡ body
+old_body change leaves End g = refl
+old_body change leaves (Alone label rest) g = λ i. Alone label (old_body change leaves rest g i)
+old_body change leaves (Plain label line step rest) g = λ i. Plain label line (old_step change leaves step g.0 i) (old_body change leaves rest g.1 i)
+old_body change leaves (Nested label line operator operand inside close rest) g =
+    λ i. Nested label line operator operand (old_body change leaves inside g.0 i) close (old_body change leaves rest g.1 i)
+
+old_text : (change : ListChange) (leaves : Leaves change) (text : Text) → UnitsGiveNothingOut text → text_with change text ≡ text
+old_text change leaves [] g = refl
+old_text change leaves (unit ∷ text) g = λ i. record unit { body = old_body change leaves unit.body g.0 i } ∷ old_text change leaves text g.1 i
+
+-- an input that is written as an input
+old_input : (a : Assignment) → goes_in a ≡ true → as_input a ≡ a
+old_input a e = ap (λ (way : Direction). record { direction = way; formal = a.formal; actual = a.actual }) (sym (into a.direction e))
+  where
+    into : (way : Direction) → (elim way as (λ x. Bool) [ Into ↦ true | OutOf ↦ false ]) ≡ true → way ≡ Into
+    into Into f = refl
+    into OutOf f = cc
+
+old_inputs : Leaves (map as_input)
+old_inputs [] e = refl
+old_inputs (a ∷ arguments) e =
+    let both = first_goes_in (goes_in a) a (outputs_of arguments) e in
+    λ i. old_input a both.0 i ∷ old_inputs arguments both.1 i
+
+pub old_text_stays : AnOldTextStaysAsItIs
+old_text_stays text g = (old_text inputs_of all_go_in text g, old_text (map as_input) old_inputs text g)

@@ -1,10 +1,10 @@
 -- Units that give no output out have the worst paths that they had, and a check prints of them what it printed.
-use Rattle.std.proofs.Common.{◌≡◌, ℕ, Bool, true, false, List, [], ◌∷◌, ◌++◌, Some, refl, sym, ap, subst, ◌∙◌}
+use Rattle.std.proofs.Common.{◌≡◌, ℕ, Bool, true, false, List, [], ◌∷◌, Some, refl, sym, ap, subst, ◌∙◌}
 use Rattle.std.specs.Prelude.{◌↔◌}
 use Rattle.wc_model.specs.Language.Checks.{Spot, spots_behind}
-use Rattle.wc_model.specs.Language.Paths.{IsBlockPath, IsNestedPath, MayPass, Onward, Way, arriving_way}
+use Rattle.wc_model.specs.Language.Paths.{IsNestedPath, MayPass, Onward, Way, arriving_way}
 use Rattle.wc_model.specs.Language.Scopes.{Scope}
-use Rattle.wc_model.specs.Language.Traces.{Item, own_lines}
+use Rattle.wc_model.specs.Language.Traces.{Item}
 use Rattle.wc_model.specs.Language.Tree.{Alone, End, Lines, Nested, Plain, ProgramUnit, Text}
 use Rattle.wc_model.specs.Language.WorstPaths.{AreWorstLines, ChoosesWorst, IsWorstFrom, IsWorstPath}
 use Rattle.wc_model.specs.Say.UnitReport.{AreUnitLines, IsPathPart, IsUnitReport}

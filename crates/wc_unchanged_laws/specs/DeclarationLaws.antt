@@ -27,3 +27,7 @@ abbrev pub OutputsFailOnlyByTheirAddresses : Type 0
 OutputsFailOnlyByTheirAddresses = (text : Text) →
     ((declaration_fault text ≡ declaration_fault (without_outputs text)) ⊎ (declaration_fault text ≡ first_broken (text_output_checks text)))
     × (list_all (λ check. check.holds) (text_output_checks text) ≡ true → declaration_fault text ≡ declaration_fault (without_outputs text))
+
+-- The two changes of a text by which these laws speak do nothing to a text that gives no output out.
+abbrev pub AnOldTextStaysAsItIs : Type 0
+AnOldTextStaysAsItIs = (text : Text) → UnitsGiveNothingOut text → (without_outputs text ≡ text) × (outputs_as_inputs text ≡ text)

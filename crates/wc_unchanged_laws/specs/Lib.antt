@@ -2,6 +2,7 @@ pub mod Before
 pub mod CheckLaws
 pub mod DeclarationLaws
 pub mod Laws
+pub mod OutputExamples
 pub mod OutputsRemoved
 pub mod SpelledBefore
 pub mod TextsBefore
