@@ -1,10 +1,14 @@
 -- What outputs are to the pass on declarations.
 use Rattle.std.proofs.Common.{◌≡◌, Bool, true, false, not, List, [], ◌∷◌, ◌++◌, map, Option, Some, None, refl, sym, ap, subst, ◌∙◌, inr}
-use Rattle.std.specs.List.{flat_map}
-use Rattle.std.specs.Prelude.{if◌then◌else◌}
-use Rattle.wc_model.specs.Language.Checks.{Check, Spot, first_broken, spots_behind}
+use Rattle.std.proofs.lemmas.List.Folds.{list_all-append}
+use Rattle.std.specs.Cmp.Derive.{both_true}
+use Rattle.std.specs.List.{flat_map, list_all}
+use Rattle.std.specs.Prelude.{◌==◌, ◌||◌, if◌then◌else◌, is_some}
+use Rattle.wc_model.specs.Language.Checks.{Check, asks, Spot, first_broken, spots_behind}
 use Rattle.wc_model.specs.Language.DeclarationRules.{body_name_checks, label_checks, not_reserved, operand_checks, step_checks, term_checks, text_declaration_checks, unit_checks}
-use Rattle.wc_model.specs.Language.Tree.{Address, Alone, Apply, Assignment, Call, Constant, End, Field, Jump, Lines, Load, Negate, Nested, Plain, ProgramUnit, Return, Step, Store, Term, Text, Variable, goes_in, inputs_of, outputs_of}
+use Rattle.wc_model.specs.Language.DirectVariables.{variable_at}
+use Rattle.wc_model.specs.Language.Declarations.{is_block}
+use Rattle.wc_model.specs.Language.Tree.{Address, Alone, Apply, Assignment, Call, Constant, End, Field, Jump, Lines, Load, Negate, Nested, Plain, ProgramUnit, Return, Step, Store, Term, Text, Variable, Word, goes_in, inputs_of, outputs_of}
 use Rattle.wc_model.specs.declared.operator.Direction.{Direction}
 use Rattle.wc_model.specs.declared.operator.Direction.TheVariants.{Into, OutOf}
 use Rattle.wc_unchanged_laws.proofs.Bodies.{head_checks, same_head}
@@ -166,8 +170,49 @@ merged_units text before (unit ∷ units) =
     merged_then (body_output_checks unit unit.body) (unit_checks (without_outputs text) (without_outputs before) (unit_with inputs_of unit)) (unit_checks text before unit) (text_output_checks units)
     (rules_of (without_outputs text) (without_outputs (unit ∷ before)) (without_outputs units)) (rules_of text (unit ∷ before) units) (merged_unit text before unit) (merged_units text (unit ∷ before) units)
 
+-- the rules on addresses are 304 and 305
+abbrev of_addresses : List Check → Bool
+of_addresses checks = list_all (λ (check : Check). check.number == 304 || check.number == 305) checks
+
+of_both : (one other : List Check) → of_addresses one ≡ true → of_addresses other ≡ true → of_addresses (one ++ other) ≡ true
+of_both one other e f = list_all-append (λ (check : Check). check.number == 304 || check.number == 305) one other ∙ both_true e f
+
+address_numbers : (block : Bool) (word : Word) → of_addresses ((if block then asks 305 word.line false else asks 304 word.line (is_some (variable_at word.name))) ∷ []) ≡ true
+address_numbers true word = refl
+address_numbers false word = refl
+
+term_numbers : (unit : ProgramUnit) (term : Term) → of_addresses (term_checks unit term) ≡ true
+term_numbers unit (Address word) = address_numbers (is_block unit) word
+term_numbers unit (Constant value) = refl
+term_numbers unit (Variable name) = refl
+term_numbers unit (Field instance field) = refl
+
+operand_numbers : (unit : ProgramUnit) (arguments : List Assignment) → of_addresses (operand_rules unit arguments) ≡ true
+operand_numbers unit [] = refl
+operand_numbers unit (a ∷ arguments) = of_both (term_checks unit a.actual) (operand_rules unit arguments) (term_numbers unit a.actual) (operand_numbers unit arguments)
+
+step_numbers : (unit : ProgramUnit) (step : Step) → of_addresses (step_output_checks unit step) ≡ true
+step_numbers unit (Load negated operand) = refl
+step_numbers unit (Store storing target) = refl
+step_numbers unit (Apply operator operand) = refl
+step_numbers unit Negate = refl
+step_numbers unit (Jump condition label) = refl
+step_numbers unit (Call condition instance arguments) = operand_numbers unit (outputs_of arguments)
+step_numbers unit (Return condition) = refl
+
+body_numbers : (unit : ProgramUnit) (body : Lines) → of_addresses (body_output_checks unit body) ≡ true
+body_numbers unit End = refl
+body_numbers unit (Alone label rest) = body_numbers unit rest
+body_numbers unit (Plain label line step rest) = of_both (step_output_checks unit step) (body_output_checks unit rest) (step_numbers unit step) (body_numbers unit rest)
+body_numbers unit (Nested label line operator operand inside close rest) =
+    of_both (body_output_checks unit inside) (body_output_checks unit rest) (body_numbers unit inside) (body_numbers unit rest)
+
+text_numbers : (text : Text) → of_addresses (text_output_checks text) ≡ true
+text_numbers [] = refl
+text_numbers (unit ∷ text) = of_both (body_output_checks unit unit.body) (text_output_checks text) (body_numbers unit unit.body) (text_numbers text)
+
 pub only_addresses : OutputsAddOnlyTheirAddresses
-only_addresses text = (text_left inputs_of none_left text, merged_units text [] text)
+only_addresses text = (text_left inputs_of none_left text, merged_units text [] text, text_numbers text)
 
 -- the first fault
 pub fail_only_by_addresses : OutputsFailOnlyByTheirAddresses

@@ -1,6 +1,6 @@
 -- What outputs of a call are to the pass on declarations, whose refusals are 301 to 308: operands whose addresses it judges, as
 -- those of inputs, and nothing else. Each law is of any text, with any outputs.
-use Rattle.std.specs.Prelude.{◌≡◌, true, ◌⊎◌}
+use Rattle.std.specs.Prelude.{◌≡◌, ◌==◌, true, ◌||◌, ◌⊎◌}
 use Rattle.std.specs.List.{list_all}
 use Rattle.wc_model.specs.Language.Checks.{first_broken}
 use Rattle.wc_model.specs.Language.DeclarationRules.{text_declaration_checks}
@@ -16,10 +16,12 @@ DeclarationsIgnoreDirections = (text : Text) →
     UnitsGiveNothingOut (outputs_as_inputs text) × (text_declaration_checks text ≡ text_declaration_checks (outputs_as_inputs text)) × (declaration_fault text ≡ declaration_fault (outputs_as_inputs text))
 
 -- The rules that the pass asks of a text are those of the text without its outputs, in the same order, with those on the
--- addresses to which outputs go among them, and no others. That text gives no output out.
+-- addresses to which outputs go among them, and no others; each of those is 304 or 305. The text without its outputs gives none
+-- out.
 abbrev pub OutputsAddOnlyTheirAddresses : Type 0
 OutputsAddOnlyTheirAddresses = (text : Text) →
     UnitsGiveNothingOut (without_outputs text) × AreMerged (text_output_checks text) (text_declaration_checks (without_outputs text)) (text_declaration_checks text)
+    × (list_all (λ check. check.number == 304 || check.number == 305) (text_output_checks text) ≡ true)
 
 -- So the first fault of the pass is that of the text without its outputs, or else the first at an address to which an output goes;
 -- and it is the former if each of these addresses is allowed where it stands.
