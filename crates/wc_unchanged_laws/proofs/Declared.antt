@@ -4,17 +4,17 @@ use Rattle.std.proofs.lemmas.List.Folds.{list_all-append}
 use Rattle.std.specs.Cmp.Derive.{both_true}
 use Rattle.std.specs.List.{flat_map, list_all}
 use Rattle.std.specs.Prelude.{◌==◌, ◌||◌, if◌then◌else◌, is_some}
-use Rattle.wc_model.specs.Language.Checks.{Check, asks, Spot, first_broken, spots_behind}
+use Rattle.wc_model.specs.Language.Checks.{Check, Spot, asks, first_broken, spots_behind}
 use Rattle.wc_model.specs.Language.DeclarationRules.{body_name_checks, label_checks, not_reserved, operand_checks, step_checks, term_checks, text_declaration_checks, unit_checks}
-use Rattle.wc_model.specs.Language.DirectVariables.{variable_at}
 use Rattle.wc_model.specs.Language.Declarations.{is_block}
+use Rattle.wc_model.specs.Language.DirectVariables.{variable_at}
 use Rattle.wc_model.specs.Language.Tree.{Address, Alone, Apply, Assignment, Call, Constant, End, Field, Jump, Lines, Load, Negate, Nested, Plain, ProgramUnit, Return, Step, Store, Term, Text, Variable, Word, goes_in, inputs_of, outputs_of}
 use Rattle.wc_model.specs.declared.operator.Direction.{Direction}
 use Rattle.wc_model.specs.declared.operator.Direction.TheVariants.{Into, OutOf}
 use Rattle.wc_unchanged_laws.proofs.Bodies.{head_checks, same_head}
 use Rattle.wc_unchanged_laws.proofs.Merging.{first_of_merged, first_of_other, merged_then, one_alone, other_alone}
 use Rattle.wc_unchanged_laws.proofs.Unchanged.{all_go_in, first_goes_in}
-use Rattle.wc_unchanged_laws.specs.DeclarationLaws.{AnOldTextStaysAsItIs, OutputsFailOnlyByTheirAddresses, DeclarationsIgnoreDirections, OutputsAddOnlyTheirAddresses}
+use Rattle.wc_unchanged_laws.specs.DeclarationLaws.{AnOldTextStaysAsItIs, DeclarationsIgnoreDirections, OutputsAddOnlyTheirAddresses, OutputsFailOnlyByTheirAddresses}
 use Rattle.wc_unchanged_laws.specs.OutputsRemoved.{AreMerged, ListChange, as_input, body_output_checks, body_with, outputs_as_inputs, step_output_checks, step_with, text_output_checks, text_with, unit_with, without_outputs}
 use Rattle.wc_unchanged_laws.specs.TextLaws.{GivesNothingOut, StepGivesNothingOut, UnitsGiveNothingOut}
 

@@ -1,5 +1,5 @@
 -- What outputs of a call are to the pass on declarations, whose refusals are 301 to 308: operands whose addresses it judges, as
--- those of inputs, and nothing else. Each law is of any text, with any outputs.
+-- those of inputs, and nothing else. The first three laws are of any text, with any outputs.
 use Rattle.std.specs.Prelude.{◌≡◌, ◌==◌, true, ◌||◌, ◌⊎◌}
 use Rattle.std.specs.List.{list_all}
 use Rattle.wc_model.specs.Language.Checks.{first_broken}
@@ -23,7 +23,7 @@ OutputsAddOnlyTheirAddresses = (text : Text) →
     UnitsGiveNothingOut (without_outputs text) × AreMerged (text_output_checks text) (text_declaration_checks (without_outputs text)) (text_declaration_checks text)
     × (list_all (λ check. check.number == 304 || check.number == 305) (text_output_checks text) ≡ true)
 
--- So the first fault of the pass is that of the text without its outputs, or else the first at an address to which an output goes;
+-- So the first fault of the pass is that of the text without its outputs, or else the first that the addresses of outputs bring;
 -- and it is the former if each of these addresses is allowed where it stands.
 abbrev pub OutputsFailOnlyByTheirAddresses : Type 0
 OutputsFailOnlyByTheirAddresses = (text : Text) →
