@@ -1,5 +1,9 @@
+mod Bodies
+mod Merging
+mod Declared
 mod Unchanged
 mod MeaningsBefore
 mod PathsBefore
 mod RulesBefore
 mod Spelling
+mod WorstPaths

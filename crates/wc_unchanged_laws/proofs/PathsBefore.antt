@@ -1,19 +1,21 @@
 -- Units that give no output out have the paths that they had.
-use Rattle.std.proofs.Common.{◌≡◌, ℕ, true, false, List, [], ◌∷◌, Some, refl, sym, ap, subst, ◌∙◌}
+use Rattle.std.proofs.Common.{◌≡◌, ℕ, true, false, List, [], ◌∷◌, Option, Some, refl, sym, ap, subst, ◌∙◌, inl, inr, ⊎_elim}
 use Rattle.std.specs.Prelude.{◌↔◌}
+use Rattle.wc_model.specs.Language.Checks.{Refusal, spots_behind}
 use Rattle.wc_model.specs.Language.Declarations.{same_name}
+use Rattle.wc_model.specs.Language.Faults.{FirstTooLong, IsCostFault}
 use Rattle.wc_model.specs.Language.Names.{Name}
 use Rattle.wc_model.specs.Language.Paths.{GoesOn, IsBlockPath, IsBodyPath, IsCallPath, IsLongest, IsNestedPath, IsPath, IsPathFrom, Joined, MayAct, MayPass, MayStep, Onward, Way, arriving_way}
 use Rattle.wc_model.specs.Language.Scopes.{Scope, type_of}
 use Rattle.wc_model.specs.Language.Traces.{At, Item}
-use Rattle.wc_model.specs.Language.Tree.{Alone, Apply, Assignment, Call, End, Jump, Lines, Load, Negate, Nested, Plain, ProgramUnit, Return, Step, Store, outputs_of}
+use Rattle.wc_model.specs.Language.Tree.{Alone, Apply, Assignment, Call, End, Jump, Lines, Load, Negate, Nested, Plain, ProgramUnit, Return, Step, Store, Text, outputs_of}
 use Rattle.wc_unchanged_laws.proofs.Unchanged.{same_trace}
 use Rattle.wc_unchanged_laws.specs.Before.{IsCallPathBefore}
 use Rattle.wc_unchanged_laws.specs.TextLaws.{GivesNothingOut, StepGivesNothingOut, UnitsGiveNothingOut}
-use Rattle.wc_unchanged_laws.specs.TextsBefore.{IsBlockPathBefore, IsLongestBefore, IsPathBefore, IsPathFromBefore, MayStepBefore}
+use Rattle.wc_unchanged_laws.specs.TextsBefore.{FirstTooLongBefore, IsBlockPathBefore, IsCostFaultBefore, IsLongestBefore, IsPathBefore, IsPathFromBefore, MayStepBefore}
 
 -- the paths of blocks
-abbrev BlockPaths : Type 1
+abbrev pub BlockPaths : Type 1
 BlockPaths = Name → List Item → Type 0
 
 -- of a call
@@ -23,7 +25,7 @@ same_call_path block_path scope line instance arguments items e =
     λ i. (body : List Item) × IsBodyPath block_path (type_of scope instance) body × (items ≡ same_trace line arguments body e i)
 
 -- of a step
-same_may_step : (block_path : BlockPaths) (scope : Scope) (line : ℕ) (step : Step) → StepGivesNothingOut step → MayStep block_path scope line step ≡ MayStepBefore block_path scope line step
+pub same_may_step : (block_path : BlockPaths) (scope : Scope) (line : ℕ) (step : Step) → StepGivesNothingOut step → MayStep block_path scope line step ≡ MayStepBefore block_path scope line step
 same_may_step block_path scope line (Load negated operand) g = refl
 same_may_step block_path scope line (Store storing target) g = refl
 same_may_step block_path scope line (Apply operator operand) g = refl
@@ -34,7 +36,7 @@ same_may_step block_path scope line (Call condition instance arguments) g =
 same_may_step block_path scope line (Return condition) g = refl
 
 -- through the lines left
-same_lines : (block_path : BlockPaths) (scope : Scope) (lines : Lines) → GivesNothingOut lines → IsPathFrom block_path scope lines ≡ IsPathFromBefore block_path scope lines
+pub same_lines : (block_path : BlockPaths) (scope : Scope) (lines : Lines) → GivesNothingOut lines → IsPathFrom block_path scope lines ≡ IsPathFromBefore block_path scope lines
 same_lines block_path scope End g = refl
 same_lines block_path scope (Alone word rest) g = λ i way path. same_lines block_path scope rest g i (arriving_way (Some word) way) path
 same_lines block_path scope (Plain word line step rest) g =
@@ -56,7 +58,7 @@ one_block_paths unit before g rest =
     λ i name path. elim (same_name unit.name.name name) as (λ b. Type 0) [ true ↦ body i path | false ↦ rest i name path ]
 
 -- of the blocks of a text
-same_block_paths : (units : List ProgramUnit) → UnitsGiveNothingOut units → IsBlockPath units ≡ IsBlockPathBefore units
+pub same_block_paths : (units : List ProgramUnit) → UnitsGiveNothingOut units → IsBlockPath units ≡ IsBlockPathBefore units
 same_block_paths [] g = λ i name path. ⊥
 same_block_paths (unit ∷ before) g = one_block_paths unit before g.0 (same_block_paths before g.1)
 
@@ -87,3 +89,17 @@ same_longest scope g n = (
     greatest = λ other is. h.greatest other ((path_for_path scope g other).0 is);
   },
 )
+
+-- the first unit with a path that is too long
+same_spots_too_long : (before units : List ProgramUnit) → UnitsGiveNothingOut before → UnitsGiveNothingOut units → (refusal : Option Refusal)
+    → FirstTooLong (spots_behind before units) refusal ↔ FirstTooLongBefore (spots_behind before units) refusal
+same_spots_too_long before [] b g refusal = (λ h. h, λ h. h)
+same_spots_too_long before (unit ∷ units) b g refusal =
+    let same = path_for_path (record { before = before; unit = unit }) (g.0, b) in
+    let others = same_spots_too_long (unit ∷ before) units (g.0, b) g.1 refusal in (
+      λ h. ⊎_elim (λ l. inl ((l.0.0, (same l.0.0).0 l.0.1, l.0.2), l.1)) (λ r. inr (λ path is. r.0 path ((same path).1 is), others.0 r.1)) h,
+      λ h. ⊎_elim (λ l. inl ((l.0.0, (same l.0.0).1 l.0.1, l.0.2), l.1)) (λ r. inr (λ path is. r.0 path ((same path).0 is), others.1 r.1)) h,
+    )
+
+pub same_too_long : (text : Text) → UnitsGiveNothingOut text → (refusal : Option Refusal) → IsCostFault text refusal ↔ IsCostFaultBefore text refusal
+same_too_long text g refusal = same_spots_too_long [] text tt g refusal

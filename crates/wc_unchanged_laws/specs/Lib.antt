@@ -1,5 +1,10 @@
 pub mod Before
+pub mod CheckLaws
+pub mod DeclarationLaws
 pub mod Laws
+pub mod OutputExamples
+pub mod OutputsRemoved
 pub mod SpelledBefore
 pub mod TextsBefore
 pub mod TextLaws
+pub mod WorstPathsBefore

@@ -1,8 +1,9 @@
 -- A text that gives no output out in any call is what it was: its meaning with its trace, its paths and so its bound, the rules by
 -- which its bodies are judged, and its spelling.
-use Rattle.std.specs.Prelude.{◌≡◌, ◌↔◌, ℕ, List, [], ◌∷◌}
+use Rattle.std.specs.Prelude.{◌≡◌, ◌↔◌, ℕ, List, [], ◌∷◌, Option}
 use Rattle.wc_model.specs.Language.BodyRules.{text_body_checks}
-use Rattle.wc_model.specs.Language.Faults.{body_fault}
+use Rattle.wc_model.specs.Language.Checks.{Refusal}
+use Rattle.wc_model.specs.Language.Faults.{IsCostFault, body_fault}
 use Rattle.wc_model.specs.Language.Paths.{IsLongest, IsPath}
 use Rattle.wc_model.specs.Language.Scans.{scan_of}
 use Rattle.wc_model.specs.Language.Scopes.{Scope}
@@ -13,7 +14,7 @@ use Rattle.wc_model.specs.declared.image.Image.{Image}
 use Rattle.wc_model.specs.Text.Grammar.{Spells}
 use Rattle.wc_model.specs.Text.Marks.{Mark}
 use Rattle.wc_unchanged_laws.specs.SpelledBefore.{SpelledBefore}
-use Rattle.wc_unchanged_laws.specs.TextsBefore.{IsLongestBefore, IsPathBefore, body_fault_before, scan_of_before, text_body_checks_before}
+use Rattle.wc_unchanged_laws.specs.TextsBefore.{IsCostFaultBefore, IsLongestBefore, IsPathBefore, body_fault_before, scan_of_before, text_body_checks_before}
 
 -- a step that gives nothing out: no call, or one whose list gives no output out
 abbrev pub StepGivesNothingOut : Step → Type 0
@@ -48,6 +49,10 @@ AUnitHasThePathsItHad = (scope : Scope) → UnitsGiveNothingOut (scope.unit ∷ 
 -- and the bound that it had
 abbrev pub AUnitHasTheBoundItHad : Type 0
 AUnitHasTheBoundItHad = (scope : Scope) → UnitsGiveNothingOut (scope.unit ∷ scope.before) → (n : ℕ) → IsLongest scope n ↔ IsLongestBefore scope n
+
+-- the last pass refuses it where it did, by 411 at the first unit that may take too many steps, and passes it where it did
+abbrev pub ATextIsTooLongWhereItWas : Type 0
+ATextIsTooLongWhereItWas = (text : Text) → UnitsGiveNothingOut text → (refusal : Option Refusal) → IsCostFault text refusal ↔ IsCostFaultBefore text refusal
 
 -- its bodies are judged by the rules by which they were, in the same order, so its first fault is the same
 abbrev pub ATextIsJudgedAsItWas : Type 0

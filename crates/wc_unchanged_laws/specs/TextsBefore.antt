@@ -1,11 +1,12 @@
 -- What texts meant before outputs could be given out, which paths they had and by which rules their bodies were judged, kept to
 -- be compared with: the step of a call is the one of `Before`; each other step, and all around it, is as it stands. (No rule of
 -- the language.)
-use Rattle.std.specs.Prelude.{◌≡◌, ℕ, ◌≤◌, true, false, List, [], ◌∷◌, ◌++◌, length, reverse, Option, Some, None, is_some}
+use Rattle.std.specs.Prelude.{◌≡◌, ℕ, ◌<◌, ◌≤◌, ◌⊎◌, true, false, List, [], ◌∷◌, ◌++◌, length, reverse, Option, Some, None, is_some}
 use Rattle.std.specs.List.{flat_map}
 use Rattle.wc_model.specs.Language.BodyRules.{closing_checks, condition_checks, is_instance, label_rules, members_called, opening_checks, step_rules}
 use Rattle.wc_model.specs.Language.Checks.{Check, Refusal, Spot, asks, first_broken, spots_of}
 use Rattle.wc_model.specs.Language.Declarations.{same_name}
+use Rattle.wc_model.specs.Language.Faults.{MOST_STEPS}
 use Rattle.wc_model.specs.Language.Kinds.{AloneLine, BodyLine, NestedLine, PlainLine, kind_after_operator, kind_after_step, kind_at, kind_behind, label_of, lines_of, opening_kind}
 use Rattle.wc_model.specs.Language.Meaning.{Calls, Context, Effect, Fails, Goes, Mode, Outcome, Returned, Running, Seeking, Stuck, acts, arriving, at_end, chosen, continued, nested_effect, step_effect}
 use Rattle.wc_model.specs.Language.Names.{Name}
@@ -90,6 +91,21 @@ pub record IsLongestBefore (scope : Scope) (n : ℕ) : Type 0 where
   pub is_path : IsPathBefore scope path
   pub reached : length path ≡ n
   pub greatest : (other : List Item) → IsPathBefore scope other → length other ≤ n
+
+-- the last pass, 411: the first unit with a path of more steps than a unit may take
+abbrev pub IsTooLongBefore : Spot ProgramUnit → Type 0
+IsTooLongBefore spot = (path : List Item) × IsPathBefore (record { before = spot.before; unit = spot.item }) path × (MOST_STEPS < length path)
+
+abbrev pub IsShortEnoughBefore : Spot ProgramUnit → Type 0
+IsShortEnoughBefore spot = (path : List Item) → IsPathBefore (record { before = spot.before; unit = spot.item }) path → length path ≤ MOST_STEPS
+
+abbrev pub FirstTooLongBefore : List (Spot ProgramUnit) → Option Refusal → Type 0
+FirstTooLongBefore [] refusal = refusal ≡ None
+FirstTooLongBefore (spot ∷ spots) refusal =
+    (IsTooLongBefore spot × (refusal ≡ Some (record { number = 411; line = spot.item.line }))) ⊎ (IsShortEnoughBefore spot × FirstTooLongBefore spots refusal)
+
+abbrev pub IsCostFaultBefore : Text → Option Refusal → Type 0
+IsCostFaultBefore text refusal = FirstTooLongBefore (spots_of text) refusal
 
 -- the rules on bodies: of a call, a step, the lines inside a parenthesis, a line, a body, a text; and the first that is broken
 abbrev pub call_checks_before : Scope → ℕ → Condition → Name → List Assignment → Option Kind → List Check
