@@ -1,4 +1,4 @@
-ghost use Rattle.std.specs.Prelude.{◌≡◌, ◌+◌, ◌<◌, ◌≤◌, [], false, true, IfOk, IsFalse, Ok, OnOk, is_err, length};
+ghost use Rattle.std.specs.Prelude.{◌≡◌, ◌+◌, ◌<◌, ◌≤◌, [], false, IfErr, IfOk, IsFalse, Ok, OnOk, is_err, length};
 ghost use Rattle.std.specs.Io.{WritesAtMost};
 ghost use Rattle.std.specs.Io.KnownBytes.{Appends, Keeps, WriteAppends};
 ghost use Rattle.std.specs.IoError.{error_kind};
@@ -36,13 +36,18 @@ impl<D> Gathering<D> {
     {
         &self.inner
     }
-}
 
-/// The error of a writer that has failed before.
-fn failed_before() -> io::Error
-    ensures { error_kind result ≡ ErrorKind.BrokenPipe }
-{
-    io::Error::from(ErrorKind::BrokenPipe)
+    /// How many more bytes can be gathered; an error if a call has failed.
+    fn space(&self) -> io::Result<usize>
+        ensures space { IfOk result (λ space. space ≡ space_left self.now) }
+        ensures mark { is_err result ≡ gathering_failed self.now }
+        ensures broken { IfErr result (λ error. error_kind error ≡ ErrorKind.BrokenPipe) }
+    {
+        if self.failed {
+            return Err(io::Error::from(ErrorKind::BrokenPipe));
+        }
+        Ok(self.room.saturating_sub(self.gathered.len()))
+    }
 }
 
 impl<D: Write> Gathering<D> {
@@ -92,9 +97,7 @@ impl<D: Write> Gathering<D> {
         ensures mark { gathering_failed self.new ≡ is_err result }
         ensures refused { Refuses self.old self.new result }
     {
-        if self.failed {
-            return Err(failed_before());
-        }
+        self.space()?;
         self.give_all()?;
         self.gathered.clear();
         self.given = 0;
@@ -128,13 +131,9 @@ impl<D: Write> Gathering<D> {
         ensures room { self.new.room ≡ self.old.room }
         ensures mark { self.new.failed ≡ is_err result }
     {
-        match self.inner.write(piece) {
-            Ok(count) => Ok(count),
-            Err(error) => {
-                self.failed = true;
-                Err(error)
-            }
-        }
+        let answer = self.inner.write(piece);
+        self.failed = answer.is_err();
+        answer
     }
 }
 
@@ -155,10 +154,7 @@ impl<D: Write> Write for Gathering<D> {
         ensures mark { gathering_failed self.new ≡ is_err result }
         ensures refused { Refuses self.old self.new result }
     {
-        if self.failed {
-            return Err(failed_before());
-        }
-        if piece.len() <= self.room.saturating_sub(self.gathered.len()) {
+        if piece.len() <= self.space()? {
             return self.keep(piece);
         }
         self.empty()?;
@@ -179,6 +175,6 @@ impl<D: Write> Write for Gathering<D> {
         ensures mark { gathering_failed self.new ≡ is_err result }
         ensures refused { Refuses self.old self.new result }
     {
-        self.empty()
+        Gathering::empty(self)
     }
 }
