@@ -1,10 +1,12 @@
 -- What stands inside these readers and writers, and what they keep beside it. (The profile's own.)
-use Rattle.std.specs.Prelude.{◌≡◌, ℕ, List, ◌++◌, Option, Some, None, Result, Ok, Err, drop, take, if◌then◌else◌}
+use Rattle.std.specs.Prelude.{◌≡◌, ℕ, ◌-◌, Bool, List, ◌++◌, Option, Some, None, Result, Ok, Err, IsErrAnd, IsTrue, drop, length, take, vec_capacity, if◌then◌else◌}
 use Rattle.std.specs.Io.KnownBytes.{append_known}
 use Rattle.wc_devices.specs.declared.gathered.Gathering.{Gathering}
 use Rattle.wc_devices.specs.declared.keeping.Keeping.{Keeping}
 use Rattle.wc_devices.specs.declared.noting.Noting.{Noting}
 use Rattle.std.specs.declared.io.Error.{Error}
+use Rattle.std.specs.declared.io.ErrorKind.TheVariants.{BrokenPipe}
+use Rattle.std.specs.IoError.{error_kind}
 
 -- the reader or writer inside
 abbrev pub noting_inner : {D : Type 0} → Noting D → D
@@ -22,6 +24,10 @@ keeping_inner keeping = keeping.inner
 abbrev pub kept : {D : Type 0} → Keeping D → Option (List ℕ)
 kept keeping = if keeping.whole then Some keeping.kept.items else None
 
+-- for how many more bytes memory is allocated
+abbrev pub kept_space : {D : Type 0} → Keeping D → ℕ
+kept_space keeping = vec_capacity keeping.kept - length keeping.kept.items
+
 -- bytes that are kept grow by those that a read gives, or are given up; a failed read adds none
 abbrev pub Keeps : Option (List ℕ) → Option (List ℕ) → Result ℕ Error → List ℕ → Type 0
 Keeps None new result buffer = new ≡ None
@@ -36,6 +42,26 @@ gathering_inner gathering = gathering.inner
 -- what is gathered and not handed on yet
 abbrev pub pending : {D : Type 0} → Gathering D → List ℕ
 pending gathering = drop gathering.given gathering.gathered.items
+
+-- whether a call of it has failed
+abbrev pub gathering_failed : {D : Type 0} → Gathering D → Bool
+gathering_failed gathering = gathering.failed
+
+-- how many bytes it can gather
+abbrev pub gathering_size : {D : Type 0} → Gathering D → ℕ
+gathering_size gathering = gathering.room
+
+-- how many more bytes it can gather before it has to hand some on
+abbrev pub space_left : {D : Type 0} → Gathering D → ℕ
+space_left gathering = gathering.room - length gathering.gathered.items
+
+-- a slice is taken whole, and nothing goes to the writer inside
+abbrev pub Gathers : {D : Type 0} → Gathering D → Gathering D → Result ℕ Error → List ℕ → Type 0
+Gathers old new result slice = (result ≡ Ok (length slice)) × (gathering_inner new ≡ gathering_inner old)
+
+-- a call after one that failed is a broken pipe, and changes nothing
+abbrev pub Refuses : {D A : Type 0} → Gathering D → Gathering D → Result A Error → Type 0
+Refuses old new result = IsTrue (gathering_failed old) → IsErrAnd result (λ error. error_kind error ≡ BrokenPipe) × (new ≡ old)
 
 -- all that was taken: what the writer inside has, and then what is pending
 abbrev pub taken : {D : Type 0} → (D → Option (List ℕ)) → Gathering D → Option (List ℕ)

@@ -1,7 +1,7 @@
-ghost use Rattle.std.specs.Prelude.{◌≤◌, length};
+ghost use Rattle.std.specs.Prelude.{◌≤◌, length, vec_capacity};
 
-/// A writer that gathers what it takes, and hands it on where it is emptied or has no room for more. What it has taken is
-/// what the writer inside has, and then what is gathered. Once it has failed it takes no more.
+/// A writer that gathers what it takes, and hands it on when it is emptied or has no room for more. What it has taken is
+/// what the writer inside has, and then what is gathered. Once a call has failed, each later call fails and changes nothing.
 #[derive(Drop)]
 pub struct Gathering<D> {
     pub(crate) inner: D,
@@ -10,4 +10,6 @@ pub struct Gathering<D> {
     pub(crate) room: usize,
     pub(crate) failed: bool,
     ghost within: { given ≤ length gathered.items },
+    ghost fits: { length gathered.items ≤ room },
+    ghost allocated: { room ≤ vec_capacity gathered },
 }

@@ -1,18 +1,22 @@
-ghost use Rattle.std.specs.Prelude.{◌≡◌, ◌<◌, ◌≤◌, [], IfOk, OnOk, length};
+ghost use Rattle.std.specs.Prelude.{◌≡◌, ◌+◌, ◌<◌, ◌≤◌, [], false, IfErr, IfOk, IsFalse, Ok, OnOk, is_err, length};
 ghost use Rattle.std.specs.Io.{WritesAtMost};
-ghost use Rattle.std.specs.Io.KnownBytes.{Keeps, WriteAppends};
-ghost use Rattle.wc_devices.specs.Inside.{gathering_inner, pending, taken};
+ghost use Rattle.std.specs.Io.KnownBytes.{Appends, Keeps, WriteAppends};
+ghost use Rattle.std.specs.IoError.{error_kind};
+ghost use Rattle.wc_devices.specs.Inside.{Gathers, Refuses, gathering_failed, gathering_inner, gathering_size, pending, space_left, taken};
 
 use crate::gathered::Gathering;
 use std::alloc::{AllocError, Global};
 use std::io;
-use std::io::Write;
+use std::io::{ErrorKind, Write};
 
 impl<D: Drop> Gathering<D> {
     /// One with room for so many bytes, which has gathered nothing. The room is made here.
     pub fn new(alloc: Global, inner: D, room: usize) -> Result<Gathering<D>, AllocError>
         ensures inner { IfOk result (λ g. gathering_inner g ≡ inner) }
         ensures nothing { IfOk result (λ g. pending g ≡ []) }
+        ensures size { IfOk result (λ g. gathering_size g ≡ room) }
+        ensures space { IfOk result (λ g. space_left g ≡ room) }
+        ensures sound { IfOk result (λ g. gathering_failed g ≡ false) }
     {
         let gathered = Vec::with_capacity(alloc, room)?;
         Ok(Gathering {
@@ -32,11 +36,18 @@ impl<D> Gathering<D> {
     {
         &self.inner
     }
-}
 
-/// The error of a writer that has failed before.
-fn failed_before() -> io::Error {
-    io::Error::from(io::ErrorKind::BrokenPipe)
+    /// How many more bytes can be gathered; an error if a call has failed.
+    fn space(&self) -> io::Result<usize>
+        ensures space { IfOk result (λ space. space ≡ space_left self.now) }
+        ensures mark { is_err result ≡ gathering_failed self.now }
+        ensures broken { IfErr result (λ error. error_kind error ≡ ErrorKind.BrokenPipe) }
+    {
+        if self.failed {
+            return Err(io::Error::from(ErrorKind::BrokenPipe));
+        }
+        Ok(self.room.saturating_sub(self.gathered.len()))
+    }
 }
 
 impl<D: Write> Gathering<D> {
@@ -46,11 +57,13 @@ impl<D: Write> Gathering<D> {
         ensures bytes { Keeps (taken D.contents self.old) (taken D.contents self.new) }
         ensures items { self.new.gathered.items ≡ self.old.gathered.items }
         ensures more { OnOk result (self.old.given < self.new.given) }
+        ensures room { self.new.room ≡ self.old.room }
+        ensures mark { self.new.failed ≡ self.old.failed }
     {
         let (_, rest) = self.gathered.as_slice().split_at(self.given);
         let count = self.inner.write(rest)?;
         if count == 0 {
-            return Err(io::Error::from(io::ErrorKind::WriteZero));
+            return Err(io::Error::from(ErrorKind::WriteZero));
         }
         self.given += count;
         Ok(())
@@ -58,8 +71,11 @@ impl<D: Write> Gathering<D> {
 
     /// Hands on all that is gathered.
     fn give_all(&mut self) -> io::Result<()>
+        requires { self.old.failed ≡ false }
         ensures bytes { Keeps (taken D.contents self.old) (taken D.contents self.new) }
         ensures all { OnOk result (length self.new.gathered.items ≤ self.new.given) }
+        ensures room { self.new.room ≡ self.old.room }
+        ensures mark { self.new.failed ≡ is_err result }
     {
         while self.given < self.gathered.len() {
             if let Err(error) = self.give_some() {
@@ -74,42 +90,50 @@ impl<D: Write> Gathering<D> {
     pub fn empty(&mut self) -> io::Result<()>
         ensures bytes { Keeps (taken D.contents self.old) (taken D.contents self.new) }
         ensures none { OnOk result (pending self.new ≡ []) }
+        ensures handed_on { OnOk result (Appends (D.contents (gathering_inner self.old))
+            (D.contents (gathering_inner self.new)) (pending self.old)) }
+        ensures size { gathering_size self.new ≡ gathering_size self.old }
+        ensures space { OnOk result (space_left self.new ≡ gathering_size self.old) }
+        ensures mark { gathering_failed self.new ≡ is_err result }
+        ensures refused { Refuses self.old self.new result }
     {
-        if self.failed {
-            return Err(failed_before());
-        }
+        self.space()?;
         self.give_all()?;
         self.gathered.clear();
         self.given = 0;
         Ok(())
     }
 
-    /// Gathers a piece.
+    /// Gathers a piece for which there is space, all of it.
     fn keep(&mut self, piece: &[u8]) -> io::Result<usize>
-        ensures bound { WritesAtMost result piece.now }
+        requires { length piece.now ≤ space_left self.old }
+        ensures whole { result ≡ Ok (length piece.now) }
+        ensures inner { self.new.inner ≡ self.old.inner }
+        ensures room { self.new.room ≡ self.old.room }
+        ensures mark { self.new.failed ≡ self.old.failed }
         ensures bytes { WriteAppends (taken D.contents self.old) (taken D.contents self.new)
             result piece.now }
     {
         match self.gathered.extend_from_slice(piece) {
             Ok(()) => Ok(piece.len()),
-            Err(_) => Err(io::Error::from(io::ErrorKind::OutOfMemory)),
+            Err(_) => Err(io::Error::from(ErrorKind::OutOfMemory)),
         }
     }
 
-    /// Hands on a piece at once, behind which nothing is gathered.
+    /// Hands on a piece at once, after which nothing is gathered.
     fn pass(&mut self, piece: &[u8]) -> io::Result<usize>
-        requires { pending self.old ≡ [] }
+        requires nothing { pending self.old ≡ [] }
+        requires sound { self.old.failed ≡ false }
         ensures bound { WritesAtMost result piece.now }
         ensures bytes { WriteAppends (taken D.contents self.old) (taken D.contents self.new)
             result piece.now }
+        ensures nothing { pending self.new ≡ [] }
+        ensures room { self.new.room ≡ self.old.room }
+        ensures mark { self.new.failed ≡ is_err result }
     {
-        match self.inner.write(piece) {
-            Ok(count) => Ok(count),
-            Err(error) => {
-                self.failed = true;
-                Err(error)
-            }
-        }
+        let answer = self.inner.write(piece);
+        self.failed = answer.is_err();
+        answer
     }
 }
 
@@ -120,11 +144,17 @@ impl<D: Write> Write for Gathering<D> {
         ensures bound { WritesAtMost result piece.now }
         ensures bytes { WriteAppends (taken D.contents self.old) (taken D.contents self.new)
             result piece.now }
+        ensures gathers { IsFalse (gathering_failed self.old)
+            → length piece.now ≤ space_left self.old → Gathers self.old self.new result piece.now }
+        ensures whole { length piece.now ≤ gathering_size self.old
+            → IfOk result (λ count. count ≡ length piece.now) }
+        ensures passes { gathering_size self.old < length piece.now
+            → OnOk result (pending self.new ≡ []) }
+        ensures size { gathering_size self.new ≡ gathering_size self.old }
+        ensures mark { gathering_failed self.new ≡ is_err result }
+        ensures refused { Refuses self.old self.new result }
     {
-        if self.failed {
-            return Err(failed_before());
-        }
-        if piece.len() <= self.room.saturating_sub(self.gathered.len()) {
+        if piece.len() <= self.space()? {
             return self.keep(piece);
         }
         self.empty()?;
@@ -136,7 +166,15 @@ impl<D: Write> Write for Gathering<D> {
         }
     }
 
-    fn flush(&mut self) -> io::Result<()> {
-        self.empty()
+    fn flush(&mut self) -> io::Result<()>
+        ensures bytes { Keeps (taken D.contents self.old) (taken D.contents self.new) }
+        ensures none { OnOk result (pending self.new ≡ []) }
+        ensures handed_on { OnOk result (Appends (D.contents (gathering_inner self.old))
+            (D.contents (gathering_inner self.new)) (pending self.old)) }
+        ensures size { gathering_size self.new ≡ gathering_size self.old }
+        ensures mark { gathering_failed self.new ≡ is_err result }
+        ensures refused { Refuses self.old self.new result }
+    {
+        Gathering::empty(self)
     }
 }

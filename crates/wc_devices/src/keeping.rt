@@ -1,7 +1,7 @@
-ghost use Rattle.std.specs.Prelude.{◌≡◌, [], Some, option_map};
+ghost use Rattle.std.specs.Prelude.{◌≡◌, ◌≤◌, [], IfOk, IsSome, Some, option_map};
 ghost use Rattle.std.specs.Io.{ReadsAtMost};
 ghost use Rattle.std.specs.Io.KnownBytes.{ReadConsumes};
-ghost use Rattle.wc_devices.specs.Inside.{Keeps, keeping_inner, kept};
+ghost use Rattle.wc_devices.specs.Inside.{Keeps, keeping_inner, kept, kept_space};
 
 use std::alloc::Global;
 use std::io;
@@ -55,6 +55,8 @@ impl<D: Read> Read for Keeping<D> {
         ensures bytes { ReadConsumes (D.remaining (keeping_inner self.old))
             (D.remaining (keeping_inner self.new)) result buffer.new }
         ensures kept { Keeps (kept self.old) (kept self.new) result buffer.new }
+        ensures allocated { IfOk result (λ count. count ≤ kept_space self.old
+            → IsSome (kept self.old) → IsSome (kept self.new)) }
     {
         let count = self.inner.read(buffer)?;
         let (read, _) = buffer.split_at(count);

@@ -2,6 +2,7 @@
 //! interrupted and keeps why it failed, and one that keeps what it read.
 #![tactic(auto)]
 
+mod attempts;
 mod gathered;
 mod gathering;
 mod keeping;

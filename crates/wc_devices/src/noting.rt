@@ -1,13 +1,15 @@
-ghost use Rattle.std.specs.Prelude.{◌≡◌, IfErr, None, OnOk, Some};
+ghost use Rattle.std.specs.Prelude.{◌≡◌, ◌≢◌, IfErr, None, OnOk, Some};
 ghost use Rattle.std.specs.Io.{ReadsAtMost, WritesAtMost};
-ghost use Rattle.std.specs.Io.KnownBytes.{ReadConsumes, WriteAppends};
+ghost use Rattle.std.specs.Io.KnownBytes.{Keeps, ReadConsumes, WriteAppends};
+ghost use Rattle.std.specs.IoError.{error_kind};
 ghost use Rattle.wc_devices.specs.Inside.{noted, noting_inner};
 
-use crate::trying::{read_again, write_again};
+use crate::trying::{flush_again, read_again, write_again};
 use std::io;
-use std::io::{Read, Write};
+use std::io::{ErrorKind, Read, Write};
 
-/// A reader or a writer that tries a call again where it was interrupted, at most 16 times, and keeps why it failed last.
+/// A reader or a writer that tries a call again after an interruption, at most 16 times, and keeps why it failed last. An
+/// interruption is never the answer: when the last try is interrupted too, the answer is a time-out (`TimedOut`).
 #[derive(Drop)]
 pub struct Noting<D> {
     inner: D,
@@ -40,6 +42,7 @@ impl<D: Read> Read for Noting<D> {
             (D.remaining (noting_inner self.new)) result buffer.new }
         ensures noted { IfErr result (λ error. noted self.new ≡ Some error) }
         ensures steady { OnOk result (noted self.new ≡ noted self.old) }
+        ensures retried { IfErr result (λ error. error_kind error ≢ ErrorKind.Interrupted) }
     {
         match read_again(&mut self.inner, buffer) {
             Ok(count) => Ok(count),
@@ -60,6 +63,7 @@ impl<D: Write> Write for Noting<D> {
             (D.contents (noting_inner self.new)) result piece.now }
         ensures noted { IfErr result (λ error. noted self.new ≡ Some error) }
         ensures steady { OnOk result (noted self.new ≡ noted self.old) }
+        ensures retried { IfErr result (λ error. error_kind error ≢ ErrorKind.Interrupted) }
     {
         match write_again(&mut self.inner, piece) {
             Ok(count) => Ok(count),
@@ -70,7 +74,19 @@ impl<D: Write> Write for Noting<D> {
         }
     }
 
-    fn flush(&mut self) -> io::Result<()> {
-        self.inner.flush()
+    fn flush(&mut self) -> io::Result<()>
+        ensures bytes { Keeps (D.contents (noting_inner self.old))
+            (D.contents (noting_inner self.new)) }
+        ensures noted { IfErr result (λ error. noted self.new ≡ Some error) }
+        ensures steady { OnOk result (noted self.new ≡ noted self.old) }
+        ensures retried { IfErr result (λ error. error_kind error ≢ ErrorKind.Interrupted) }
+    {
+        match flush_again(&mut self.inner) {
+            Ok(()) => Ok(()),
+            Err(error) => {
+                self.cause = Some(error);
+                Err(error)
+            }
+        }
     }
 }

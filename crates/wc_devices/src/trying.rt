@@ -1,49 +1,55 @@
-ghost use Rattle.std.specs.Prelude.{IsErr, IsTrue};
+ghost use Rattle.std.specs.Prelude.{◌≢◌, IfErr};
 ghost use Rattle.std.specs.Io.{ReadsAtMost, WritesAtMost};
-ghost use Rattle.std.specs.Io.KnownBytes.{ReadConsumes, WriteAppends};
+ghost use Rattle.std.specs.Io.KnownBytes.{Keeps, ReadConsumes, WriteAppends};
+ghost use Rattle.std.specs.IoError.{error_kind};
 
+use crate::attempts::Attempts;
 use std::io;
-use std::io::{Read, Write};
+use std::io::{ErrorKind, Read, Write};
 
-/// How often a call that was interrupted is tried again.
-const TRIES: u32 = 16;
-
-/// The call was interrupted, and nothing was read or written.
-fn is_interrupted(answer: &io::Result<usize>) -> bool
-    ensures { IsTrue result → IsErr answer.now }
-{
-    match answer {
-        Ok(_) => false,
-        Err(error) => error.kind() == io::ErrorKind::Interrupted,
-    }
-}
-
-/// Reads, again where the call was interrupted.
+/// Reads, again after an interruption, which is never the answer. How often `reader` is called is not in the contract, since
+/// the library's `Read::read` does not say when it fails; `Attempts::again` says when there is one more call.
 pub(crate) fn read_again<D: Read>(reader: &mut D, buffer: &mut [u8]) -> io::Result<usize>
     ensures bound { ReadsAtMost result buffer.new }
     ensures bytes { ReadConsumes (D.remaining reader.old) (D.remaining reader.new)
         result buffer.new }
+    ensures retried { IfErr result (λ error. error_kind error ≢ ErrorKind.Interrupted) }
 {
-    for _ in 0..TRIES {
-        let answer = reader.read(buffer);
-        if !is_interrupted(&answer) {
-            return answer;
+    let mut attempts = Attempts::new();
+    loop {
+        match reader.read(buffer) {
+            Ok(count) => return Ok(count),
+            Err(error) => attempts.again(error)?,
         }
     }
-    reader.read(buffer)
 }
 
-/// Writes, again where the call was interrupted.
+/// Writes, again after an interruption, likewise.
 pub(crate) fn write_again<D: Write>(writer: &mut D, piece: &[u8]) -> io::Result<usize>
     ensures bound { WritesAtMost result piece.now }
     ensures bytes { WriteAppends (D.contents writer.old) (D.contents writer.new)
         result piece.now }
+    ensures retried { IfErr result (λ error. error_kind error ≢ ErrorKind.Interrupted) }
 {
-    for _ in 0..TRIES {
-        let answer = writer.write(piece);
-        if !is_interrupted(&answer) {
-            return answer;
+    let mut attempts = Attempts::new();
+    loop {
+        match writer.write(piece) {
+            Ok(count) => return Ok(count),
+            Err(error) => attempts.again(error)?,
         }
     }
-    writer.write(piece)
+}
+
+/// Flushes, again after an interruption, likewise.
+pub(crate) fn flush_again<D: Write>(writer: &mut D) -> io::Result<()>
+    ensures bytes { Keeps (D.contents writer.old) (D.contents writer.new) }
+    ensures retried { IfErr result (λ error. error_kind error ≢ ErrorKind.Interrupted) }
+{
+    let mut attempts = Attempts::new();
+    loop {
+        match writer.flush() {
+            Ok(()) => return Ok(()),
+            Err(error) => attempts.again(error)?,
+        }
+    }
 }
