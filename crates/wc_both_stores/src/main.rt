@@ -91,7 +91,7 @@ fn main(rt: HostRuntime) -> ExitCode {
     let mut input = Device::new(rt.stdin());
     let status = match read_input(rt.alloc(), Input::Job, &mut input) {
         Ok(bytes) => answer_bytes(&rt, &bytes),
-        Err(_) => 4,
+        Err(stopped) => print_report(&rt, b"", Err(stopped.fault)),
     };
     ExitCode::from(status)
 }
