@@ -68,8 +68,12 @@ pub(crate) fn report_of_both(
     };
     let mut other = Device::new(Vec::new(alloc));
     let answer = run_over::<SlotStore>(alloc, &plate, job, report);
-    let same = run_over::<NamedStore>(alloc, &plate, job, &mut other) == answer;
-    if same && report.get_ref().as_slice() == other.get_ref().as_slice() {
+    let named = run_over::<NamedStore>(alloc, &plate, job, &mut other);
+    // Out of memory over one store, there is nothing to compare.
+    if answer == Err(RunFault::Memory) || named == Err(RunFault::Memory) {
+        return Some(Err(RunFault::Memory));
+    }
+    if answer == named && report.get_ref().as_slice() == other.get_ref().as_slice() {
         Some(answer)
     } else {
         None
