@@ -1,5 +1,5 @@
-//! Readers and writers around others, which tell their bytes where those do: one that tries a call again where it was
-//! interrupted and keeps why it failed, and one that keeps what it read.
+//! Readers and writers around others, which tell their bytes where those do: one that tries a call again after an
+//! interruption and keeps why it failed, one that keeps what it read, and one that gathers what is written.
 #![tactic(auto)]
 
 mod attempts;

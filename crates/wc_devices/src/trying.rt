@@ -16,7 +16,7 @@ pub(crate) fn read_again<D: Read>(reader: &mut D, buffer: &mut [u8]) -> io::Resu
     ensures retried { IfErr result (λ error. error_kind error ≢ ErrorKind.Interrupted) }
 {
     let mut attempts = Attempts::new();
-    loop {
+    'tries: loop {
         match reader.read(buffer) {
             Ok(count) => return Ok(count),
             Err(error) => attempts.again(error)?,
@@ -32,7 +32,7 @@ pub(crate) fn write_again<D: Write>(writer: &mut D, piece: &[u8]) -> io::Result<
     ensures retried { IfErr result (λ error. error_kind error ≢ ErrorKind.Interrupted) }
 {
     let mut attempts = Attempts::new();
-    loop {
+    'tries: loop {
         match writer.write(piece) {
             Ok(count) => return Ok(count),
             Err(error) => attempts.again(error)?,
@@ -46,7 +46,7 @@ pub(crate) fn flush_again<D: Write>(writer: &mut D) -> io::Result<()>
     ensures retried { IfErr result (λ error. error_kind error ≢ ErrorKind.Interrupted) }
 {
     let mut attempts = Attempts::new();
-    loop {
+    'tries: loop {
         match writer.flush() {
             Ok(()) => return Ok(()),
             Err(error) => attempts.again(error)?,
