@@ -1,5 +1,5 @@
 -- What a call with a program's text does to a scale and what it answers. (The profile's own.)
-use Rattle.std.specs.Prelude.{◌≡◌, ℕ, ◌≤◌, ◌⊎◌, List, Some}
+use Rattle.std.specs.Prelude.{◌≡◌, ℕ, ◌≤◌, ◌⊎◌, List, IfSome, Some}
 use Rattle.wc_controller.specs.Loads.{IsNeverRefused}
 use Rattle.wc_cost.specs.LoadedTexts.{LoadedText}
 use Rattle.wc_model.specs.Instrument.Plates.{PlateData}
@@ -17,12 +17,13 @@ use Rattle.wc_scale.specs.declared.scale.Scale.{Scale}
 abbrev pub with_program : Running → Came → Came
 with_program running came = record came { program = Some running }
 
--- the bytes are loaded as a text, which begins anew
+-- the bytes are loaded as a text, which starts from its declarations, and no time is before its first scan
 pub record IsBegun (old new : Scale) (bytes : List ℕ) : Type 0 where
   pub text : Text
   pub loaded : IsLoaded bytes text
   pub accepted : IsNeverRefused bytes
   pub stands : (plate : PlateData) (came : Came) → Stands old plate came → Stands new plate (with_program (begun text) came)
+  pub last : IfSome new.machine (λ machine. machine.last ≡ 0)
 
 abbrev pub TakesLoad : Scale → Scale → List ℕ → Refusal → Type 0
 TakesLoad old new bytes told = told.status ≡ 0 → IsBegun old new bytes
