@@ -55,6 +55,15 @@ fn run_over<'a, S: Store>(
     }
 }
 
+/// Whether a run ended by a fault that is no refusal. Its reader and writer are in memory, so memory is the cause.
+fn is_cut_short(answer: Result<u32, RunFault>) -> bool {
+    match answer {
+        Ok(_) => false,
+        Err(RunFault::Refused { .. }) => false,
+        Err(_) => true,
+    }
+}
+
 /// Runs a job's log over both stores: what the first wrote stands in the writer, and the answer is that of both. It is
 /// `None` where they differ.
 pub(crate) fn report_of_both(
@@ -69,8 +78,8 @@ pub(crate) fn report_of_both(
     let mut other = Device::new(Vec::new(alloc));
     let answer = run_over::<SlotStore>(alloc, &plate, job, report);
     let named = run_over::<NamedStore>(alloc, &plate, job, &mut other);
-    // Out of memory over one store, there is nothing to compare.
-    if answer == Err(RunFault::Memory) || named == Err(RunFault::Memory) {
+    // A run that is out of memory, for itself or for what it writes, has nothing to be compared with.
+    if is_cut_short(answer) || is_cut_short(named) {
         return Some(Err(RunFault::Memory));
     }
     if answer == named && report.get_ref().as_slice() == other.get_ref().as_slice() {
