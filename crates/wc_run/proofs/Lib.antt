@@ -1,6 +1,7 @@
 pub mod Fronts
 pub mod Texts
-pub mod Puttings
+pub mod Lines
+pub mod Recording
 pub mod RunsOn
 pub mod RunEnds
 pub mod ScaleRows

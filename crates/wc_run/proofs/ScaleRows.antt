@@ -1,5 +1,5 @@
 -- What a row leaves in a scale, and what is printed of it, kind by kind.
-use Rattle.std.proofs.Common.{◌≡◌, refl, ℕ, List, ◌∷◌, sym, ◌∙◌, ap, subst, append-nil, Option, Some, None, Result, Ok, Err, IfErr, IsOkUnless, OnOk}
+use Rattle.std.proofs.Common.{◌≡◌, refl, ℕ, List, [], ◌∷◌, ◌++◌, sym, ◌∙◌, ap, subst, append-nil, Option, Some, None, Result, Ok, Err, IfErr, IfOk, IfSome, IsOkUnless, OnOk}
 use Rattle.wc_instrument_laws.specs.Changes.{IsNoChange}
 use Rattle.wc_indicator.specs.Kept.{IndicatorState as IndicatorKept, Tells}
 use Rattle.wc_cost.specs.LoadedTexts.{LoadedText}
@@ -11,9 +11,19 @@ use Rattle.wc_model.specs.Run.Rows.{RowData, Counts, Bytes, Inputs, Scan, Change
 use Rattle.wc_model.specs.declared.image.Image.{Image}
 use Rattle.wc_record.specs.Views.{head_data_view, head_view}
 use Rattle.wc_record.specs.declared.row_head.RowHead.{RowHead}
-use Rattle.wc_run.specs.Logics.{IsTaken, StandsAt, logic_after}
+use Rattle.wc_run.specs.Logics.{IsTaken, StandsAt, lines_of_row, logic_after}
 use Rattle.wc_run.specs.Standing.{Stands}
-use Rattle.wc_run.specs.Taking.{row_at, RunsRow, StopsAtRow, TakesRow, TakesScan}
+use Rattle.wc_machine.specs.Seeing.{IsSeen}
+use Rattle.wc_machine.specs.declared.seen.SeenLine.{SeenLine}
+use Rattle.wc_model.specs.Instrument.Answers.{answers_to}
+use Rattle.wc_model.specs.Instrument.Requests.{requests_in}
+use Rattle.wc_model.specs.Language.Store.{Store as Contents}
+use Rattle.wc_model.specs.Language.Tree.{Text}
+use Rattle.wc_model.specs.Say.Report.{ScanLine, answer_line}
+use Rattle.wc_run.specs.Observing.{AreItems, items_of, lines_of_scan}
+use Rattle.wc_run.specs.Outputs.{line_of_record}
+use Rattle.wc_run.specs.Taking.{row_at, Gives, GivesItems, LooksAt, RecordsScan, RunsRow, StopsAtRow, TakesRow, TakesScan}
+use Rattle.wc_run.specs.declared.row_seen.ScanSeen.{ScanSeen}
 use Rattle.wc_run.specs.declared.fault.RunFault.{RunFault}
 use Rattle.wc_run.specs.declared.fault.RunFault.TheVariants.{Memory}
 use Rattle.wc_run.specs.declared.scale.Scale.{Scale}
@@ -49,6 +59,20 @@ takes_bytes old line indicator taken taken' ms bytes feeds plate logic past numb
       machine = still_of_bytes old.machine old.next plate logic past number ms bytes stands.machine;
     }
 
+-- what is answered to them, where nothing was gathered before, is what the report has
+gives_bytes : {S : Type 0} (old : Scale S) (line : Line) (indicator : IndicatorKept) (answers : List ℕ) (ms : ℕ) (bytes : List ℕ) (plate : PlateData) (logic : Option Logic)
+    (past : Past) (number : ℕ) → answers ≡ answers_to plate (requests_in (line_bytes past) bytes) (history_of past) →
+    lines_of_row plate logic past (row_at number ms (Bytes bytes)) ≡ answer_line ms answers ++ lines_of_scan None
+gives_bytes old line indicator answers ms bytes plate None past number same = ap (answer_line ms) (sym same) ∙ sym (append-nil (answer_line ms answers))
+gives_bytes old line indicator answers ms bytes plate (Some logic) past number same = ap (answer_line ms) (sym same) ∙ sym (append-nil (answer_line ms answers))
+
+pub gives_answers : {S : Type 0} (old : Scale S) (line : Line) (indicator : IndicatorKept) (before answers : List ℕ) (ms : ℕ) (bytes : List ℕ) → before ≡ [] →
+    Feeds old.line old.indicator (Some before) line indicator (Some answers) bytes → Gives old ms (Bytes bytes) answers None
+gives_answers old line indicator before answers ms bytes none feeds plate logic past number stands =
+    gives_bytes old line indicator answers ms bytes plate logic past number
+    (feeds.answers (line_bytes past) plate (history_of past) stands.line stands.indicator
+        ∙ ap (λ b. b ++ answers_to plate (requests_in (line_bytes past) bytes) (history_of past)) none)
+
 -- what a scan sees is the image of the rows so far
 seen_image : {S : Type 0} (old : Scale S) (image : Image) (plate : PlateData) (logic : Option Logic) (past : Past) →
     Tells (λ p history. image_with p old.inputs history) old.indicator image → Stands old plate logic past → image ≡ image_after plate past
@@ -65,6 +89,38 @@ scanned machine new next ms image plate (Some logic) past number takes same stan
       subst (λ seen. StandsFor new before.text (scans_of before.text before.store seen ms).after) same (takes before.text before.store stands.0),
       stands.1,
     )
+
+-- what a scan of a machine is recorded with is the line that the report has
+gives_line : (machine : MachineState) (next : Option LoadedText) (ms : ℕ) (image : Image) (plate : PlateData) (logic : Option Logic) (past : Past) (number : ℕ) (scan : ScanSeen) →
+    RecordsScan machine ms image scan.record → image ≡ image_after plate past → StandsAt (Some machine) next (logic_after plate logic past) →
+    lines_of_row plate logic past (row_at number ms Scan) ≡ lines_of_scan (Some scan)
+gives_line machine next ms image plate None past number scan records same stands = absurd stands
+gives_line machine next ms image plate (Some logic) past number scan records same stands =
+    let before : Logic = logic_behind plate logic past in
+    ap (λ line. line ∷ []) (sym (subst (λ seen. line_of_record scan.record ≡ ScanLine ms (scans_of before.text before.store seen ms).steps (scans_of before.text before.store seen ms).outputs)
+    same (records before.text before.store stands.0)))
+
+pub gives_scan : {S : Type 0} (old : Scale S) (machine : MachineState) (ms : ℕ) (image : Image) (scan : ScanSeen) → old.machine ≡ Some machine →
+    Tells (λ p history. image_with p old.inputs history) old.indicator image → RecordsScan machine ms image scan.record → Gives old ms Scan [] (Some scan)
+gives_scan old machine ms image scan is told records plate logic past number stands =
+    gives_line machine old.next ms image plate logic past number scan records (seen_image old image plate logic past told stands)
+    (subst (λ kept. StandsAt kept old.next (logic_after plate logic past)) is stands.machine)
+
+-- where it is looked at what the scan executes, these are its items
+gives_seen : (machine : MachineState) (next : Option LoadedText) (ms : ℕ) (image : Image) (plate : PlateData) (logic : Option Logic) (past : Past) (number : ℕ)
+    (lines : Option (List SeenLine)) → ((text : Text) (store : Contents) → StandsFor machine text store → IfSome lines (λ seen. IsSeen text store image ms seen)) →
+    image ≡ image_after plate past → StandsAt (Some machine) next (logic_after plate logic past) → AreItems plate logic past (row_at number ms Scan) lines
+gives_seen machine next ms image plate logic past number None looks same stands = tt
+gives_seen machine next ms image plate None past number (Some lines) looks same stands = tt
+gives_seen machine next ms image plate (Some logic) past number (Some lines) looks same stands =
+    let before : Logic = logic_behind plate logic past in
+    subst (λ seen. IsSeen before.text before.store seen ms lines) same (looks before.text before.store stands.0)
+
+pub gives_items : {S : Type 0} (old : Scale S) (machine : MachineState) (ms : ℕ) (image : Image) (scan : ScanSeen) → old.machine ≡ Some machine →
+    Tells (λ p history. image_with p old.inputs history) old.indicator image → LooksAt machine ms image scan → GivesItems old ms Scan (Some scan)
+gives_items old machine ms image scan is told looks plate logic past number stands =
+    gives_seen machine old.next ms image plate logic past number (items_of scan) looks (seen_image old image plate logic past told stands)
+    (subst (λ kept. StandsAt kept old.next (logic_after plate logic past)) is stands.machine)
 
 -- with a machine the scan takes the row
 pub takes_scan : {S : Type 0} (old : Scale S) (machine new : MachineState) (ms : ℕ) (image : Image) → old.machine ≡ Some machine →
@@ -115,3 +171,11 @@ stops_at old bytes row brings fault is stops = subst (λ kind. StopsAtRow old (r
 pub runs_this : {S : Type 0} (old : Scale S) (bytes : List ℕ) (row : RowHead) (brings : RowData) → head_data_view bytes row.kind ≡ brings →
     RunsRow old (row_at row.number row.ms brings) → RunsRow old (head_view bytes row)
 runs_this old bytes row brings is runs = subst (λ kind. RunsRow old (row_at row.number row.ms kind)) (sym is) runs
+
+-- the items of its scan
+pub items_at : {S E : Type 0} (old : Scale S) (bytes : List ℕ) (row : RowHead) (brings : RowData) (answer : Result (Option ScanSeen) E) → head_data_view bytes row.kind ≡ brings →
+    IfOk answer (λ scan. GivesItems old row.ms brings scan) →
+    IfOk answer (λ scan. (plate : PlateData) (logic : Option Logic) (past : Past) → Stands old plate logic past → IfSome scan (λ done. AreItems plate logic past (head_view bytes row) (items_of done)))
+items_at old bytes row brings (Ok scan) is gives = λ plate logic past stands.
+    subst (λ kind. IfSome scan (λ done. AreItems plate logic past (row_at row.number row.ms kind) (items_of done))) (sym is) (gives plate logic past row.number stands)
+items_at old bytes row brings (Err fault) is gives = tt

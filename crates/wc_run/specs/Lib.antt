@@ -1,7 +1,8 @@
 pub mod Logics
 pub mod Outputs
-pub mod Deferring
+pub mod Observing
 pub mod Standing
 pub mod Taking
 pub mod Runs
+pub mod Reports
 pub mod Doing

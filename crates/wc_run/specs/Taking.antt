@@ -1,11 +1,12 @@
 -- What a row does to a scale, whatever the scale stands for: told of the row's moment and of what
 -- it brings.
-use Rattle.std.specs.Prelude.{◌≡◌, ⊤, ℕ, List, ◌∷◌, Option, Some, None, Result, Ok, Err}
+use Rattle.std.specs.Prelude.{◌≡◌, ⊤, ℕ, List, ◌∷◌, ◌++◌, Option, Some, None, IfSome, Result, Ok, Err}
 use Rattle.wc_cost.specs.LoadedTexts.{LoadedText}
 use Rattle.wc_machine.specs.Machines.{MachineState, StandsFor}
+use Rattle.wc_machine.specs.Seeing.{IsSeen}
 use Rattle.wc_model.specs.Instrument.Plates.{PlateData}
 use Rattle.wc_model.specs.Say.ProgramReport.{Logic, scans_of}
-use Rattle.wc_model.specs.Say.Report.{ScanLine}
+use Rattle.wc_model.specs.Say.Report.{ScanLine, answer_line}
 use Rattle.wc_model.specs.Run.Rows.{RowData, LogRow, Past}
 use Rattle.wc_model.specs.Language.Carried.{carried}
 use Rattle.wc_model.specs.Language.Store.{Store}
@@ -14,11 +15,12 @@ use Rattle.wc_model.specs.Language.Views.{text_view}
 use Rattle.wc_model.specs.declared.image.Image.{Image}
 use Rattle.wc_record.specs.declared.last_scans.Record.{Record}
 use Rattle.wc_run.specs.Logics.{IsRefusedRow, IsTaken, lines_of_row, logic_after}
-use Rattle.wc_run.specs.Outputs.{IsOutput, line_of_record}
+use Rattle.wc_run.specs.Observing.{AreItems, items_of, lines_of_scan}
+use Rattle.wc_run.specs.Outputs.{line_of_record}
 use Rattle.wc_run.specs.Standing.{Stands}
 use Rattle.wc_run.specs.declared.fault.RunFault.{RunFault}
 use Rattle.wc_run.specs.declared.fault.RunFault.TheVariants.{Refused, Read, Write, Memory}
-use Rattle.wc_run.specs.declared.row_output.RowOutput.{RowOutput}
+use Rattle.wc_run.specs.declared.row_seen.ScanSeen.{ScanSeen}
 use Rattle.wc_run.specs.declared.scale.Scale.{Scale}
 
 -- the row of this number and moment that brings this
@@ -29,9 +31,13 @@ row_at number ms brings = record { number = number; ms = ms; brings = brings }
 abbrev pub TakesRow : {S : Type 0} → Scale S → Scale S → ℕ → RowData → Type 0
 TakesRow old new ms brings = (plate : PlateData) (logic : Option Logic) (past : Past) (number : ℕ) → Stands old plate logic past → Stands new plate logic (row_at number ms brings ∷ past)
 
--- the output is what the report has of that row, and this its text
-abbrev pub Gives : {S : Type 0} → Scale S → ℕ → RowData → RowOutput → List ℕ → Type 0
-Gives old ms brings output text = (plate : PlateData) (logic : Option Logic) (past : Past) (number : ℕ) → Stands old plate logic past → IsOutput output text (lines_of_row plate logic past (row_at number ms brings))
+-- these answers, and this scan, are what the report has of that row
+abbrev pub Gives : {S : Type 0} → Scale S → ℕ → RowData → List ℕ → Option ScanSeen → Type 0
+Gives old ms brings answers scan = (plate : PlateData) (logic : Option Logic) (past : Past) (number : ℕ) → Stands old plate logic past → lines_of_row plate logic past (row_at number ms brings) ≡ answer_line ms answers ++ lines_of_scan scan
+
+-- and these the items of its scan, where they are looked at
+abbrev pub GivesItems : {S : Type 0} → Scale S → ℕ → RowData → Option ScanSeen → Type 0
+GivesItems old ms brings scan = (plate : PlateData) (logic : Option Logic) (past : Past) (number : ℕ) → Stands old plate logic past → IfSome scan (λ done. AreItems plate logic past (row_at number ms brings) (items_of done))
 
 -- the machine stands for the store that the scan leaves
 abbrev pub TakesScan : MachineState → MachineState → ℕ → Image → Type 0
@@ -41,6 +47,10 @@ TakesScan old new ms image = (text : Text) (store : Store) → StandsFor old tex
 abbrev pub RecordsScan : MachineState → ℕ → Image → Record → Type 0
 RecordsScan old ms image scan =
     (text : Text) (store : Store) → StandsFor old text store → line_of_record scan ≡ ScanLine ms (scans_of text store image ms).steps (scans_of text store image ms).outputs
+
+-- where it is looked at what the scan executes, these are its items
+abbrev pub LooksAt : MachineState → ℕ → Image → ScanSeen → Type 0
+LooksAt old ms image scan = (text : Text) (store : Store) → StandsFor old text store → IfSome (items_of scan) (λ lines. IsSeen text store image ms lines)
 
 -- A machine goes on with the next program, from what is carried over and at the moment of its last
 -- scan; for want of memory it does not. Where no next program is left the row is refused.

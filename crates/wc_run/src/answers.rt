@@ -1,28 +1,48 @@
-ghost use Rattle.std.specs.Prelude.{IfOk, IsOkUnless};
-ghost use Rattle.wc_model.specs.Say.Report.{answer_line};
-ghost use Rattle.wc_run.specs.Outputs.{IsOutput};
+use std::alloc::Global;
+use std::io;
+use wc_model::ByteOut;
 
-use crate::fault::RunFault;
-use crate::row_output::RowOutput;
-use wc_report::put_answer_line;
+/// What the line answers to a row. The room is kept from row to row, so that a row takes no memory
+/// where it is large enough.
+#[derive(Drop)]
+pub(crate) struct Answers {
+    pub(crate) bytes: Vec<u8>,
+    pub(crate) failures: u64,
+}
 
-/// What is printed of the line's answer to a row: one line, which is the text then, and nothing of
-/// an empty answer.
-pub(crate) fn answer_output(
-    ms: u64,
-    answer: &[u8],
-    text: &mut Vec<u8>,
-) -> Result<RowOutput, RunFault>
-    ensures output { IfOk result
-        (λ output. IsOutput output text.new.items (answer_line ms answer.now)) }
-    ensures memory { IsOkUnless result RunFault.Memory }
-{
-    if answer.is_empty() {
-        return Ok(RowOutput::Nothing);
+impl Answers {
+    /// No answers, and no room. It takes no memory.
+    pub(crate) fn new(alloc: Global) -> Answers {
+        Answers {
+            bytes: Vec::new(alloc),
+            failures: 0,
+        }
     }
-    text.clear();
-    match put_answer_line(text, ms, answer) {
-        Ok(()) => Ok(RowOutput::Line),
-        Err(_) => Err(RunFault::Memory),
+}
+
+impl ByteOut for Answers {
+    ghost use Rattle.std.specs.Prelude.{Some};
+
+    ghost bytes_taken = { λ answers. Some answers.bytes.items };
+
+    ghost failure_count = { λ answers. answers.failures };
+
+    fn write(&mut self, piece: &[u8]) -> io::Result<usize> {
+        match self.bytes.extend_from_slice(piece) {
+            Ok(()) => {
+                if piece.is_empty() {
+                    return Ok(0);
+                }
+                Ok(piece.len())
+            }
+            Err(_) => {
+                self.failures = self.failures.saturating_add(1);
+                Err(io::Error::from(io::ErrorKind::OutOfMemory))
+            }
+        }
+    }
+
+    fn failures(&self) -> u64 {
+        self.failures
     }
 }

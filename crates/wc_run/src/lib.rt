@@ -1,22 +1,27 @@
-//! A run of a log: its rows go to the indicator, the line and the machine, and its report is
-//! written.
+//! A run of a log: its rows go to the indicator, the line and the machine, and whoever observes the run writes of them.
 #![tactic(auto)]
 
 mod answers;
 mod changing;
 mod fault;
+mod last_scans;
 mod log_rows;
-mod printing;
-mod room;
-mod row_output;
+mod observer;
+mod program;
+mod report;
+mod row_seen;
 mod running;
 mod scale;
-mod scanner;
-mod scans;
-mod unwritten;
+mod scan_lines;
+mod scanning;
 
 pub use fault::RunFault;
+pub use last_scans::LastScans;
+pub use observer::Observer;
+pub use program::Program;
+pub use report::Report;
+pub use row_seen::{RowSeen, ScanSeen};
 pub use running::run;
-pub use scanner::{Scanner, Unwatched};
-pub use unwritten::Unwritten;
+pub use scale::Scale;
+pub use scan_lines::write_refusal;
 pub use wc_record::RefusedRow;

@@ -1,28 +1,22 @@
-ghost use Rattle.std.specs.Prelude.{◌≡◌, ◌≤◌, ℕ, [], Option, Some, None, IfOk, IfSome, IsErrOf, IsOkUnless};
+ghost use Rattle.std.specs.Prelude.{◌≡◌, [], Option, IfSome, IsErrOf};
 ghost use Rattle.wc_model.specs.Run.Log.{log_of};
 ghost use Rattle.wc_model.specs.Instrument.Plates.{PlateData};
 ghost use Rattle.wc_record.specs.Left.{HasCause};
 ghost use Rattle.wc_record.specs.Reading.{records_of};
 ghost use Rattle.wc_record.specs.Told.{fields_told};
-ghost use Rattle.wc_run.specs.Deferring.{HoldsScans};
-ghost use Rattle.wc_run.specs.Doing.{Ends, IsJudged, is_cut_short};
+ghost use Rattle.wc_run.specs.Doing.{IsJudged, WritesBy, is_cut_short, refused_in};
 ghost use Rattle.wc_model.specs.Say.LogFor.{log_for};
 ghost use Rattle.wc_model.specs.Say.ProgramReport.{Logic};
-ghost use Rattle.wc_run.specs.Logics.{StandsAt};
-ghost use Rattle.wc_run.specs.Runs.{HasNotFailed, LeavesLine, Reports, TellsRefused, TellsWrites};
+ghost use Rattle.wc_run.specs.Runs.{HasNotFailed, TellsRefused, TellsWrites};
 ghost use Rattle.wc_run.specs.Standing.{IsNotBehind, Stands};
 
 use crate::fault::RunFault;
 use crate::log_rows::run_log;
-use crate::printing::write_last;
+use crate::observer::Observer;
 use crate::scale::Scale;
-use crate::scanner::Scanner;
 use std::alloc::Global;
-use wc_cost::Loaded;
-use wc_machine::Machine;
-use wc_model::{ByteIn, ByteOut};
-use wc_plate::Plate;
-use wc_record::{Recorder, RefusedRow, is_used_up};
+use wc_model::ByteIn;
+use wc_record::{RefusedRow, is_used_up};
 use wc_store::Store;
 
 /// Whether a device failed or memory was refused before a log came to its end or to a refused row.
@@ -38,117 +32,53 @@ fn is_cut_short(answer: &Result<u32, RunFault>) -> bool
     }
 }
 
-/// Runs a log, and behind its rows writes the lines of the scans that are kept, unless a device
-/// failed or memory was refused. Where its reader failed, that is told, also if every row was read
-/// all the same: the library that reads records does not promise to tell each failure.
-fn run_to_end<S: Store, V: Scanner<S>, R: ByteIn, W: ByteOut>(
+/// The number and the row of a refusal.
+fn refused_in(answer: &Result<u32, RunFault>) -> Option<(u16, u32)>
+    ensures { result ≡ refused_in answer.now }
+{
+    match answer {
+        Ok(_) => None,
+        Err(fault) => match fault {
+            RunFault::Refused { number, place } => Some((*number, *place)),
+            _ => None,
+        },
+    }
+}
+
+/// Runs a log, and behind its rows tells the observer that they are over, unless a device failed or
+/// memory was refused. Where its reader failed, that is told, also if every row was read all the
+/// same: the library that reads records does not promise to tell each failure.
+fn run_to_end<S: Store, O: Observer<S>, R: ByteIn>(
     alloc: Global,
-    scanner: &mut V,
+    observer: &mut O,
     scale: &mut Scale<'_, S>,
-    recorder: &mut Option<Recorder>,
     reader: &mut R,
-    writer: &mut W,
     told: &mut RefusedRow,
 ) -> Result<u32, RunFault>
     requires { IsNotBehind scale.old 0 }
-    ensures ends { IfSome (R.bytes_left reader.old)
-        (λ bytes. (plate : PlateData) (logic : Option Logic) (last : Option ℕ)
-        → Stands scale.old plate logic [] → HoldsScans recorder.old last []
-        → Ends last plate logic (log_for logic (log_of (records_of bytes))) result
-        (W.bytes_taken writer.old) (W.bytes_taken writer.new)) }
+    ensures writes { IfSome (R.bytes_left reader.old)
+        (λ bytes. (plate : PlateData) (logic : Option Logic)
+        → Stands scale.old plate logic [] → O.has_seen observer.old plate logic []
+        → WritesBy (O.plan observer.old) plate logic (log_for logic (log_of (records_of bytes)))
+        result (O.bytes_taken observer.old) (O.bytes_taken observer.new)) }
     ensures told { TellsRefused (R.bytes_left reader.old) (fields_told told.new) result }
-    ensures failures { TellsWrites result (W.failure_count writer.old)
-        (W.failure_count writer.new) }
+    ensures failures { TellsWrites result (O.failure_count observer.old)
+        (O.failure_count observer.new) }
     ensures reader { HasNotFailed result (R.failure_count reader.old)
         (R.failure_count reader.new) }
 {
     let before = reader.failures();
-    let answer = run_log(alloc, scanner, scale, recorder, reader, writer, told);
+    let answer = run_log(alloc, observer, scale, reader, told);
     if is_cut_short(&answer) {
         return answer;
     }
     if reader.failures() > before {
         return Err(RunFault::Read);
     }
-    if let Err(fault) = write_last(alloc, recorder, writer) {
+    if let Err(fault) = observer.end(refused_in(&answer)) {
         return Err(fault);
     }
     answer
-}
-
-/// A recorder of the last so many scans, where they are asked for.
-fn recorder_of(alloc: Global, last: Option<u16>) -> Result<Option<Recorder>, RunFault>
-    requires { IfSome last (λ n. (1 ≤ n) × (n ≤ 1000)) }
-    ensures holds { IfOk result (λ recorder. HoldsScans recorder last []) }
-    ensures memory { IsOkUnless result RunFault.Memory }
-{
-    match last {
-        Some(number) => match Recorder::new(alloc, number) {
-            Ok(recorder) => Ok(Some(recorder)),
-            Err(_) => Err(RunFault::Memory),
-        },
-        None => Ok(None),
-    }
-}
-
-/// Runs the log that the reader has to give with a scale to which no row has come, and a recorder
-/// of the last so many scans where they are asked for.
-fn run_recorded<S: Store, V: Scanner<S>, R: ByteIn, W: ByteOut>(
-    alloc: Global,
-    last: Option<u16>,
-    scanner: &mut V,
-    scale: &mut Scale<'_, S>,
-    reader: &mut R,
-    writer: &mut W,
-    told: &mut RefusedRow,
-) -> Result<u32, RunFault>
-    requires few { IfSome last (λ n. (1 ≤ n) × (n ≤ 1000)) }
-    requires first { IsNotBehind scale.old 0 }
-    ensures reports { IfSome (R.bytes_left reader.old)
-        (λ bytes. (plate : PlateData) (logic : Option Logic) → Stands scale.old plate logic []
-        → Reports last plate logic (log_for logic (log_of (records_of bytes))) result
-        (W.bytes_taken writer.old) (W.bytes_taken writer.new)) }
-    ensures told { TellsRefused (R.bytes_left reader.old) (fields_told told.new) result }
-    ensures failures { TellsWrites result (W.failure_count writer.old)
-        (W.failure_count writer.new) }
-    ensures reader { HasNotFailed result (R.failure_count reader.old)
-        (R.failure_count reader.new) }
-{
-    match recorder_of(alloc, last) {
-        Ok(mut recorder) => run_to_end(alloc, scanner, scale, &mut recorder, reader, writer, told),
-        Err(fault) => Err(fault),
-    }
-}
-
-/// Runs the log that the reader has to give with a scale of this plate, beside this machine and the
-/// next program, if there are any.
-fn run_scale<'a, S: Store, V: Scanner<S>, R: ByteIn, W: ByteOut>(
-    alloc: Global,
-    last: Option<u16>,
-    scanner: &mut V,
-    plate: &Plate,
-    machine: Option<Machine<'a, S>>,
-    next: Option<Loaded<'a>>,
-    reader: &mut R,
-    writer: &mut W,
-    told: &mut RefusedRow,
-) -> Result<u32, RunFault>
-    requires few { IfSome last (λ n. (1 ≤ n) × (n ≤ 1000)) }
-    requires first { IfSome machine (λ m. m.last ≡ 0) }
-    ensures reports { IfSome (R.bytes_left reader.old)
-        (λ bytes. (logic : Option Logic) → StandsAt machine.entry next.entry logic
-        → Reports last plate.now logic (log_for logic (log_of (records_of bytes))) result
-        (W.bytes_taken writer.old) (W.bytes_taken writer.new)) }
-    ensures told { TellsRefused (R.bytes_left reader.old) (fields_told told.new) result }
-    ensures failures { TellsWrites result (W.failure_count writer.old)
-        (W.failure_count writer.new) }
-    ensures reader { HasNotFailed result (R.failure_count reader.old)
-        (R.failure_count reader.new) }
-{
-    match Scale::new(alloc, plate, machine, next) {
-        Ok(mut scale) => run_recorded(alloc, last, scanner, &mut scale, reader, writer, told),
-        Err(fault) => Err(fault),
-    }
 }
 
 /// A read fault where the reader has failed since, or as much was read as may be; else want of
@@ -173,43 +103,33 @@ fn judged<R: ByteIn>(fault: RunFault, reader: &R, failures: u64, spent: u64) -> 
     }
 }
 
-/// Runs a log, whoever does its scans: each row is read, done, and its line written before the next
-/// row is read. Where the last so many scans are asked for, 1 to 1000, of the scans those alone are
-/// printed, in order: the answers of the line are written as their rows come, and the lines of those
-/// scans behind the last row, or behind the last before a refused one. Each scan is then kept as a
-/// record in a ring, so a run takes no more memory for more rows. `Ok` is the number of rows behind
-/// the first. `Refused` names the first row that breaks a rule, and the rows before it are run and
-/// written; that row is told, the record of the log that has its number. `Read` comes only where the
-/// reader failed in this call or as much was read as may be (134217728 bytes and calls), `Write` only
-/// where the writer failed in it, `Memory` where a growth was refused, or a read failed, without such
-/// a cause; what is written is then the report of the first rows (of the last scans: their answers),
-/// at a write fault a front of the report. With no machine the answers of the line are written alone.
+/// Runs a log on a scale to which no row has come, whoever observes it: each row is read, done and
+/// shown before the next row is read, and the observer writes what its plan says of it; behind the
+/// last row, or the last before a refused one, it writes what its plan says of the end. `Ok` is the
+/// number of rows behind the first. `Refused` names the first row that breaks a rule, and the rows
+/// before it are run and written; that row is told, the record of the log that has its number.
+/// `Read` comes only where the reader failed in this call or as much was read as may be (134217728
+/// bytes and calls), `Write` only where the observer's writer failed in it, `Memory` where a growth
+/// was refused, or a read failed, without such a cause; what is written is then what the plan says
+/// of the first rows, at a write fault a front of the whole. A run takes no more memory for more rows
+/// but for what its observer keeps.
 /// No scan is stuck, and none shows a line that only a stuck one would: a machine is made by
 /// `Machine::new` alone, of a text that every pass accepts, and its `scan` promises that each scan is
 /// done. That takes two things of whoever calls it: the machine has run no scan (`first`), and it
-/// stands for the logic that the report speaks of, as `new` promises of the text and its first store.
-pub fn run<'a, S: Store, V: Scanner<S>, R: ByteIn, W: ByteOut>(
+/// stands for the logic that the plan speaks of, as `new` promises of the text and its first store.
+pub fn run<S: Store, O: Observer<S>, R: ByteIn>(
     alloc: Global,
-    last: Option<u16>,
-    scanner: &mut V,
-    plate: &Plate,
-    machine: Option<Machine<'a, S>>,
-    next: Option<Loaded<'a>>,
+    observer: &mut O,
+    scale: &mut Scale<'_, S>,
     reader: &mut R,
-    writer: &mut W,
     told: &mut RefusedRow,
 ) -> Result<u32, RunFault>
-    requires few { IfSome last (λ n. (1 ≤ n) × (n ≤ 1000)) }
-    requires first { IfSome machine (λ m. m.last ≡ 0) }
-    ensures reports { IfSome (R.bytes_left reader.old)
-        (λ bytes. (logic : Option Logic) → StandsAt machine.entry next.entry logic
-        → Reports last plate.now logic (log_for logic (log_of (records_of bytes))) result
-        (W.bytes_taken writer.old) (W.bytes_taken writer.new)) }
-    // Whatever the program: without the lines of scans the bytes are those of a run with none.
-    ensures line { IfSome (R.bytes_left reader.old)
-        (λ bytes. (logic : Option Logic) → StandsAt machine.entry next.entry logic
-        → LeavesLine plate.now (log_for logic (log_of (records_of bytes))) result
-        (W.bytes_taken writer.old) (W.bytes_taken writer.new)) }
+    requires first { IsNotBehind scale.old 0 }
+    ensures writes { IfSome (R.bytes_left reader.old)
+        (λ bytes. (plate : PlateData) (logic : Option Logic)
+        → Stands scale.old plate logic [] → O.has_seen observer.old plate logic []
+        → WritesBy (O.plan observer.old) plate logic (log_for logic (log_of (records_of bytes)))
+        result (O.bytes_taken observer.old) (O.bytes_taken observer.new)) }
     ensures told { TellsRefused (R.bytes_left reader.old) (fields_told told.new) result }
     ensures read { IsErrOf result RunFault.Read
         → HasCause (R.failure_count reader.old) (R.failure_count reader.new)
@@ -218,18 +138,16 @@ pub fn run<'a, S: Store, V: Scanner<S>, R: ByteIn, W: ByteOut>(
     ensures memory { IsErrOf result RunFault.Memory
         → ¬ HasCause (R.failure_count reader.old) (R.failure_count reader.new)
         (R.spent_count reader.old) (R.spent_count reader.new) }
-    // A write fault is told where the writer failed, and only there.
-    ensures failures { TellsWrites result (W.failure_count writer.old)
-        (W.failure_count writer.new) }
+    // A write fault is told where the observer's writer failed, and only there.
+    ensures failures { TellsWrites result (O.failure_count observer.old)
+        (O.failure_count observer.new) }
     // Behind the last row, or a refused one, its reader has not failed.
     ensures reader { HasNotFailed result (R.failure_count reader.old)
         (R.failure_count reader.new) }
 {
     let failures = reader.failures();
     let spent = reader.spent();
-    match run_scale(
-        alloc, last, scanner, plate, machine, next, reader, writer, told,
-    ) {
+    match run_to_end(alloc, observer, scale, reader, told) {
         Ok(count) => Ok(count),
         Err(fault) => Err(judged(fault, reader, failures, spent)),
     }

@@ -1,20 +1,20 @@
-ghost use Rattle.std.specs.Prelude.{◌≡◌, ◌<◌, ◌^◌, ℕ, List, [], ◌∷◌, Option, IfErr, IfOk, IsOkUnless, OnOk};
+ghost use Rattle.std.specs.Prelude.{◌≡◌, ◌<◌, ◌≤◌, ◌^◌, ◌++◌, ℕ, List, [], ◌∷◌, None, Option, IfErr, IfOk, IfSome, IsOkUnless, OnOk, option_map};
 ghost use Rattle.wc_model.specs.Instrument.Plates.{PlateData};
 ghost use Rattle.wc_model.specs.Run.Rows.{Past, Counts, Bytes, Inputs, Scan, Change};
 ghost use Rattle.wc_record.specs.Views.{IsDataInRange, head_data_view, head_view};
 ghost use Rattle.wc_model.specs.Say.ProgramReport.{Logic};
+ghost use Rattle.wc_model.specs.Say.Report.{answer_line};
 ghost use Rattle.wc_run.specs.Logics.{StandsAt, lines_of_row};
-ghost use Rattle.wc_run.specs.Outputs.{IsOutput};
+ghost use Rattle.wc_run.specs.Observing.{AreItems, items_of, lines_of_scan};
 ghost use Rattle.wc_run.specs.Runs.{IsFaultAt};
 ghost use Rattle.wc_run.specs.Standing.{IsNotBehind, Stands};
-ghost use Rattle.wc_run.specs.Taking.{Gives, RunsRow, StopsAtRow, TakesRow, row_at};
+ghost use Rattle.wc_run.specs.Taking.{Gives, GivesItems, RunsRow, StopsAtRow, TakesRow, row_at};
 
-use crate::answers::answer_output;
+use crate::answers::Answers;
 use crate::changing::changed;
 use crate::fault::RunFault;
-use crate::room::Room;
-use crate::row_output::RowOutput;
-use crate::scanner::Scanner;
+use crate::row_seen::ScanSeen;
+use crate::scanning::scan_seen;
 use std::alloc::Global;
 use wc_cost::Loaded;
 use wc_indicator::Indicator;
@@ -24,10 +24,11 @@ use wc_record::{HeadKind, RowHead, image};
 use wc_sma::Line;
 use wc_store::Store;
 
-/// A scale: its indicator, its line, the digital inputs, the machine beside it, if there is one,
-/// and the next program, if one is left.
+/// A scale on which a log is run: its indicator, its line, the digital inputs, the machine beside
+/// it, if there is one, and the next program, if one is left.
 #[derive(Drop)]
-pub(crate) struct Scale<'a, S: Store> {
+pub struct Scale<'a, S: Store> {
+    alloc: Global,
     indicator: Indicator,
     line: Line,
     inputs: u16,
@@ -36,8 +37,8 @@ pub(crate) struct Scale<'a, S: Store> {
 }
 
 impl<'a, S: Store> Scale<'a, S> {
-    /// A scale to which no row has come.
-    pub(crate) fn new(
+    /// A scale to which no row has come. `Memory` is the only fault.
+    pub fn new(
         alloc: Global,
         plate: &Plate,
         machine: Option<Machine<'a, S>>,
@@ -51,6 +52,7 @@ impl<'a, S: Store> Scale<'a, S> {
     {
         match Indicator::new(alloc, *plate) {
             Ok(indicator) => Ok(Scale {
+                alloc,
                 indicator,
                 line: Line::new(),
                 inputs: 0,
@@ -61,17 +63,30 @@ impl<'a, S: Store> Scale<'a, S> {
         }
     }
 
-    /// Does a row, with the bytes that are lent with it, and gives what is to be printed of it; a
-    /// line stands in the room then.
+    /// The indicator.
+    pub fn indicator(&self) -> &Indicator
+        ensures { result.now ≡ self.now.indicator }
+    {
+        &self.indicator
+    }
+
+    /// The machine, if there is one.
+    pub fn machine(&self) -> Option<&Machine<'a, S>>
+        ensures { option_map (λ machine. machine.now) result ≡ self.now.machine }
+    {
+        self.machine.as_ref()
+    }
+
+    /// Does a row, with the bytes that are lent with it. The line's answer is gathered; a scan is
+    /// given, with the items that it executes where they are looked at.
     #[inline(always)]
-    pub(crate) fn take<V: Scanner<S>>(
+    pub(crate) fn take(
         &mut self,
-        alloc: Global,
-        scanner: &mut V,
-        room: &mut Room,
+        answers: &mut Answers,
+        looks: bool,
         row: RowHead,
         bytes: &[u8],
-    ) -> Result<RowOutput, RunFault>
+    ) -> Result<Option<ScanSeen>, RunFault>
         requires in_range { IsDataInRange (head_data_view bytes.now row.kind) }
         requires early { row.ms < 2 ^ 40 }
         requires in_order { IsNotBehind self.old row.ms }
@@ -79,54 +94,45 @@ impl<'a, S: Store> Scale<'a, S> {
             ((plate : PlateData) (logic : Option Logic) (past : Past)
             → Stands self.old plate logic past
             → Stands self.new plate logic (head_view bytes.now row ∷ past)) }
-        ensures output { IfOk result
-            (λ output. (plate : PlateData) (logic : Option Logic) (past : Past)
+        ensures lines { IfOk result
+            (λ scan. (plate : PlateData) (logic : Option Logic) (past : Past)
             → Stands self.old plate logic past
-            → IsOutput output room.new.text.items
-            (lines_of_row plate logic past (head_view bytes.now row))) }
+            → lines_of_row plate logic past (head_view bytes.now row)
+            ≡ answer_line row.ms answers.new.bytes.items ++ lines_of_scan scan) }
+        ensures items { IfOk result
+            (λ scan. (plate : PlateData) (logic : Option Logic) (past : Past)
+            → Stands self.old plate logic past
+            → IfSome scan (λ done. AreItems plate logic past (head_view bytes.now row)
+            (items_of done))) }
         ensures runs { OnOk result (RunsRow self.old (head_view bytes.now row)) }
         ensures place { IfErr result (IsFaultAt row.number) }
         ensures stops { IfErr result
             (λ fault. StopsAtRow self.old (head_view bytes.now row) fault) }
         ensures in_order { OnOk result (IsNotBehind self.new row.ms) }
     {
+        answers.bytes.clear();
         match row.kind {
             HeadKind::Counts(counts) => {
                 self.take_sample(counts);
-                Ok(RowOutput::Nothing)
+                Ok(None)
             }
-            HeadKind::Bytes => self.take_bytes(room, row.ms, bytes),
+            HeadKind::Bytes => match self.take_bytes(answers, bytes) {
+                Ok(()) => Ok(None),
+                Err(fault) => Err(fault),
+            },
             HeadKind::Inputs(inputs) => {
                 self.take_inputs(inputs);
-                Ok(RowOutput::Nothing)
+                Ok(None)
             }
-            HeadKind::Scan => Ok(self.take_scan(scanner, row.ms)),
-            HeadKind::Change => match self.take_change(alloc, row.number) {
-                Ok(()) => {
-                    scanner.change();
-                    Ok(RowOutput::Nothing)
-                }
+            HeadKind::Scan => self.take_scan(looks, row.ms),
+            HeadKind::Change => match self.take_change(row.number) {
+                Ok(()) => Ok(None),
                 Err(fault) => Err(fault),
             },
         }
     }
 
-    /// Shows who does the scans a row that was done, with the answers to it that stand in the room.
-    #[inline(always)]
-    pub(crate) fn show<V: Scanner<S>>(
-        &self,
-        scanner: &mut V,
-        room: &Room,
-        row: RowHead,
-        bytes: &[u8],
-    ) {
-        match row.kind {
-            HeadKind::Bytes => scanner.see(row, bytes, &self.indicator, &room.answers.bytes),
-            _ => scanner.see(row, bytes, &self.indicator, b""),
-        }
-    }
-
-    /// Takes a sample. Nothing is printed of it.
+    /// Takes a sample.
     #[inline(always)]
     fn take_sample(&mut self, counts: i32)
         requires { IsDataInRange (Counts counts) }
@@ -136,26 +142,23 @@ impl<'a, S: Store> Scale<'a, S> {
         self.indicator.sample(counts);
     }
 
-    /// Takes bytes on the line, and gives the line of what was answered, if anything was.
+    /// Takes bytes on the line; what is answered is gathered behind no other answers.
     #[inline(always)]
-    fn take_bytes(&mut self, room: &mut Room, ms: u64, bytes: &[u8]) -> Result<RowOutput, RunFault>
-        ensures stands { OnOk result (TakesRow self.old self.new ms (Bytes bytes.now)) }
-        ensures output { IfOk result
-            (λ output. Gives self.old ms (Bytes bytes.now) output room.new.text.items) }
+    fn take_bytes(&mut self, answers: &mut Answers, bytes: &[u8]) -> Result<(), RunFault>
+        requires empty { answers.old.bytes.items ≡ [] }
+        ensures stands { OnOk result ((ms : ℕ) → TakesRow self.old self.new ms (Bytes bytes.now)) }
+        ensures lines { OnOk result
+            ((ms : ℕ) → Gives self.old ms (Bytes bytes.now) answers.new.bytes.items None) }
         ensures machine { self.new.machine ≡ self.old.machine }
         ensures memory { IsOkUnless result RunFault.Memory }
     {
-        room.answers.bytes.clear();
-        match self
-            .line
-            .feed(bytes, &mut self.indicator, &mut room.answers)
-        {
-            Ok(()) => answer_output(ms, &room.answers.bytes, &mut room.text),
+        match self.line.feed(bytes, &mut self.indicator, answers) {
+            Ok(()) => Ok(()),
             Err(_) => Err(RunFault::Memory),
         }
     }
 
-    /// Takes the inputs from now on. Nothing is printed of them.
+    /// Takes the inputs from now on.
     #[inline(always)]
     fn take_inputs(&mut self, inputs: u16)
         ensures stands { (ms : ℕ) → TakesRow self.old self.new ms (Inputs inputs) }
@@ -164,26 +167,31 @@ impl<'a, S: Store> Scale<'a, S> {
         self.inputs = inputs;
     }
 
-    /// Has a scan done where there is a machine, and gives its record.
+    /// Does a scan where there is a machine.
     #[inline(always)]
-    fn take_scan<V: Scanner<S>>(&mut self, scanner: &mut V, ms: u64) -> RowOutput
+    fn take_scan(&mut self, looks: bool, ms: u64) -> Result<Option<ScanSeen>, RunFault>
         requires early { ms < 2 ^ 40 }
         requires in_order { IsNotBehind self.old ms }
         ensures stands { TakesRow self.old self.new ms Scan }
-        ensures output { (text : List ℕ) → Gives self.old ms Scan result text }
+        ensures lines { IfOk result (λ scan. Gives self.old ms Scan [] scan) }
+        ensures items { IfOk result (λ scan. GivesItems self.old ms Scan scan) }
         ensures in_order { IsNotBehind self.new ms }
+        ensures memory { IsOkUnless result RunFault.Memory }
     {
         match &mut self.machine {
             Some(machine) => {
                 let image = image(&self.indicator, self.inputs);
-                RowOutput::Scan(scanner.scan(ms, &image, machine))
+                match scan_seen(self.alloc, looks, ms, &image, machine) {
+                    Ok(scan) => Ok(Some(scan)),
+                    Err(fault) => Err(fault),
+                }
             }
-            None => RowOutput::Nothing,
+            None => Ok(None),
         }
     }
 
-    /// Takes the next program where there is a machine. Nothing is printed of it.
-    fn take_change(&mut self, alloc: Global, number: u32) -> Result<(), RunFault>
+    /// Takes the next program where there is a machine.
+    fn take_change(&mut self, number: u32) -> Result<(), RunFault>
         ensures stands { OnOk result ((ms : ℕ) → TakesRow self.old self.new ms Change) }
         ensures runs { OnOk result ((ms : ℕ) → RunsRow self.old (row_at number ms Change)) }
         ensures place { IfErr result (IsFaultAt number) }
@@ -195,7 +203,7 @@ impl<'a, S: Store> Scale<'a, S> {
         let Some(machine) = self.machine.take() else {
             return Ok(());
         };
-        match changed(alloc, machine, self.next.take(), number) {
+        match changed(self.alloc, machine, self.next.take(), number) {
             Ok(machine) => {
                 self.machine = Some(machine);
                 Ok(())

@@ -1,17 +1,26 @@
+use Rattle.std.proofs.Common.{◌≡◌, sym, subst, ◌++◌}
+use Rattle.wc_model.specs.Say.Report.{answer_line}
 use Rattle.wc_record.specs.Views.{head_view}
 use Rattle.wc_run.proofs.RunsOn.{does_row, stops_row}
-use Rattle.wc_run.specs.Logics.{lines_of_row}
+use Rattle.wc_run.proofs.ScaleRows.{on_ok_of}
 use Rattle.wc_run.proofs.log_rows.run_row.Goals as goal
+use Rattle.wc_run.specs.Logics.{lines_of_row}
+use Rattle.wc_run.specs.Observing.{lines_of_scan}
 
 pub returns-in-Ok-clause-does : goal.returns-in-Ok-clause-does
-returns-in-Ok-clause-does g c = λ plate logic past number before stands holds.
-    let taken = g.W.ByteOut.bytes_taken in
-    does_row c.put.result plate logic number before past (head_view c.args.bytes.now c.args.row) c.take.new.self c.put.new.recorder (taken c.args.writer.now) (taken c.put.new.writer)
-    (c.in-Ok.ensures.runs plate logic past stands)
-    (c.in-Ok.ensures.stands plate logic past stands)
-    (c.put.ensures.puts number before (lines_of_row plate logic past (head_view c.args.bytes.now c.args.row)) (c.in-Ok.ensures.output plate logic past stands) holds)
+returns-in-Ok-clause-does g c = λ plate logic past stands seen.
+    let o = g.O.Observer in
+    let row = head_view c.args.bytes.now c.args.row in
+    let lines = subst (λ answer. lines_of_row plate logic past row ≡ answer_line c.args.row.ms answer ++ lines_of_scan c.in-Ok.scan) (sym c.deref.ensures.value)
+    (c.in-Ok.ensures.lines plate logic past stands) in
+    let items = c.in-Ok.ensures.items plate logic past stands in
+    does_row c.see.result o.has_seen (o.plan c.args.observer.now) plate logic past row c.take.new.self c.see.new.self (o.bytes_taken c.args.observer.now) (o.bytes_taken c.see.new.self)
+    (c.in-Ok.ensures.runs plate logic past stands) (c.in-Ok.ensures.stands plate logic past stands)
+    (on_ok_of _ _ c.see.result (λ says. says plate logic past (record { lines = lines; items = items }) seen) c.see.ensures.seen)
+    (c.see.ensures.writes plate logic past (record { lines = lines; items = items }) seen)
 
 pub returns-in-Err-clause-does : goal.returns-in-Err-clause-does
-returns-in-Err-clause-does g c = λ plate logic past number before stands holds.
-    stops_row (Unit {0}) c.in-Err.fault plate logic number before past (head_view c.args.bytes.now c.args.row) c.args.scale.now c.take.new.self c.args.recorder.now
-    (g.W.ByteOut.bytes_taken c.args.writer.now) c.in-Err.ensures.stops stands holds
+returns-in-Err-clause-does g c = λ plate logic past stands seen.
+    let o = g.O.Observer in
+    stops_row (Unit {0}) c.in-Err.fault o.has_seen (o.plan c.args.observer.now) plate logic past (head_view c.args.bytes.now c.args.row) c.args.scale.now c.take.new.self
+    c.args.observer.now (o.bytes_taken c.args.observer.now) c.in-Err.ensures.stops stands seen

@@ -1,82 +1,95 @@
-use Rattle.std.proofs.Common.{◌≡◌, [], true, false, sym, subst, ◌∙◌, append-nil}
+use Rattle.std.proofs.Common.{◌≡◌, [], Ok, Err, true, false, sym, subst, ◌∙◌, append-nil}
 use Rattle.std.proofs.lemmas.Option.{IfSome_then}
 use Rattle.wc_model.specs.Run.Log.{LogOf, log_of}
 use Rattle.wc_model.specs.Say.LogFor.{log_for}
 use Rattle.wc_record.specs.Reading.{records_of}
 use Rattle.wc_record.specs.Told.{fields_told}
 use Rattle.wc_run.proofs.ReaderFailures.{short_says_nothing, whole_writes}
-use Rattle.wc_run.proofs.RunEnds.{all_put, cut_at_end, ends_short, ends_whole}
+use Rattle.wc_run.proofs.RunEnds.{all_done, cut_at_end, ends_plan, ends_short, ends_whole}
 use Rattle.wc_run.proofs.ToldRows.{none_told}
 use Rattle.wc_run.proofs.running.run_to_end.Goals as goal
-use Rattle.wc_run.specs.Doing.{is_cut_short}
-use Rattle.wc_run.specs.Logics.{lines_of_rows}
+use Rattle.wc_run.specs.Doing.{Writes, is_cut_short, refused_in}
+use Rattle.wc_run.specs.Observing.{onto, refusal_of}
 use Rattle.wc_run.specs.Runs.{TellsWrite, TellsWrites}
 
-pub returns-then-is_cut_short-clause-ends : goal.returns-then-is_cut_short-clause-ends
-returns-then-is_cut_short-clause-ends g c =
+pub returns-then-is_cut_short-clause-writes : goal.returns-then-is_cut_short-clause-writes
+returns-then-is_cut_short-clause-writes g c =
+    let o = g.O.Observer in
     let short : is_cut_short c.run_log-answer.result ≡ true = sym c.is_cut_short.ensures ∙ c.if-is_cut_short.true in
-    let taken = g.W.ByteOut.bytes_taken in
-    IfSome_then (g.R.ByteIn.bytes_left c.args.reader.now) c.run_log-answer.ensures.reports
-    (λ bytes says plate logic number stands holds.
-    ends_short number plate logic (log_for logic (log_of (records_of bytes))) (taken c.args.writer.now) (taken c.run_log-answer.new.writer) (taken c.run_log-answer.new.writer)
-    c.run_log-answer.new.recorder c.run_log-answer.result short (says plate logic number stands holds))
+    IfSome_then (g.R.ByteIn.bytes_left c.args.reader.now) c.run_log-answer.ensures.runs
+    (λ bytes says plate logic stands seen.
+    ends_short o.has_seen (o.plan c.args.observer.now) plate logic (log_for logic (log_of (records_of bytes)))
+    (o.bytes_taken c.args.observer.now) (o.bytes_taken c.run_log-answer.new.observer) (o.bytes_taken c.run_log-answer.new.observer)
+    c.run_log-answer.new.observer c.run_log-answer.result short (says plate logic stands seen))
 
 pub returns-then-is_cut_short-clause-reader : goal.returns-then-is_cut_short-clause-reader
 returns-then-is_cut_short-clause-reader g c =
     short_says_nothing c.run_log-answer.result (g.R.ByteIn.failure_count c.args.reader.now) (g.R.ByteIn.failure_count c.run_log-answer.new.reader) (sym c.is_cut_short.ensures ∙ c.if-is_cut_short.true)
 
-pub returns-then-failures-before-clause-ends : goal.returns-then-failures-before-clause-ends
-returns-then-failures-before-clause-ends g c =
+pub returns-then-failures-before-clause-writes : goal.returns-then-failures-before-clause-writes
+returns-then-failures-before-clause-writes g c =
+    let o = g.O.Observer in
     let whole : is_cut_short c.run_log-answer.result ≡ false = sym c.is_cut_short.ensures ∙ c.if-is_cut_short.false in
-    let taken = g.W.ByteOut.bytes_taken in
-    IfSome_then (g.R.ByteIn.bytes_left c.args.reader.now) c.run_log-answer.ensures.reports
-    (λ bytes says plate logic number stands holds.
+    IfSome_then (g.R.ByteIn.bytes_left c.args.reader.now) c.run_log-answer.ensures.runs
+    (λ bytes says plate logic stands seen.
     let log : LogOf = log_for logic (log_of (records_of bytes)) in
-    let put = all_put number plate logic log (taken c.args.writer.now) (taken c.run_log-answer.new.writer) (taken c.run_log-answer.new.writer)
-    c.run_log-answer.new.recorder c.run_log-answer.result whole (says plate logic number stands holds) in
-    (log.rows, [], sym (append-nil log.rows), put.1))
+    let done = all_done o.has_seen (o.plan c.args.observer.now) plate logic log (o.bytes_taken c.args.observer.now) (o.bytes_taken c.run_log-answer.new.observer)
+    (o.bytes_taken c.run_log-answer.new.observer) c.run_log-answer.new.observer c.run_log-answer.result whole (says plate logic stands seen) in
+    (log.rows, [], sym (append-nil log.rows), done.written))
 
 pub returns-then-failures-before-clause-failures : goal.returns-then-failures-before-clause-failures
 returns-then-failures-before-clause-failures g c =
-    whole_writes c.run_log-answer.result (g.W.ByteOut.failure_count c.args.writer.now) (g.W.ByteOut.failure_count c.run_log-answer.new.writer)
+    whole_writes c.run_log-answer.result (g.O.Observer.failure_count c.args.observer.now) (g.O.Observer.failure_count c.run_log-answer.new.observer)
     (sym c.is_cut_short.ensures ∙ c.if-is_cut_short.false) c.run_log-answer.ensures.failures
 
-pub returns-in-Err-clause-ends : goal.returns-in-Err-clause-ends
-returns-in-Err-clause-ends g c =
+pub returns-in-Err-clause-writes : goal.returns-in-Err-clause-writes
+returns-in-Err-clause-writes g c =
+    let o = g.O.Observer in
+    let plan = o.plan c.args.observer.now in
     let whole : is_cut_short c.run_log-answer.result ≡ false = sym c.is_cut_short.ensures ∙ c.if-is_cut_short.false in
-    let taken = g.W.ByteOut.bytes_taken in
-    IfSome_then (g.R.ByteIn.bytes_left c.args.reader.now) c.run_log-answer.ensures.reports
-    (λ bytes says plate logic number stands holds.
+    let old = o.bytes_taken c.args.observer.now in
+    let mid = o.bytes_taken c.run_log-answer.new.observer in
+    let new = o.bytes_taken c.end.new.self in
+    IfSome_then (g.R.ByteIn.bytes_left c.args.reader.now) c.run_log-answer.ensures.runs
+    (λ bytes says plate logic stands seen.
     let log : LogOf = log_for logic (log_of (records_of bytes)) in
-    let put = all_put number plate logic log (taken c.args.writer.now) (taken c.run_log-answer.new.writer) (taken c.write_last.new.writer)
-    c.run_log-answer.new.recorder c.run_log-answer.result whole (says plate logic number stands holds) in
-    cut_at_end number plate logic log (taken c.args.writer.now) (taken c.run_log-answer.new.writer) (taken c.write_last.new.writer)
-    c.in-Err.fault put.1 (c.in-Err.ensures.writes number (lines_of_rows plate logic [] log.rows) put.0))
+    let done = all_done o.has_seen plan plate logic log old mid new c.run_log-answer.new.observer c.run_log-answer.result whole (says plate logic stands seen) in
+    cut_at_end o.has_seen plan plate logic log old mid new c.in-Err.fault done.written
+    (ends_plan o.has_seen plan plate logic log old mid new {X = Unit {0}} c.run_log-answer.new.observer c.run_log-answer.result (Err c.in-Err.fault) done
+    (λ past has. subst (λ p. Writes {X = Unit {0}} (p.at_end plate logic (onto past []) (refusal_of (refused_in c.run_log-answer.result))) (Err c.in-Err.fault) mid new) c.run_log-answer.ensures.plan
+    (subst (λ refused. Writes {X = Unit {0}} ((o.plan c.run_log-answer.new.observer).at_end plate logic (onto past []) (refusal_of refused)) (Err c.in-Err.fault) mid new) c.refused_in.ensures
+    (c.in-Err.ensures.writes plate logic past has)))))
 
 pub returns-in-Err-clause-failures : goal.returns-in-Err-clause-failures
 returns-in-Err-clause-failures g c =
-    let failures = g.W.ByteOut.failure_count in
-    subst (λ before. TellsWrite c.in-Err.fault before (failures c.write_last.new.writer))
-    (whole_writes c.run_log-answer.result (failures c.args.writer.now) (failures c.run_log-answer.new.writer) (sym c.is_cut_short.ensures ∙ c.if-is_cut_short.false) c.run_log-answer.ensures.failures)
+    let failures = g.O.Observer.failure_count in
+    subst (λ before. TellsWrite c.in-Err.fault before (failures c.end.new.self))
+    (whole_writes c.run_log-answer.result (failures c.args.observer.now) (failures c.run_log-answer.new.observer) (sym c.is_cut_short.ensures ∙ c.if-is_cut_short.false) c.run_log-answer.ensures.failures)
     c.in-Err.ensures.failures
 
 pub returns-in-Err-clause-told : goal.returns-in-Err-clause-told
 returns-in-Err-clause-told g c = none_told (g.R.ByteIn.bytes_left c.args.reader.now) (fields_told c.run_log-answer.new.told) c.in-Err.fault c.in-Err.ensures.held
 
-pub returns-clause-ends : goal.returns-clause-ends
-returns-clause-ends g c =
+pub returns-clause-writes : goal.returns-clause-writes
+returns-clause-writes g c =
+    let o = g.O.Observer in
+    let plan = o.plan c.args.observer.now in
     let whole : is_cut_short c.run_log-answer.result ≡ false = sym c.is_cut_short.ensures ∙ c.if-is_cut_short.false in
-    let taken = g.W.ByteOut.bytes_taken in
-    IfSome_then (g.R.ByteIn.bytes_left c.args.reader.now) c.run_log-answer.ensures.reports
-    (λ bytes says plate logic number stands holds.
+    let old = o.bytes_taken c.args.observer.now in
+    let mid = o.bytes_taken c.run_log-answer.new.observer in
+    let new = o.bytes_taken c.end.new.self in
+    IfSome_then (g.R.ByteIn.bytes_left c.args.reader.now) c.run_log-answer.ensures.runs
+    (λ bytes says plate logic stands seen.
     let log : LogOf = log_for logic (log_of (records_of bytes)) in
-    let ran = says plate logic number stands holds in
-    let put = all_put number plate logic log (taken c.args.writer.now) (taken c.run_log-answer.new.writer) (taken c.write_last.new.writer)
-    c.run_log-answer.new.recorder c.run_log-answer.result whole ran in
-    ends_whole number plate logic log (taken c.args.writer.now) (taken c.run_log-answer.new.writer) (taken c.write_last.new.writer)
-    c.run_log-answer.new.recorder c.run_log-answer.result whole ran (c.in_default.ensures.writes number (lines_of_rows plate logic [] log.rows) put.0))
+    let ran = says plate logic stands seen in
+    let done = all_done o.has_seen plan plate logic log old mid new c.run_log-answer.new.observer c.run_log-answer.result whole ran in
+    ends_whole o.has_seen plan plate logic log old mid new c.run_log-answer.new.observer c.run_log-answer.result whole ran
+    (ends_plan o.has_seen plan plate logic log old mid new {X = Unit {0}} c.run_log-answer.new.observer c.run_log-answer.result (Ok tt) done
+    (λ past has. subst (λ p. Writes {X = Unit {0}} (p.at_end plate logic (onto past []) (refusal_of (refused_in c.run_log-answer.result))) (Ok tt) mid new) c.run_log-answer.ensures.plan
+    (subst (λ refused. Writes {X = Unit {0}} ((o.plan c.run_log-answer.new.observer).at_end plate logic (onto past []) (refusal_of refused)) (Ok tt) mid new) c.refused_in.ensures
+    (c.in_default.ensures.writes plate logic past has)))))
 
 pub returns-clause-failures : goal.returns-clause-failures
 returns-clause-failures g c =
-    let failures = g.W.ByteOut.failure_count in
-    subst (λ after. TellsWrites c.run_log-answer.result (failures c.args.writer.now) after) (sym c.in_default.ensures.failures) c.run_log-answer.ensures.failures
+    let failures = g.O.Observer.failure_count in
+    subst (λ after. TellsWrites c.run_log-answer.result (failures c.args.observer.now) after) (sym c.in_default.ensures.failures) c.run_log-answer.ensures.failures

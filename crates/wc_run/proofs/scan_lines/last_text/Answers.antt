@@ -3,9 +3,9 @@ use Rattle.std.proofs.lemmas.Option.{slice_get_cases}
 use Rattle.std.specs.Option.{option_copied}
 use Rattle.std.specs.Prelude.{slice_get}
 use Rattle.wc_model.specs.Say.Report.{line_text}
-use Rattle.wc_run.proofs.Puttings.{one_record_more}
+use Rattle.wc_run.proofs.Recording.{one_record_more}
 use Rattle.wc_run.specs.Outputs.{line_of_record}
-use Rattle.wc_run.proofs.scans.last_text.Goals as goal
+use Rattle.wc_run.proofs.scan_lines.last_text.Goals as goal
 
 pub loop-index-preserved : goal.loop-index-preserved
 loop-index-preserved c =

@@ -1,0 +1,91 @@
+-- What an observer of a run is shown of a row, and what it writes. (The profile's own.)
+use Rattle.std.specs.Prelude.{◌≡◌, ⊤, ℕ, List, [], ◌∷◌, ◌++◌, Option, Some, None, IfSome, option_map}
+use Rattle.wc_cost.specs.LoadedTexts.{LoadedText}
+use Rattle.wc_machine.specs.Seeing.{IsSeen}
+use Rattle.wc_machine.specs.declared.seen.SeenLine.{SeenLine}
+use Rattle.wc_model.specs.Instrument.Plates.{PlateData}
+use Rattle.wc_model.specs.Language.Views.{text_view}
+use Rattle.wc_model.specs.Run.Log.{LogOf, LogRefusal}
+use Rattle.wc_model.specs.Run.ProcessImage.{image_after}
+use Rattle.wc_model.specs.Run.Rows.{LogRow, Past}
+use Rattle.wc_model.specs.Say.ProgramReport.{Logic, first_logic, logic_behind}
+use Rattle.wc_model.specs.Say.Report.{ReportLine, answer_line}
+use Rattle.wc_record.specs.Views.{head_view}
+use Rattle.wc_run.specs.Logics.{lines_of_row, text_of_next}
+use Rattle.wc_run.specs.Outputs.{line_of_record}
+use Rattle.wc_run.specs.declared.fault.RunFault.{RunFault}
+use Rattle.wc_run.specs.declared.fault.RunFault.TheVariants.{Refused, Read, Write, Memory}
+use Rattle.wc_run.specs.declared.program.Program.{Program}
+use Rattle.wc_run.specs.declared.row_seen.RowSeen.{RowSeen}
+use Rattle.wc_run.specs.declared.row_seen.ScanSeen.{ScanSeen}
+
+-- what an observer writes of a row behind those so far, the newest of which stands first, and what it writes behind the last
+-- of these rows, or behind those before a refused one
+pub record Plan : Type 0 where
+  pub at_row : PlateData → Option Logic → Past → LogRow → List ℕ
+  pub at_end : PlateData → Option Logic → List LogRow → Option LogRefusal → List ℕ
+
+-- what it writes of the rows that follow those so far
+abbrev pub text_coming : Plan → PlateData → Option Logic → Past → List LogRow → List ℕ
+text_coming plan plate logic past [] = []
+text_coming plan plate logic past (row ∷ rows) = plan.at_row plate logic past row ++ text_coming plan plate logic (row ∷ past) rows
+
+-- what it writes in all of a log with this refusal, or with none
+abbrev pub text_in_all : Plan → PlateData → Option Logic → Option LogRefusal → List LogRow → List ℕ
+text_in_all plan plate logic refusal rows = text_coming plan plate logic [] rows ++ plan.at_end plate logic rows refusal
+
+-- rows with those before them, the newest of which stands first
+abbrev pub onto : Past → List LogRow → List LogRow
+onto [] rows = rows
+onto (row ∷ past) rows = onto past (row ∷ rows)
+
+-- the row that is shown
+abbrev pub row_of : RowSeen → LogRow
+row_of seen = head_view seen.bytes.now seen.row
+
+-- the line of a scan that was done
+abbrev pub lines_of_scan : Option ScanSeen → List ReportLine
+lines_of_scan None = []
+lines_of_scan (Some scan) = line_of_record scan.record ∷ []
+
+-- the lines of the report of what is shown: the answer's, unless it is empty, and the scan's
+abbrev pub lines_of_seen : RowSeen → List ReportLine
+lines_of_seen seen = answer_line seen.row.ms seen.answer.now ++ lines_of_scan seen.scan
+
+-- where it is looked at what a scan executes, these are the items of the scan that the row brings
+abbrev pub AreItems : PlateData → Option Logic → Past → LogRow → Option (List SeenLine) → Type 0
+AreItems plate logic past row None = ⊤
+AreItems plate None past row (Some lines) = ⊤
+AreItems plate (Some logic) past row (Some lines) =
+    IsSeen (logic_behind plate logic past).text (logic_behind plate logic past).store (image_after plate past) row.ms lines
+
+-- what is looked at in a scan that was done
+abbrev pub items_of : ScanSeen → Option (List SeenLine)
+items_of scan = option_map (λ lines. lines.items) scan.lines
+
+-- what is shown is what the row brings, behind those so far: the line's answer, the scan, and what it executes
+pub record IsShown (seen : RowSeen) (plate : PlateData) (logic : Option Logic) (past : Past) : Type 0 where
+  pub lines : lines_of_row plate logic past (row_of seen) ≡ lines_of_seen seen
+  pub items : IfSome seen.scan (λ scan. AreItems plate logic past (row_of seen) (items_of scan))
+
+-- the logic of a first program and a next one, or of none
+abbrev pub logic_of : Option LoadedText → Option LoadedText → Option Logic
+logic_of first next = option_map (λ loaded. first_logic (text_view loaded.source) (text_of_next next)) first
+
+-- the bytes of a program's text, and what was loaded of it
+abbrev pub bytes_of : Option Program → Option (List ℕ)
+bytes_of program = option_map (λ p. p.text.now) program
+
+abbrev pub loaded_of : Option Program → Option LoadedText
+loaded_of program = option_map (λ p. p.loaded.now) program
+
+-- why an observer does not begin: for want of memory, or, where it may refuse to, because a name is unknown
+abbrev pub RefusesToBegin : Type 0 → RunFault → Type 0
+RefusesToBegin may_refuse (Refused number place) = may_refuse × (number ≡ 401) × (place ≡ 0)
+RefusesToBegin may_refuse Read = ⊥
+RefusesToBegin may_refuse Write = ⊥
+RefusesToBegin may_refuse Memory = ⊤
+
+-- the refusal of that number at that row
+abbrev pub refusal_of : Option (ℕ × ℕ) → Option LogRefusal
+refusal_of refused = option_map (λ r. record { number = r.0; row = r.1 }) refused

@@ -1,0 +1,109 @@
+ghost use Rattle.std.specs.Prelude.{◌≡◌, ◌≤◌, [], IfOk, IsOkUnless};
+ghost use Rattle.wc_run.specs.Reports.{HoldsScans, KeepsScan};
+
+use crate::fault::RunFault;
+use crate::observer::Observer;
+use crate::program::Program;
+use crate::report::put_answer;
+use crate::row_seen::{RowSeen, ScanSeen};
+use crate::scale::Scale;
+use crate::scan_lines::{last_text, write_refusal, write_text};
+use std::alloc::Global;
+use wc_model::ByteOut;
+use wc_record::Recorder;
+use wc_store::Store;
+
+/// Writes the report of a run with the last so many of its scans: the answers as their rows come, and behind the last row, or
+/// the last before a refused one, the lines of those scans. Each scan is kept as a record in a ring until then.
+#[derive(Drop)]
+pub struct LastScans<'w, W> {
+    alloc: Global,
+    writer: &'w mut W,
+    text: Vec<u8>,
+    number: u16,
+    recorder: Recorder,
+}
+
+impl<'w, W: ByteOut> LastScans<'w, W> {
+    /// Before the first row, with room for so many scans, 1 to 1000. `Memory` is the only fault.
+    pub fn new(alloc: Global, number: u16, writer: &'w mut W) -> Result<LastScans<'w, W>, RunFault>
+        requires some { 1 ≤ number }
+        requires few { number ≤ 1000 }
+        ensures writer { IfOk result (λ scans. scans.writer.now ≡ writer.old) }
+        ensures number { IfOk result (λ scans. scans.number ≡ number) }
+        ensures holds { IfOk result (λ scans. HoldsScans scans.recorder number []) }
+        ensures memory { IsOkUnless result RunFault.Memory }
+    {
+        match Recorder::new(alloc, number) {
+            Ok(recorder) => Ok(LastScans {
+                alloc,
+                writer,
+                text: Vec::new(alloc),
+                number,
+                recorder,
+            }),
+            Err(_) => Err(RunFault::Memory),
+        }
+    }
+}
+
+/// Keeps the record of a scan, if there is one.
+#[inline(always)]
+fn keep_scan(recorder: &mut Recorder, scan: &Option<ScanSeen>)
+    ensures { KeepsScan recorder.old recorder.new scan.now }
+{
+    if let Some(scan) = scan {
+        recorder.keep(scan.record);
+    }
+}
+
+impl<S: Store, W: ByteOut> Observer<S> for LastScans<'_, W> {
+    ghost use Rattle.std.specs.Prelude.{[]};
+    ghost use Rattle.wc_run.specs.Reports.{HoldsScans, last_plan, lines_so_far};
+
+    ghost plan = { λ scans. last_plan scans.number };
+
+    ghost planned = { λ scans first next. last_plan scans.number };
+
+    ghost is_new = { λ scans. HoldsScans scans.recorder scans.number [] };
+
+    ghost has_seen = { λ scans plate logic past.
+        HoldsScans scans.recorder scans.number (lines_so_far plate logic past) };
+
+    ghost bytes_taken = { λ scans. W.bytes_taken scans.writer.now };
+
+    ghost failure_count = { λ scans. W.failure_count scans.writer.now };
+
+    fn begin(
+        &mut self,
+        _first: Option<Program<'_, '_>>,
+        _next: Option<Program<'_, '_>>,
+    ) -> Result<(), RunFault> {
+        Ok(())
+    }
+
+    #[inline(always)]
+    fn looks_at(&self, _ms: u64) -> bool {
+        false
+    }
+
+    #[inline(always)]
+    fn see(&mut self, seen: &RowSeen<'_>, _scale: &Scale<'_, S>) -> Result<(), RunFault> {
+        keep_scan(&mut self.recorder, &seen.scan);
+        self.text.clear();
+        match put_answer(&mut self.text, seen) {
+            Ok(()) => write_text(&self.text, self.writer),
+            Err(fault) => Err(fault),
+        }
+    }
+
+    fn end(&mut self, _refused: Option<(u16, u32)>) -> Result<(), RunFault> {
+        match last_text(self.alloc, &self.recorder) {
+            Ok(text) => write_text(&text, self.writer),
+            Err(fault) => Err(fault),
+        }
+    }
+    fn refuse(&mut self, alloc: Global, number: u16, place: u32) -> Result<(), RunFault> {
+        write_refusal(alloc, number, place, self.writer)
+    }
+}

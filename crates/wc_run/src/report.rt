@@ -1,0 +1,119 @@
+ghost use Rattle.std.specs.Prelude.{◌≡◌, ◌++◌, IsOkUnless, OnOk};
+ghost use Rattle.wc_model.specs.Say.Report.{answer_line, report_text};
+ghost use Rattle.wc_run.specs.Observing.{lines_of_scan, lines_of_seen};
+
+use crate::fault::RunFault;
+use crate::observer::Observer;
+use crate::program::Program;
+use crate::row_seen::{RowSeen, ScanSeen};
+use crate::scale::Scale;
+use crate::scan_lines::{put_record, write_refusal, write_text};
+use std::alloc::Global;
+use wc_model::ByteOut;
+use wc_report::put_answer_line;
+use wc_store::Store;
+
+/// Puts the line of an answer behind a text, and nothing of an empty one.
+#[inline(always)]
+pub(crate) fn put_answer(text: &mut Vec<u8>, seen: &RowSeen<'_>) -> Result<(), RunFault>
+    ensures text { OnOk result (text.new.items
+        ≡ text.old.items ++ report_text (answer_line seen.now.row.ms seen.now.answer.now)) }
+    ensures memory { IsOkUnless result RunFault.Memory }
+{
+    if seen.answer.is_empty() {
+        return Ok(());
+    }
+    match put_answer_line(text, seen.row.ms, seen.answer) {
+        Ok(()) => Ok(()),
+        Err(_) => Err(RunFault::Memory),
+    }
+}
+
+/// Puts the line of a scan, if there is one, behind a text.
+#[inline(always)]
+fn put_scan(text: &mut Vec<u8>, scan: &Option<ScanSeen>) -> Result<(), RunFault>
+    ensures text { OnOk result
+        (text.new.items ≡ text.old.items ++ report_text (lines_of_scan scan.now)) }
+    ensures memory { IsOkUnless result RunFault.Memory }
+{
+    match scan {
+        Some(scan) => put_record(text, &scan.record),
+        None => Ok(()),
+    }
+}
+
+/// Puts the lines of a row behind a text: its answer's, and its scan's.
+#[inline(always)]
+pub(crate) fn put_lines(text: &mut Vec<u8>, seen: &RowSeen<'_>) -> Result<(), RunFault>
+    ensures text { OnOk result
+        (text.new.items ≡ text.old.items ++ report_text (lines_of_seen seen.now)) }
+    ensures memory { IsOkUnless result RunFault.Memory }
+{
+    match put_answer(text, seen) {
+        Ok(()) => put_scan(text, &seen.scan),
+        Err(fault) => Err(fault),
+    }
+}
+
+/// Writes the report of a run, each line as its row comes.
+#[derive(Drop)]
+pub struct Report<'w, W> {
+    writer: &'w mut W,
+    text: Vec<u8>,
+}
+
+impl<'w, W: ByteOut> Report<'w, W> {
+    /// Before the first row. It takes no memory.
+    pub fn new(alloc: Global, writer: &'w mut W) -> Report<'w, W>
+        ensures { result.writer.now ≡ writer.old }
+    {
+        Report {
+            writer,
+            text: Vec::new(alloc),
+        }
+    }
+}
+
+impl<S: Store, W: ByteOut> Observer<S> for Report<'_, W> {
+    ghost use Rattle.std.specs.Prelude.{⊤};
+    ghost use Rattle.wc_run.specs.Reports.{report_plan};
+
+    ghost plan = { λ report. report_plan };
+
+    ghost planned = { λ report first next. report_plan };
+
+    ghost has_seen = { λ report plate logic past. ⊤ };
+
+    ghost bytes_taken = { λ report. W.bytes_taken report.writer.now };
+
+    ghost failure_count = { λ report. W.failure_count report.writer.now };
+
+    fn begin(
+        &mut self,
+        _first: Option<Program<'_, '_>>,
+        _next: Option<Program<'_, '_>>,
+    ) -> Result<(), RunFault> {
+        Ok(())
+    }
+
+    #[inline(always)]
+    fn looks_at(&self, _ms: u64) -> bool {
+        false
+    }
+
+    #[inline(always)]
+    fn see(&mut self, seen: &RowSeen<'_>, _scale: &Scale<'_, S>) -> Result<(), RunFault> {
+        self.text.clear();
+        match put_lines(&mut self.text, seen) {
+            Ok(()) => write_text(&self.text, self.writer),
+            Err(fault) => Err(fault),
+        }
+    }
+
+    fn end(&mut self, _refused: Option<(u16, u32)>) -> Result<(), RunFault> {
+        Ok(())
+    }
+    fn refuse(&mut self, alloc: Global, number: u16, place: u32) -> Result<(), RunFault> {
+        write_refusal(alloc, number, place, self.writer)
+    }
+}

@@ -1,0 +1,77 @@
+ghost use Rattle.std.specs.Prelude.{◌≡◌, ◌<◌, ◌≤◌, ◌+◌, ◌++◌, IfErr, IfOk, IsOkUnless, OnOk};
+ghost use Rattle.wc_model.specs.Say.Job.{refused_text};
+ghost use Rattle.wc_model.specs.Say.Report.{line_text, report_text};
+ghost use Rattle.wc_run.specs.Doing.{Writes};
+ghost use Rattle.wc_run.specs.Outputs.{line_of_record, lines_of_records};
+ghost use Rattle.wc_run.specs.Runs.{IsNoRefusal, TellsWrites};
+
+use crate::fault::RunFault;
+use std::alloc::Global;
+use wc_model::{ByteOut, Steps, write_whole};
+use wc_record::{Record, Recorder};
+use wc_report::{put_scan_line, refused_line};
+
+/// Puts the line of a scan by its record behind a text.
+#[inline(always)]
+pub(crate) fn put_record(text: &mut Vec<u8>, scan: &Record) -> Result<(), RunFault>
+    ensures text { OnOk result
+        (text.new.items ≡ text.old.items ++ line_text (line_of_record scan.now)) }
+    ensures memory { IsOkUnless result RunFault.Memory }
+{
+    match put_scan_line(text, scan.ms, Steps(scan.steps), &scan.outputs) {
+        Ok(()) => Ok(()),
+        Err(_) => Err(RunFault::Memory),
+    }
+}
+
+/// The lines of the scans whose records are kept, in their order.
+pub(crate) fn last_text(alloc: Global, recorder: &Recorder) -> Result<Vec<u8>, RunFault>
+    ensures text { IfOk result
+        (λ text. text.items ≡ report_text (lines_of_records recorder.now.records)) }
+    ensures memory { IsOkUnless result RunFault.Memory }
+{
+    let mut lines = Vec::new(alloc);
+    for index in 0..recorder.len() {
+        let Some(scan) = recorder.get(index) else {
+            continue;
+        };
+        match put_record(&mut lines, scan) {
+            Ok(()) => {}
+            Err(fault) => return Err(fault),
+        }
+    }
+    Ok(lines)
+}
+
+/// Writes a text.
+#[inline(always)]
+pub(crate) fn write_text<W: ByteOut>(text: &[u8], writer: &mut W) -> Result<(), RunFault>
+    ensures writes { Writes text.now result (W.bytes_taken writer.old) (W.bytes_taken writer.new) }
+    ensures held { IfErr result IsNoRefusal }
+    ensures failures { TellsWrites result (W.failure_count writer.old)
+        (W.failure_count writer.new) }
+{
+    match write_whole(writer, text) {
+        Ok(()) => Ok(()),
+        Err(_) => Err(RunFault::Write),
+    }
+}
+
+/// Writes the line of a refusal. `Memory` comes before anything is written.
+pub fn write_refusal<W: ByteOut>(
+    alloc: Global,
+    number: u16,
+    place: u32,
+    writer: &mut W,
+) -> Result<(), RunFault>
+    ensures writes { Writes (refused_text number place) result (W.bytes_taken writer.old)
+        (W.bytes_taken writer.new) }
+    ensures held { IfErr result IsNoRefusal }
+    ensures failures { TellsWrites result (W.failure_count writer.old)
+        (W.failure_count writer.new) }
+{
+    match refused_line(alloc, number, place) {
+        Ok(line) => write_text(&line, writer),
+        Err(_) => Err(RunFault::Memory),
+    }
+}
