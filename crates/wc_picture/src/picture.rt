@@ -1,19 +1,21 @@
+ghost use Rattle.std.specs.Prelude.{◌≡◌, IsOkUnless};
+
 use std::alloc::{AllocError, Global};
 use wc_columns::{Column, Events, State, TimeLine, Tracker};
-use wc_controller::{Scanner, Unwatched};
 use wc_cost::Loaded;
 use wc_drawing::{RunSteps, ScanSteps, View, draw};
-use wc_indicator::Indicator;
-use wc_machine::Machine;
-use wc_model::{Image, Outputs};
+use wc_model::{ByteOut, Outputs};
 use wc_plate::Plate;
-use wc_record::{HeadKind, Record, RowHead};
+use wc_record::HeadKind;
+use wc_run::{Observer, Program, RowSeen, RunFault, Scale, write_refusal, write_text};
 use wc_store::SlotStore;
 
-/// What is kept of a run for its picture. Its room is made at the first row.
+/// Observes a run, and behind its rows writes a picture of it. The room for what is kept of the rows is made at the first of
+/// them.
 #[derive(Drop)]
-pub(crate) struct Picture {
+pub(crate) struct Picture<'w, W> {
     alloc: Global,
+    writer: &'w mut W,
     line: Option<TimeLine>,
     plate: Option<Plate>,
     inputs: u16,
@@ -28,7 +30,6 @@ pub(crate) struct Picture {
     next_bound: u32,
     tracker: Tracker,
     rows: u32,
-    has_no_room: bool,
 }
 
 /// The bound of a program, which is the last unit of its text.
@@ -40,11 +41,14 @@ fn program_bound(loaded: &Loaded<'_>) -> u32 {
     loaded.bound(units - 1)
 }
 
-impl Picture {
-    /// Before the first row.
-    pub(crate) fn new(alloc: Global) -> Picture {
+impl<'w, W: ByteOut> Picture<'w, W> {
+    /// Before the first row. It takes no memory.
+    pub(crate) fn new(alloc: Global, writer: &'w mut W) -> Picture<'w, W>
+        ensures { result.writer.now ≡ writer.old }
+    {
         Picture {
             alloc,
+            writer,
             line: None,
             plate: None,
             inputs: 0,
@@ -58,15 +62,20 @@ impl Picture {
             next_bound: 0,
             tracker: Tracker::new(),
             rows: 0,
-            has_no_room: false,
         }
     }
 
     /// What happened at a row.
-    fn events(&mut self, row: RowHead, bytes: &[u8], answers: &[u8]) -> Events {
+    fn events(&mut self, seen: &RowSeen<'_>) -> Events
+        ensures { self.new.writer ≡ self.old.writer }
+    {
         let mut events = Events::none();
-        match row.kind {
-            HeadKind::Bytes => return self.tracker.follow(row.ms, bytes, answers),
+        match seen.row.kind {
+            HeadKind::Bytes => {
+                return self
+                    .tracker
+                    .follow(seen.row.ms, seen.bytes, seen.answer);
+            }
             HeadKind::Inputs(inputs) => self.inputs = inputs,
             HeadKind::Scan => {
                 if let Some(steps) = self.steps {
@@ -84,7 +93,9 @@ impl Picture {
     }
 
     /// Keeps a row.
-    fn keep(&mut self, ms: u64, row: Column) -> Result<(), AllocError> {
+    fn keep(&mut self, ms: u64, row: Column) -> Result<(), AllocError>
+        ensures { self.new.writer ≡ self.old.writer }
+    {
         if self.line.is_none() {
             self.line = Some(TimeLine::new(self.alloc)?);
         }
@@ -95,7 +106,9 @@ impl Picture {
     }
 
     /// Counts the steps of a scan.
-    fn count(&mut self, steps: u32) {
+    fn count(&mut self, steps: u32)
+        ensures { self.new.writer ≡ self.old.writer }
+    {
         self.steps = Some(steps);
         if let Some(ScanSteps { most, bound }) = self.running {
             self.running = Some(ScanSteps {
@@ -120,43 +133,10 @@ impl Picture {
         }
     }
 
-    /// The text of the picture, with the number and the row of a refusal.
-    pub(crate) fn draw(
-        &self,
-        alloc: Global,
-        refusal: Option<(u16, u32)>,
-    ) -> Result<String, AllocError> {
-        if self.has_no_room {
-            return Err(AllocError);
-        }
-        let (columns, start, width) = match &self.line {
-            Some(line) => (line.columns(), line.start(), line.width()),
-            None => (&[] as &[Column], 0, 1),
-        };
-        let view = View::new(columns, start, width, self.plate, self.run_steps());
-        draw(alloc, &view, self.rows, refusal)
-    }
-}
-
-impl Scanner<SlotStore> for Picture {
-    fn scan(&mut self, ms: u64, image: &Image, machine: &mut Machine<'_, SlotStore>) -> Record {
-        let record = Unwatched.scan(ms, image, machine);
-        self.outputs = record.outputs;
-        self.count(record.steps);
-        record
-    }
-
-    fn know(&mut self, _text: &[u8], loaded: &Loaded<'_>) -> bool {
-        let bound = program_bound(loaded);
-        if self.running.is_none() {
-            self.running = Some(ScanSteps { most: 0, bound });
-        } else {
-            self.next_bound = bound;
-        }
-        true
-    }
-
-    fn change(&mut self) {
+    /// The next program takes the place of the first.
+    fn change(&mut self)
+        ensures { self.new.writer ≡ self.old.writer }
+    {
         if self.running.is_some() {
             self.before = self.running;
             self.running = Some(ScanSteps {
@@ -166,15 +146,84 @@ impl Scanner<SlotStore> for Picture {
         }
     }
 
-    fn see(&mut self, row: RowHead, bytes: &[u8], indicator: &Indicator, answers: &[u8]) {
+    /// Keeps what a row brought.
+    fn follow(&mut self, seen: &RowSeen<'_>, scale: &Scale<'_, SlotStore>) -> Result<(), AllocError>
+        ensures { self.new.writer ≡ self.old.writer }
+    {
+        if let HeadKind::Change = seen.row.kind {
+            self.change();
+        }
+        if let Some(scan) = &seen.scan {
+            self.outputs = scan.record.outputs;
+            self.count(scan.record.steps);
+        }
         self.rows = self.rows.saturating_add(1);
+        let indicator = scale.indicator();
         if self.plate.is_none() {
             self.plate = Some(*indicator.plate());
         }
-        let events = self.events(row, bytes, answers);
+        let events = self.events(seen);
         let state = State::at(indicator, self.inputs, &self.outputs);
-        if self.keep(row.ms, Column { state, events }).is_err() {
-            self.has_no_room = true;
+        self.keep(seen.row.ms, Column { state, events })
+    }
+
+    /// The text of the picture, with the number and the row of a refusal.
+    fn draw(&self, refusal: Option<(u16, u32)>) -> Result<String, AllocError> {
+        let (columns, start, width) = match &self.line {
+            Some(line) => (line.columns(), line.start(), line.width()),
+            None => (&[] as &[Column], 0, 1),
+        };
+        let view = View::new(columns, start, width, self.plate, self.run_steps());
+        draw(self.alloc, &view, self.rows, refusal)
+    }
+}
+
+impl<W: ByteOut> Observer<SlotStore> for Picture<'_, W> {
+    ghost use Rattle.std.specs.Prelude.{⊤};
+    ghost use Rattle.wc_run.specs.Reports.{silent_plan};
+
+    ghost plan = { λ picture. silent_plan };
+
+    ghost planned = { λ picture first next. silent_plan };
+
+    ghost has_seen = { λ picture plate logic past. ⊤ };
+
+    ghost failure_count = { λ picture. W.failure_count picture.writer.now };
+
+    fn begin(
+        &mut self,
+        first: Option<Program<'_, '_>>,
+        next: Option<Program<'_, '_>>,
+    ) -> Result<(), RunFault> {
+        if let Some(first) = first {
+            let bound = program_bound(first.loaded);
+            self.running = Some(ScanSteps { most: 0, bound });
         }
+        if let Some(next) = next {
+            self.next_bound = program_bound(next.loaded);
+        }
+        Ok(())
+    }
+
+    fn looks_at(&self, _ms: u64) -> bool {
+        false
+    }
+
+    fn see(&mut self, seen: &RowSeen<'_>, scale: &Scale<'_, SlotStore>) -> Result<(), RunFault> {
+        match self.follow(seen, scale) {
+            Ok(()) => Ok(()),
+            Err(_) => Err(RunFault::Memory),
+        }
+    }
+
+    fn end(&mut self, refused: Option<(u16, u32)>) -> Result<(), RunFault> {
+        match self.draw(refused) {
+            Ok(text) => write_text(text.as_bytes(), self.writer),
+            Err(_) => Err(RunFault::Memory),
+        }
+    }
+
+    fn refuse(&mut self, alloc: Global, number: u16, place: u32) -> Result<(), RunFault> {
+        write_refusal(alloc, number, place, self.writer)
     }
 }

@@ -9,3 +9,4 @@ pub mod ProgramChanges
 pub mod LeftLines
 pub mod ReaderFailures
 pub mod ToldRows
+pub mod Silence

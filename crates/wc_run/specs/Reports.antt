@@ -29,6 +29,10 @@ last_plan number = record {
   at_end = λ plate logic rows refusal. report_text (last_items number (filter is_scan_line (lines_of_rows plate logic [] rows)));
 }
 
+-- nothing, of an observer of whose bytes nothing is said
+abbrev pub silent_plan : Plan
+silent_plan = record { at_row = λ plate logic past row. []; at_end = λ plate logic rows refusal. [] }
+
 -- the plan of a report with every scan, or with the last so many alone
 abbrev pub plan_of : Option ℕ → Plan
 plan_of None = report_plan

@@ -15,7 +15,7 @@ use wc_store::Store;
 
 /// Puts the line of an answer behind a text, and nothing of an empty one.
 #[inline(always)]
-pub(crate) fn put_answer(text: &mut Vec<u8>, seen: &RowSeen<'_>) -> Result<(), RunFault>
+pub fn put_answer(text: &mut Vec<u8>, seen: &RowSeen<'_>) -> Result<(), RunFault>
     ensures text { OnOk result (text.new.items
         ≡ text.old.items ++ report_text (answer_line seen.now.row.ms seen.now.answer.now)) }
     ensures memory { IsOkUnless result RunFault.Memory }

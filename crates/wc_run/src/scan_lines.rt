@@ -13,7 +13,7 @@ use wc_report::{put_scan_line, refused_line};
 
 /// Puts the line of a scan by its record behind a text.
 #[inline(always)]
-pub(crate) fn put_record(text: &mut Vec<u8>, scan: &Record) -> Result<(), RunFault>
+pub fn put_record(text: &mut Vec<u8>, scan: &Record) -> Result<(), RunFault>
     ensures text { OnOk result
         (text.new.items ≡ text.old.items ++ line_text (line_of_record scan.now)) }
     ensures memory { IsOkUnless result RunFault.Memory }
@@ -45,7 +45,7 @@ pub(crate) fn last_text(alloc: Global, recorder: &Recorder) -> Result<Vec<u8>, R
 
 /// Writes a text.
 #[inline(always)]
-pub(crate) fn write_text<W: ByteOut>(text: &[u8], writer: &mut W) -> Result<(), RunFault>
+pub fn write_text<W: ByteOut>(text: &[u8], writer: &mut W) -> Result<(), RunFault>
     ensures writes { Writes text.now result (W.bytes_taken writer.old) (W.bytes_taken writer.new) }
     ensures held { IfErr result IsNoRefusal }
     ensures failures { TellsWrites result (W.failure_count writer.old)

@@ -1,25 +1,16 @@
+ghost use Rattle.std.specs.Prelude.{◌≡◌, IsOkUnless};
+
 use crate::chosen::Chosen;
 use crate::legend::Legend;
 use crate::rows::{Heading, put_none_chosen, put_scan};
 use std::alloc::Global;
-use wc_controller::{Scanner, Unwatched};
-use wc_cost::Loaded;
-use wc_indicator::Indicator;
-use wc_machine::{Machine, SeenLine};
-use wc_model::{ByteOut, Fault, Image, write_whole};
-use wc_record::{Record, RowHead};
+use wc_machine::SeenLine;
+use wc_model::{ByteOut, Fault};
+use wc_record::HeadKind;
+use wc_run::{Observer, Program, RowSeen, RunFault, Scale, write_refusal, write_text};
 use wc_store::SlotStore;
 
-/// Why scans are no longer shown.
-#[derive(Clone, Copy, PartialEq, Eq)]
-pub(crate) enum TraceFault {
-    /// The writer failed, or took nothing.
-    Write,
-    /// Memory was refused.
-    Memory,
-}
-
-/// Does the scans of a run, and writes the rows of those that are chosen.
+/// Observes a run, and writes the rows of the scans that are chosen.
 #[derive(Drop)]
 pub(crate) struct Watch<'w, W> {
     alloc: Global,
@@ -31,12 +22,41 @@ pub(crate) struct Watch<'w, W> {
     shown: u32,
     is_changed: bool,
     text: Vec<u8>,
-    fault: Option<TraceFault>,
+}
+
+/// What a run ends with for a fault of what is shown.
+fn run_fault(_fault: Fault) -> RunFault
+    ensures { result ≡ RunFault.Memory }
+{
+    RunFault::Memory
+}
+
+/// The legend of a program, if there is one.
+fn legend_of(alloc: Global, program: Option<Program<'_, '_>>) -> Result<Option<Legend>, RunFault>
+    ensures { IsOkUnless result RunFault.Memory }
+{
+    match program {
+        Some(program) => match Legend::new(alloc, program.text, program.loaded) {
+            Ok(legend) => Ok(Some(legend)),
+            Err(fault) => Err(run_fault(fault)),
+        },
+        None => Ok(None),
+    }
+}
+
+/// The bound of the program that runs.
+fn bound_in(scale: &Scale<'_, SlotStore>) -> u32 {
+    match scale.machine() {
+        Some(machine) => machine.bound(),
+        None => 0,
+    }
 }
 
 impl<'w, W: ByteOut> Watch<'w, W> {
     /// Before the first scan.
-    pub(crate) fn new(alloc: Global, chosen: Chosen, writer: &'w mut W) -> Watch<'w, W> {
+    pub(crate) fn new(alloc: Global, chosen: Chosen, writer: &'w mut W) -> Watch<'w, W>
+        ensures { result.writer.now ≡ writer.old }
+    {
         Watch {
             alloc,
             chosen,
@@ -47,95 +67,132 @@ impl<'w, W: ByteOut> Watch<'w, W> {
             shown: 0,
             is_changed: false,
             text: Vec::new(alloc),
-            fault: None,
         }
     }
 
-    /// Why scans are no longer shown, where they are not.
-    pub(crate) fn fault(&self) -> Option<TraceFault> {
-        self.fault
+    /// The next program takes the place of the first.
+    fn change(&mut self)
+        ensures { self.new.writer ≡ self.old.writer }
+    {
+        self.legend = self.next.take();
+        self.is_changed = true;
     }
 
     /// Makes the rows of a scan.
-    fn make_rows(&mut self, ms: u64, bound: u32, lines: &[SeenLine]) -> Result<(), Fault> {
+    fn make_rows(&mut self, ms: u64, bound: u32, lines: &[SeenLine]) -> Result<(), RunFault>
+        ensures writer { self.new.writer ≡ self.old.writer }
+        ensures memory { IsOkUnless result RunFault.Memory }
+    {
         self.text.clear();
+        self.shown = self.shown.saturating_add(1);
         let heading = Heading {
             number: self.scans,
             ms,
             is_changed: self.is_changed,
         };
         match &self.legend {
-            Some(legend) => put_scan(self.alloc, &mut self.text, legend, heading, bound, lines),
+            Some(legend) => match put_scan(
+                self.alloc,
+                &mut self.text,
+                legend,
+                heading,
+                bound,
+                lines,
+            ) {
+                Ok(()) => Ok(()),
+                Err(fault) => Err(run_fault(fault)),
+            },
             None => Ok(()),
         }
     }
 
-    /// Writes what was made, unless memory was refused to it.
-    fn write(&mut self, made: Result<(), Fault>) {
-        if made.is_err() {
-            self.fault = Some(TraceFault::Memory);
-            return;
-        }
-        if write_whole(self.writer, &self.text).is_err() {
-            self.fault = Some(TraceFault::Write);
-        }
-    }
-
-    /// Shows a scan.
-    fn show(&mut self, ms: u64, bound: u32, lines: Result<Vec<SeenLine>, Fault>) {
-        let Ok(lines) = lines else {
-            self.fault = Some(TraceFault::Memory);
-            return;
-        };
-        self.shown = self.shown.saturating_add(1);
-        let made = self.make_rows(ms, bound, &lines);
-        self.write(made);
-    }
-
-    /// Says at the end of a log that none of its scans was chosen, where none was.
-    pub(crate) fn finish(&mut self) {
-        if self.shown > 0 || self.fault.is_some() {
-            return;
-        }
+    /// Counts a scan, and makes its rows where it is chosen.
+    fn follow(&mut self, seen: &RowSeen<'_>, bound: u32) -> Result<(), RunFault>
+        ensures writer { self.new.writer ≡ self.old.writer }
+        ensures memory { IsOkUnless result RunFault.Memory }
+    {
         self.text.clear();
-        let made = put_none_chosen(&mut self.text, self.scans);
-        self.write(made);
+        match &seen.scan {
+            Some(scan) => {
+                self.scans = self.scans.saturating_add(1);
+                match &scan.lines {
+                    Some(lines) => self.make_rows(seen.row.ms, bound, lines),
+                    None => Ok(()),
+                }
+            }
+            None => Ok(()),
+        }
+    }
+
+    /// Makes what is said at the end of a log none of whose scans was chosen.
+    fn make_end(&mut self) -> Result<(), RunFault>
+        ensures writer { self.new.writer ≡ self.old.writer }
+        ensures memory { IsOkUnless result RunFault.Memory }
+    {
+        self.text.clear();
+        if self.shown > 0 {
+            return Ok(());
+        }
+        match put_none_chosen(&mut self.text, self.scans) {
+            Ok(()) => Ok(()),
+            Err(fault) => Err(run_fault(fault)),
+        }
     }
 }
 
-impl<W: ByteOut> Scanner<SlotStore> for Watch<'_, W> {
-    fn scan(&mut self, ms: u64, image: &Image, machine: &mut Machine<'_, SlotStore>) -> Record {
-        self.scans = self.scans.saturating_add(1);
-        if self.fault.is_some() || !self.chosen.has(self.scans, ms) {
-            return Unwatched.scan(ms, image, machine);
+impl<W: ByteOut> Observer<SlotStore> for Watch<'_, W> {
+    ghost use Rattle.std.specs.Prelude.{⊤};
+    ghost use Rattle.wc_run.specs.Reports.{silent_plan};
+
+    ghost plan = { λ watch. silent_plan };
+
+    ghost planned = { λ watch first next. silent_plan };
+
+    ghost has_seen = { λ watch plate logic past. ⊤ };
+
+    ghost failure_count = { λ watch. W.failure_count watch.writer.now };
+
+    fn begin(
+        &mut self,
+        first: Option<Program<'_, '_>>,
+        next: Option<Program<'_, '_>>,
+    ) -> Result<(), RunFault> {
+        match legend_of(self.alloc, first) {
+            Ok(legend) => self.legend = legend,
+            Err(fault) => return Err(fault),
         }
-        let (steps, lines) = machine.trace(self.alloc, ms, image);
-        let outputs = machine.outputs();
-        self.show(ms, machine.bound(), lines);
-        Record {
-            ms,
-            steps: steps.0,
-            outputs,
+        match legend_of(self.alloc, next) {
+            Ok(legend) => self.next = legend,
+            Err(fault) => return Err(fault),
+        }
+        Ok(())
+    }
+
+    fn looks_at(&self, ms: u64) -> bool {
+        self.chosen.has(self.scans.saturating_add(1), ms)
+    }
+
+    fn see(&mut self, seen: &RowSeen<'_>, scale: &Scale<'_, SlotStore>) -> Result<(), RunFault> {
+        if let HeadKind::Change = seen.row.kind {
+            self.change();
+        }
+        match self.follow(seen, bound_in(scale)) {
+            Ok(()) => write_text(&self.text, self.writer),
+            Err(fault) => Err(fault),
         }
     }
 
-    fn know(&mut self, text: &[u8], loaded: &Loaded<'_>) -> bool {
-        let legend = match Legend::new(self.alloc, text, loaded) {
-            Ok(legend) => legend,
-            Err(_) => return false,
-        };
-        if self.legend.is_none() {
-            self.legend = Some(legend);
-        } else {
-            self.next = Some(legend);
+    fn end(&mut self, refused: Option<(u16, u32)>) -> Result<(), RunFault> {
+        if refused.is_some() {
+            return Ok(());
         }
-        true
+        match self.make_end() {
+            Ok(()) => write_text(&self.text, self.writer),
+            Err(fault) => Err(fault),
+        }
     }
 
-    fn change(&mut self) {
-        self.legend = self.next.take();
-        self.is_changed = true;
+    fn refuse(&mut self, alloc: Global, number: u16, place: u32) -> Result<(), RunFault> {
+        write_refusal(alloc, number, place, self.writer)
     }
-
-    fn see(&mut self, _row: RowHead, _bytes: &[u8], _indicator: &Indicator, _answers: &[u8]) {}
 }

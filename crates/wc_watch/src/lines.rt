@@ -4,29 +4,26 @@ use wc_model::Fault;
 /// Lines that wait for those of their scans, in a ring: one more than there is room for takes the place of the oldest.
 #[derive(Drop)]
 pub(crate) struct Lines {
+    most: usize,
     rooms: Vec<Vec<u8>>,
     first: usize,
     waiting: usize,
 }
 
 impl Lines {
-    /// No lines, and room for none.
-    pub(crate) fn new(alloc: Global) -> Lines {
+    /// No lines yet of so many at most, and room for none.
+    pub(crate) fn new(alloc: Global, most: usize) -> Lines {
         Lines {
+            most,
             rooms: Vec::new(alloc),
             first: 0,
             waiting: 0,
         }
     }
 
-    /// Makes room for so many lines of so many bytes. `Memory` is the only fault.
-    pub(crate) fn make_room(
-        &mut self,
-        alloc: Global,
-        number: usize,
-        length: usize,
-    ) -> Result<(), Fault> {
-        for _line in self.rooms.len()..number {
+    /// Makes room for the lines, of so many bytes each. `Memory` is the only fault.
+    pub(crate) fn make_room(&mut self, alloc: Global, length: usize) -> Result<(), Fault> {
+        for _line in self.rooms.len()..self.most {
             let Ok(room) = Vec::with_capacity(alloc, length) else {
                 return Err(Fault::Memory);
             };

@@ -1,188 +1,208 @@
-use crate::lines::Lines;
-use crate::names::names_of;
-use crate::values::put_value;
-use crate::watched::{Watched, all_watched};
+ghost use Rattle.std.specs.Prelude.{◌≡◌, ◌≤◌, IfErr, IfOk, IfSome, IsOkUnless};
+ghost use Rattle.wc_run.specs.Observing.{RefusesToBegin};
+
+use crate::last_lines::LastLines;
+use crate::watched_names::WatchedNames;
 use std::alloc::Global;
-use std::cell::RefCell;
-use wc_controller::{Scanner, Unwatched};
-use wc_cost::Loaded;
-use wc_indicator::Indicator;
 use wc_machine::Machine;
-use wc_model::{Fault, Image, put_bytes};
-use wc_record::{Record, RowHead};
-use wc_report::put_number;
+use wc_model::{ByteOut, Fault};
+use wc_record::{HeadKind, Record};
+use wc_run::{
+    Observer, Program, RowSeen, RunFault, Scale, put_answer, put_record, write_refusal, write_text,
+};
 use wc_store::SlotStore;
 
-/// How many bytes a line has at most beside its names, and beside each of them.
-const BESIDE: usize = 24;
-
-/// Why a run does not begin, or a line is missing.
-#[derive(Clone, Copy, PartialEq, Eq)]
-pub(crate) enum WatchFault {
-    /// The name of that number, counted from 0, is that of no variable.
-    Unknown(usize),
-    /// Memory was refused.
-    Memory,
-}
-
-/// Does the scans of a run, and makes a line of each with the values that are watched.
+/// Observes a run, and writes its report and behind the line of each scan one with the values that are watched.
 #[derive(Drop)]
-pub(crate) struct Watcher<'n> {
+pub(crate) struct Watcher<'n, 'w, W> {
     alloc: Global,
     list: &'n [u8],
-    lines: &'n RefCell<Lines>,
-    most: usize,
-    awaits_next: bool,
-    names: Vec<&'n [u8]>,
-    watched: Vec<Option<Watched>>,
-    next: Vec<Option<Watched>>,
-    fault: Option<WatchFault>,
+    writer: &'w mut W,
+    names: WatchedNames<'n>,
+    unknown: Option<usize>,
+    last: Option<LastLines>,
+    text: Vec<u8>,
 }
 
-/// Puts the line of a scan: its moment, and each name that the program has with its value.
-fn put_line(
-    line: &mut Vec<u8>,
-    ms: u64,
-    machine: &Machine<'_, SlotStore>,
-    names: &[&[u8]],
-    watched: &[Option<Watched>],
-) -> Result<(), Fault> {
-    put_bytes(line, b"V ")?;
-    put_number(line, ms)?;
-    for (name, watched) in names.iter().zip(watched.iter()) {
-        if let Some(watched) = watched {
-            put_named(line, machine, name, watched)?;
-        }
+/// What a run ends with for a fault of a line.
+fn in_run(result: Result<(), Fault>) -> Result<(), RunFault>
+    ensures { IsOkUnless result RunFault.Memory }
+{
+    match result {
+        Ok(()) => Ok(()),
+        Err(_) => Err(RunFault::Memory),
     }
-    put_bytes(line, b"\n")
 }
 
-/// Puts a name and its value.
-fn put_named(
-    line: &mut Vec<u8>,
-    machine: &Machine<'_, SlotStore>,
-    name: &[u8],
-    watched: &Watched,
-) -> Result<(), Fault> {
-    let Some(number) = machine.number(watched.place) else {
-        return Ok(());
-    };
-    put_bytes(line, b" ")?;
-    put_bytes(line, name)?;
-    put_bytes(line, b"=")?;
-    put_value(line, watched.kind, number)
+/// The last so many scans, where they are asked for.
+fn last_lines(alloc: Global, last: Option<u16>) -> Result<Option<LastLines>, Fault>
+    requires { IfSome last (λ n. (1 ≤ n) × (n ≤ 1000)) }
+    ensures { IsOkUnless result Fault.Memory }
+{
+    match last {
+        Some(number) => match LastLines::new(alloc, number) {
+            Ok(lines) => Ok(Some(lines)),
+            Err(fault) => Err(fault),
+        },
+        None => Ok(None),
+    }
 }
 
-impl<'n> Watcher<'n> {
-    /// Before the first program is known, with the names to be watched, and how many lines are kept. Where a next program is
-    /// awaited a name may be that of one of its variables alone.
+impl<'n, 'w, W: ByteOut> Watcher<'n, 'w, W> {
+    /// Before the first program is known, with the names to be watched, between commas. With `last` the last so many scans are
+    /// written alone, 1 to 1000. `Memory` is the only fault.
     pub(crate) fn new(
         alloc: Global,
         list: &'n [u8],
-        lines: &'n RefCell<Lines>,
-        most: usize,
-        awaits_next: bool,
-    ) -> Watcher<'n> {
-        Watcher {
-            alloc,
-            list,
-            lines,
-            most,
-            awaits_next,
-            names: Vec::new(alloc),
-            watched: Vec::new(alloc),
-            next: Vec::new(alloc),
-            fault: None,
+        last: Option<u16>,
+        writer: &'w mut W,
+    ) -> Result<Watcher<'n, 'w, W>, Fault>
+        requires few { IfSome last (λ n. (1 ≤ n) × (n ≤ 1000)) }
+        ensures writer { IfOk result (λ watcher. watcher.writer.now ≡ writer.old) }
+        ensures memory { IsOkUnless result Fault.Memory }
+    {
+        match last_lines(alloc, last) {
+            Ok(last) => Ok(Watcher {
+                alloc,
+                list,
+                writer,
+                names: WatchedNames::new(alloc),
+                unknown: None,
+                last,
+                text: Vec::new(alloc),
+            }),
+            Err(fault) => Err(fault),
         }
     }
 
-    /// Why the run did not begin, or a line is missing.
-    pub(crate) fn fault(&self) -> Option<WatchFault> {
-        self.fault
+    /// The number of the first name that no program has, counted from 0, where a run did not begin for that.
+    pub(crate) fn unknown(&self) -> Option<usize> {
+        self.unknown
     }
 
-    /// The number of the first name that no program has, counted from 0.
-    fn unknown_name(&self) -> Option<usize> {
-        for index in 0..self.names.len() {
-            let is_watched = match self.watched.get(index) {
-                Some(watched) => watched.is_some(),
-                None => false,
-            };
-            let is_next = match self.next.get(index) {
-                Some(watched) => watched.is_some(),
-                None => false,
-            };
-            if !is_watched && !is_next {
-                return Some(index);
-            }
-        }
-        None
-    }
-
-    /// Makes room for the lines.
-    fn make_room(&mut self) -> Result<(), Fault> {
-        let names = self.names.len().saturating_mul(BESIDE);
-        let length = self.list.len().saturating_add(names).saturating_add(BESIDE);
-        match self.lines.try_borrow_mut() {
-            Ok(mut lines) => lines.make_room(self.alloc, self.most, length),
-            Err(_) => Err(Fault::Memory),
+    /// Looks for the names in the programs, and makes room for the lines.
+    fn look(&mut self, first: Program<'_, '_>, next: Option<Program<'_, '_>>) -> Result<(), Fault>
+        ensures { self.new.writer ≡ self.old.writer }
+    {
+        let next = match next {
+            Some(next) => Some(next.loaded),
+            None => None,
+        };
+        self.names = WatchedNames::look(self.alloc, self.list, first.loaded, next)?;
+        self.unknown = self.names.unknown();
+        let length = self.names.line_length(self.list.len());
+        match &mut self.last {
+            Some(last) => last.make_room(self.alloc, length),
+            None => Ok(()),
         }
     }
 
-    /// Looks for the names in a program, the first or the next.
-    fn look(&mut self, loaded: &Loaded<'_>) -> Result<(), Fault> {
-        if self.names.is_empty() {
-            self.names = names_of(self.alloc, self.list)?;
-            self.watched = all_watched(self.alloc, loaded, &self.names)?;
-            return self.make_room();
+    /// Puts the lines of a scan behind the text, or keeps them where the last scans alone are written.
+    fn put_scan(
+        &mut self,
+        record: &Record,
+        machine: &Machine<'_, SlotStore>,
+    ) -> Result<(), RunFault>
+        ensures writer { self.new.writer ≡ self.old.writer }
+        ensures memory { IsOkUnless result RunFault.Memory }
+    {
+        match &mut self.last {
+            Some(last) => match last.keep(*record) {
+                Some(line) => in_run(self.names.put_line(line, record.ms, machine)),
+                None => Err(RunFault::Memory),
+            },
+            None => match put_record(&mut self.text, record) {
+                Ok(()) => in_run(self.names.put_line(&mut self.text, record.ms, machine)),
+                Err(fault) => Err(fault),
+            },
         }
-        self.next = all_watched(self.alloc, loaded, &self.names)?;
-        self.awaits_next = false;
+    }
+
+    /// Puts what is written of a row.
+    fn put_row(&mut self, seen: &RowSeen<'_>, scale: &Scale<'_, SlotStore>) -> Result<(), RunFault>
+        ensures writer { self.new.writer ≡ self.old.writer }
+        ensures memory { IsOkUnless result RunFault.Memory }
+    {
+        self.text.clear();
+        match put_answer(&mut self.text, seen) {
+            Ok(()) => {}
+            Err(fault) => return Err(fault),
+        }
+        if let (Some(scan), Some(machine)) = (&seen.scan, scale.machine()) {
+            return self.put_scan(&scan.record, machine);
+        }
         Ok(())
     }
 
-    /// Makes the line of a scan.
-    fn make_line(&mut self, ms: u64, machine: &Machine<'_, SlotStore>) -> Result<(), Fault> {
-        let Ok(mut lines) = self.lines.try_borrow_mut() else {
-            return Err(Fault::Memory);
-        };
-        match lines.further() {
-            Some(line) => put_line(line, ms, machine, &self.names, &self.watched),
-            None => Err(Fault::Memory),
+    /// Puts what is written at the end.
+    fn put_end(&mut self) -> Result<(), RunFault>
+        ensures writer { self.new.writer ≡ self.old.writer }
+        ensures memory { IsOkUnless result RunFault.Memory }
+    {
+        self.text.clear();
+        match &mut self.last {
+            Some(last) => last.put_all(&mut self.text),
+            None => Ok(()),
         }
     }
 }
 
-impl Scanner<SlotStore> for Watcher<'_> {
-    fn scan(&mut self, ms: u64, image: &Image, machine: &mut Machine<'_, SlotStore>) -> Record {
-        let record = Unwatched.scan(ms, image, machine);
-        if self.make_line(ms, machine).is_err() {
-            self.fault = Some(WatchFault::Memory);
+impl<W: ByteOut> Observer<SlotStore> for Watcher<'_, '_, W> {
+    ghost use Rattle.std.specs.Prelude.{⊤};
+    ghost use Rattle.wc_run.specs.Reports.{silent_plan};
+
+    ghost plan = { λ watcher. silent_plan };
+
+    ghost planned = { λ watcher first next. silent_plan };
+
+    ghost may_refuse = { λ watcher. ⊤ };
+
+    ghost has_seen = { λ watcher plate logic past. ⊤ };
+
+    ghost failure_count = { λ watcher. W.failure_count watcher.writer.now };
+
+    fn begin(
+        &mut self,
+        first: Option<Program<'_, '_>>,
+        next: Option<Program<'_, '_>>,
+    ) -> Result<(), RunFault> {
+        let Some(first) = first else {
+            return Ok(());
+        };
+        if self.look(first, next).is_err() {
+            return Err(RunFault::Memory);
         }
-        record
+        if self.unknown.is_some() {
+            return Err(RunFault::Refused {
+                number: 401,
+                place: 0,
+            });
+        }
+        Ok(())
     }
 
-    fn know(&mut self, _text: &[u8], loaded: &Loaded<'_>) -> bool {
-        if self.look(loaded).is_err() {
-            self.fault = Some(WatchFault::Memory);
-            return false;
+    fn looks_at(&self, _ms: u64) -> bool {
+        false
+    }
+
+    fn see(&mut self, seen: &RowSeen<'_>, scale: &Scale<'_, SlotStore>) -> Result<(), RunFault> {
+        if let HeadKind::Change = seen.row.kind {
+            self.names.change(self.alloc);
         }
-        if self.awaits_next {
-            return true;
-        }
-        match self.unknown_name() {
-            Some(index) => {
-                self.fault = Some(WatchFault::Unknown(index));
-                false
-            }
-            None => true,
+        match self.put_row(seen, scale) {
+            Ok(()) => write_text(&self.text, self.writer),
+            Err(fault) => Err(fault),
         }
     }
 
-    fn change(&mut self) {
-        let next = Vec::new(self.alloc);
-        self.watched = std::mem::replace(&mut self.next, next);
+    fn end(&mut self, _refused: Option<(u16, u32)>) -> Result<(), RunFault> {
+        match self.put_end() {
+            Ok(()) => write_text(&self.text, self.writer),
+            Err(fault) => Err(fault),
+        }
     }
 
-    fn see(&mut self, _row: RowHead, _bytes: &[u8], _indicator: &Indicator, _answers: &[u8]) {}
+    fn refuse(&mut self, alloc: Global, number: u16, place: u32) -> Result<(), RunFault> {
+        write_refusal(alloc, number, place, self.writer)
+    }
 }
