@@ -184,8 +184,6 @@ impl<W: ByteOut> Observer<SlotStore> for Picture<'_, W> {
 
     ghost plan = { λ picture. silent_plan };
 
-    ghost planned = { λ picture first next. silent_plan };
-
     ghost has_seen = { λ picture plate logic past. ⊤ };
 
     ghost failure_count = { λ picture. W.failure_count picture.writer.now };

@@ -15,7 +15,7 @@ use Rattle.wc_run.specs.Doing.{WritesBy}
 use Rattle.wc_run.specs.Logics.{lines_of_row, lines_of_rows}
 use Rattle.wc_run.specs.Observing.{onto, text_coming, text_in_all}
 use Rattle.wc_run.specs.Reports.{last_plan, lines_so_far, plan_of, report_plan}
-use Rattle.wc_run.specs.Runs.{Reports, ReportsBy, report_coming, report_printing}
+use Rattle.wc_run.specs.Runs.{Reports, ReportsBy, report_coming, report_printing, report_written}
 use Rattle.wc_run.specs.declared.fault.RunFault.{RunFault}
 
 -- the lines of a row stand before those of the rows behind it
@@ -110,6 +110,9 @@ whole_text (Some number) plate None refusal rows =
     ∙ append-nil begun ∙ coming_text (Some number) plate None rows
 whole_text (Some number) plate (Some logic) refusal rows =
     ap (λ text. text ++ report_text (last_items number (filter is_scan_line (lines_of_rows plate (Some logic) [] rows)))) (answers_coming number plate (Some logic) [] rows)
+
+pub whole_written : (last : Option ℕ) → text_in_all (plan_of last) ≡ report_written last
+whole_written last = λ i plate logic refusal rows. whole_text last plate logic refusal rows i
 
 -- what a report's observer writes is the report
 pub writes_report : (last : Option ℕ) (plate : PlateData) (logic : Option Logic) (log : LogOf) (answer : Result ℕ RunFault) (old new : Option (List ℕ))

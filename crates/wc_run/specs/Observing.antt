@@ -30,8 +30,12 @@ abbrev pub text_coming : Plan → PlateData → Option Logic → Past → List L
 text_coming plan plate logic past [] = []
 text_coming plan plate logic past (row ∷ rows) = plan.at_row plate logic past row ++ text_coming plan plate logic (row ∷ past) rows
 
--- what it writes in all of a log with this refusal, or with none
-abbrev pub text_in_all : Plan → PlateData → Option Logic → Option LogRefusal → List LogRow → List ℕ
+-- what is written in all of a log's rows, with the refusal behind them or with none
+abbrev pub Written : Type 0
+Written = PlateData → Option Logic → Option LogRefusal → List LogRow → List ℕ
+
+-- what is written by a plan
+abbrev pub text_in_all : Plan → Written
 text_in_all plan plate logic refusal rows = text_coming plan plate logic [] rows ++ plan.at_end plate logic rows refusal
 
 -- rows with those before them, the newest of which stands first
@@ -72,10 +76,7 @@ pub record IsShown (seen : RowSeen) (plate : PlateData) (logic : Option Logic) (
 abbrev pub logic_of : Option LoadedText → Option LoadedText → Option Logic
 logic_of first next = option_map (λ loaded. first_logic (text_view loaded.source) (text_of_next next)) first
 
--- the bytes of a program's text, and what was loaded of it
-abbrev pub bytes_of : Option Program → Option (List ℕ)
-bytes_of program = option_map (λ p. p.text.now) program
-
+-- what was loaded of a program
 abbrev pub loaded_of : Option Program → Option LoadedText
 loaded_of program = option_map (λ p. p.loaded.now) program
 

@@ -10,6 +10,7 @@ use Rattle.wc_instrument_laws.specs.WrittenLines.{without_scan_lines}
 use Rattle.wc_model.specs.Say.ProgramReport.{Logic}
 use Rattle.wc_record.specs.Told.{record_at, records_read}
 use Rattle.wc_run.specs.Logics.{run_report, run_report_last}
+use Rattle.wc_run.specs.Observing.{Written}
 use Rattle.wc_run.specs.declared.fault.RunFault.{RunFault}
 use Rattle.wc_run.specs.declared.fault.RunFault.TheVariants.{Refused, Write}
 
@@ -34,6 +35,10 @@ ReportsBy whole coming log (Err fault) old new = AppendsFirst coming log.rows ol
 abbrev pub report_printing : Option ℕ → PlateData → Option Logic → List LogRow → List ℕ
 report_printing None plate logic = run_report plate logic
 report_printing (Some number) plate logic = run_report_last number plate logic
+
+-- the same, whatever the refusal behind them
+abbrev pub report_written : Option ℕ → Written
+report_written last plate logic refusal rows = report_printing last plate logic rows
 
 -- what it writes of rows as they come: of the last scans none, so the answers alone
 abbrev pub report_coming : Option ℕ → PlateData → Option Logic → List LogRow → List ℕ

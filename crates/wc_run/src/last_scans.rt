@@ -63,8 +63,6 @@ impl<S: Store, W: ByteOut> Observer<S> for LastScans<'_, W> {
 
     ghost plan = { λ scans. last_plan scans.number };
 
-    ghost planned = { λ scans first next. last_plan scans.number };
-
     ghost is_new = { λ scans. HoldsScans scans.recorder scans.number [] };
 
     ghost has_seen = { λ scans plate logic past.

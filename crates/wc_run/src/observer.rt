@@ -5,7 +5,7 @@ ghost use Rattle.wc_model.specs.Run.Rows.{Past};
 ghost use Rattle.wc_model.specs.Say.Job.{refused_text};
 ghost use Rattle.wc_model.specs.Say.ProgramReport.{Logic};
 ghost use Rattle.wc_run.specs.Doing.{Writes};
-ghost use Rattle.wc_run.specs.Observing.{IsShown, Plan, RefusesToBegin, bytes_of, loaded_of, logic_of, onto, refusal_of, row_of};
+ghost use Rattle.wc_run.specs.Observing.{IsShown, Plan, RefusesToBegin, loaded_of, logic_of, onto, refusal_of, row_of};
 ghost use Rattle.wc_run.specs.Runs.{IsNoRefusal, TellsWrites};
 
 use crate::fault::RunFault;
@@ -20,9 +20,6 @@ use wc_store::Store;
 pub trait Observer<S: Store> {
     /// What it writes of each row, and behind the last one.
     ghost plan: { Self → Plan };
-
-    /// What that is once it has begun with these texts of a first program and a next one.
-    ghost planned: { Self → Option (List ℕ) → Option (List ℕ) → Plan };
 
     /// That it may refuse to begin.
     ghost may_refuse: { Self → Type 0 } = { λ _. ⊥ };
@@ -47,8 +44,7 @@ pub trait Observer<S: Store> {
         next: Option<Program<'_, '_>>,
     ) -> Result<(), RunFault>
         requires { is_new self.old }
-        ensures plan { OnOk result (plan self.new
-            ≡ planned self.old (bytes_of first.entry) (bytes_of next.entry)) }
+        ensures plan { plan self.new ≡ plan self.old }
         ensures seen { OnOk result ((plate : PlateData)
             → has_seen self.new plate (logic_of (loaded_of first.entry) (loaded_of next.entry)) []) }
         ensures keeps { Keeps (bytes_taken self.old) (bytes_taken self.new) }

@@ -80,8 +80,6 @@ impl<S: Store, W: ByteOut> Observer<S> for Report<'_, W> {
 
     ghost plan = { λ report. report_plan };
 
-    ghost planned = { λ report first next. report_plan };
-
     ghost has_seen = { λ report plate logic past. ⊤ };
 
     ghost bytes_taken = { λ report. W.bytes_taken report.writer.now };

@@ -146,8 +146,6 @@ impl<W: ByteOut> Observer<SlotStore> for Watch<'_, W> {
 
     ghost plan = { λ watch. silent_plan };
 
-    ghost planned = { λ watch first next. silent_plan };
-
     ghost has_seen = { λ watch plate logic past. ⊤ };
 
     ghost failure_count = { λ watch. W.failure_count watch.writer.now };

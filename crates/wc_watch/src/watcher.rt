@@ -153,8 +153,6 @@ impl<W: ByteOut> Observer<SlotStore> for Watcher<'_, '_, W> {
 
     ghost plan = { λ watcher. silent_plan };
 
-    ghost planned = { λ watcher first next. silent_plan };
-
     ghost may_refuse = { λ watcher. ⊤ };
 
     ghost has_seen = { λ watcher plate logic past. ⊤ };
