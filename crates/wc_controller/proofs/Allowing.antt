@@ -7,6 +7,7 @@ use Rattle.wc_controller.proofs.Givings.{only_refused, upto_more}
 use Rattle.wc_controller.specs.Endings.{RefusesPlate, RefusesLength, WritesUpTo}
 use Rattle.wc_controller.specs.Files.{AnswersFile, AnswersPlateFile, AnswersWithPlate, too_long, whole}
 use Rattle.wc_controller.specs.Jobs.{AllowsSections}
+use Rattle.wc_controller.specs.InputStates.{Reader}
 use Rattle.wc_controller.specs.TakenLogs.{IfKnown}
 use Rattle.wc_model.specs.Instrument.PlateTable.{plate_of}
 use Rattle.wc_model.specs.Instrument.Plates.{PlateData}
@@ -40,15 +41,14 @@ of_known None bytes P e h = tt
 of_known (Some all) bytes P e h = subst P e h
 
 -- what follows of what holds of the bytes of a reader that may be missing holds of them too
-pub known_more : {R : Type 0} (bytes_left : R → Option (List ℕ)) (reader : Option R) (P Q : Option (List ℕ) → Type 0) → ((known : Option (List ℕ)) → P known → Q known)
-    → IfKnown bytes_left reader P → IfKnown bytes_left reader Q
-known_more bytes_left None P Q f h = f None h
-known_more bytes_left (Some reader) P Q f h = on_known (bytes_left reader) (λ bytes. P (Some bytes)) (λ bytes. Q (Some bytes)) (λ bytes. f (Some bytes)) h
+pub known_more : (reader : Option Reader) (P Q : Option (List ℕ) → Type 0) → ((known : Option (List ℕ)) → P known → Q known) → IfKnown reader P → IfKnown reader Q
+known_more None P Q f h = f None h
+known_more (Some reader) P Q f h = on_known reader.bytes (λ bytes. P (Some bytes)) (λ bytes. Q (Some bytes)) (λ bytes. f (Some bytes)) h
 
 -- and what holds of whatever bytes
-pub known_each : {R : Type 0} (bytes_left : R → Option (List ℕ)) (reader : Option R) (P : Option (List ℕ) → Type 0) → ((known : Option (List ℕ)) → P known) → IfKnown bytes_left reader P
-known_each bytes_left None P f = f None
-known_each bytes_left (Some reader) P f = on_each (bytes_left reader) (λ bytes. P (Some bytes)) (λ bytes. f (Some bytes))
+pub known_each : (reader : Option Reader) (P : Option (List ℕ) → Type 0) → ((known : Option (List ℕ)) → P known) → IfKnown reader P
+known_each None P f = f None
+known_each (Some reader) P f = on_each reader.bytes (λ bytes. P (Some bytes)) (λ bytes. f (Some bytes))
 
 -- a plate that stands, and what is allowed of the programs
 pub sections_run : (sections : Sections) (plate : PlateData) → plate_of (table_read sections.plate) ≡ Ok plate →

@@ -1,12 +1,13 @@
 -- A refusal names the input that breaks the rule.
-use Rattle.std.proofs.Common.{◌≡◌, ℕ, ◌≤◌, List, length, Result, Ok, Err, refl, ap, sym, ◌∙◌, subst, inr}
+use Rattle.std.proofs.Common.{◌≡◌, ℕ, ◌≤◌, List, length, Result, Ok, Err, refl, sym, ◌∙◌, subst, inr}
 use Rattle.std.specs.Prelude.{Option, Some, None, IfErr, IfSome, IsSome, is_some}
-use Rattle.wc_controller.proofs.Allowing.{on_known}
+use Rattle.wc_controller.proofs.Allowing.{of_known, on_known}
 use Rattle.wc_controller.specs.Blames.{Blames, IsNextUnloaded, IsUnloaded, RefusesLog, RefusesProgram, RefusesText, StopsFor}
-use Rattle.wc_controller.specs.Endings.{EndsBehind, EndsBehindFault, EndsRefused, HasNotFailedAt, IsReadFaultAt, StopsAt, TellsMemory, met, of_refused_log, of_unread_log, run_fault_of}
+use Rattle.wc_controller.specs.Endings.{EndsBehind, EndsBehindFault, EndsRefused, TellsMemory, of_refused_log, of_unread_log, run_fault_of}
 use Rattle.wc_controller.specs.Loads.{IsRefusedLoad}
 use Rattle.wc_model.specs.declared.fault.Fault.{Fault}
 use Rattle.wc_model.specs.declared.fault.Fault.TheVariants as fault
+use Rattle.wc_controller.specs.InputStates.{Reader}
 use Rattle.wc_controller.specs.TakenLogs.{AreReadOf, IsNextLoadedOf, known_of, log_beside}
 use Rattle.wc_cost.specs.LoadedTexts.{LoadedText}
 use Rattle.wc_controller.specs.declared.ending.Ending.{Ending}
@@ -24,7 +25,7 @@ use Rattle.wc_model.specs.Say.ProgramReport.{Logic, first_logic}
 use Rattle.wc_record.specs.Reading.{records_of}
 use Rattle.wc_record.specs.Told.{records_read}
 use Rattle.wc_run.specs.Logics.{text_of_next}
-use Rattle.wc_run.specs.Runs.{HasNotFailed, Reports, TellsFault}
+use Rattle.wc_run.specs.Runs.{Reports, TellsFault}
 use Rattle.wc_run.specs.declared.fault.RunFault.{RunFault}
 use Rattle.wc_run.specs.declared.fault.RunFault.TheVariants.{Refused, Memory}
 
@@ -69,19 +70,19 @@ program_read at (Err stopped) None bytes is h = λ e. tt
 program_read at (Err stopped) (Some all) bytes is h = λ e. subst (λ those. RefusesProgram those stopped.fault) is.1 (text_in_file bytes stopped.fault is.0 (h e))
 
 -- so of a next program
-pub next_read : {R X : Type 0} (bytes_left : R → Option (List ℕ)) (next : Option R) (held : Option (List ℕ)) (result : Result X Stopped) → AreReadOf bytes_left next held
-    → IfErr result (λ stopped. stopped.input ≡ input.Next → IsNextUnloaded held stopped.fault) → StopsFor input.Next RefusesProgram (known_of bytes_left next) result
-next_read bytes_left next held (Ok done) is h = tt
-next_read bytes_left None held (Err stopped) is h = λ e. tt
-next_read bytes_left (Some reader) None (Err stopped) is h = absurd is
-next_read bytes_left (Some reader) (Some bytes) (Err stopped) is h = program_read {X = Unit {0}} input.Next (Err stopped) (bytes_left reader) bytes is (λ e. text_refused bytes stopped.fault (h e))
+pub next_read : (next : Option Reader) (held : Option (List ℕ)) (why : RunFault) → AreReadOf next held → IsNextUnloaded held why
+    → IfSome (known_of next) (λ bytes. RefusesProgram bytes why)
+next_read None None why is h = absurd h
+next_read None (Some bytes) why is h = absurd is
+next_read (Some reader) None why is h = absurd is
+next_read (Some reader) (Some bytes) why is h = of_known reader.bytes bytes (λ all. RefusesProgram all why) is.1 (text_in_file bytes why is.0 (text_refused bytes why h))
 
 -- there is a next program where its bytes were read
-pub same_next : {R : Type 0} (bytes_left : R → Option (List ℕ)) (next : Option R) (held : Option (List ℕ)) → AreReadOf bytes_left next held → is_some held ≡ is_some next
-same_next bytes_left None None is = refl
-same_next bytes_left None (Some bytes) is = absurd is
-same_next bytes_left (Some reader) None is = absurd is
-same_next bytes_left (Some reader) (Some bytes) is = refl
+pub same_next : (next : Option Reader) (held : Option (List ℕ)) → AreReadOf next held → is_some held ≡ is_some next
+same_next None None is = refl
+same_next None (Some bytes) is = absurd is
+same_next (Some reader) None is = absurd is
+same_next (Some reader) (Some bytes) is = refl
 
 -- why a text is not loaded, as the fault of a command
 pub not_loaded_why : (bytes : List ℕ) (why : Fault) → IsRefusedLoad bytes why → IsUnloaded bytes (run_fault_of why)
@@ -119,7 +120,7 @@ log_has_refusal taken told bytes number place e = subst (λ refusal. IsSome refu
 
 module _ (taken : List ℕ → LogOf) (told : Record) (known : Option (List ℕ)) (before failures start spent : ℕ) where
   -- memory was wanted for the line of a refusal
-  behind_refusal : (at : Input) (number place : ℕ) → (at ≡ input.Plate → spent ≡ start) → (at ≡ input.Program → spent ≡ start) → (at ≡ input.Next → spent ≡ start)
+  pub behind_refusal : (at : Input) (number place : ℕ) → (at ≡ input.Plate → spent ≡ start) → (at ≡ input.Program → spent ≡ start) → (at ≡ input.Next → spent ≡ start)
       → (at ≡ input.Job → ⊥) → (at ≡ input.Log → IfSome known (λ bytes. RefusesLog taken told bytes (Refused number place)))
       → (at ≡ input.Log → failures ≤ before) → TellsMemory taken known before failures start spent
   behind_refusal input.Job number place plate program next job log well = absurd (job refl)
@@ -129,22 +130,6 @@ module _ (taken : List ℕ → LogOf) (told : Record) (known : Option (List ℕ)
   behind_refusal input.Log number place plate program next job log well =
       of_refused_log (on_known known (λ bytes. RefusesLog taken told bytes (Refused number place)) (λ bytes. IsSome (taken bytes).refusal)
       (λ bytes e. log_has_refusal taken told bytes number place e) (log refl)) (well refl)
-
-  -- an ending that tells want of memory comes of it, or of a refusal
-  pub memory_told : {X : Type 0} (answer : Result X Stopped) (ending : Ending) (old new : Option (List ℕ)) → EndsBehind answer ending old new
-      → (met answer ≡ Some Memory → TellsMemory taken known before failures start spent) → (StopsAt input.Plate answer → spent ≡ start)
-      → (StopsAt input.Program answer → spent ≡ start) → (StopsAt input.Next answer → spent ≡ start) → (StopsAt input.Job answer → ⊥) → StopsFor input.Log (RefusesLog taken told) known answer
-      → HasNotFailedAt input.Log answer before failures → ending ≡ ended.NoMemory → TellsMemory taken known before failures start spent
-  memory_told (Ok done) ending old new k memory plate program next job log well e = absurd (cc (sym k.0 ∙ e))
-  memory_told (Err stopped) ending old new k memory plate program next job log well e = by_fault stopped.fault refl k where
-    by_fault : (why : RunFault) → stopped.fault ≡ why → EndsBehindFault stopped.input why ending old new → TellsMemory taken known before failures start spent
-    by_fault (Refused number place) same h =
-        behind_refusal stopped.input number place plate program next job
-        (λ at. on_known known (λ bytes. RefusesLog taken told bytes stopped.fault) (λ bytes. RefusesLog taken told bytes (Refused number place))
-        (λ bytes r. subst (λ one. RefusesLog taken told bytes one) same r) (log at))
-        (λ at. subst (λ one. HasNotFailed (Err one) before failures) same (well at))
-    by_fault Memory same h = memory (ap Some same)
-    by_fault why same h = absurd (cc (sym h.0 ∙ e))
 
 -- they are one input
 abbrev pub IsOne : Input → Input → Type 0
@@ -165,13 +150,3 @@ is_one input.Log = tt
 -- what stopped at one input did not stop at another
 pub one_input : (one other at : Input) → at ≡ one → at ≡ other → IsOne one other
 one_input one other at first second = subst (λ i. IsOne i other) (sym second ∙ first) (is_one other)
-
--- what did not stop at an input blames it for nothing
-pub not_blamed : {X : Type 0} (at : Input) (refuses : List ℕ → RunFault → Type 0) (known : Option (List ℕ)) (answer : Result X Stopped) → (StopsAt at answer → ⊥) → StopsFor at refuses known answer
-not_blamed at refuses known (Ok done) other = tt
-not_blamed at refuses known (Err stopped) other = λ same. absurd (other same)
-
--- nor is it a read fault of that input
-pub not_unread : {X : Type 0} (at : Input) (answer : Result X Stopped) → (StopsAt at answer → ⊥) → IsReadFaultAt at answer → ⊥
-not_unread at (Ok done) other fault = fault
-not_unread at (Err stopped) other fault = other fault.0

@@ -8,4 +8,7 @@ pub mod FileRuns
 pub mod Blaming
 pub mod BlamingParts
 pub mod Settled
+pub mod StoppedInputs
+pub mod RunSteps
 pub mod ShownEndings
+pub mod EndedRuns

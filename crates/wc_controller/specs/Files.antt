@@ -54,6 +54,10 @@ AnswersText last plate program next log answer =
 abbrev pub line_answer : PlateData → LogOf → JobAnswer
 line_answer plate log = behind_report (line_report plate log.rows) log.refusal
 
+-- so it is answered with no program
+abbrev pub IsLineAnswer : PlateData → LogOf → JobAnswer → Type 0
+IsLineAnswer plate log answer = answer ≡ line_answer plate log
+
 -- the refusal of a text, or the report of its units
 pub data AnswersCheck (paths : Bool) (program : List ℕ) (answer : JobAnswer) : Type 0 where
   refuses_text : (number line : ℕ) → IsRefused program number line → answer ≡ refusing number line → AnswersCheck paths program answer
@@ -67,7 +71,7 @@ AnswersRun last plate program next log answer =
 
 -- a run of a log with no program
 abbrev pub AnswersLine : List ℕ → List ℕ → JobAnswer → Type 0
-AnswersLine plate log answer = AnswersWithPlate plate (λ read line. line ≡ line_answer read (log_of (records_of log))) answer
+AnswersLine plate log answer = AnswersWithPlate plate (λ read. IsLineAnswer read (log_of (records_of log))) answer
 
 -- a check of a program
 abbrev pub AnswersCheckFile : Bool → List ℕ → JobAnswer → Type 0

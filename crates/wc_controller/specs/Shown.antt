@@ -1,11 +1,11 @@
 -- How a run ends that is shown: beside its report something else is written, or in place of it. (The
 -- profile's own.)
-use Rattle.std.specs.Prelude.{◌≡◌, ◌⊎◌, ℕ, List, Option, IfSome}
+use Rattle.std.specs.Prelude.{◌≡◌, ◌⊎◌, ℕ}
 use Rattle.wc_controller.specs.Endings.{IsEndingOf, IsFailing}
-use Rattle.wc_controller.specs.Files.{AnswersLine, AnswersRun}
-use Rattle.wc_controller.specs.TakenLogs.{IfKnown}
 use Rattle.wc_controller.specs.declared.ending.Ending.{Ending}
 use Rattle.wc_controller.specs.declared.ending.Ending.TheVariants as ended
+use Rattle.wc_controller.specs.declared.input.Input.{Input}
+use Rattle.wc_model.specs.Run.Writing.{HasFailedSince}
 use Rattle.wc_model.specs.Say.Job.{JobAnswer}
 
 -- with a fault of a write, or for want of memory
@@ -22,13 +22,7 @@ abbrev pub EndsLike : (JobAnswer → Type 0) → Ending → Type 0
 EndsLike allowed ending =
     IsFailing ending ⊎ ((answer : JobAnswer) × (allowed answer × IsEndingOf answer ending))
 
--- the same of a run with a program and a next one or none, where the bytes of all of them are known
-abbrev pub EndsLikeRun : {R : Type 0} → Option ℕ → Option (List ℕ) → Option (List ℕ) → (R → Option (List ℕ)) → Option R → Option (List ℕ) → Ending → Type 0
-EndsLikeRun last plate program bytes_left next log ending =
-    IfSome plate (λ table. IfSome program (λ text. IfKnown bytes_left next (λ known. IfSome log
-    (λ bytes. EndsLike (AnswersRun last table text known bytes) ending))))
-
--- and of a run with no program
-abbrev pub EndsLikeLine : Option (List ℕ) → Option (List ℕ) → Ending → Type 0
-EndsLikeLine plate log ending =
-    IfSome plate (λ table. IfSome log (λ bytes. EndsLike (AnswersLine table bytes) ending))
+-- a read fault of this input is told only where its reader failed; and where it failed, but for a fault of what is shown
+abbrev pub TellsShownReads : Input → Ending → ℕ → ℕ → Type 0
+TellsShownReads input ending old new =
+    (ending ≡ ended.ReadFault input → HasFailedSince old new) × ((ending ≡ ended.ReadFault input → ⊥) → (IsFaulty ending → ⊥) → new ≡ old)

@@ -1,6 +1,7 @@
 -- The log as a command takes it, and the inputs that it may go without. (The profile's own.)
-use Rattle.std.specs.Prelude.{⊤, Bool, ℕ, List, Option, Some, None, IfSome, Result}
+use Rattle.std.specs.Prelude.{⊤, Bool, true, false, ℕ, List, Option, Some, None, IfSome, Result, is_some}
 use Rattle.wc_controller.specs.Endings.{StopsAt}
+use Rattle.wc_controller.specs.InputStates.{InputStates, Reader}
 use Rattle.wc_controller.specs.declared.input.Input.TheVariants as input
 use Rattle.wc_controller.specs.declared.input.Stopped.{Stopped}
 use Rattle.wc_cost.specs.LoadedTexts.{LoadedText}
@@ -19,27 +20,36 @@ log_alone bytes = log_of (records_of bytes)
 abbrev pub log_beside : Bool → List ℕ → LogOf
 log_beside left bytes = log_while left (log_of (records_of bytes)).rows (log_of (records_of bytes)).refusal
 
--- what is known of the bytes of a reader that may be missing
-abbrev pub known_of : {R : Type 0} → (R → Option (List ℕ)) → Option R → Option (List ℕ)
-known_of bytes_left None = None
-known_of bytes_left (Some reader) = bytes_left reader
+-- beside a program, with a next one or none, or alone
+abbrev pub log_with : Bool → Bool → List ℕ → LogOf
+log_with true left bytes = log_beside left bytes
+log_with false left bytes = log_alone bytes
 
--- a count of such a reader, 0 where there is none
-abbrev pub count_of : {R : Type 0} → (R → ℕ) → Option R → ℕ
-count_of count None = 0
-count_of count (Some reader) = count reader
+-- as a run of these inputs takes it
+abbrev pub log_taken : InputStates → List ℕ → LogOf
+log_taken inputs = log_with (is_some inputs.program) (is_some inputs.next)
+
+-- what is known of the bytes of a reader that may be missing
+abbrev pub known_of : Option Reader → Option (List ℕ)
+known_of None = None
+known_of (Some reader) = reader.bytes
+
+-- the calls of such a reader that failed, 0 where there is none
+abbrev pub failures_of : Option Reader → ℕ
+failures_of None = 0
+failures_of (Some reader) = reader.failures
 
 -- this holds of the bytes of such a reader, where they are known, or of none
-abbrev pub IfKnown : {R : Type 0} → (R → Option (List ℕ)) → Option R → (Option (List ℕ) → Type 0) → Type 0
-IfKnown bytes_left None holds = holds None
-IfKnown bytes_left (Some reader) holds = IfSome (bytes_left reader) (λ bytes. holds (Some bytes))
+abbrev pub IfKnown : Option Reader → (Option (List ℕ) → Type 0) → Type 0
+IfKnown None holds = holds None
+IfKnown (Some reader) holds = IfSome reader.bytes (λ bytes. holds (Some bytes))
 
 -- these are all bytes of such a reader, no more than may be read, or none where there is none
-abbrev pub AreReadOf : {R : Type 0} → (R → Option (List ℕ)) → Option R → Option (List ℕ) → Type 0
-AreReadOf bytes_left None None = ⊤
-AreReadOf bytes_left None (Some bytes) = ⊥
-AreReadOf bytes_left (Some reader) None = ⊥
-AreReadOf bytes_left (Some reader) (Some bytes) = IsWhole (bytes_left reader) bytes
+abbrev pub AreReadOf : Option Reader → Option (List ℕ) → Type 0
+AreReadOf None None = ⊤
+AreReadOf None (Some bytes) = ⊥
+AreReadOf (Some reader) None = ⊥
+AreReadOf (Some reader) (Some bytes) = IsWhole reader.bytes bytes
 
 -- the next text is loaded from its bytes, where there is one
 abbrev pub IsNextLoadedOf : Option (List ℕ) → Option LoadedText → Type 0

@@ -100,7 +100,10 @@ pub fn end<W: ByteOut>(alloc: Global, answer: Result<(), Stopped>, writer: &mut 
 
 /// How a run ends that is shown: the line of a refusal is written behind what was shown.
 pub fn end_shown<W: ByteOut>(alloc: Global, ending: Ending, writer: &mut W) -> Ending
-    ensures { IsEndedBy ending result }
+    ensures ends { IsEndedBy ending result }
+    ensures failures { (before : ℕ)
+        → TellsFailures ending before (W.failure_count writer.old)
+        → TellsFailures result before (W.failure_count writer.new) }
 {
     match ending {
         Ending::Refused {

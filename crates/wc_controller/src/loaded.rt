@@ -2,6 +2,7 @@ ghost use Rattle.std.specs.Prelude.{◌≡◌, ◌≤◌, ℕ, Some, None, IfErr
 ghost use Rattle.wc_controller.specs.Blames.{IsNextUnloaded, IsUnloaded, RefusesLog, StopsFor};
 ghost use Rattle.wc_controller.specs.Endings.{HasNotFailedAt, IsReadFaultAt, StopsAt, TellsMemory, TellsWriteFaults, WritesUpTo, met};
 ghost use Rattle.wc_controller.specs.Files.{AnswersPrinting};
+ghost use Rattle.wc_controller.specs.InputStates.{reader_of};
 ghost use Rattle.wc_controller.specs.TakenLogs.{IsLater, IsNextLoadedOf, log_beside};
 ghost use Rattle.wc_model.specs.Language.Loading.{IsLoaded};
 ghost use Rattle.wc_model.specs.Language.Views.{text_view};
@@ -103,7 +104,8 @@ pub(crate) fn run_loaded<'a, V: Scanner<SlotStore>, L: ByteIn, W: ByteOut>(
         (RefusesLog (log_beside (is_some (option_map (λ text. text.now) text.entry)))
         (fields_told told.new)) (L.bytes_left log.old) result }
     ensures unread { StopsAt Input.Next result
-        → L.spent_count log.new ≡ L.spent_count log.old }
+        → reader_of L.bytes_left L.failure_count L.spent_count log.new
+        ≡ reader_of L.bytes_left L.failure_count L.spent_count log.old }
     ensures later { IsLater result }
     ensures held { ¬ IsReadFaultAt Input.Next result }
     ensures read { IsReadFaultAt Input.Log result

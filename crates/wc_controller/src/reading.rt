@@ -1,7 +1,8 @@
 ghost use Rattle.std.specs.Prelude.{◌≡◌, ℕ, IfErr, IfOk, IfSome, IsSome, option_map};
 ghost use Rattle.wc_controller.specs.Endings.{ReadsPlate, RefusesLength, TakesInput, TellsReadFaults, TellsWriteFaults, met};
 ghost use Rattle.wc_controller.specs.Endings as endings;
-ghost use Rattle.wc_controller.specs.TakenLogs.{AreReadOf, count_of, known_of};
+ghost use Rattle.wc_controller.specs.InputStates.{optional_of};
+ghost use Rattle.wc_controller.specs.TakenLogs.{AreReadOf, failures_of, known_of};
 ghost use Rattle.wc_job.specs.Reads.{IsWhole};
 
 use crate::input::{Input, Stopped};
@@ -58,23 +59,31 @@ pub fn read_input<R: ByteIn>(
     }
 }
 
-/// All bytes of the next program, if there is one.
-pub(crate) fn read_next<N: ByteIn>(
+/// All bytes of an input that may be missing, at most 1048576.
+pub(crate) fn read_optional<R: ByteIn>(
     alloc: Global,
-    next: &mut Option<N>,
+    input: Input,
+    reader: &mut Option<R>,
 ) -> Result<Option<Vec<u8>>, Stopped>
     ensures whole { IfOk result
-        (λ text. AreReadOf N.bytes_left next.old (option_map (λ held. held.items) text)) }
+        (λ text. AreReadOf
+        (optional_of R.bytes_left R.failure_count R.spent_count reader.old)
+        (option_map (λ held. held.items) text)) }
     ensures too_long { IfErr result
-        (λ stopped. RefusesLength (known_of N.bytes_left next.old) stopped.fault) }
-    ensures there { IfErr result (λ stopped. IsSome next.old) }
-    ensures input { IfErr result (λ stopped. stopped.input ≡ Input.Next) }
-    ensures failures { TellsReadFaults Input.Next result (count_of N.failure_count next.old)
-        (count_of N.failure_count next.new) }
-    ensures taken { TakesInput (known_of N.bytes_left next.old) (known_of N.bytes_left next.new) }
+        (λ stopped. RefusesLength (known_of
+        (optional_of R.bytes_left R.failure_count R.spent_count reader.old)) stopped.fault) }
+    ensures there { IfErr result (λ stopped. IsSome
+        (optional_of R.bytes_left R.failure_count R.spent_count reader.old)) }
+    ensures input { IfErr result (λ stopped. stopped.input ≡ input) }
+    ensures failures { TellsReadFaults input result
+        (failures_of (optional_of R.bytes_left R.failure_count R.spent_count reader.old))
+        (failures_of (optional_of R.bytes_left R.failure_count R.spent_count reader.new)) }
+    ensures taken { TakesInput
+        (known_of (optional_of R.bytes_left R.failure_count R.spent_count reader.old))
+        (known_of (optional_of R.bytes_left R.failure_count R.spent_count reader.new)) }
 {
-    match next {
-        Some(reader) => match read_input(alloc, Input::Next, reader) {
+    match reader {
+        Some(reader) => match read_input(alloc, input, reader) {
             Ok(text) => Ok(Some(text)),
             Err(stopped) => Err(stopped),
         },

@@ -1,11 +1,6 @@
-ghost use Rattle.std.specs.Prelude.{◌≡◌, ◌≤◌, ◌+◌, length, IfErr, IfOk, IfSome, is_some};
-ghost use Rattle.wc_controller.specs.Blames.{Blames, RefusesLog, RefusesProgram};
-ghost use Rattle.wc_controller.specs.Endings.{IsAt, RefusesPlate};
-ghost use Rattle.wc_controller.specs.Shown.{EndsLikeRun, IsEndedBy, IsFaulty};
-ghost use Rattle.wc_controller.specs.TakenLogs.{count_of, known_of, log_beside};
-ghost use Rattle.wc_job.specs.Reads.{TakesAtMost};
-ghost use Rattle.wc_model.specs.Run.JobSections.{longest_job};
-ghost use Rattle.wc_record.specs.Left.{HasCause};
+ghost use Rattle.std.specs.Prelude.{◌≡◌, ◌≤◌, ◌+◌, length, IfErr, IfOk, IfSome};
+ghost use Rattle.wc_controller.specs.InputRuns.{ShowsRun, TakesInputs};
+ghost use Rattle.wc_controller.specs.Shown.{IsEndedBy, IsFaulty};
 ghost use Rattle.wc_record.specs.Told.{fields_told};
 
 use crate::lines::Lines;
@@ -14,7 +9,7 @@ use crate::watcher::{WatchFault, Watcher};
 use crate::weaving::Weaving;
 use std::alloc::Global;
 use std::cell::RefCell;
-use wc_controller::{Ending, Input, RefusedRow, run_files};
+use wc_controller::{Ending, RefusedRow, RunInputs, run_files};
 use wc_model::{ByteIn, ByteOut, write_whole};
 use wc_report::refused_line;
 
@@ -33,57 +28,16 @@ fn run_woven<P: ByteIn, T: ByteIn, N: ByteIn, L: ByteIn, W: ByteOut, B: ByteOut>
     last: Option<u16>,
     watcher: &mut Watcher<'_>,
     lines: &RefCell<Lines>,
-    plate: &mut P,
-    program: &mut T,
-    next: &mut Option<N>,
-    log: &mut L,
+    inputs: &mut RunInputs<P, T, N, L>,
     writer: &mut W,
     beside: &mut B,
     told: &mut RefusedRow,
 ) -> (Ending, bool)
     requires few { IfSome last (λ n. (1 ≤ n) × (n ≤ 1000)) }
-    ensures ends { EndsLikeRun last (P.bytes_left plate.old) (T.bytes_left program.old)
-        N.bytes_left next.old (L.bytes_left log.old) result.0 }
-    ensures blames_plate { Blames Input.Plate RefusesPlate (P.bytes_left plate.old) result.0 }
-    ensures blames_program { Blames Input.Program RefusesProgram
-        (T.bytes_left program.old) result.0 }
-    ensures blames_next { Blames Input.Next RefusesProgram (known_of N.bytes_left next.old)
-        result.0 }
-    ensures blames_log { Blames Input.Log
-        (RefusesLog (log_beside (is_some next.old)) (fields_told told.new))
-        (L.bytes_left log.old) result.0 }
-    ensures own { ¬ IsAt Input.Job result.0 }
-    ensures unread { IsAt Input.Next result.0
-        → L.spent_count log.new ≡ L.spent_count log.old }
-    ensures unread_behind_program { IsAt Input.Program result.0
-        → (count_of N.spent_count next.new ≡ count_of N.spent_count next.old)
-        × (L.spent_count log.new ≡ L.spent_count log.old) }
-    ensures unread_behind_plate { IsAt Input.Plate result.0
-        → (T.spent_count program.new ≡ T.spent_count program.old)
-        × (count_of N.spent_count next.new ≡ count_of N.spent_count next.old)
-        × (L.spent_count log.new ≡ L.spent_count log.old) }
-    ensures log { result.0 ≡ Ending.ReadFault Input.Log
-        → HasCause (L.failure_count log.old) (L.failure_count log.new)
-        (L.spent_count log.old) (L.spent_count log.new) }
-    ensures taken_plate { TakesAtMost (longest_job + 1) (P.bytes_left plate.old)
-        (P.bytes_left plate.new) }
-    ensures taken_program { TakesAtMost (longest_job + 1) (T.bytes_left program.old)
-        (T.bytes_left program.new) }
-    ensures taken_next { TakesAtMost (longest_job + 1) (known_of N.bytes_left next.old)
-        (known_of N.bytes_left next.new) }
+    ensures { ShowsRun last inputs.old inputs.new (fields_told told.new) result.0 }
 {
     let mut weaving = Weaving::new(writer, beside, lines);
-    let ending = run_files(
-        alloc,
-        last,
-        watcher,
-        plate,
-        program,
-        next,
-        log,
-        &mut weaving,
-        told,
-    );
+    let ending = run_files(alloc, last, watcher, inputs, &mut weaving, told);
     let has_failed = weaving.has_failed();
     drop(weaving);
     (ending, has_failed)
@@ -144,10 +98,7 @@ pub fn watch_files<P: ByteIn, T: ByteIn, N: ByteIn, L: ByteIn, W: ByteOut, B: By
     alloc: Global,
     names: &[u8],
     last: Option<u16>,
-    plate: &mut P,
-    program: &mut T,
-    next: &mut Option<N>,
-    log: &mut L,
+    inputs: &mut RunInputs<P, T, N, L>,
     writer: &mut W,
     beside: &mut B,
     told: &mut RefusedRow,
@@ -155,55 +106,27 @@ pub fn watch_files<P: ByteIn, T: ByteIn, N: ByteIn, L: ByteIn, W: ByteOut, B: By
     requires few { IfSome last (λ n. (1 ≤ n) × (n ≤ 1000)) }
     // A name is refused before the log is read.
     ensures unknown { IfErr result (λ name. (name.start + name.length ≤ length names.now)
-        × (L.spent_count log.new ≡ L.spent_count log.old)) }
+        × (inputs.new.log.spent ≡ inputs.old.log.spent)) }
     // Else it ends as a run of these inputs does, or something failed.
-    ensures ends { IfOk result (λ ending. EndsLikeRun last (P.bytes_left plate.old)
-        (T.bytes_left program.old) N.bytes_left next.old (L.bytes_left log.old) ending) }
-    // The input that a refusal names is the one that breaks the rule.
-    ensures blames_plate { IfOk result
-        (λ ending. Blames Input.Plate RefusesPlate (P.bytes_left plate.old) ending) }
-    ensures blames_program { IfOk result (λ ending. Blames Input.Program RefusesProgram
-        (T.bytes_left program.old) ending) }
-    ensures blames_next { IfOk result
-        (λ ending. Blames Input.Next RefusesProgram (known_of N.bytes_left next.old)
-        ending) }
-    ensures blames_log { IfOk result (λ ending. Blames Input.Log
-        (RefusesLog (log_beside (is_some next.old)) (fields_told told.new))
-        (L.bytes_left log.old) ending) }
-    // A run has no job: what it names is one of its inputs.
-    ensures own { IfOk result (λ ending. ¬ IsAt Input.Job ending) }
-    ensures unread { IfOk result (λ ending. IsAt Input.Next ending
-        → L.spent_count log.new ≡ L.spent_count log.old) }
-    ensures unread_behind_program { IfOk result (λ ending. IsAt Input.Program ending
-        → (count_of N.spent_count next.new ≡ count_of N.spent_count next.old)
-        × (L.spent_count log.new ≡ L.spent_count log.old)) }
-    ensures unread_behind_plate { IfOk result (λ ending. IsAt Input.Plate ending
-        → (T.spent_count program.new ≡ T.spent_count program.old)
-        × (count_of N.spent_count next.new ≡ count_of N.spent_count next.old)
-        × (L.spent_count log.new ≡ L.spent_count log.old)) }
-    ensures log { IfOk result (λ ending. ending ≡ Ending.ReadFault Input.Log
-        → HasCause (L.failure_count log.old) (L.failure_count log.new)
-        (L.spent_count log.old) (L.spent_count log.new)) }
-    // It reads no further than the byte that makes a plate or a program too long.
-    ensures taken_plate { TakesAtMost (longest_job + 1) (P.bytes_left plate.old)
-        (P.bytes_left plate.new) }
-    ensures taken_program { TakesAtMost (longest_job + 1) (T.bytes_left program.old)
-        (T.bytes_left program.new) }
-    ensures taken_next { TakesAtMost (longest_job + 1) (known_of N.bytes_left next.old)
-        (known_of N.bytes_left next.new) }
+    ensures shows { IfOk result
+        (λ ending. ShowsRun last inputs.old inputs.new (fields_told told.new) ending) }
+    ensures taken { TakesInputs inputs.old inputs.new }
 {
     let lines = RefCell::new(Lines::new(alloc));
-    let mut watcher = Watcher::new(alloc, names, &lines, lines_kept(last), next.is_some());
-    let before = log.spent();
+    let mut watcher = Watcher::new(
+        alloc,
+        names,
+        &lines,
+        lines_kept(last),
+        inputs.next.is_some(),
+    );
+    let before = inputs.log.spent();
     let (ending, has_failed) = run_woven(
         alloc,
         last,
         &mut watcher,
         &lines,
-        plate,
-        program,
-        next,
-        log,
+        inputs,
         writer,
         beside,
         told,
@@ -211,7 +134,7 @@ pub fn watch_files<P: ByteIn, T: ByteIn, N: ByteIn, L: ByteIn, W: ByteOut, B: By
     let fault = watcher.fault();
     drop(watcher);
     match unknown_in(fault) {
-        Some(index) if log.spent() == before => refuse(alloc, name_at(names, index), writer),
+        Some(index) if inputs.log.spent() == before => refuse(alloc, name_at(names, index), writer),
         _ => Ok(end_watched(ending, fault, has_failed)),
     }
 }

@@ -1,0 +1,92 @@
+-- How a run ends once the line of a refusal is written.
+use Rattle.std.proofs.Common.{◌≡◌, List, ℕ, Ok, Err, inl, inr, refl, ap, ◌∙◌, sym, arith}
+use Rattle.std.specs.Prelude.{Option, Result}
+use Rattle.wc_controller.proofs.Blaming.{behind_refusal}
+use Rattle.wc_controller.proofs.Givings.{ends}
+use Rattle.wc_controller.proofs.ShownEndings.{answers_more, faulty_untold, inputs_shown, refused_shown}
+use Rattle.wc_controller.specs.Endings.{EndsAs, EndsBehind, EndsBehindFault, TellsFailures, TellsMemory, TellsReadEndings, WritesUpTo, ending_of, fault_ending, met, status_of}
+use Rattle.wc_controller.specs.InputRuns.{ReadsInOrder, RunsAs, RunsUpTo}
+use Rattle.wc_controller.specs.InputStates.{InputStates, Reader, Writer}
+use Rattle.wc_controller.specs.Shown.{IsEndedBy}
+use Rattle.wc_controller.specs.TakenLogs.{log_taken}
+use Rattle.wc_controller.specs.declared.ending.Ending.{Ending}
+use Rattle.wc_controller.specs.declared.ending.Ending.TheVariants as ended
+use Rattle.wc_controller.specs.declared.input.Input.{Input}
+use Rattle.wc_controller.specs.declared.input.Input.TheVariants as input
+use Rattle.wc_controller.specs.declared.input.Stopped.{Stopped}
+use Rattle.wc_model.specs.Run.Log.{Record}
+use Rattle.wc_run.specs.declared.fault.RunFault.{RunFault}
+use Rattle.wc_run.specs.declared.fault.RunFault.TheVariants.{Refused, Read, Write, Memory}
+
+-- it ends as it stopped, or with a fault of the refusal's line
+fault_ended : (at : Input) (why : RunFault) (ending : Ending) (old new : Option (List ℕ)) → EndsBehindFault at why ending old new → IsEndedBy (fault_ending at why) ending
+fault_ended at (Refused number place) ending old new k = refused_shown at number place ending old new k
+fault_ended at Read ending old new k = inl k.0
+fault_ended at Write ending old new k = inl k.0
+fault_ended at Memory ending old new k = inl k.0
+
+ended_by : (answer : Result (Unit {0}) Stopped) (ending : Ending) (old new : Option (List ℕ)) → EndsBehind answer ending old new → IsEndedBy (ending_of answer) ending
+ended_by (Ok done) ending old new k = inl k.0
+ended_by (Err stopped) ending old new k = fault_ended stopped.input stopped.fault ending old new k
+
+-- a read fault stays one
+fault_stays : (at other : Input) (why : RunFault) (ending : Ending) (old new : Option (List ℕ)) → EndsBehindFault at why ending old new
+    → fault_ending at why ≡ ended.ReadFault other → ending ≡ ended.ReadFault other
+fault_stays at other (Refused number place) ending old new k e = absurd (omega (arith, ap status_of e))
+fault_stays at other Read ending old new k e = k.0 ∙ e
+fault_stays at other Write ending old new k e = k.0 ∙ e
+fault_stays at other Memory ending old new k e = k.0 ∙ e
+
+read_stays : (answer : Result (Unit {0}) Stopped) (other : Input) (ending : Ending) (old new : Option (List ℕ)) → EndsBehind answer ending old new
+    → ending_of answer ≡ ended.ReadFault other → ending ≡ ended.ReadFault other
+read_stays (Ok done) other ending old new k e = k.0 ∙ e
+read_stays (Err stopped) other ending old new k e = fault_stays stopped.input other stopped.fault ending old new k e
+
+-- and none comes behind
+read_came : (other : Input) (ran ending : Ending) → IsEndedBy ran ending → ending ≡ ended.ReadFault other → ran ≡ ended.ReadFault other
+read_came other ran ending by e = came by where
+  came : IsEndedBy ran ending → ran ≡ ended.ReadFault other
+  came (inl same) = sym same ∙ e
+  came (inr faulty) = absurd (faulty_untold other ending faulty e)
+
+reads_ended : (answer : Result (Unit {0}) Stopped) (other : Input) (ending : Ending) (old new : Option (List ℕ)) (before after : ℕ) → EndsBehind answer ending old new
+    → TellsReadEndings other (ending_of answer) before after → TellsReadEndings other ending before after
+reads_ended answer other ending old new before after k h =
+    (λ e. h.0 (read_came other (ending_of answer) ending (ended_by answer ending old new k) e), λ no. h.1 (λ e. no (read_stays answer other ending old new k e)))
+
+module _ (before after : InputStates) (told : Record) where
+  abbrev pub TellsLog : Type 0
+  TellsLog = TellsMemory (log_taken before) before.log.bytes before.log.failures after.log.failures before.log.spent after.log.spent
+
+  -- want of memory comes of it, or of the line of a refusal
+  memory_behind : (at : Input) (why : RunFault) (ending : Ending) (old new : Option (List ℕ)) → EndsBehindFault at why ending old new
+      → ReadsInOrder before after told (fault_ending at why) → (fault_ending at why ≡ ended.NoMemory → TellsLog) → ending ≡ ended.NoMemory → TellsLog
+  memory_behind at (Refused number place) ending old new k h memory e =
+      behind_refusal (log_taken before) told before.log.bytes before.log.failures after.log.failures before.log.spent after.log.spent at number place
+      (λ is. ap (λ (log : Reader). log.spent) ((h.unread_behind_plate is).2)) (λ is. ap (λ (log : Reader). log.spent) ((h.unread_behind_program is).1))
+      (λ is. ap (λ (log : Reader). log.spent) (h.unread_behind_next is)) h.no_job h.blames_log h.log_read
+  memory_behind at Read ending old new k h memory e = absurd (omega (arith, ap status_of (sym k.0 ∙ e)))
+  memory_behind at Write ending old new k h memory e = absurd (omega (arith, ap status_of (sym k.0 ∙ e)))
+  memory_behind at Memory ending old new k h memory e = memory refl
+
+  memory_ended : (answer : Result (Unit {0}) Stopped) (ending : Ending) (old new : Option (List ℕ)) → EndsBehind answer ending old new
+      → ReadsInOrder before after told (ending_of answer) → (ending_of answer ≡ ended.NoMemory → TellsLog) → ending ≡ ended.NoMemory → TellsLog
+  memory_ended (Ok done) ending old new k h memory e = absurd (omega (arith, ap status_of (sym k.0 ∙ e)))
+  memory_ended (Err stopped) ending old new k h memory e = memory_behind stopped.input stopped.fault ending old new k h memory e
+
+-- a run, and its ending
+pub run_ended : (last : Option ℕ) (before after : InputStates) (told : Record) (answer : Result (Unit {0}) Stopped) (ending : Ending) (old middle new : Writer)
+    → RunsUpTo last before after told answer old middle → EndsBehind answer ending middle.taken new.taken → TellsFailures ending old.failures new.failures
+    → RunsAs last before after told ending old new
+run_ended last before after told answer ending old middle new h k failures = record {
+  ends = answers_more last before.plate before.program before.next before.log (λ allowed. WritesUpTo allowed (met answer) old.taken middle.taken) (λ allowed. EndsAs allowed ending old.taken new.taken)
+      (λ allowed upto. ends allowed answer ending old.taken middle.taken new.taken upto k) h.writes;
+  inputs = inputs_shown before after told (ending_of answer) ending (ended_by answer ending middle.taken new.taken k) h.inputs;
+  readers = record {
+    plate = reads_ended answer input.Plate ending middle.taken new.taken before.plate.failures after.plate.failures k h.readers.plate;
+    program = reads_ended answer input.Program ending middle.taken new.taken _ _ k h.readers.program;
+    next = reads_ended answer input.Next ending middle.taken new.taken _ _ k h.readers.next;
+  };
+  memory = memory_ended before after told answer ending middle.taken new.taken k h.inputs h.memory;
+  failures = failures;
+}

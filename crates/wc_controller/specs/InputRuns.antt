@@ -1,0 +1,99 @@
+-- What a run does with its inputs, and how it ends. (The profile's own.)
+use Rattle.std.specs.Prelude.{◌≡◌, ℕ, Option, Some, None, IfSome, IsSome, Result, false, is_some}
+use Rattle.wc_controller.specs.Blames.{Blames, RefusesLog, RefusesProgram}
+use Rattle.wc_controller.specs.Endings.{EndsAs, HasNotFailedIn, IsAt, RefusesPlate, TakesInput, TellsFailures, TellsMemory, TellsReadEndings, TellsWriteFaults, WritesUpTo, ending_of, met}
+use Rattle.wc_controller.specs.Files.{AnswersLine, AnswersRun}
+use Rattle.wc_controller.specs.InputStates.{InputStates, Reader, Writer}
+use Rattle.wc_controller.specs.Shown.{EndsLike, TellsShownReads}
+use Rattle.wc_controller.specs.TakenLogs.{IfKnown, failures_of, known_of, log_taken}
+use Rattle.wc_controller.specs.declared.ending.Ending.{Ending}
+use Rattle.wc_controller.specs.declared.ending.Ending.TheVariants as ended
+use Rattle.wc_controller.specs.declared.input.Input.TheVariants as input
+use Rattle.wc_controller.specs.declared.input.Stopped.{Stopped}
+use Rattle.wc_model.specs.Run.Log.{Record}
+use Rattle.wc_model.specs.Say.Job.{JobAnswer}
+use Rattle.wc_record.specs.Left.{HasCause}
+
+-- this is said of the answers to inputs with a program or with none, where the bytes of all that are read are known
+abbrev pub OfAnswersTo : Option ℕ → Reader → Option Reader → Option Reader → Reader → ((JobAnswer → Type 0) → Type 0) → Type 0
+OfAnswersTo last plate None next log said =
+    IfSome plate.bytes (λ table. IfSome log.bytes (λ bytes. said (AnswersLine table bytes)))
+OfAnswersTo last plate (Some program) next log said =
+    IfSome plate.bytes (λ table. IfSome program.bytes (λ text. IfKnown next (λ known. IfSome log.bytes
+    (λ bytes. said (AnswersRun last table text known bytes)))))
+
+-- the same of the inputs of a run that prints every scan, or the last so many alone
+abbrev pub OfAnswers : Option ℕ → InputStates → ((JobAnswer → Type 0) → Type 0) → Type 0
+OfAnswers last inputs said = OfAnswersTo last inputs.plate inputs.program inputs.next inputs.log said
+
+-- no more is taken of a plate or a program than the byte that makes it too long
+pub record TakesInputs (before after : InputStates) : Type 0 where
+  pub plate : TakesInput before.plate.bytes after.plate.bytes
+  pub program : TakesInput (known_of before.program) (known_of after.program)
+  pub next : TakesInput (known_of before.next) (known_of after.next)
+
+-- The plate is read and judged, then the program, then the next one, then the log is run; and the ending names the input at
+-- which that stopped:
+--     blames_..     the input that a refusal names is the one that breaks the rule, and these are the fields of a refused row
+--     no_job        there is no job: what it names is one of these inputs
+--     .._there      it names no program where there is none, and no next one
+--     unread_..     what follows the input that it names is not read, and with no program no next one is
+--     log_fault     the log is named with a read fault only where its reader failed, or as much was read as may be
+--     log_read      where all was done, or a row is refused, the log's reader has not failed
+pub record ReadsInOrder (before after : InputStates) (told : Record) (ending : Ending) : Type 0 where
+  pub blames_plate : Blames input.Plate RefusesPlate before.plate.bytes ending
+  pub blames_program : Blames input.Program RefusesProgram (known_of before.program) ending
+  pub blames_next : Blames input.Next RefusesProgram (known_of before.next) ending
+  pub blames_log : Blames input.Log (RefusesLog (log_taken before) told) before.log.bytes ending
+  pub no_job : ¬ (IsAt input.Job ending)
+  pub program_there : IsAt input.Program ending → IsSome before.program
+  pub next_there : IsAt input.Next ending → IsSome before.program × IsSome before.next
+  pub unread_behind_plate : IsAt input.Plate ending → (after.program ≡ before.program) × (after.next ≡ before.next) × (after.log ≡ before.log)
+  pub unread_behind_program : IsAt input.Program ending → (after.next ≡ before.next) × (after.log ≡ before.log)
+  pub unread_behind_next : IsAt input.Next ending → after.log ≡ before.log
+  pub unread_alone : is_some before.program ≡ false → after.next ≡ before.next
+  pub log_fault : ending ≡ ended.ReadFault input.Log → HasCause before.log.failures after.log.failures before.log.spent after.log.spent
+  pub log_read : HasNotFailedIn input.Log ending before.log.failures after.log.failures
+  pub taken : TakesInputs before after
+
+-- a read fault of the plate, of the program or of the next one is told where its reader failed, and only there
+pub record TellsReaders (before after : InputStates) (ending : Ending) : Type 0 where
+  pub plate : TellsReadEndings input.Plate ending before.plate.failures after.plate.failures
+  pub program : TellsReadEndings input.Program ending (failures_of before.program) (failures_of after.program)
+  pub next : TellsReadEndings input.Next ending (failures_of before.next) (failures_of after.next)
+
+-- What a run of these inputs does:
+--     ends         an answer that is allowed was written whole, and the ending tells how it ends; or something failed, and a
+--                  front of such an answer was written, or nothing
+--     memory       a fault of the log's reader, or the bound that was met, is not told as want of memory
+--     failures     a write fault is told where the writer failed, and only there
+pub record RunsAs (last : Option ℕ) (before after : InputStates) (told : Record) (ending : Ending) (old new : Writer) : Type 0 where
+  pub ends : OfAnswers last before (λ allowed. EndsAs allowed ending old.taken new.taken)
+  pub inputs : ReadsInOrder before after told ending
+  pub readers : TellsReaders before after ending
+  pub memory : ending ≡ ended.NoMemory
+      → TellsMemory (log_taken before) before.log.bytes before.log.failures after.log.failures before.log.spent after.log.spent
+  pub failures : TellsFailures ending old.failures new.failures
+
+-- How far it came when it stopped, before the line of a refusal is written.
+pub record RunsUpTo (last : Option ℕ) (before after : InputStates) (told : Record) (answer : Result (Unit {0}) Stopped) (old new : Writer) : Type 0 where
+  pub writes : OfAnswers last before (λ allowed. WritesUpTo allowed (met answer) old.taken new.taken)
+  pub inputs : ReadsInOrder before after told (ending_of answer)
+  pub readers : TellsReaders before after (ending_of answer)
+  pub memory : ending_of answer ≡ ended.NoMemory
+      → TellsMemory (log_taken before) before.log.bytes before.log.failures after.log.failures before.log.spent after.log.spent
+  pub failures : TellsWriteFaults (met answer) old.failures new.failures
+
+-- a read fault of the plate, of the program or of the next one is told only where its reader failed, and where it failed
+-- unless what is shown fails, too
+pub record TellsShownReaders (before after : InputStates) (ending : Ending) : Type 0 where
+  pub plate : TellsShownReads input.Plate ending before.plate.failures after.plate.failures
+  pub program : TellsShownReads input.Program ending (failures_of before.program) (failures_of after.program)
+  pub next : TellsShownReads input.Next ending (failures_of before.next) (failures_of after.next)
+
+-- What a run of these inputs does that is shown, beside its report or in place of it: it ends as a run of them does, or
+-- something failed, which can be what is shown.
+pub record ShowsRun (last : Option ℕ) (before after : InputStates) (told : Record) (ending : Ending) : Type 0 where
+  pub ends : OfAnswers last before (λ allowed. EndsLike allowed ending)
+  pub inputs : ReadsInOrder before after told ending
+  pub readers : TellsShownReaders before after ending
