@@ -120,14 +120,15 @@ log_has_refusal taken told bytes number place e = subst (λ refusal. IsSome refu
 
 module _ (taken : List ℕ → LogOf) (told : Record) (known : Option (List ℕ)) (before failures start spent : ℕ) where
   -- memory was wanted for the line of a refusal
-  pub behind_refusal : (at : Input) (number place : ℕ) → (at ≡ input.Plate → spent ≡ start) → (at ≡ input.Program → spent ≡ start) → (at ≡ input.Next → spent ≡ start)
+  pub behind_refusal : (at : Input) (number place : ℕ) → (at ≡ input.Plate → spent ≡ start) → (at ≡ input.Program → spent ≡ start) → (at ≡ input.Next → spent ≡ start) → (at ≡ input.Names → spent ≡ start)
       → (at ≡ input.Job → ⊥) → (at ≡ input.Log → IfSome known (λ bytes. RefusesLog taken told bytes (Refused number place)))
       → (at ≡ input.Log → failures ≤ before) → TellsMemory taken known before failures start spent
-  behind_refusal input.Job number place plate program next job log well = absurd (job refl)
-  behind_refusal input.Plate number place plate program next job log well = of_unread_log (plate refl)
-  behind_refusal input.Program number place plate program next job log well = of_unread_log (program refl)
-  behind_refusal input.Next number place plate program next job log well = of_unread_log (next refl)
-  behind_refusal input.Log number place plate program next job log well =
+  behind_refusal input.Job number place plate program next names job log well = absurd (job refl)
+  behind_refusal input.Plate number place plate program next names job log well = of_unread_log (plate refl)
+  behind_refusal input.Program number place plate program next names job log well = of_unread_log (program refl)
+  behind_refusal input.Next number place plate program next names job log well = of_unread_log (next refl)
+  behind_refusal input.Names number place plate program next names job log well = of_unread_log (names refl)
+  behind_refusal input.Log number place plate program next names job log well =
       of_refused_log (on_known known (λ bytes. RefusesLog taken told bytes (Refused number place)) (λ bytes. IsSome (taken bytes).refusal)
       (λ bytes e. log_has_refusal taken told bytes number place e) (log refl)) (well refl)
 
@@ -138,6 +139,7 @@ IsOne input.Plate input.Plate = Unit {0}
 IsOne input.Program input.Program = Unit {0}
 IsOne input.Next input.Next = Unit {0}
 IsOne input.Log input.Log = Unit {0}
+IsOne input.Names input.Names = Unit {0}
 IsOne one other = ⊥
 
 is_one : (at : Input) → IsOne at at
@@ -146,6 +148,7 @@ is_one input.Plate = tt
 is_one input.Program = tt
 is_one input.Next = tt
 is_one input.Log = tt
+is_one input.Names = tt
 
 -- what stopped at one input did not stop at another
 pub one_input : (one other at : Input) → at ≡ one → at ≡ other → IsOne one other

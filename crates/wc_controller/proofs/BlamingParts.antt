@@ -39,13 +39,14 @@ next_part (Some bytes) number place h = (bytes, refl, h)
 -- a run behind its program that is stopped
 pub run_part : (told : Record) (sections : Sections) (at : Input) (why : RunFault) → (at ≡ input.Next → IsNextUnloaded sections.next why)
     → (at ≡ input.Log → RefusesLog (log_beside (is_some sections.next)) told sections.log why)
-    → ((at ≡ input.Job → ⊥) × (at ≡ input.Plate → ⊥) × (at ≡ input.Program → ⊥)) → StopsAsPart told (Ok sections) at (fault_in_memory why)
-run_part told sections input.Job why next log later = absurd (later.0 refl)
-run_part told sections input.Plate why next log later = absurd (later.1 refl)
-run_part told sections input.Program why next log later = absurd (later.2 refl)
-run_part told sections input.Next (Refused number place) next log later = next_part sections.next number place (next refl)
-run_part told sections input.Log (Refused number place) next log later = log refl
-run_part told sections at why next log later = tt
+    → ((at ≡ input.Job → ⊥) × (at ≡ input.Plate → ⊥) × (at ≡ input.Program → ⊥)) → (at ≡ input.Names → ⊥) → StopsAsPart told (Ok sections) at (fault_in_memory why)
+run_part told sections input.Job why next log later names = absurd (later.0 refl)
+run_part told sections input.Plate why next log later names = absurd (later.1 refl)
+run_part told sections input.Program why next log later names = absurd (later.2 refl)
+run_part told sections input.Names why next log later names = absurd (names refl)
+run_part told sections input.Next (Refused number place) next log later names = next_part sections.next number place (next refl)
+run_part told sections input.Log (Refused number place) next log later names = log refl
+run_part told sections at why next log later names = tt
 
 -- an ending of a refusal
 of_refusal : (told : Record) (parts : Result Sections ℕ) (at : Input) (number place : ℕ) (ending : Ending) (old new : Option (List ℕ))

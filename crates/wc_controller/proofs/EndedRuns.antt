@@ -5,6 +5,7 @@ use Rattle.wc_controller.proofs.Blaming.{behind_refusal}
 use Rattle.wc_controller.proofs.Givings.{ends}
 use Rattle.wc_controller.proofs.ShownEndings.{answers_more, faulty_untold, inputs_shown, refused_shown}
 use Rattle.wc_controller.specs.Endings.{EndsAs, EndsBehind, EndsBehindFault, TellsFailures, TellsMemory, TellsReadEndings, WritesUpTo, ending_of, fault_ending, met, status_of}
+use Rattle.wc_controller.specs.Files.{Observed}
 use Rattle.wc_controller.specs.InputRuns.{ReadsInOrder, RunsAs, RunsUpTo}
 use Rattle.wc_controller.specs.InputStates.{InputStates, Reader, Writer}
 use Rattle.wc_controller.specs.Shown.{IsEndedBy}
@@ -64,7 +65,7 @@ module _ (before after : InputStates) (told : Record) where
   memory_behind at (Refused number place) ending old new k h memory e =
       behind_refusal (log_taken before) told before.log.bytes before.log.failures after.log.failures before.log.spent after.log.spent at number place
       (λ is. ap (λ (log : Reader). log.spent) ((h.unread_behind_plate is).2)) (λ is. ap (λ (log : Reader). log.spent) ((h.unread_behind_program is).1))
-      (λ is. ap (λ (log : Reader). log.spent) (h.unread_behind_next is)) h.no_job h.blames_log h.log_read
+      (λ is. ap (λ (log : Reader). log.spent) (h.unread_behind_next is)) (λ is. ap (λ (log : Reader). log.spent) (h.unread_behind_names is)) h.no_job h.blames_log h.log_read
   memory_behind at Read ending old new k h memory e = absurd (omega (arith, ap status_of (sym k.0 ∙ e)))
   memory_behind at Write ending old new k h memory e = absurd (omega (arith, ap status_of (sym k.0 ∙ e)))
   memory_behind at Memory ending old new k h memory e = memory refl
@@ -75,11 +76,11 @@ module _ (before after : InputStates) (told : Record) where
   memory_ended (Err stopped) ending old new k h memory e = memory_behind stopped.input stopped.fault ending old new k h memory e
 
 -- a run, and its ending
-pub run_ended : (last : Option ℕ) (before after : InputStates) (told : Record) (answer : Result (Unit {0}) Stopped) (ending : Ending) (old middle new : Writer)
-    → RunsUpTo last before after told answer old middle → EndsBehind answer ending middle.taken new.taken → TellsFailures ending old.failures new.failures
-    → RunsAs last before after told ending old new
-run_ended last before after told answer ending old middle new h k failures = record {
-  ends = answers_more last before.plate before.program before.next before.log (λ allowed. WritesUpTo allowed (met answer) old.taken middle.taken) (λ allowed. EndsAs allowed ending old.taken new.taken)
+pub run_ended : (o : Observed) (before after : InputStates) (told : Record) (answer : Result (Unit {0}) Stopped) (ending : Ending) (old middle new : Writer)
+    → RunsUpTo o before after told answer old middle → EndsBehind answer ending middle.taken new.taken → TellsFailures ending old.failures new.failures
+    → RunsAs o before after told ending old new
+run_ended o before after told answer ending old middle new h k failures = record {
+  ends = answers_more o before.plate before.program before.next before.log (λ allowed. WritesUpTo allowed (met answer) old.taken middle.taken) (λ allowed. EndsAs allowed ending old.taken new.taken)
       (λ allowed upto. ends allowed answer ending old.taken middle.taken new.taken upto k) h.writes;
   inputs = inputs_shown before after told (ending_of answer) ending (ended_by answer ending middle.taken new.taken k) h.inputs;
   readers = record {

@@ -6,7 +6,7 @@ use Rattle.std.specs.Io.KnownBytes.{Appends, Keeps}
 use Rattle.wc_controller.specs.Blames.{IsNextUnloaded, IsUnloaded}
 use Rattle.wc_controller.specs.Checking.{Checks}
 use Rattle.wc_controller.specs.Endings.{IsAt, IsReadFaultAt, EndsAs, EndsBehind, EndsBehindFault, EndsRefused, WritesFront, WritesUpTo, answered, failed, fault_in_memory, fault_met, met, run_fault_of, status_of}
-use Rattle.wc_controller.specs.Files.{AnswersCheck, refuses_text, reports_units}
+use Rattle.wc_controller.specs.Files.{AnswersCheck, IsAnswer, Observed, answer_written, refuses_text, reports_units}
 use Rattle.wc_controller.specs.Jobs as jobs
 use Rattle.wc_controller.specs.Jobs.{Gives}
 use Rattle.wc_controller.specs.Loads.{IsRefusedLoad}
@@ -21,13 +21,16 @@ use Rattle.wc_model.specs.Instrument.Plates.{PlateData}
 use Rattle.wc_model.specs.Run.Log.{LogOf, LogRefusal}
 use Rattle.wc_model.specs.Language.Tree.{Text}
 use Rattle.wc_model.specs.Say.Job.{AnswersNext, AnswersProgram, JobAnswer, behind_report, loads_program, refused_text, refuses_program}
+use Rattle.wc_model.specs.Say.LogFor.{log_for}
 use Rattle.wc_model.specs.Say.ProgramReport.{Logic}
 use Rattle.wc_model.specs.declared.fault.Fault.{Fault}
 use Rattle.wc_model.specs.declared.fault.Fault.TheVariants as fault
 use Rattle.wc_run.proofs.Fronts.{front_behind, front_of_more}
-use Rattle.wc_run.proofs.Texts.{report_first}
+use Rattle.wc_run.proofs.Texts.{text_first}
 use Rattle.wc_run.specs.Logics.{text_of_next}
-use Rattle.wc_run.specs.Runs.{AppendsFirst, AppendsFront, Reports, report_coming, report_printing}
+use Rattle.wc_run.specs.Doing.{WritesBy}
+use Rattle.wc_run.specs.Observing.{Plan, RefusesToBegin, text_coming, text_in_all}
+use Rattle.wc_run.specs.Runs.{AppendsFirst, AppendsFront}
 use Rattle.wc_run.specs.declared.fault.RunFault.{RunFault}
 use Rattle.wc_run.specs.declared.fault.RunFault.TheVariants.{Refused, Read, Write, Memory}
 
@@ -52,15 +55,20 @@ whole_front old new text w = (text, [], sym (append-nil text), w)
 kept_front : (old middle new : Option (List ℕ)) (text : List ℕ) → AppendsFront old middle text → Keeps middle new → AppendsFront old new text
 kept_front old middle new text f k = (f.0, f.1, f.2, Appends-kept old middle new f.0 f.3 k)
 
+-- nothing but a refusal is to be written
+pub only_refused : (allowed : JobAnswer → Type 0) (number place : ℕ) (old : Option (List ℕ))
+    → allowed (record { output = refused_text number place; status = 1 }) → WritesUpTo allowed (Some (Refused number place)) old old
+only_refused allowed number place old h = ([], h, Appends-nil old)
+
 -- what a run writes, by how it ended
-module _ (last : Option ℕ) (plate : PlateData) (logic : Option Logic) (log : LogOf) (old new : Option (List ℕ)) where
-  abbrev whole : List ℕ
-  whole = report_printing last plate logic log.rows
+module _ (plan : Plan) (plate : PlateData) (logic : Option Logic) (log : LogOf) (old new : Option (List ℕ)) where
+  abbrev pub whole : List ℕ
+  whole = text_in_all plan plate logic log.refusal log.rows
 
   abbrev pub IsRun : JobAnswer → Type 0
   IsRun answer = answer ≡ behind_report whole log.refusal
 
-  -- a front of a report is one of the output
+  -- a front of what is written is one of the output
   front_of_output : (refusal : Option LogRefusal) → AppendsFront old new whole → AppendsFront old new (behind_report whole refusal).output
   front_of_output None f = f
   front_of_output (Some refusal) f = front_of_more old new whole (refused_text refusal.number refusal.row) f
@@ -68,21 +76,31 @@ module _ (last : Option ℕ) (plate : PlateData) (logic : Option Logic) (log : L
   cut_short : AppendsFront old new whole → WritesFront IsRun old new
   cut_short f = inr (behind_report whole log.refusal, refl, front_of_output log.refusal f)
 
-  -- what is written of the first rows is a front of the report
-  first_rows : AppendsFirst (report_coming last plate logic) log.rows old new → AppendsFront old new whole
-  first_rows f = let rest = report_first last plate logic f.0 f.1 in (report_coming last plate logic f.0, rest.0, ap (report_printing last plate logic) f.2 ∙ rest.1, f.3)
+  -- what is written of the first rows is a front of all of it
+  first_rows : AppendsFirst (text_coming plan plate logic []) log.rows old new → AppendsFront old new whole
+  first_rows f = let rest = text_first plan plate logic log.refusal f.0 f.1 in
+      (text_coming plan plate logic [] f.0, rest.0, ap (text_in_all plan plate logic log.refusal) f.2 ∙ rest.1, f.3)
 
   -- all rows ran, or it was stopped
-  pub ran : (answer : Result ℕ RunFault) → Reports last plate logic log answer old new → WritesUpTo IsRun (fault_met answer) old new
-  ran (Ok count) told = (record { output = whole; status = 0 }, sym (ap (behind_report whole) told.0), refl, told.2)
-  ran (Err (Refused number place)) told = (whole, sym (ap (behind_report whole) told.0), told.1)
-  ran (Err Write) told = cut_short told
-  ran (Err why) told = cut_short (first_rows told)
+  pub written_by : (answer : Result ℕ RunFault) → WritesBy plan plate logic log answer old new → WritesUpTo IsRun (fault_met answer) old new
+  written_by (Ok count) told = (record { output = whole; status = 0 }, sym (ap (behind_report whole) told.0), refl, told.2)
+  written_by (Err (Refused number place)) told = (whole, sym (ap (behind_report whole) told.0), told.1)
+  written_by (Err Write) told = cut_short told
+  written_by (Err why) told = cut_short (first_rows told)
 
--- nothing but a refusal is to be written
-pub only_refused : (allowed : JobAnswer → Type 0) (number place : ℕ) (old : Option (List ℕ))
-    → allowed (record { output = refused_text number place; status = 1 }) → WritesUpTo allowed (Some (Refused number place)) old old
-only_refused allowed number place old h = ([], h, Appends-nil old)
+-- so it is answered
+pub answered_so : (o : Observed) (plate : PlateData) (logic : Option Logic) (log : LogOf) (answer : Option RunFault) (old new : Option (List ℕ))
+    → WritesUpTo (λ one. one ≡ answer_written o.written plate logic log) answer old new → WritesUpTo (IsAnswer o plate logic log) answer old new
+answered_so o plate logic log answer old new h = upto_more (λ one. one ≡ answer_written o.written plate logic log) (IsAnswer o plate logic log) answer old new (λ one is. inl is) h
+
+-- or it is refused to begin
+pub not_begun : (o : Observed) (plate : PlateData) (logic : Option Logic) (log : LogOf) (why : RunFault) (old : Option (List ℕ))
+    → RefusesToBegin o.may_refuse why → WritesUpTo (IsAnswer o plate logic log) (Some why) old old
+not_begun o plate logic log (Refused number place) old (may, is, at) =
+    only_refused (IsAnswer o plate logic log) number place old (inr (may, λ i. record { output = refused_text (is i) (at i); status = 1 }))
+not_begun o plate logic log Read old h = absurd h
+not_begun o plate logic log Write old h = absurd h
+not_begun o plate logic log Memory old h = inl (Keeps-refl old)
 
 -- a program that is not loaded
 pub not_loaded : (bytes : List ℕ) (rest : Text → JobAnswer → Type 0) (why : Fault) (old : Option (List ℕ))

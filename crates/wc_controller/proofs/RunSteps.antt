@@ -7,7 +7,7 @@ use Rattle.wc_controller.proofs.FileRuns as files
 use Rattle.wc_controller.proofs.StoppedInputs.{apart, blamed_by, length_refused, memory_by, named_by, no_read_fault, none_taken, read_by, read_on_by, told_by, untold_by}
 use Rattle.wc_controller.specs.Blames.{IsNextUnloaded, IsUnloaded, RefusesLog, RefusesProgram, StopsFor}
 use Rattle.wc_controller.specs.Endings.{HasNotFailedAt, IsReadFaultAt, RefusesLength, RefusesPlate, StopsAt, TakesInput, TellsMemory, TellsReadEndings, TellsReadFaults, TellsWriteFaults, WritesUpTo, fault_ending, met, of_unread_log, status_of}
-use Rattle.wc_controller.specs.Files.{AnswersPrinting, IsLineAnswer}
+use Rattle.wc_controller.specs.Files.{AnswersPrinting, IsLineAnswer, Observed}
 use Rattle.wc_controller.specs.InputRuns.{OfAnswers, OfAnswersTo, RunsUpTo, TakesInputs, TellsReaders}
 use Rattle.wc_controller.specs.InputStates.{InputStates, Reader, Writer, inputs_of}
 use Rattle.wc_controller.specs.TakenLogs.{AreReadOf, IsLater, failures_of, known_of, log_alone, log_beside, log_taken}
@@ -30,8 +30,8 @@ use Rattle.wc_run.specs.declared.fault.RunFault.{RunFault}
 use Rattle.wc_run.specs.declared.fault.RunFault.TheVariants.{Refused, Read, Write, Memory}
 
 -- it stopped at an input before the log, which is not read
-stops_early : (last : Option ℕ) (before after : InputStates) (told : Record) (stopped : Stopped) (writer : Writer)
-    → OfAnswers last before (λ allowed. WritesUpTo allowed (Some stopped.fault) writer.taken writer.taken)
+stops_early : (o : Observed) (before after : InputStates) (told : Record) (stopped : Stopped) (writer : Writer)
+    → OfAnswers o before (λ allowed. WritesUpTo allowed (Some stopped.fault) writer.taken writer.taken)
     → (stopped.input ≡ input.Job → ⊥) → (stopped.input ≡ input.Log → ⊥)
     → (stopped.input ≡ input.Plate → IfSome before.plate.bytes (λ bytes. RefusesPlate bytes stopped.fault))
     → (stopped.input ≡ input.Program → IfSome (known_of before.program) (λ bytes. RefusesProgram bytes stopped.fault))
@@ -45,8 +45,8 @@ stops_early : (last : Option ℕ) (before after : InputStates) (told : Record) (
     → TakesInputs before after
     → TellsReaders before after (fault_ending stopped.input stopped.fault)
     → TellsWriteFaults (Some stopped.fault) writer.failures writer.failures
-    → RunsUpTo last before after told (Err stopped) writer writer
-stops_early last before after told stopped writer writes no_job no_log plate program next program_there next_there behind_plate behind_program alone same taken readers silent = record {
+    → RunsUpTo o before after told (Err stopped) writer writer
+stops_early o before after told stopped writer writes no_job no_log plate program next program_there next_there behind_plate behind_program alone same taken readers silent = record {
   writes = writes;
   inputs = record {
     blames_plate = blamed_by stopped.input input.Plate RefusesPlate before.plate.bytes stopped.fault plate;
@@ -59,6 +59,7 @@ stops_early last before after told stopped writer writes no_job no_log plate pro
     unread_behind_plate = λ h. let both = behind_plate (named_by stopped.input input.Plate stopped.fault h) in (both.0, both.1, same);
     unread_behind_program = λ h. (behind_program (named_by stopped.input input.Program stopped.fault h), same);
     unread_behind_next = λ h. same;
+    unread_behind_names = λ h. same;
     unread_alone = alone;
     log_fault = λ e. absurd (no_log ((read_by stopped.input input.Log stopped.fault e).0));
     log_read = read_on_by stopped.input input.Log stopped.fault before.log.failures after.log.failures (λ e. absurd (no_log e));
@@ -70,13 +71,14 @@ stops_early last before after told stopped writer writes no_job no_log plate pro
 }
 
 -- what is known where it stopped at the log, at the next program behind its reading, or not at all
-record IsLateRun (last : Option ℕ) (before after : InputStates) (told : Record) (answer : Result (Unit {0}) Stopped) (old new : Writer) : Type 0 where
-  writes : OfAnswers last before (λ allowed. WritesUpTo allowed (met answer) old.taken new.taken)
+record IsLateRun (o : Observed) (before after : InputStates) (told : Record) (answer : Result (Unit {0}) Stopped) (old new : Writer) : Type 0 where
+  writes : OfAnswers o before (λ allowed. WritesUpTo allowed (met answer) old.taken new.taken)
   later : IsLater answer
   blames_next : IfErr answer (λ stopped. stopped.input ≡ input.Next → IfSome (known_of before.next) (λ bytes. RefusesProgram bytes stopped.fault))
   blames_log : StopsFor input.Log (RefusesLog (log_taken before) told) before.log.bytes answer
   next_there : StopsAt input.Next answer → IsSome before.program × IsSome before.next
   unread : StopsAt input.Next answer → after.log ≡ before.log
+  unread_names : StopsAt input.Names answer → after.log ≡ before.log
   alone : is_some before.program ≡ false → after.next ≡ before.next
   held : IsReadFaultAt input.Next answer → ⊥
   read : IsReadFaultAt input.Log answer → HasCause before.log.failures after.log.failures before.log.spent after.log.spent
@@ -92,8 +94,8 @@ record IsLateRun (last : Option ℕ) (before after : InputStates) (told : Record
 done_untold : (at : Input) (old new : ℕ) → new ≡ old → TellsReadEndings at ended.Done old new
 done_untold at old new same = (λ e. absurd (no_read_fault at ended.Done (λ h. h) e), λ no. same)
 
-late : (last : Option ℕ) (before after : InputStates) (told : Record) (answer : Result (Unit {0}) Stopped) (old new : Writer) → IsLateRun last before after told answer old new → RunsUpTo last before after told answer old new
-late last before after told (Ok done) old new h = record {
+late : (o : Observed) (before after : InputStates) (told : Record) (answer : Result (Unit {0}) Stopped) (old new : Writer) → IsLateRun o before after told answer old new → RunsUpTo o before after told answer old new
+late o before after told (Ok done) old new h = record {
   writes = h.writes;
   inputs = record {
     blames_plate = tt;
@@ -106,6 +108,7 @@ late last before after told (Ok done) old new h = record {
     unread_behind_plate = λ at. absurd at;
     unread_behind_program = λ at. absurd at;
     unread_behind_next = λ at. absurd at;
+    unread_behind_names = λ at. absurd at;
     unread_alone = h.alone;
     log_fault = λ e. absurd (no_read_fault input.Log ended.Done (λ at. at) e);
     log_read = h.reader;
@@ -119,7 +122,7 @@ late last before after told (Ok done) old new h = record {
   memory = λ e. absurd (omega (arith, ap status_of e));
   failures = h.failures;
 }
-late last before after told (Err stopped) old new h =
+late o before after told (Err stopped) old new h =
     let at = stopped.input in
     let why = stopped.fault in
     record {
@@ -135,6 +138,7 @@ late last before after told (Err stopped) old new h =
         unread_behind_plate = λ is. absurd (h.later.1 (named_by at input.Plate why is));
         unread_behind_program = λ is. absurd (h.later.2 (named_by at input.Program why is));
         unread_behind_next = λ is. h.unread (named_by at input.Next why is);
+        unread_behind_names = λ is. h.unread_names (named_by at input.Names why is);
         unread_alone = h.alone;
         log_fault = λ e. h.read (read_by at input.Log why e);
         log_read = read_on_by at input.Log why before.log.failures after.log.failures h.reader;
@@ -150,12 +154,12 @@ late last before after told (Err stopped) old new h =
     }
 
 -- no plate was read
-writes_at_plate : (last : Option ℕ) (plate : Reader) (program next : Option Reader) (log : Reader) (why : RunFault) (old : Option (List ℕ))
-    → IfSome plate.bytes (λ keys. RefusesPlate keys why) → OfAnswersTo last plate program next log (λ allowed. WritesUpTo allowed (Some why) old old)
-writes_at_plate last plate None next log why old refused =
+writes_at_plate : (o : Observed) (plate : Reader) (program next : Option Reader) (log : Reader) (why : RunFault) (old : Option (List ℕ))
+    → IfSome plate.bytes (λ keys. RefusesPlate keys why) → OfAnswersTo o plate program next log (λ allowed. WritesUpTo allowed (Some why) old old)
+writes_at_plate o plate None next log why old refused =
     on_known plate.bytes _ _
     (λ table is. on_each log.bytes _ (λ bytes. plate_not_read table (λ read. IsLineAnswer read (log_of (records_of bytes))) why old is)) refused
-writes_at_plate last plate (Some program) next log why old refused = files.at_plate last plate.bytes program.bytes next log.bytes why old refused
+writes_at_plate o plate (Some program) next log why old refused = files.at_plate o plate.bytes program.bytes next log.bytes why old refused
 
 -- of a file that was not read whole no write fault is told
 length_silent : (known : Option (List ℕ)) (why : RunFault) (count : ℕ) → RefusesLength known why → TellsWrite why count count
@@ -174,15 +178,15 @@ not_alone : (reader : Option Reader) → IsSome reader → is_some reader ≡ fa
 not_alone None there alone = absurd (cc there)
 not_alone (Some reader) there alone = absurd (cc alone)
 
-module _ (last : Option ℕ) (told : Record) (plate plate_after : Reader) (program program_after next next_after : Option Reader) (log : Reader) (stopped : Stopped) (writer : Writer) where
+module _ (o : Observed) (told : Record) (plate plate_after : Reader) (program program_after next next_after : Option Reader) (log : Reader) (stopped : Stopped) (writer : Writer) where
   pub at_plate : stopped.input ≡ input.Plate
       → IfSome plate.bytes (λ keys. RefusesPlate keys stopped.fault)
       → TellsReadFaults {X = Unit {0}} input.Plate (Err stopped) plate.failures plate_after.failures
       → TakesInput plate.bytes plate_after.bytes → TellsWriteFaults (Some stopped.fault) writer.failures writer.failures
-      → RunsUpTo last (inputs_of plate program next log) (inputs_of plate_after program next log) told (Err stopped) writer writer
+      → RunsUpTo o (inputs_of plate program next log) (inputs_of plate_after program next log) told (Err stopped) writer writer
   at_plate at refused faults taken silent =
-      stops_early last (inputs_of plate program next log) (inputs_of plate_after program next log) told stopped writer
-      (writes_at_plate last plate program next log stopped.fault writer.taken refused)
+      stops_early o (inputs_of plate program next log) (inputs_of plate_after program next log) told stopped writer
+      (writes_at_plate o plate program next log stopped.fault writer.taken refused)
       (one_input input.Plate input.Job stopped.input at) (one_input input.Plate input.Log stopped.input at)
       (λ e. refused) (λ e. absurd (one_input input.Plate input.Program stopped.input at e)) (λ e. absurd (one_input input.Plate input.Next stopped.input at e))
       (λ e. absurd (one_input input.Plate input.Program stopped.input at e)) (λ e. absurd (one_input input.Plate input.Next stopped.input at e))
@@ -201,9 +205,9 @@ module _ (last : Option ℕ) (told : Record) (plate plate_after : Reader) (progr
         → RefusesLength (known_of program) stopped.fault → IsSome program
         → TellsReadFaults {X = Unit {0}} input.Program (Err stopped) (failures_of program) (failures_of program_after)
         → TakesInput (known_of program) (known_of program_after)
-        → RunsUpTo last (inputs_of plate program next log) (inputs_of plate_after program_after next log) told (Err stopped) writer writer
+        → RunsUpTo o (inputs_of plate program next log) (inputs_of plate_after program_after next log) told (Err stopped) writer writer
     at_program at refused there faults taken =
-        stops_early last (inputs_of plate program next log) (inputs_of plate_after program_after next log) told stopped writer
+        stops_early o (inputs_of plate program next log) (inputs_of plate_after program_after next log) told stopped writer
         (by_program program there refused)
         (one_input input.Program input.Job stopped.input at) (one_input input.Program input.Log stopped.input at)
         (λ e. absurd (one_input input.Program input.Plate stopped.input at e)) (λ e. length_refused (known_of program) stopped.fault refused) (λ e. absurd (one_input input.Program input.Next stopped.input at e))
@@ -216,18 +220,18 @@ module _ (last : Option ℕ) (told : Record) (plate plate_after : Reader) (progr
           next = untold_by stopped.input input.Next stopped.fault (failures_of next) (failures_of next) (one_input input.Program input.Next stopped.input at) refl;
         }) (length_silent (known_of program) stopped.fault writer.failures refused) where
           by_program : (reader : Option Reader) → IsSome reader → RefusesLength (known_of reader) stopped.fault
-              → OfAnswersTo last plate reader next log (λ allowed. WritesUpTo allowed (Some stopped.fault) writer.taken writer.taken)
+              → OfAnswersTo o plate reader next log (λ allowed. WritesUpTo allowed (Some stopped.fault) writer.taken writer.taken)
           by_program None there refused = absurd (cc there)
-          by_program (Some reader) there refused = files.at_program last plate.bytes reader.bytes next log.bytes judged is stopped.fault writer.taken refused
+          by_program (Some reader) there refused = files.at_program o plate.bytes reader.bytes next log.bytes judged is stopped.fault writer.taken refused
 
     module _ (program_kept : failures_of program_after ≡ failures_of program) (program_taken : TakesInput (known_of program) (known_of program_after))
         (text : List ℕ) (are : AreReadOf program (Some text)) where
       -- no program was loaded
       pub at_text : stopped.input ≡ input.Program
           → IsUnloaded text stopped.fault → TellsWriteFaults (Some stopped.fault) writer.failures writer.failures
-          → RunsUpTo last (inputs_of plate program next log) (inputs_of plate_after program_after next log) told (Err stopped) writer writer
+          → RunsUpTo o (inputs_of plate program next log) (inputs_of plate_after program_after next log) told (Err stopped) writer writer
       at_text at refused silent =
-          stops_early last (inputs_of plate program next log) (inputs_of plate_after program_after next log) told stopped writer
+          stops_early o (inputs_of plate program next log) (inputs_of plate_after program_after next log) told stopped writer
           (by_program program are)
           (one_input input.Program input.Job stopped.input at) (one_input input.Program input.Log stopped.input at)
           (λ e. absurd (one_input input.Program input.Plate stopped.input at e)) (λ e. next_read program (Some text) stopped.fault are refused) (λ e. absurd (one_input input.Program input.Next stopped.input at e))
@@ -240,18 +244,18 @@ module _ (last : Option ℕ) (told : Record) (plate plate_after : Reader) (progr
             next = untold_by stopped.input input.Next stopped.fault (failures_of next) (failures_of next) (one_input input.Program input.Next stopped.input at) refl;
           }) silent where
             by_program : (reader : Option Reader) → AreReadOf reader (Some text)
-                → OfAnswersTo last plate reader next log (λ allowed. WritesUpTo allowed (Some stopped.fault) writer.taken writer.taken)
+                → OfAnswersTo o plate reader next log (λ allowed. WritesUpTo allowed (Some stopped.fault) writer.taken writer.taken)
             by_program None whole = absurd whole
-            by_program (Some reader) whole = files.at_text last plate.bytes reader.bytes next log.bytes judged is text whole stopped.fault writer.taken refused
+            by_program (Some reader) whole = files.at_text o plate.bytes reader.bytes next log.bytes judged is text whole stopped.fault writer.taken refused
 
       -- no next program was read
       pub at_next : (first : Text) → IsLoaded text first → stopped.input ≡ input.Next
           → RefusesLength (known_of next) stopped.fault → IsSome next
           → TellsReadFaults {X = Unit {0}} input.Next (Err stopped) (failures_of next) (failures_of next_after)
           → TakesInput (known_of next) (known_of next_after)
-          → RunsUpTo last (inputs_of plate program next log) (inputs_of plate_after program_after next_after log) told (Err stopped) writer writer
+          → RunsUpTo o (inputs_of plate program next log) (inputs_of plate_after program_after next_after log) told (Err stopped) writer writer
       at_next first loads at refused there faults taken =
-          stops_early last (inputs_of plate program next log) (inputs_of plate_after program_after next_after log) told stopped writer
+          stops_early o (inputs_of plate program next log) (inputs_of plate_after program_after next_after log) told stopped writer
           (by_program program are)
           (one_input input.Next input.Job stopped.input at) (one_input input.Next input.Log stopped.input at)
           (λ e. absurd (one_input input.Next input.Plate stopped.input at e)) (λ e. absurd (one_input input.Next input.Program stopped.input at e)) (λ e. length_refused (known_of next) stopped.fault refused)
@@ -265,17 +269,9 @@ module _ (last : Option ℕ) (told : Record) (plate plate_after : Reader) (progr
             next = told_by stopped input.Next (failures_of next) (failures_of next_after) faults;
           }) (length_silent (known_of next) stopped.fault writer.failures refused) where
             by_program : (reader : Option Reader) → AreReadOf reader (Some text)
-                → OfAnswersTo last plate reader next log (λ allowed. WritesUpTo allowed (Some stopped.fault) writer.taken writer.taken)
+                → OfAnswersTo o plate reader next log (λ allowed. WritesUpTo allowed (Some stopped.fault) writer.taken writer.taken)
             by_program None whole = absurd whole
-            by_program (Some reader) whole = files.at_next last plate.bytes reader.bytes next log.bytes judged is text whole first loads stopped.fault writer.taken there refused
-
--- what stopped at the log alone
-module _ (answer : Result (Unit {0}) Stopped) (there : IfErr answer (λ stopped. stopped.input ≡ input.Log)) where
-  log_alone_named : (other : Input) → (input.Log ≡ other → ⊥) → StopsAt other answer → ⊥
-  log_alone_named other apart_from = by_answer answer there where
-    by_answer : (result : Result (Unit {0}) Stopped) → IfErr result (λ stopped. stopped.input ≡ input.Log) → StopsAt other result → ⊥
-    by_answer (Ok done) at is = is
-    by_answer (Err stopped) at is = apart_from (sym at ∙ is)
+            by_program (Some reader) whole = files.at_next o plate.bytes reader.bytes next log.bytes judged is text whole first loads stopped.fault writer.taken there refused
 
 -- nothing is said of an input at which it did not stop
 not_next : (answer : Result (Unit {0}) Stopped) (known : Option (List ℕ)) → (StopsAt input.Next answer → ⊥)
@@ -288,40 +284,40 @@ read_at : (answer : Result (Unit {0}) Stopped) (at : Input) → IsReadFaultAt at
 read_at (Ok done) at is = is
 read_at (Err stopped) at is = is.0
 
-module _ (last : Option ℕ) (told : Record) (plate plate_after : Reader) (program program_after next : Option Reader) (log log_after : Reader)
+module _ (o : Observed) (told : Record) (plate plate_after : Reader) (program program_after next : Option Reader) (log log_after : Reader)
     (judged : PlateData) (is : IfSome plate.bytes (λ keys. (length keys ≤ longest_job) × (plate_of (table_read keys) ≡ Ok judged)))
     (plate_kept : plate_after.failures ≡ plate.failures) (plate_taken : TakesInput plate.bytes plate_after.bytes)
     (program_kept : failures_of program_after ≡ failures_of program) (program_taken : TakesInput (known_of program) (known_of program_after))
     (answer : Result (Unit {0}) Stopped) (old new : Writer) where
   -- the log was begun with no program
   pub at_line : AreReadOf program None
-      → IfSome log.bytes (λ bytes. WritesUpTo (IsLineAnswer judged (log_of (records_of bytes))) (met answer) old.taken new.taken)
-      → IfErr answer (λ stopped. stopped.input ≡ input.Log)
+      → IfSome log.bytes (λ bytes. WritesUpTo (IsLineAnswer o judged (log_of (records_of bytes))) (met answer) old.taken new.taken)
+      → IsLater answer
+      → (StopsAt input.Next answer → ⊥)
+      → (StopsAt input.Names answer → log_after ≡ log)
       → StopsFor input.Log (RefusesLog log_alone told) log.bytes answer
       → (IsReadFaultAt input.Log answer → HasCause log.failures log_after.failures log.spent log_after.spent)
       → (met answer ≡ Some Memory → TellsMemory log_alone log.bytes log.failures log_after.failures log.spent log_after.spent)
       → HasNotFailedAt input.Log answer log.failures log_after.failures
       → TellsWriteFaults (met answer) old.failures new.failures
-      → RunsUpTo last (inputs_of plate program next log) (inputs_of plate_after program_after next log_after) told answer old new
-  at_line are writes log_only blames read memory reader failures =
-      late last (inputs_of plate program next log) (inputs_of plate_after program_after next log_after) told answer old new
+      → RunsUpTo o (inputs_of plate program next log) (inputs_of plate_after program_after next log_after) told answer old new
+  at_line are writes later no_next names blames read memory reader failures =
+      late o (inputs_of plate program next log) (inputs_of plate_after program_after next log_after) told answer old new
       (by_program program are program_taken program_kept) where
-        others : (other : Input) → (input.Log ≡ other → ⊥) → StopsAt other answer → ⊥
-        others = log_alone_named answer log_only
-
         by_program : (reader : Option Reader) → AreReadOf reader None → TakesInput (known_of reader) (known_of program_after) → failures_of program_after ≡ failures_of reader
-            → IsLateRun last (inputs_of plate reader next log) (inputs_of plate_after program_after next log_after) told answer old new
+            → IsLateRun o (inputs_of plate reader next log) (inputs_of plate_after program_after next log_after) told answer old new
         by_program None whole taken kept = record {
           writes = on_known plate.bytes _ _
               (λ table read. on_known log.bytes _ _
-              (λ bytes upto. plate_read table judged (λ one. IsLineAnswer one (log_of (records_of bytes))) (met answer) old.taken new.taken read upto) writes) is;
-          later = (others input.Job (apart input.Log input.Job), others input.Plate (apart input.Log input.Plate), others input.Program (apart input.Log input.Program));
-          blames_next = not_next answer (known_of next) (others input.Next (apart input.Log input.Next));
+              (λ bytes upto. plate_read table judged (λ one. IsLineAnswer o one (log_of (records_of bytes))) (met answer) old.taken new.taken read upto) writes) is;
+          later = later;
+          blames_next = not_next answer (known_of next) no_next;
           blames_log = blames;
-          next_there = λ at. absurd (others input.Next (apart input.Log input.Next) at);
-          unread = λ at. absurd (others input.Next (apart input.Log input.Next) at);
+          next_there = λ at. absurd (no_next at);
+          unread = λ at. absurd (no_next at);
+          unread_names = names;
           alone = λ e. refl;
-          held = λ at. others input.Next (apart input.Log input.Next) (read_at answer input.Next at);
+          held = λ at. no_next (read_at answer input.Next at);
           read = read;
           memory = memory;
           reader = reader;
@@ -337,19 +333,20 @@ module _ (last : Option ℕ) (told : Record) (plate plate_after : Reader) (progr
   pub at_log : (text : List ℕ) → AreReadOf program (Some text) → (first : Text) → IsLoaded text first
       → (next_after : Option Reader) (held : Option (List ℕ)) → AreReadOf next held
       → failures_of next_after ≡ failures_of next → TakesInput (known_of next) (known_of next_after)
-      → IfSome log.bytes (λ bytes. WritesUpTo (AnswersNext held (AnswersPrinting last judged (log_of (records_of bytes)) first)) (met answer) old.taken new.taken)
+      → IfSome log.bytes (λ bytes. WritesUpTo (AnswersNext held (AnswersPrinting o judged (log_of (records_of bytes)) first)) (met answer) old.taken new.taken)
       → IfErr answer (λ stopped. stopped.input ≡ input.Next → IsNextUnloaded held stopped.fault)
       → StopsFor input.Log (RefusesLog (log_beside (is_some held)) told) log.bytes answer
       → (StopsAt input.Next answer → log_after ≡ log)
+      → (StopsAt input.Names answer → log_after ≡ log)
       → IsLater answer
       → (IsReadFaultAt input.Next answer → ⊥)
       → (IsReadFaultAt input.Log answer → HasCause log.failures log_after.failures log.spent log_after.spent)
       → (met answer ≡ Some Memory → TellsMemory (log_beside (is_some held)) log.bytes log.failures log_after.failures log.spent log_after.spent)
       → HasNotFailedAt input.Log answer log.failures log_after.failures
       → TellsWriteFaults (met answer) old.failures new.failures
-      → RunsUpTo last (inputs_of plate program next log) (inputs_of plate_after program_after next_after log_after) told answer old new
-  at_log text whole first loads next_after held are next_kept next_taken writes blames_next blames_log unread later not_read read memory well failures =
-      late last (inputs_of plate program next log) (inputs_of plate_after program_after next_after log_after) told answer old new
+      → RunsUpTo o (inputs_of plate program next log) (inputs_of plate_after program_after next_after log_after) told answer old new
+  at_log text whole first loads next_after held are next_kept next_taken writes blames_next blames_log unread names later not_read read memory well failures =
+      late o (inputs_of plate program next log) (inputs_of plate_after program_after next_after log_after) told answer old new
       (by_program program whole program_taken program_kept) where
         same : is_some held ≡ is_some next
         same = same_next next held are
@@ -368,15 +365,16 @@ module _ (last : Option ℕ) (told : Record) (plate plate_after : Reader) (progr
           by_held (Some reader) bytes are h = refl
 
         by_program : (reader : Option Reader) → AreReadOf reader (Some text) → TakesInput (known_of reader) (known_of program_after) → failures_of program_after ≡ failures_of reader
-            → IsLateRun last (inputs_of plate reader next log) (inputs_of plate_after program_after next_after log_after) told answer old new
+            → IsLateRun o (inputs_of plate reader next log) (inputs_of plate_after program_after next_after log_after) told answer old new
         by_program None read taken kept = absurd read
         by_program (Some reader) bytes_read taken kept = record {
-          writes = files.at_log last plate.bytes reader.bytes next log.bytes judged is text bytes_read first loads held are (met answer) old.taken new.taken writes;
+          writes = files.at_log o plate.bytes reader.bytes next log.bytes judged is text bytes_read first loads held are (met answer) old.taken new.taken writes;
           later = later;
           blames_next = refused answer blames_next;
           blames_log = subst (λ left. StopsFor input.Log (RefusesLog (log_beside left) told) log.bytes answer) same blames_log;
           next_there = λ at. (refl, there answer blames_next at);
           unread = unread;
+          unread_names = names;
           alone = λ e. absurd (cc e);
           held = not_read;
           read = read;

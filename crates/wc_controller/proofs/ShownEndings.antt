@@ -4,7 +4,7 @@ use Rattle.std.specs.Prelude.{Option, Some, None}
 use Rattle.wc_controller.proofs.Allowing.{known_more, on_known}
 use Rattle.wc_controller.proofs.StoppedInputs.{no_read_fault}
 use Rattle.wc_controller.specs.Endings.{EndsAs, EndsRefused, TellsReadEndings, answered, failed}
-use Rattle.wc_controller.specs.Files.{AnswersLine, AnswersRun}
+use Rattle.wc_controller.specs.Files.{AnswersLine, AnswersRun, Observed}
 use Rattle.wc_controller.specs.InputRuns.{OfAnswersTo, ReadsInOrder, RunsAs, ShowsRun}
 use Rattle.wc_controller.specs.InputStates.{InputStates, Reader, Writer}
 use Rattle.wc_controller.specs.Shown.{EndsLike, IsEndedBy, IsFaulty, TellsShownReads}
@@ -17,18 +17,18 @@ use Rattle.wc_model.specs.Run.Writing.{HasFailedSince}
 use Rattle.wc_model.specs.Say.Job.{JobAnswer}
 
 -- what follows of what is said of the answers is said of them too
-pub answers_more : (last : Option ℕ) (plate : Reader) (program next : Option Reader) (log : Reader) (P Q : (JobAnswer → Type 0) → Type 0)
-    → ((allowed : JobAnswer → Type 0) → P allowed → Q allowed) → OfAnswersTo last plate program next log P → OfAnswersTo last plate program next log Q
-answers_more last plate None next log P Q f h =
+pub answers_more : (o : Observed) (plate : Reader) (program next : Option Reader) (log : Reader) (P Q : (JobAnswer → Type 0) → Type 0)
+    → ((allowed : JobAnswer → Type 0) → P allowed → Q allowed) → OfAnswersTo o plate program next log P → OfAnswersTo o plate program next log Q
+answers_more o plate None next log P Q f h =
     on_known plate.bytes _ _
     (λ table told. on_known log.bytes _ _
-    (λ bytes said. f (AnswersLine table bytes) said) told) h
-answers_more last plate (Some program) next log P Q f h =
+    (λ bytes said. f (AnswersLine o table bytes) said) told) h
+answers_more o plate (Some program) next log P Q f h =
     on_known plate.bytes _ _
     (λ table told. on_known program.bytes _ _
     (λ text more. known_more next _ _
     (λ known then. on_known log.bytes _ _
-    (λ bytes said. f (AnswersRun last table text known bytes) said) then) more) told) h
+    (λ bytes said. f (AnswersRun o table text known bytes) said) then) more) told) h
 
 -- what was written left out
 ends_like : (allowed : JobAnswer → Type 0) (ending : Ending) (old new : Option (List ℕ)) → EndsAs allowed ending old new → EndsLike allowed ending
@@ -67,6 +67,7 @@ module _ (before after : InputStates) (told : Record) where
     unread_behind_plate = λ at. absurd at;
     unread_behind_program = λ at. absurd at;
     unread_behind_next = λ at. absurd at;
+    unread_behind_names = λ at. absurd at;
     unread_alone = h.unread_alone;
     log_fault = λ e. absurd (no_read_fault input.Log ended.WriteFault (λ at. at) e);
     log_read = tt;
@@ -86,6 +87,7 @@ module _ (before after : InputStates) (told : Record) where
     unread_behind_plate = λ at. absurd at;
     unread_behind_program = λ at. absurd at;
     unread_behind_next = λ at. absurd at;
+    unread_behind_names = λ at. absurd at;
     unread_alone = h.unread_alone;
     log_fault = λ e. absurd (no_read_fault input.Log ended.NoMemory (λ at. at) e);
     log_read = tt;
@@ -112,9 +114,9 @@ shown_of_run : (at : Input) (ran : Ending) (old new : ℕ) → TellsReadEndings 
 shown_of_run at ran old new h = (h.0, λ no none. h.1 no)
 
 -- a run that is not shown
-pub run_shown : (last : Option ℕ) (before after : InputStates) (told : Record) (ran : Ending) (old new : Writer) → RunsAs last before after told ran old new → ShowsRun last before after told ran
-run_shown last before after told ran old new h = record {
-  ends = answers_more last before.plate before.program before.next before.log (λ allowed. EndsAs allowed ran old.taken new.taken) (λ allowed. EndsLike allowed ran)
+pub run_shown : (o : Observed) (before after : InputStates) (told : Record) (ran : Ending) (old new : Writer) → RunsAs o before after told ran old new → ShowsRun o before after told ran
+run_shown o before after told ran old new h = record {
+  ends = answers_more o before.plate before.program before.next before.log (λ allowed. EndsAs allowed ran old.taken new.taken) (λ allowed. EndsLike allowed ran)
       (λ allowed said. ends_like allowed ran old.taken new.taken said) h.ends;
   inputs = h.inputs;
   readers = record {
@@ -125,9 +127,9 @@ run_shown last before after told ran old new h = record {
 }
 
 -- what is shown of it, as it ended or with a fault of what is shown
-pub shown_by : (last : Option ℕ) (before after : InputStates) (told : Record) (ran shown : Ending) → IsEndedBy ran shown → ShowsRun last before after told ran → ShowsRun last before after told shown
-shown_by last before after told ran shown by h = record {
-  ends = answers_more last before.plate before.program before.next before.log (λ allowed. EndsLike allowed ran) (λ allowed. EndsLike allowed shown)
+pub shown_by : (o : Observed) (before after : InputStates) (told : Record) (ran shown : Ending) → IsEndedBy ran shown → ShowsRun o before after told ran → ShowsRun o before after told shown
+shown_by o before after told ran shown by h = record {
+  ends = answers_more o before.plate before.program before.next before.log (λ allowed. EndsLike allowed ran) (λ allowed. EndsLike allowed shown)
       (λ allowed said. ends_shown allowed ran shown by said) h.ends;
   inputs = inputs_shown before after told ran shown by h.inputs;
   readers = record {

@@ -60,6 +60,7 @@ Blames input refuses known ending = ⊤
 abbrev pub RefusesPart : Record → Result Sections ℕ → Input → ℕ → ℕ → Type 0
 RefusesPart told (Err missing) at number place = (at ≡ input.Job) × (number ≡ missing) × (place ≡ 0)
 RefusesPart told (Ok sections) input.Job number place = ⊥
+RefusesPart told (Ok sections) input.Names number place = ⊥
 RefusesPart told (Ok sections) input.Plate number place = (place ≡ 0) × (plate_of (table_read sections.plate) ≡ Err number)
 RefusesPart told (Ok sections) input.Program number place = IsRefused sections.program number place
 RefusesPart told (Ok sections) input.Next number place = (next : List ℕ) × (sections.next ≡ Some next) × IsRefused next number place

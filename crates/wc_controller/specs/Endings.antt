@@ -4,6 +4,7 @@ use Rattle.std.specs.Io.KnownBytes.{Appends, Keeps}
 use Rattle.wc_controller.specs.declared.ending.Ending.{Ending}
 use Rattle.wc_controller.specs.declared.ending.Ending.TheVariants as ended
 use Rattle.wc_controller.specs.declared.input.Input.{Input}
+use Rattle.wc_controller.specs.declared.input.Input.TheVariants as input
 use Rattle.wc_controller.specs.declared.input.Stopped.{Stopped}
 use Rattle.wc_job.specs.Reads.{TakesAtMost}
 use Rattle.wc_job.specs.declared.reading.ReadFault.{ReadFault}
@@ -148,6 +149,11 @@ TellsFailures ending old new = (ending ≡ ended.WriteFault → HasFailedSince o
 abbrev pub TellsWriteFaults : Option RunFault → ℕ → ℕ → Type 0
 TellsWriteFaults None old new = new ≡ old
 TellsWriteFaults (Some fault) old new = TellsWrite fault old new
+
+-- the input that is named where an observer does not begin: the names that it was to observe, or, for want of memory, the log
+abbrev pub begun_input : RunFault → Input
+begun_input (Refused number place) = input.Names
+begun_input fault = input.Log
 
 -- it stopped at this input
 abbrev pub StopsAt : {X : Type 0} → Input → Result X Stopped → Type 0

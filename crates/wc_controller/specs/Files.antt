@@ -1,6 +1,6 @@
 -- What a command answers for the files that it names: its output and its exit status. A plate or a
 -- program is read whole and judged before the next file is read. (The profile's own.)
-use Rattle.std.specs.Prelude.{◌≡◌, ℕ, ◌<◌, ◌≤◌, Bool, List, length, Option, Some, None, Result, Ok, Err}
+use Rattle.std.specs.Prelude.{◌≡◌, ◌⊎◌, ℕ, ◌<◌, ◌≤◌, Bool, List, length, Option, Some, None, Result, Ok, Err}
 use Rattle.wc_model.specs.Instrument.PlateTable.{plate_of}
 use Rattle.wc_model.specs.Instrument.Plates.{PlateData}
 use Rattle.wc_model.specs.Language.Loading.{IsLoaded, IsRefused}
@@ -10,11 +10,11 @@ use Rattle.wc_model.specs.Run.Log.{LogOf, log_of}
 use Rattle.wc_model.specs.Say.Job.{AnswersProgram, JobAnswer, behind_report, refusing}
 use Rattle.wc_model.specs.Say.LogFor.{log_for}
 use Rattle.wc_model.specs.Say.ProgramReport.{Logic, first_logic}
-use Rattle.wc_model.specs.Say.Report.{line_report}
 use Rattle.wc_model.specs.Say.UnitReport.{IsUnitReport}
 use Rattle.wc_plate.specs.TomlTable.{table_read}
 use Rattle.wc_record.specs.Reading.{records_of}
-use Rattle.wc_run.specs.Runs.{report_printing}
+use Rattle.wc_run.specs.Observing.{Written}
+use Rattle.wc_run.specs.Runs.{report_written}
 
 -- a file that is longer than a job may be is refused; of any other the rest says what is answered
 pub data AnswersFile (bytes : List ℕ) (rest : JobAnswer → Type 0) (answer : JobAnswer) : Type 0 where
@@ -30,15 +30,28 @@ AnswersPlateFile (Ok plate) rest answer = rest plate answer
 abbrev pub AnswersWithPlate : List ℕ → (PlateData → JobAnswer → Type 0) → JobAnswer → Type 0
 AnswersWithPlate bytes rest answer = AnswersFile bytes (AnswersPlateFile (plate_of (table_read bytes)) rest) answer
 
--- what a run with programs answers that prints every scan, or the last so many alone
-abbrev pub answer_printing : Option ℕ → PlateData → Logic → LogOf → JobAnswer
-answer_printing last plate logic log =
-    let taken = log_for (Some logic) log in
-    behind_report (report_printing last plate (Some logic) taken.rows) taken.refusal
+-- what is written of a run by whoever observes it, and that it may refuse to begin
+pub record Observed : Type 1 where
+  pub written : Written
+  pub may_refuse : Type 0
+
+-- the report with every scan, or with the last so many alone, which is never refused
+abbrev pub report_observed : Option ℕ → Observed
+report_observed last = record { written = report_written last; may_refuse = ⊥ }
+
+-- what is answered that is written of a run with this logic or with none
+abbrev pub answer_written : Written → PlateData → Option Logic → LogOf → JobAnswer
+answer_written written plate logic log =
+    let taken = log_for logic log in
+    behind_report (written plate logic taken.refusal taken.rows) taken.refusal
+
+-- this is answered of a run, or it is refused to begin with it
+abbrev pub IsAnswer : Observed → PlateData → Option Logic → LogOf → JobAnswer → Type 0
+IsAnswer o plate logic log answer = (answer ≡ answer_written o.written plate logic log) ⊎ (o.may_refuse × (answer ≡ refusing 401 0))
 
 -- the answer of a run that begins with a text, and has a next one or none
-abbrev pub AnswersPrinting : Option ℕ → PlateData → LogOf → Text → Option Text → JobAnswer → Type 0
-AnswersPrinting last plate log text next answer = answer ≡ answer_printing last plate (first_logic text next) log
+abbrev pub AnswersPrinting : Observed → PlateData → LogOf → Text → Option Text → JobAnswer → Type 0
+AnswersPrinting o plate log text next answer = IsAnswer o plate (Some (first_logic text next)) log answer
 
 -- the file of the next program, where there is one, is judged as the program's is, before any row
 abbrev pub AnswersNextFile : Option (List ℕ) → (Option Text → JobAnswer → Type 0) → JobAnswer → Type 0
@@ -46,17 +59,13 @@ AnswersNextFile None rest answer = rest None answer
 AnswersNextFile (Some next) rest answer = AnswersFile next (AnswersProgram next (λ text. rest (Some text))) answer
 
 -- the program is loaded, then the next one, then the log is run
-abbrev pub AnswersText : Option ℕ → PlateData → List ℕ → Option (List ℕ) → LogOf → JobAnswer → Type 0
-AnswersText last plate program next log answer =
-    AnswersProgram program (λ text. AnswersNextFile next (AnswersPrinting last plate log text)) answer
+abbrev pub AnswersText : Observed → PlateData → List ℕ → Option (List ℕ) → LogOf → JobAnswer → Type 0
+AnswersText o plate program next log answer =
+    AnswersProgram program (λ text. AnswersNextFile next (AnswersPrinting o plate log text)) answer
 
--- the answers of the line alone, and the log's refusal behind them
-abbrev pub line_answer : PlateData → LogOf → JobAnswer
-line_answer plate log = behind_report (line_report plate log.rows) log.refusal
-
--- so it is answered with no program
-abbrev pub IsLineAnswer : PlateData → LogOf → JobAnswer → Type 0
-IsLineAnswer plate log answer = answer ≡ line_answer plate log
+-- the answer of a run with no program
+abbrev pub IsLineAnswer : Observed → PlateData → LogOf → JobAnswer → Type 0
+IsLineAnswer o plate log answer = IsAnswer o plate None log answer
 
 -- the refusal of a text, or the report of its units
 pub data AnswersCheck (paths : Bool) (program : List ℕ) (answer : JobAnswer) : Type 0 where
@@ -64,14 +73,14 @@ pub data AnswersCheck (paths : Bool) (program : List ℕ) (answer : JobAnswer) :
   reports_units : (text : Text) (report : List ℕ) → IsLoaded program text → IsUnitReport paths text report →
       answer ≡ record { output = report; status = 0 } → AnswersCheck paths program answer
 
--- a run of a log with a program and a next one or none, which prints every scan or the last so many
-abbrev pub AnswersRun : Option ℕ → List ℕ → List ℕ → Option (List ℕ) → List ℕ → JobAnswer → Type 0
-AnswersRun last plate program next log answer =
-    AnswersWithPlate plate (λ read. AnswersFile program (AnswersText last read program next (log_of (records_of log)))) answer
+-- a run of a log with a program and a next one or none
+abbrev pub AnswersRun : Observed → List ℕ → List ℕ → Option (List ℕ) → List ℕ → JobAnswer → Type 0
+AnswersRun o plate program next log answer =
+    AnswersWithPlate plate (λ read. AnswersFile program (AnswersText o read program next (log_of (records_of log)))) answer
 
 -- a run of a log with no program
-abbrev pub AnswersLine : List ℕ → List ℕ → JobAnswer → Type 0
-AnswersLine plate log answer = AnswersWithPlate plate (λ read. IsLineAnswer read (log_of (records_of log))) answer
+abbrev pub AnswersLine : Observed → List ℕ → List ℕ → JobAnswer → Type 0
+AnswersLine o plate log answer = AnswersWithPlate plate (λ read. IsLineAnswer o read (log_of (records_of log))) answer
 
 -- a check of a program
 abbrev pub AnswersCheckFile : Bool → List ℕ → JobAnswer → Type 0

@@ -2,7 +2,7 @@
 use Rattle.std.specs.Prelude.{◌≡◌, ℕ, Option, Some, None, IfSome, IsSome, Result, false, is_some}
 use Rattle.wc_controller.specs.Blames.{Blames, RefusesLog, RefusesProgram}
 use Rattle.wc_controller.specs.Endings.{EndsAs, HasNotFailedIn, IsAt, RefusesPlate, TakesInput, TellsFailures, TellsMemory, TellsReadEndings, TellsWriteFaults, WritesUpTo, ending_of, met}
-use Rattle.wc_controller.specs.Files.{AnswersLine, AnswersRun}
+use Rattle.wc_controller.specs.Files.{AnswersLine, AnswersRun, Observed}
 use Rattle.wc_controller.specs.InputStates.{InputStates, Reader, Writer}
 use Rattle.wc_controller.specs.Shown.{EndsLike, TellsShownReads}
 use Rattle.wc_controller.specs.TakenLogs.{IfKnown, failures_of, known_of, log_taken}
@@ -15,16 +15,16 @@ use Rattle.wc_model.specs.Say.Job.{JobAnswer}
 use Rattle.wc_record.specs.Left.{HasCause}
 
 -- this is said of the answers to inputs with a program or with none, where the bytes of all that are read are known
-abbrev pub OfAnswersTo : Option ℕ → Reader → Option Reader → Option Reader → Reader → ((JobAnswer → Type 0) → Type 0) → Type 0
-OfAnswersTo last plate None next log said =
-    IfSome plate.bytes (λ table. IfSome log.bytes (λ bytes. said (AnswersLine table bytes)))
-OfAnswersTo last plate (Some program) next log said =
+abbrev pub OfAnswersTo : Observed → Reader → Option Reader → Option Reader → Reader → ((JobAnswer → Type 0) → Type 0) → Type 0
+OfAnswersTo o plate None next log said =
+    IfSome plate.bytes (λ table. IfSome log.bytes (λ bytes. said (AnswersLine o table bytes)))
+OfAnswersTo o plate (Some program) next log said =
     IfSome plate.bytes (λ table. IfSome program.bytes (λ text. IfKnown next (λ known. IfSome log.bytes
-    (λ bytes. said (AnswersRun last table text known bytes)))))
+    (λ bytes. said (AnswersRun o table text known bytes)))))
 
--- the same of the inputs of a run that prints every scan, or the last so many alone
-abbrev pub OfAnswers : Option ℕ → InputStates → ((JobAnswer → Type 0) → Type 0) → Type 0
-OfAnswers last inputs said = OfAnswersTo last inputs.plate inputs.program inputs.next inputs.log said
+-- the same of the inputs of a run
+abbrev pub OfAnswers : Observed → InputStates → ((JobAnswer → Type 0) → Type 0) → Type 0
+OfAnswers o inputs said = OfAnswersTo o inputs.plate inputs.program inputs.next inputs.log said
 
 -- no more is taken of a plate or a program than the byte that makes it too long
 pub record TakesInputs (before after : InputStates) : Type 0 where
@@ -37,7 +37,8 @@ pub record TakesInputs (before after : InputStates) : Type 0 where
 --     blames_..     the input that a refusal names is the one that breaks the rule, and these are the fields of a refused row
 --     no_job        there is no job: what it names is one of these inputs
 --     .._there      it names no program where there is none, and no next one
---     unread_..     what follows the input that it names is not read, and with no program no next one is
+--     unread_..     what follows the input that it names is not read, and with no program no next one is; the log is not read
+--                   where a name is refused of those that are to be observed
 --     log_fault     the log is named with a read fault only where its reader failed, or as much was read as may be
 --     log_read      where all was done, or a row is refused, the log's reader has not failed
 pub record ReadsInOrder (before after : InputStates) (told : Record) (ending : Ending) : Type 0 where
@@ -51,6 +52,7 @@ pub record ReadsInOrder (before after : InputStates) (told : Record) (ending : E
   pub unread_behind_plate : IsAt input.Plate ending → (after.program ≡ before.program) × (after.next ≡ before.next) × (after.log ≡ before.log)
   pub unread_behind_program : IsAt input.Program ending → (after.next ≡ before.next) × (after.log ≡ before.log)
   pub unread_behind_next : IsAt input.Next ending → after.log ≡ before.log
+  pub unread_behind_names : IsAt input.Names ending → after.log ≡ before.log
   pub unread_alone : is_some before.program ≡ false → after.next ≡ before.next
   pub log_fault : ending ≡ ended.ReadFault input.Log → HasCause before.log.failures after.log.failures before.log.spent after.log.spent
   pub log_read : HasNotFailedIn input.Log ending before.log.failures after.log.failures
@@ -67,8 +69,8 @@ pub record TellsReaders (before after : InputStates) (ending : Ending) : Type 0 
 --                  front of such an answer was written, or nothing
 --     memory       a fault of the log's reader, or the bound that was met, is not told as want of memory
 --     failures     a write fault is told where the writer failed, and only there
-pub record RunsAs (last : Option ℕ) (before after : InputStates) (told : Record) (ending : Ending) (old new : Writer) : Type 0 where
-  pub ends : OfAnswers last before (λ allowed. EndsAs allowed ending old.taken new.taken)
+pub record RunsAs (o : Observed) (before after : InputStates) (told : Record) (ending : Ending) (old new : Writer) : Type 0 where
+  pub ends : OfAnswers o before (λ allowed. EndsAs allowed ending old.taken new.taken)
   pub inputs : ReadsInOrder before after told ending
   pub readers : TellsReaders before after ending
   pub memory : ending ≡ ended.NoMemory
@@ -76,8 +78,8 @@ pub record RunsAs (last : Option ℕ) (before after : InputStates) (told : Recor
   pub failures : TellsFailures ending old.failures new.failures
 
 -- How far it came when it stopped, before the line of a refusal is written.
-pub record RunsUpTo (last : Option ℕ) (before after : InputStates) (told : Record) (answer : Result (Unit {0}) Stopped) (old new : Writer) : Type 0 where
-  pub writes : OfAnswers last before (λ allowed. WritesUpTo allowed (met answer) old.taken new.taken)
+pub record RunsUpTo (o : Observed) (before after : InputStates) (told : Record) (answer : Result (Unit {0}) Stopped) (old new : Writer) : Type 0 where
+  pub writes : OfAnswers o before (λ allowed. WritesUpTo allowed (met answer) old.taken new.taken)
   pub inputs : ReadsInOrder before after told (ending_of answer)
   pub readers : TellsReaders before after (ending_of answer)
   pub memory : ending_of answer ≡ ended.NoMemory
@@ -93,7 +95,7 @@ pub record TellsShownReaders (before after : InputStates) (ending : Ending) : Ty
 
 -- What a run of these inputs does that is shown, beside its report or in place of it: it ends as a run of them does, or
 -- something failed, which can be what is shown.
-pub record ShowsRun (last : Option ℕ) (before after : InputStates) (told : Record) (ending : Ending) : Type 0 where
-  pub ends : OfAnswers last before (λ allowed. EndsLike allowed ending)
+pub record ShowsRun (o : Observed) (before after : InputStates) (told : Record) (ending : Ending) : Type 0 where
+  pub ends : OfAnswers o before (λ allowed. EndsLike allowed ending)
   pub inputs : ReadsInOrder before after told ending
   pub readers : TellsShownReaders before after ending

@@ -9,12 +9,17 @@ use Rattle.wc_job.specs.Reads.{IsWhole}
 use Rattle.wc_model.specs.Language.Loading.{IsLoaded}
 use Rattle.wc_model.specs.Language.Views.{text_view}
 use Rattle.wc_model.specs.Run.Log.{LogOf, log_of}
-use Rattle.wc_model.specs.Say.LogFor.{log_while}
+use Rattle.wc_model.specs.Say.LogFor.{log_for, log_while}
+use Rattle.wc_model.specs.Say.ProgramReport.{Logic}
 use Rattle.wc_record.specs.Reading.{records_of}
 
 -- with no program: each row up to the first that breaks a rule
 abbrev pub log_alone : List ℕ → LogOf
 log_alone bytes = log_of (records_of bytes)
+
+-- with this logic, or with none
+abbrev pub log_with : Option Logic → List ℕ → LogOf
+log_with logic bytes = log_for logic (log_of (records_of bytes))
 
 -- beside a machine, with a next program or none: up to the first that wants a further program, too
 abbrev pub log_beside : Bool → List ℕ → LogOf

@@ -9,14 +9,14 @@ ghost use Rattle.wc_record.specs.Told.{fields_told};
 
 use crate::ending::{Ending, end};
 use crate::input::{Input, Stopped};
-use crate::loaded::{load_input, run_loaded};
+use crate::loaded::{RunPrograms, load_input, run_loaded};
 use crate::reading::{read_input, run_fault_of};
 use std::alloc::Global;
 use wc_job::{Sections, sections};
 use wc_model::{ByteIn, ByteOut, Device};
 use wc_plate::plate;
 use wc_record::RefusedRow;
-use wc_run::{RunFault, Unwatched};
+use wc_run::{Report, RunFault};
 
 /// What stopped a run of a log that lies in memory: to read it fails only for want of memory.
 fn stopped_in_memory(stopped: Stopped) -> Stopped
@@ -55,22 +55,18 @@ fn answer_sections<W: ByteOut>(
             fault: run_fault_of(fault),
         }),
     };
-    let loaded = match load_input(alloc, &mut Unwatched, Input::Program, sections.program) {
+    let loaded = match load_input(alloc, Input::Program, sections.program) {
         Ok(loaded) => loaded,
         Err(stopped) => return Err(stopped),
     };
     let mut log = Device::new(sections.log);
-    match run_loaded(
-        alloc,
-        None,
-        &mut Unwatched,
-        &plate,
+    let programs = RunPrograms {
+        text: sections.program,
         loaded,
-        sections.next,
-        &mut log,
-        writer,
-        told,
-    ) {
+        next: sections.next,
+    };
+    let mut report = Report::new(alloc, writer);
+    match run_loaded(alloc, &mut report, &plate, programs, &mut log, told) {
         Ok(()) => Ok(()),
         Err(stopped) => Err(stopped_in_memory(stopped)),
     }
@@ -151,7 +147,7 @@ pub fn answer_job<R: ByteIn, W: ByteOut>(
     ensures taken { TakesInput (R.bytes_left reader.old) (R.bytes_left reader.new) }
 {
     let answer = answer_input(alloc, reader, writer, told);
-    end(alloc, answer, writer)
+    end(alloc, answer, &mut Report::new(alloc, writer))
 }
 
 /// Answers a job as `answer_job` does. The status is 0 where all rows ran, 1 where something was

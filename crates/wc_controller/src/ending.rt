@@ -1,12 +1,10 @@
 ghost use Rattle.std.specs.Prelude.{◌≡◌, ℕ};
-ghost use Rattle.wc_controller.specs.Shown.{IsEndedBy};
 ghost use Rattle.wc_controller.specs.Endings.{EndsBehind, EndsRefused, TellsFailures, TellsWriteFaults, met, status_of};
 
 use crate::input::{Input, Stopped};
 use std::alloc::Global;
-use wc_model::{ByteOut, write_whole};
-use wc_report::refused_line;
-use wc_run::RunFault;
+use wc_run::{Observer, RunFault};
+use wc_store::SlotStore;
 
 /// How a command ended.
 #[derive(Clone, Copy, PartialEq, Eq)]
@@ -50,40 +48,43 @@ impl Ending {
 }
 
 /// The ending of a refusal, whose line is written behind what stands.
-fn end_refused<W: ByteOut>(
+fn end_refused<O: Observer<SlotStore>>(
     alloc: Global,
     input: Input,
     number: u16,
     place: u32,
-    writer: &mut W,
+    observer: &mut O,
 ) -> Ending
-    ensures ends { EndsRefused input number place result (W.bytes_taken writer.old)
-        (W.bytes_taken writer.new) }
-    ensures failures { TellsFailures result (W.failure_count writer.old)
-        (W.failure_count writer.new) }
+    ensures ends { EndsRefused input number place result (O.bytes_taken observer.old)
+        (O.bytes_taken observer.new) }
+    ensures failures { TellsFailures result (O.failure_count observer.old)
+        (O.failure_count observer.new) }
 {
-    let line = match refused_line(alloc, number, place) {
-        Ok(line) => line,
-        Err(_) => return Ending::NoMemory,
-    };
-    match write_whole(writer, &line) {
+    match observer.refuse(alloc, number, place) {
         Ok(()) => Ending::Refused {
             input,
             number,
             place,
         },
-        Err(_) => Ending::WriteFault,
+        Err(fault) => match fault {
+            RunFault::Write => Ending::WriteFault,
+            _ => Ending::NoMemory,
+        },
     }
 }
 
 /// The ending of what was done, or of what stopped it: a refusal's line is written behind what
 /// stands.
-pub fn end<W: ByteOut>(alloc: Global, answer: Result<(), Stopped>, writer: &mut W) -> Ending
-    ensures ends { EndsBehind answer result (W.bytes_taken writer.old)
-        (W.bytes_taken writer.new) }
+pub fn end<O: Observer<SlotStore>>(
+    alloc: Global,
+    answer: Result<(), Stopped>,
+    observer: &mut O,
+) -> Ending
+    ensures ends { EndsBehind answer result (O.bytes_taken observer.old)
+        (O.bytes_taken observer.new) }
     ensures failures { (before : ℕ)
-        → TellsWriteFaults (met answer) before (W.failure_count writer.old)
-        → TellsFailures result before (W.failure_count writer.new) }
+        → TellsWriteFaults (met answer) before (O.failure_count observer.old)
+        → TellsFailures result before (O.failure_count observer.new) }
 {
     let stopped = match answer {
         Ok(()) => return Ending::Done,
@@ -91,26 +92,9 @@ pub fn end<W: ByteOut>(alloc: Global, answer: Result<(), Stopped>, writer: &mut 
     };
     let input = stopped.input;
     match stopped.fault {
-        RunFault::Refused { number, place } => end_refused(alloc, input, number, place, writer),
+        RunFault::Refused { number, place } => end_refused(alloc, input, number, place, observer),
         RunFault::Read => Ending::ReadFault { input },
         RunFault::Write => Ending::WriteFault,
         RunFault::Memory => Ending::NoMemory,
-    }
-}
-
-/// How a run ends that is shown: the line of a refusal is written behind what was shown.
-pub fn end_shown<W: ByteOut>(alloc: Global, ending: Ending, writer: &mut W) -> Ending
-    ensures ends { IsEndedBy ending result }
-    ensures failures { (before : ℕ)
-        → TellsFailures ending before (W.failure_count writer.old)
-        → TellsFailures result before (W.failure_count writer.new) }
-{
-    match ending {
-        Ending::Refused {
-            input,
-            number,
-            place,
-        } => end_refused(alloc, input, number, place, writer),
-        _ => ending,
     }
 }

@@ -13,6 +13,8 @@ pub enum Input {
     Next,
     /// The log.
     Log,
+    /// Names of variables that are to be observed: no file, but a word of the command.
+    Names,
 }
 
 /// Why a command stopped, and the input that was being read or answered then.

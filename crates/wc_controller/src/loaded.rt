@@ -1,16 +1,21 @@
-ghost use Rattle.std.specs.Prelude.{◌≡◌, ◌≤◌, ℕ, Some, None, IfErr, IfOk, IfSome, is_some, option_map};
+ghost use Rattle.std.specs.Prelude.{◌≡◌, [], ℕ, Some, None, Option, IfErr, IfOk, IfSome, IsOkUnless, OnOk, is_some, option_map};
 ghost use Rattle.wc_controller.specs.Blames.{IsNextUnloaded, IsUnloaded, RefusesLog, StopsFor};
-ghost use Rattle.wc_controller.specs.Endings.{HasNotFailedAt, IsReadFaultAt, StopsAt, TellsMemory, TellsWriteFaults, WritesUpTo, met};
-ghost use Rattle.wc_controller.specs.Files.{AnswersPrinting};
-ghost use Rattle.wc_controller.specs.InputStates.{reader_of};
-ghost use Rattle.wc_controller.specs.TakenLogs.{IsLater, IsNextLoadedOf, log_beside};
+ghost use Rattle.wc_controller.specs.Endings.{HasNotFailedAt, IsReadFaultAt, StopsAt, TellsMemory, TellsWriteFaults, WritesUpTo, begun_input, met};
+ghost use Rattle.wc_controller.specs.Files.{AnswersPrinting, IsLineAnswer, answer_written};
+ghost use Rattle.wc_controller.specs.InputStates.{observed_by, reader_of};
+ghost use Rattle.wc_controller.specs.TakenLogs.{IsLater, IsNextLoadedOf, log_alone, log_beside, log_with};
+ghost use Rattle.wc_model.specs.Instrument.Plates.{PlateData};
 ghost use Rattle.wc_model.specs.Language.Loading.{IsLoaded};
 ghost use Rattle.wc_model.specs.Language.Views.{text_view};
 ghost use Rattle.wc_model.specs.Run.Log.{log_of};
 ghost use Rattle.wc_model.specs.Say.Job.{AnswersNext};
+ghost use Rattle.wc_model.specs.Say.ProgramReport.{Logic, first_logic};
 ghost use Rattle.wc_record.specs.Left.{HasCause};
 ghost use Rattle.wc_record.specs.Told.{fields_told};
 ghost use Rattle.wc_record.specs.Reading.{records_of};
+ghost use Rattle.wc_run.specs.Logics.{text_of_next};
+ghost use Rattle.wc_run.specs.Observing.{RefusesToBegin, loaded_of, logic_of, text_in_all};
+ghost use Rattle.wc_run.specs.Standing.{IsNotBehind, Stands};
 
 use crate::input::{Input, Stopped};
 use crate::loading::load;
@@ -18,17 +23,24 @@ use crate::reading::run_fault_of;
 use std::alloc::Global;
 use wc_cost::Loaded;
 use wc_machine::Machine;
-use wc_model::{ByteIn, ByteOut};
+use wc_model::ByteIn;
 use wc_plate::Plate;
 use wc_record::RefusedRow;
-use wc_run::{RunFault, Scanner, run};
+use wc_run::{Observer, Program, RunFault, Scale, run};
 use wc_store::SlotStore;
 
-/// Loads a program, and shows it to who does the scans: where that says no, the run does not begin,
-/// and ends as for want of memory.
-pub(crate) fn load_input<'a, V: Scanner<SlotStore>>(
+/// The programs of a run: the text of the first and what was loaded of it, and the text of the next
+/// one, if there is one.
+#[derive(Drop)]
+pub(crate) struct RunPrograms<'a> {
+    pub(crate) text: &'a [u8],
+    pub(crate) loaded: Loaded<'a>,
+    pub(crate) next: Option<&'a [u8]>,
+}
+
+/// Loads a program.
+pub(crate) fn load_input<'a>(
     alloc: Global,
-    scanner: &mut V,
     input: Input,
     text: &'a [u8],
 ) -> Result<Loaded<'a>, Stopped>
@@ -39,15 +51,7 @@ pub(crate) fn load_input<'a, V: Scanner<SlotStore>>(
     ensures silent { (count : ℕ) → TellsWriteFaults (met result) count count }
 {
     match load(alloc, text) {
-        Ok(loaded) => {
-            if !scanner.know(text, &loaded) {
-                return Err(Stopped {
-                    input,
-                    fault: RunFault::Memory,
-                });
-            }
-            Ok(loaded)
-        }
+        Ok(loaded) => Ok(loaded),
         Err(fault) => Err(Stopped {
             input,
             fault: run_fault_of(fault),
@@ -56,11 +60,7 @@ pub(crate) fn load_input<'a, V: Scanner<SlotStore>>(
 }
 
 /// Loads the next program, if there is one.
-fn load_next<'a, V: Scanner<SlotStore>>(
-    alloc: Global,
-    scanner: &mut V,
-    text: Option<&'a [u8]>,
-) -> Result<Option<Loaded<'a>>, Stopped>
+fn load_next<'a>(alloc: Global, text: Option<&'a [u8]>) -> Result<Option<Loaded<'a>>, Stopped>
     ensures loaded { IfOk result
         (λ next. IsNextLoadedOf (option_map (λ text. text.now) text.entry) next) }
     ensures refused { IfErr result
@@ -70,7 +70,7 @@ fn load_next<'a, V: Scanner<SlotStore>>(
     ensures silent { (count : ℕ) → TellsWriteFaults (met result) count count }
 {
     match text {
-        Some(text) => match load_input(alloc, scanner, Input::Next, text) {
+        Some(text) => match load_input(alloc, Input::Next, text) {
             Ok(next) => Ok(Some(next)),
             Err(stopped) => Err(stopped),
         },
@@ -78,73 +78,218 @@ fn load_next<'a, V: Scanner<SlotStore>>(
     }
 }
 
-/// Loads the next program, if there is one, and runs a log with a program that is loaded: every scan
-/// is printed, or the last so many. The log is not read where the next program is refused.
-pub(crate) fn run_loaded<'a, V: Scanner<SlotStore>, L: ByteIn, W: ByteOut>(
+/// The next program as an observer is shown it.
+fn next_program<'l, 't>(
+    text: Option<&'t [u8]>,
+    loaded: &'l Option<Loaded<'t>>,
+) -> Option<Program<'l, 't>>
+    requires { IsNextLoadedOf (option_map (λ text. text.now) text) loaded.now }
+    ensures { loaded_of result ≡ loaded.now }
+{
+    match loaded {
+        Some(loaded) => match text {
+            Some(text) => Some(Program { text, loaded }),
+            None => None,
+        },
+        None => None,
+    }
+}
+
+/// The input that is named where an observer does not begin.
+fn begun_input(fault: RunFault) -> Input
+    ensures { result ≡ begun_input fault }
+{
+    match fault {
+        RunFault::Refused { .. } => Input::Names,
+        _ => Input::Log,
+    }
+}
+
+/// Shows an observer the programs of a run, before its log is read.
+fn begin<O: Observer<SlotStore>>(
+    observer: &mut O,
+    first: Option<Program<'_, '_>>,
+    next: Option<Program<'_, '_>>,
+) -> Result<(), Stopped>
+    requires { O.is_new observer.old }
+    ensures plan { O.plan observer.new ≡ O.plan observer.old }
+    ensures seen { OnOk result ((plate : PlateData)
+        → O.has_seen observer.new plate (logic_of (loaded_of first.entry) (loaded_of next.entry)) []) }
+    ensures kept { O.bytes_taken observer.new ≡ O.bytes_taken observer.old }
+    ensures failures { O.failure_count observer.new ≡ O.failure_count observer.old }
+    ensures refused { IfErr result
+        (λ stopped. RefusesToBegin (O.may_refuse observer.old) stopped.fault) }
+    ensures input { IfErr result (λ stopped. stopped.input ≡ begun_input stopped.fault) }
+{
+    match observer.begin(first, next) {
+        Ok(()) => Ok(()),
+        Err(fault) => Err(Stopped {
+            input: begun_input(fault),
+            fault,
+        }),
+    }
+}
+
+/// A scale with a program that is loaded, and the next one, to which no row has come.
+fn scale_of<'a>(
     alloc: Global,
-    last: Option<u16>,
-    scanner: &mut V,
     plate: &Plate,
     loaded: Loaded<'a>,
-    text: Option<&'a [u8]>,
+    next: Option<Loaded<'a>>,
+) -> Result<Scale<'a, SlotStore>, RunFault>
+    ensures stands { IfOk result (λ scale. Stands scale plate.now
+        (Some (first_logic (text_view loaded.entry.source) (text_of_next next.entry))) []) }
+    ensures first { IfOk result (λ scale. IsNotBehind scale 0) }
+    ensures memory { IsOkUnless result RunFault.Memory }
+{
+    match Machine::new(alloc, loaded) {
+        Ok(machine) => Scale::new(alloc, plate, Some(machine), next),
+        Err(_) => Err(RunFault::Memory),
+    }
+}
+
+/// Runs a log on a scale to which no row has come.
+fn run_scale<O: Observer<SlotStore>, L: ByteIn>(
+    alloc: Global,
+    observer: &mut O,
+    scale: &mut Scale<'_, SlotStore>,
     log: &mut L,
-    writer: &mut W,
     told: &mut RefusedRow,
 ) -> Result<(), Stopped>
-    requires few { IfSome last (λ n. (1 ≤ n) × (n ≤ 1000)) }
+    requires first { IsNotBehind scale.old 0 }
+    ensures writes { (plate : PlateData) (logic : Option Logic)
+        → Stands scale.old plate logic [] → O.has_seen observer.old plate logic []
+        → IfSome (L.bytes_left log.old) (λ bytes.
+        WritesUpTo (λ one. one ≡ answer_written (text_in_all (O.plan observer.old)) plate logic
+        (log_of (records_of bytes)))
+        (met result) (O.bytes_taken observer.old) (O.bytes_taken observer.new)) }
+    ensures input { IfErr result (λ stopped. stopped.input ≡ Input.Log) }
+    ensures blames { (plate : PlateData) (logic : Option Logic)
+        → Stands scale.old plate logic [] → O.has_seen observer.old plate logic []
+        → StopsFor Input.Log (RefusesLog (log_with logic) (fields_told told.new))
+        (L.bytes_left log.old) result }
+    ensures read { IsReadFaultAt Input.Log result
+        → HasCause (L.failure_count log.old) (L.failure_count log.new)
+        (L.spent_count log.old) (L.spent_count log.new) }
+    ensures memory { met result ≡ Some RunFault.Memory
+        → ¬ HasCause (L.failure_count log.old) (L.failure_count log.new)
+        (L.spent_count log.old) (L.spent_count log.new) }
+    ensures reader { HasNotFailedAt Input.Log result (L.failure_count log.old)
+        (L.failure_count log.new) }
+    ensures failures { TellsWriteFaults (met result) (O.failure_count observer.old)
+        (O.failure_count observer.new) }
+{
+    match run(alloc, observer, scale, log, told) {
+        Ok(_) => Ok(()),
+        Err(fault) => Err(Stopped {
+            input: Input::Log,
+            fault,
+        }),
+    }
+}
+
+/// Runs a log with no program.
+pub(crate) fn run_alone<O: Observer<SlotStore>, L: ByteIn>(
+    alloc: Global,
+    observer: &mut O,
+    plate: &Plate,
+    log: &mut L,
+    told: &mut RefusedRow,
+) -> Result<(), Stopped>
+    requires new { O.is_new observer.old }
     ensures writes { IfSome (L.bytes_left log.old)
-        (λ bytes. WritesUpTo (AnswersNext (option_map (λ text. text.now) text.entry)
-        (AnswersPrinting last plate.now (log_of (records_of bytes))
-        (text_view loaded.entry.source)))
-        (met result) (W.bytes_taken writer.old) (W.bytes_taken writer.new)) }
+        (λ bytes. WritesUpTo (IsLineAnswer (observed_by O.plan O.may_refuse observer.old) plate.now
+        (log_of (records_of bytes)))
+        (met result) (O.bytes_taken observer.old) (O.bytes_taken observer.new)) }
+    ensures later { IsLater result }
+    ensures no_next { ¬ StopsAt Input.Next result }
+    ensures names { StopsAt Input.Names result
+        → reader_of L.bytes_left L.failure_count L.spent_count log.new
+        ≡ reader_of L.bytes_left L.failure_count L.spent_count log.old }
+    ensures blames { StopsFor Input.Log (RefusesLog log_alone (fields_told told.new))
+        (L.bytes_left log.old) result }
+    ensures read { IsReadFaultAt Input.Log result
+        → HasCause (L.failure_count log.old) (L.failure_count log.new)
+        (L.spent_count log.old) (L.spent_count log.new) }
+    ensures memory { met result ≡ Some RunFault.Memory
+        → TellsMemory log_alone (L.bytes_left log.old) (L.failure_count log.old)
+        (L.failure_count log.new) (L.spent_count log.old) (L.spent_count log.new) }
+    ensures reader { HasNotFailedAt Input.Log result (L.failure_count log.old)
+        (L.failure_count log.new) }
+    ensures failures { TellsWriteFaults (met result) (O.failure_count observer.old)
+        (O.failure_count observer.new) }
+{
+    if let Err(stopped) = begin(observer, None, None) {
+        return Err(stopped);
+    }
+    match Scale::new(alloc, plate, None, None) {
+        Ok(mut scale) => run_scale(alloc, observer, &mut scale, log, told),
+        Err(fault) => Err(Stopped {
+            input: Input::Log,
+            fault,
+        }),
+    }
+}
+
+/// Loads the next program, if there is one, and runs a log with a program that is loaded. The log is
+/// not read where the next program is refused.
+pub(crate) fn run_loaded<O: Observer<SlotStore>, L: ByteIn>(
+    alloc: Global,
+    observer: &mut O,
+    plate: &Plate,
+    programs: RunPrograms<'_>,
+    log: &mut L,
+    told: &mut RefusedRow,
+) -> Result<(), Stopped>
+    requires new { O.is_new observer.old }
+    ensures writes { IfSome (L.bytes_left log.old)
+        (λ bytes. WritesUpTo (AnswersNext (option_map (λ text. text.now) programs.entry.next)
+        (AnswersPrinting (observed_by O.plan O.may_refuse observer.old) plate.now
+        (log_of (records_of bytes)) (text_view programs.entry.loaded.source)))
+        (met result) (O.bytes_taken observer.old) (O.bytes_taken observer.new)) }
     ensures blames_next { IfErr result
         (λ stopped. stopped.input ≡ Input.Next
-        → IsNextUnloaded (option_map (λ text. text.now) text.entry) stopped.fault) }
+        → IsNextUnloaded (option_map (λ text. text.now) programs.entry.next) stopped.fault) }
     ensures blames_log { StopsFor Input.Log
-        (RefusesLog (log_beside (is_some (option_map (λ text. text.now) text.entry)))
+        (RefusesLog (log_beside (is_some (option_map (λ text. text.now) programs.entry.next)))
         (fields_told told.new)) (L.bytes_left log.old) result }
     ensures unread { StopsAt Input.Next result
         → reader_of L.bytes_left L.failure_count L.spent_count log.new
         ≡ reader_of L.bytes_left L.failure_count L.spent_count log.old }
+    ensures names { StopsAt Input.Names result
+        → reader_of L.bytes_left L.failure_count L.spent_count log.new
+        ≡ reader_of L.bytes_left L.failure_count L.spent_count log.old }
+    ensures unnamed { StopsAt Input.Names result → O.may_refuse observer.old }
     ensures later { IsLater result }
     ensures held { ¬ IsReadFaultAt Input.Next result }
     ensures read { IsReadFaultAt Input.Log result
         → HasCause (L.failure_count log.old) (L.failure_count log.new)
         (L.spent_count log.old) (L.spent_count log.new) }
     ensures memory { met result ≡ Some RunFault.Memory
-        → TellsMemory (log_beside (is_some (option_map (λ text. text.now) text.entry)))
+        → TellsMemory (log_beside (is_some (option_map (λ text. text.now) programs.entry.next)))
         (L.bytes_left log.old) (L.failure_count log.old) (L.failure_count log.new)
         (L.spent_count log.old) (L.spent_count log.new) }
     ensures reader { HasNotFailedAt Input.Log result (L.failure_count log.old)
         (L.failure_count log.new) }
-    ensures failures { TellsWriteFaults (met result) (W.failure_count writer.old)
-        (W.failure_count writer.new) }
+    ensures failures { TellsWriteFaults (met result) (O.failure_count observer.old)
+        (O.failure_count observer.new) }
 {
-    let next = match load_next(alloc, scanner, text) {
+    let next = match load_next(alloc, programs.next) {
         Ok(next) => next,
         Err(stopped) => return Err(stopped),
     };
-    match Machine::new(alloc, loaded) {
-        Ok(machine) => match run(
-            alloc,
-            last,
-            scanner,
-            plate,
-            Some(machine),
-            next,
-            log,
-            writer,
-            told,
-        ) {
-            Ok(_) => Ok(()),
-            Err(fault) => Err(Stopped {
-                input: Input::Log,
-                fault,
-            }),
-        },
-        Err(_) => Err(Stopped {
+    let first = Program {
+        text: programs.text,
+        loaded: &programs.loaded,
+    };
+    if let Err(stopped) = begin(observer, Some(first), next_program(programs.next, &next)) {
+        return Err(stopped);
+    }
+    match scale_of(alloc, plate, programs.loaded, next) {
+        Ok(mut scale) => run_scale(alloc, observer, &mut scale, log, told),
+        Err(fault) => Err(Stopped {
             input: Input::Log,
-            fault: RunFault::Memory,
+            fault,
         }),
     }
 }

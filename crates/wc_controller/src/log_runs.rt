@@ -4,6 +4,7 @@ ghost use Rattle.wc_model.specs.Say.LogFor.{log_for};
 ghost use Rattle.wc_model.specs.Say.ProgramReport.{Logic};
 ghost use Rattle.wc_record.specs.Left.{HasCause};
 ghost use Rattle.wc_record.specs.Reading.{records_of};
+ghost use Rattle.wc_run.specs.Doing.{IsJudged};
 ghost use Rattle.wc_run.specs.Logics.{StandsAt};
 ghost use Rattle.wc_run.specs.Runs.{HasNotFailed, LeavesLine, Reports, TellsWrites};
 
@@ -13,8 +14,22 @@ use wc_machine::Machine;
 use wc_model::{ByteIn, ByteOut};
 use wc_plate::Plate;
 use wc_record::RefusedRow;
-use wc_run::{RunFault, Unwatched};
+use wc_run::{LastScans, Report, RunFault, Scale, judged};
 use wc_store::Store;
+
+/// The fault of a run that does not begin for want of memory: where the reader has failed already as often as can be counted,
+/// that is told.
+fn not_begun<R: ByteIn>(fault: RunFault, reader: &R) -> RunFault
+    ensures judged { IsJudged fault result }
+    ensures read { result ≡ RunFault.Read
+        → HasCause (R.failure_count reader.now) (R.failure_count reader.now)
+        (R.spent_count reader.now) (R.spent_count reader.now) }
+    ensures memory { result ≡ RunFault.Memory
+        → ¬ HasCause (R.failure_count reader.now) (R.failure_count reader.now)
+        (R.spent_count reader.now) (R.spent_count reader.now) }
+{
+    judged(fault, reader, reader.failures(), reader.spent())
+}
 
 /// Runs a log and writes its report, with a line for every scan. Each row is read and carried out,
 /// and its line is written, before the next row is read. A run takes no more memory for more rows.
@@ -74,18 +89,16 @@ pub fn run<'a, S: Store, R: ByteIn, W: ByteOut>(
     ensures reader { HasNotFailed result (R.failure_count reader.old)
         (R.failure_count reader.new) }
 {
-    let mut refused = RefusedRow::new(alloc);
-    wc_run::run(
-        alloc,
-        None,
-        &mut Unwatched,
-        plate,
-        machine,
-        next,
-        reader,
-        writer,
-        &mut refused,
-    )
+    match Scale::new(alloc, plate, machine, next) {
+        Ok(mut scale) => wc_run::run(
+            alloc,
+            &mut Report::new(alloc, writer),
+            &mut scale,
+            reader,
+            &mut RefusedRow::new(alloc),
+        ),
+        Err(fault) => Err(not_begun(fault, reader)),
+    }
 }
 
 /// Runs a log as `run` does, and of the lines of scans writes only those of the last `last` scans, 1
@@ -135,16 +148,18 @@ pub fn run_last<'a, S: Store, R: ByteIn, W: ByteOut>(
     ensures reader { HasNotFailed result (R.failure_count reader.old)
         (R.failure_count reader.new) }
 {
-    let mut refused = RefusedRow::new(alloc);
-    wc_run::run(
-        alloc,
-        Some(last),
-        &mut Unwatched,
-        plate,
-        machine,
-        next,
-        reader,
-        writer,
-        &mut refused,
-    )
+    let mut scans = match LastScans::new(alloc, last, writer) {
+        Ok(scans) => scans,
+        Err(fault) => return Err(not_begun(fault, reader)),
+    };
+    match Scale::new(alloc, plate, machine, next) {
+        Ok(mut scale) => wc_run::run(
+            alloc,
+            &mut scans,
+            &mut scale,
+            reader,
+            &mut RefusedRow::new(alloc),
+        ),
+        Err(fault) => Err(not_begun(fault, reader)),
+    }
 }

@@ -1,34 +1,33 @@
-ghost use Rattle.std.specs.Prelude.{◌≤◌, IfSome};
+ghost use Rattle.std.specs.Prelude.{◌≡◌, ◌≤◌, IfSome};
+ghost use Rattle.wc_controller.specs.Files.{report_observed};
 ghost use Rattle.wc_controller.specs.InputRuns.{RunsAs, RunsUpTo};
-ghost use Rattle.wc_controller.specs.InputStates.{writer_of};
+ghost use Rattle.wc_controller.specs.InputStates.{observed_by, writer_of};
 ghost use Rattle.wc_record.specs.Told.{fields_told};
 
 use crate::ending::{Ending, end};
 use crate::input::{Input, Stopped};
 use crate::inputs::RunInputs;
-use crate::lining::run_alone;
-use crate::loaded::{load_input, run_loaded};
+use crate::loaded::{RunPrograms, load_input, run_alone, run_loaded};
 use crate::reading::{lent, read_optional, read_plate};
 use std::alloc::Global;
 use wc_model::{ByteIn, ByteOut};
 use wc_record::RefusedRow;
-use wc_run::Scanner;
+use wc_run::{LastScans, Observer, Report};
 use wc_store::SlotStore;
 
 /// Reads a plate, and a program and the next one, if there are such, and runs a log. What follows an
 /// input that is refused is not read.
-fn run_inputs<V: Scanner<SlotStore>, P: ByteIn, T: ByteIn, N: ByteIn, L: ByteIn, W: ByteOut>(
+fn run_inputs<O: Observer<SlotStore>, P: ByteIn, T: ByteIn, N: ByteIn, L: ByteIn>(
     alloc: Global,
-    last: Option<u16>,
-    scanner: &mut V,
+    observer: &mut O,
     inputs: &mut RunInputs<P, T, N, L>,
-    writer: &mut W,
     told: &mut RefusedRow,
 ) -> Result<(), Stopped>
-    requires few { IfSome last (λ n. (1 ≤ n) × (n ≤ 1000)) }
-    ensures { RunsUpTo last inputs.old inputs.new (fields_told told.new) result
-        (writer_of W.bytes_taken W.failure_count writer.old)
-        (writer_of W.bytes_taken W.failure_count writer.new) }
+    requires new { O.is_new observer.old }
+    ensures { RunsUpTo (observed_by O.plan O.may_refuse observer.old) inputs.old inputs.new
+        (fields_told told.new) result
+        (writer_of O.bytes_taken O.failure_count observer.old)
+        (writer_of O.bytes_taken O.failure_count observer.new) }
 {
     let plate = match read_plate(alloc, &mut inputs.plate) {
         Ok(plate) => plate,
@@ -40,9 +39,9 @@ fn run_inputs<V: Scanner<SlotStore>, P: ByteIn, T: ByteIn, N: ByteIn, L: ByteIn,
     };
     let text = match read {
         Some(text) => text,
-        None => return run_alone(alloc, scanner, &plate, &mut inputs.log, writer, told),
+        None => return run_alone(alloc, observer, &plate, &mut inputs.log, told),
     };
-    let loaded = match load_input(alloc, scanner, Input::Program, &text) {
+    let loaded = match load_input(alloc, Input::Program, &text) {
         Ok(loaded) => loaded,
         Err(stopped) => return Err(stopped),
     };
@@ -50,46 +49,73 @@ fn run_inputs<V: Scanner<SlotStore>, P: ByteIn, T: ByteIn, N: ByteIn, L: ByteIn,
         Ok(other) => other,
         Err(stopped) => return Err(stopped),
     };
-    run_loaded(
-        alloc,
-        last,
-        scanner,
-        &plate,
+    let programs = RunPrograms {
+        text: &text,
         loaded,
-        lent(&other),
-        &mut inputs.log,
-        writer,
-        told,
-    )
+        next: lent(&other),
+    };
+    run_loaded(alloc, observer, &plate, programs, &mut inputs.log, told)
 }
 
-/// Runs a log and writes its report, with a line for every scan or for the last `last` scans alone.
-/// The plate is read and checked first, then the program, then the next program, if there are such,
-/// then the log is run row by row, and each line is written as its row comes. With no program only
-/// the answers of the line are written, and `last` has no effect.
+/// Runs a log, whoever observes it. The plate is read and checked first, then the program, then the
+/// next program, if there are such; the observer is shown the programs, and may refuse to begin;
+/// then the log is run row by row, and what the observer writes of a row is written before the next
+/// row is read. With no program the line alone does anything.
 ///
-/// - `last`: 1 to 1000, or `None` for every scan.
-/// - `scanner` does the scans, and is shown the programs and the rows.
-/// - `told` is given the fields of a row that is refused.
+/// `told` is given the fields of a row that is refused.
 ///
-/// The first input that breaks a rule is refused, after the lines of the rows before, and what
+/// The first input that breaks a rule is refused, after what is written of the rows before, and what
 /// follows it is not read. A row that changes the program takes the next one; where none is left it
 /// is refused. A read fault names the input whose reader failed in this call, or the log if as much
-/// was read as may be; a write fault comes if the writer failed in this call, and only then. After
-/// such a fault, and out of memory, a prefix of the output was written, or nothing.
-pub fn run_files<V: Scanner<SlotStore>, P: ByteIn, T: ByteIn, N: ByteIn, L: ByteIn, W: ByteOut>(
+/// was read as may be; a write fault comes if the observer's writer failed in this call, and only
+/// then. After such a fault, and out of memory, a prefix of the output was written, or nothing.
+pub fn run_files<O: Observer<SlotStore>, P: ByteIn, T: ByteIn, N: ByteIn, L: ByteIn>(
     alloc: Global,
-    last: Option<u16>,
-    scanner: &mut V,
+    observer: &mut O,
+    inputs: &mut RunInputs<P, T, N, L>,
+    told: &mut RefusedRow,
+) -> Ending
+    requires new { O.is_new observer.old }
+    ensures { RunsAs (observed_by O.plan O.may_refuse observer.old) inputs.old inputs.new
+        (fields_told told.new) result
+        (writer_of O.bytes_taken O.failure_count observer.old)
+        (writer_of O.bytes_taken O.failure_count observer.new) }
+{
+    let answer = run_inputs(alloc, observer, inputs, told);
+    end(alloc, answer, observer)
+}
+
+/// Runs a log as `run_files` does, and writes its report, with a line for every scan.
+pub fn report_files<P: ByteIn, T: ByteIn, N: ByteIn, L: ByteIn, W: ByteOut>(
+    alloc: Global,
     inputs: &mut RunInputs<P, T, N, L>,
     writer: &mut W,
     told: &mut RefusedRow,
 ) -> Ending
-    requires few { IfSome last (λ n. (1 ≤ n) × (n ≤ 1000)) }
-    ensures { RunsAs last inputs.old inputs.new (fields_told told.new) result
+    ensures { RunsAs (report_observed None) inputs.old inputs.new (fields_told told.new) result
         (writer_of W.bytes_taken W.failure_count writer.old)
         (writer_of W.bytes_taken W.failure_count writer.new) }
 {
-    let answer = run_inputs(alloc, last, scanner, inputs, writer, told);
-    end(alloc, answer, writer)
+    run_files(alloc, &mut Report::new(alloc, writer), inputs, told)
+}
+
+/// Runs a log as `run_files` does, and writes its report, with the lines of the last `last` scans
+/// alone, 1 to 1000: the answers of the line as their rows come, and those scans behind them.
+pub fn last_files<P: ByteIn, T: ByteIn, N: ByteIn, L: ByteIn, W: ByteOut>(
+    alloc: Global,
+    last: u16,
+    inputs: &mut RunInputs<P, T, N, L>,
+    writer: &mut W,
+    told: &mut RefusedRow,
+) -> Ending
+    requires few { (1 ≤ last) × (last ≤ 1000) }
+    ensures { RunsAs (report_observed (Some last)) inputs.old inputs.new (fields_told told.new)
+        result
+        (writer_of W.bytes_taken W.failure_count writer.old)
+        (writer_of W.bytes_taken W.failure_count writer.new) }
+{
+    match LastScans::new(alloc, last, writer) {
+        Ok(mut scans) => run_files(alloc, &mut scans, inputs, told),
+        Err(_) => Ending::NoMemory,
+    }
 }

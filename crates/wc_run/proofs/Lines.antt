@@ -1,5 +1,5 @@
 -- The lines of a report, and what of them is written at once and at the end.
-use Rattle.std.proofs.Common.{◌≡◌, refl, ap, sym, subst, ◌∙◌, ℕ, zero, suc, ◌-◌, List, [], ◌∷◌, ◌++◌, length, drop, Option, Some, None, Result, append-nil}
+use Rattle.std.proofs.Common.{◌≡◌, refl, ap, sym, subst, ◌∙◌, ℕ, zero, suc, ◌-◌, List, [], ◌∷◌, ◌++◌, length, drop, Option, Some, None, Result, Err, append-nil, inl, inr}
 use Rattle.std.proofs.lemmas.Grind.{flat_map-append}
 use Rattle.std.proofs.lemmas.List.{append_assoc}
 use Rattle.std.proofs.lemmas.List.Elements.{filter-append}
@@ -11,12 +11,15 @@ use Rattle.wc_model.specs.Say.ProgramReport.{Logic, programs}
 use Rattle.wc_model.specs.Say.Report.{ReportLine, answer_line, answer_lines, is_answer_line, is_scan_line, line_text, report_text}
 use Rattle.wc_model.specs.Run.Rows.{LogRow, Past, answer_of_row}
 use Rattle.wc_model.specs.Run.Log.{LogOf, LogRefusal}
-use Rattle.wc_run.specs.Doing.{WritesBy}
+use Rattle.std.proofs.KnownBytes.{Appends-nil}
+use Rattle.std.specs.Io.KnownBytes.{Appends}
+use Rattle.wc_run.specs.Doing.{IsJudged, WritesBy}
 use Rattle.wc_run.specs.Logics.{lines_of_row, lines_of_rows}
 use Rattle.wc_run.specs.Observing.{onto, text_coming, text_in_all}
 use Rattle.wc_run.specs.Reports.{last_plan, lines_so_far, plan_of, report_plan}
 use Rattle.wc_run.specs.Runs.{Reports, ReportsBy, report_coming, report_printing, report_written}
 use Rattle.wc_run.specs.declared.fault.RunFault.{RunFault}
+use Rattle.wc_run.specs.declared.fault.RunFault.TheVariants.{Memory}
 
 -- the lines of a row stand before those of the rows behind it
 one_row_more : (plate : PlateData) (logic : Option Logic) (past : Past) (row : LogRow) (rows : List LogRow)
@@ -120,3 +123,19 @@ pub writes_report : (last : Option ℕ) (plate : PlateData) (logic : Option Logi
 writes_report last plate logic log answer old new writes =
     subst (λ coming. ReportsBy (report_printing last plate logic) coming log answer old new) (λ i rows. coming_text last plate logic rows i)
     (subst (λ whole. ReportsBy whole (text_coming (plan_of last) plate logic []) log answer old new) (λ i rows. whole_text last plate logic log.refusal rows i) writes)
+
+-- of no rows nothing is written
+none_coming : (last : Option ℕ) (plate : PlateData) (logic : Option Logic) → report_coming last plate logic [] ≡ []
+none_coming None plate None = refl
+none_coming None plate (Some logic) = refl
+none_coming (Some number) plate logic = refl
+
+-- a run that does not begin has written the report of no rows
+pub none_reported : (last : Option ℕ) (plate : PlateData) (logic : Option Logic) (log : LogOf) (fault : RunFault) (taken : Option (List ℕ)) → IsJudged Memory fault
+    → Reports last plate logic log (Err fault) taken taken
+none_reported last plate logic log fault taken (inl is) =
+    subst (λ f. Reports last plate logic log (Err f) taken taken) (sym is)
+    ([], log.rows, refl, subst (λ text. Appends taken taken text) (sym (none_coming last plate logic)) (Appends-nil taken))
+none_reported last plate logic log fault taken (inr is) =
+    subst (λ f. Reports last plate logic log (Err f) taken taken) (sym is)
+    ([], log.rows, refl, subst (λ text. Appends taken taken text) (sym (none_coming last plate logic)) (Appends-nil taken))

@@ -4,7 +4,8 @@ use Rattle.std.proofs.lemmas.List.{append_assoc}
 use Rattle.wc_model.specs.Instrument.Plates.{PlateData}
 use Rattle.wc_model.specs.Run.Rows.{LogRow, Past}
 use Rattle.wc_model.specs.Say.ProgramReport.{Logic}
-use Rattle.wc_run.specs.Observing.{Plan, onto, text_coming}
+use Rattle.wc_model.specs.Run.Log.{LogRefusal}
+use Rattle.wc_run.specs.Observing.{Plan, onto, text_coming, text_in_all}
 
 -- how many rows there are with those before them
 pub length-onto : (past : Past) (rows : List LogRow) → length (onto past rows) ≡ length past + length rows
@@ -32,3 +33,17 @@ text_of_all plan plate logic (row ∷ past) rows =
 -- where no row follows it is that of those so far
 pub text_at_last : (plan : Plan) (plate : PlateData) (logic : Option Logic) (past : Past) → text_coming plan plate logic [] (onto past []) ≡ text_so_far plan plate logic past
 text_at_last plan plate logic past = text_of_all plan plate logic past [] ∙ append-nil (text_so_far plan plate logic past)
+
+-- what is written of the first rows is a front of what is written in all
+pub text_first : (plan : Plan) (plate : PlateData) (logic : Option Logic) (refusal : Option LogRefusal) (first left : List LogRow)
+    → (rest : List ℕ) × (text_in_all plan plate logic refusal (first ++ left) ≡ text_coming plan plate logic [] first ++ rest)
+text_first plan plate logic refusal first left =
+    let end : List ℕ = plan.at_end plate logic (first ++ left) refusal in
+    let more = coming [] first in
+    (more.0 ++ end, ap (λ text. text ++ end) more.1 ∙ append_assoc (text_coming plan plate logic [] first) more.0 end) where
+      coming : (past : Past) (rows : List LogRow) → (rest : List ℕ) × (text_coming plan plate logic past (rows ++ left) ≡ text_coming plan plate logic past rows ++ rest)
+      coming past [] = (text_coming plan plate logic past left, refl)
+      coming past (row ∷ rows) =
+          let more = coming (row ∷ past) rows in
+          let here : List ℕ = plan.at_row plate logic past row in
+          (more.0, ap (λ text. here ++ text) more.1 ∙ sym (append_assoc here (text_coming plan plate logic (row ∷ past) rows) more.0))

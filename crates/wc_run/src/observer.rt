@@ -1,5 +1,4 @@
 ghost use Rattle.std.specs.Prelude.{◌≡◌, ⊤, [], ◌∷◌, ℕ, List, Option, None, IfErr, OnOk};
-ghost use Rattle.std.specs.Io.KnownBytes.{Keeps};
 ghost use Rattle.wc_model.specs.Instrument.Plates.{PlateData};
 ghost use Rattle.wc_model.specs.Run.Rows.{Past};
 ghost use Rattle.wc_model.specs.Say.Job.{refused_text};
@@ -47,7 +46,7 @@ pub trait Observer<S: Store> {
         ensures plan { plan self.new ≡ plan self.old }
         ensures seen { OnOk result ((plate : PlateData)
             → has_seen self.new plate (logic_of (loaded_of first.entry) (loaded_of next.entry)) []) }
-        ensures keeps { Keeps (bytes_taken self.old) (bytes_taken self.new) }
+        ensures kept { bytes_taken self.new ≡ bytes_taken self.old }
         ensures failures { failure_count self.new ≡ failure_count self.old }
         ensures refused { IfErr result (RefusesToBegin (may_refuse self.old)) };
 

@@ -83,7 +83,7 @@ fn run_to_end<S: Store, O: Observer<S>, R: ByteIn>(
 
 /// A read fault where the reader has failed since, or as much was read as may be; else want of
 /// memory. A refusal and a write fault stay what they are.
-fn judged<R: ByteIn>(fault: RunFault, reader: &R, failures: u64, spent: u64) -> RunFault
+pub fn judged<R: ByteIn>(fault: RunFault, reader: &R, failures: u64, spent: u64) -> RunFault
     ensures judged { IsJudged fault result }
     ensures read { result ≡ RunFault.Read
         → HasCause failures (R.failure_count reader.now) spent (R.spent_count reader.now) }
