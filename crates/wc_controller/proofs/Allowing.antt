@@ -2,7 +2,7 @@
 -- names.
 use Rattle.std.proofs.Common.{◌≡◌, ℕ, ◌<◌, ◌≤◌, List, length, Ok, Err, refl, ap, sym, subst, inl, inr}
 use Rattle.std.proofs.KnownBytes.{Keeps-refl}
-use Rattle.std.specs.Prelude.{◌⊎◌, Option, Some, None, IfSome}
+use Rattle.std.specs.Prelude.{◌⊎◌, Option, Some, None, IfOk, IfSome, Result}
 use Rattle.wc_controller.proofs.Givings.{only_refused, upto_more}
 use Rattle.wc_controller.specs.Endings.{RefusesPlate, RefusesLength, WritesUpTo}
 use Rattle.wc_controller.specs.Files.{AnswersFile, AnswersPlateFile, AnswersWithPlate, too_long, whole}
@@ -24,6 +24,11 @@ use Rattle.wc_run.specs.declared.fault.RunFault.TheVariants.{Refused, Read, Writ
 pub on_known : {A : Type 0} (known : Option A) (P Q : A → Type 0) → ((value : A) → P value → Q value) → IfSome known P → IfSome known Q
 on_known None P Q f h = tt
 on_known (Some value) P Q f h = f value h
+
+-- so of a success
+pub on_success : {A E : Type 0} (answer : Result A E) (P Q : A → Type 0) → ((value : A) → P value → Q value) → IfOk answer P → IfOk answer Q
+on_success (Ok value) P Q f h = f value h
+on_success (Err e) P Q f h = tt
 
 -- of what two things hold, both hold
 pub on_both : {A : Type 0} (known : Option A) (P Q R : A → Type 0) → ((value : A) → P value → Q value → R value) → IfSome known P → IfSome known Q → IfSome known R

@@ -25,32 +25,25 @@ use Rattle.wc_model.specs.Say.ProgramReport.{Logic, first_logic}
 use Rattle.wc_record.specs.Reading.{records_of}
 use Rattle.wc_record.specs.Told.{records_read}
 use Rattle.wc_run.specs.Logics.{text_of_next}
-use Rattle.wc_run.specs.Runs.{Reports, TellsFault}
+use Rattle.wc_run.specs.Doing.{WritesBy}
+use Rattle.wc_run.specs.Observing.{Plan}
+use Rattle.wc_run.specs.Runs.{TellsFault}
 use Rattle.wc_run.specs.declared.fault.RunFault.{RunFault}
 use Rattle.wc_run.specs.declared.fault.RunFault.TheVariants.{Refused, Memory}
 
 -- a run that is refused tells the refusal of the log as it is taken, and its row
-pub log_refused : (last : Option ℕ) (plate : PlateData) (logic : Option Logic) (taken : List ℕ → LogOf) (fields : Record) (bytes : List ℕ) (why : RunFault) (old new : Option (List ℕ))
-    → Reports last plate logic (taken bytes) (Err why) old new → TellsFault (records_read bytes) fields why → RefusesLog taken fields bytes why
-log_refused last plate logic taken fields bytes (Refused number place) old new told row = (told.0, row)
-log_refused last plate logic taken fields bytes why old new told row = tt
+pub log_refused : (plan : Plan) (plate : PlateData) (logic : Option Logic) (taken : List ℕ → LogOf) (fields : Record) (bytes : List ℕ) (why : RunFault) (old new : Option (List ℕ))
+    → WritesBy plan plate logic (taken bytes) (Err why) old new → TellsFault (records_read bytes) fields why → RefusesLog taken fields bytes why
+log_refused plan plate logic taken fields bytes (Refused number place) old new told row = (told.0, row)
+log_refused plan plate logic taken fields bytes why old new told row = tt
 
 -- a machine takes the log by whether there is a next program, which is loaded
-taken_beside : (known : Option (List ℕ)) (next : Option LoadedText) (text : Text) (bytes : List ℕ) → IsNextLoadedOf known next
+pub taken_beside : (known : Option (List ℕ)) (next : Option LoadedText) (text : Text) (bytes : List ℕ) → IsNextLoadedOf known next
     → log_for (Some (first_logic text (text_of_next next))) (log_of (records_of bytes)) ≡ log_beside (is_some known) bytes
 taken_beside None None text bytes is = refl
 taken_beside None (Some next) text bytes is = absurd is
 taken_beside (Some known) None text bytes is = absurd is
 taken_beside (Some known) (Some next) text bytes is = refl
-
--- so is a run with a machine
-pub machine_refused : (last : Option ℕ) (plate : PlateData) (known : Option (List ℕ)) (next : Option LoadedText) (text : Text) (fields : Record) (bytes : List ℕ) (why : RunFault) (old new : Option (List ℕ))
-    → IsNextLoadedOf known next → Reports last plate (Some (first_logic text (text_of_next next))) (log_for (Some (first_logic text (text_of_next next))) (log_of (records_of bytes))) (Err why) old new
-    → TellsFault (records_read bytes) fields why → RefusesLog (log_beside (is_some known)) fields bytes why
-machine_refused last plate known next text fields bytes why old new is told row =
-    let logic = Some (first_logic text (text_of_next next)) in
-    log_refused last plate logic (log_beside (is_some known)) fields bytes why old new
-    (subst (λ log. Reports last plate logic log (Err why) old new) (taken_beside known next text bytes is) told) row
 
 -- where no text is loaded it is refused so
 pub text_refused : (bytes : List ℕ) (why : RunFault) → IsUnloaded bytes why → RefusesText bytes why

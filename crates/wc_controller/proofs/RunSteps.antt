@@ -158,7 +158,7 @@ writes_at_plate : (o : Observed) (plate : Reader) (program next : Option Reader)
     → IfSome plate.bytes (λ keys. RefusesPlate keys why) → OfAnswersTo o plate program next log (λ allowed. WritesUpTo allowed (Some why) old old)
 writes_at_plate o plate None next log why old refused =
     on_known plate.bytes _ _
-    (λ table is. on_each log.bytes _ (λ bytes. plate_not_read table (λ read. IsLineAnswer read (log_of (records_of bytes))) why old is)) refused
+    (λ table is. on_each log.bytes _ (λ bytes. plate_not_read table (λ read. IsLineAnswer o read (log_of (records_of bytes))) why old is)) refused
 writes_at_plate o plate (Some program) next log why old refused = files.at_plate o plate.bytes program.bytes next log.bytes why old refused
 
 -- of a file that was not read whole no write fault is told

@@ -18,8 +18,8 @@ abbrev pub log_alone : List ℕ → LogOf
 log_alone bytes = log_of (records_of bytes)
 
 -- with this logic, or with none
-abbrev pub log_with : Option Logic → List ℕ → LogOf
-log_with logic bytes = log_for logic (log_of (records_of bytes))
+abbrev pub log_by : Option Logic → List ℕ → LogOf
+log_by logic bytes = log_for logic (log_of (records_of bytes))
 
 -- beside a machine, with a next program or none: up to the first that wants a further program, too
 abbrev pub log_beside : Bool → List ℕ → LogOf

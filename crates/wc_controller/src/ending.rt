@@ -55,6 +55,7 @@ fn end_refused<O: Observer<SlotStore>>(
     place: u32,
     observer: &mut O,
 ) -> Ending
+    ensures lender { O.lender observer.new ≡ O.lender observer.old }
     ensures ends { EndsRefused input number place result (O.bytes_taken observer.old)
         (O.bytes_taken observer.new) }
     ensures failures { TellsFailures result (O.failure_count observer.old)
@@ -80,6 +81,7 @@ pub fn end<O: Observer<SlotStore>>(
     answer: Result<(), Stopped>,
     observer: &mut O,
 ) -> Ending
+    ensures lender { O.lender observer.new ≡ O.lender observer.old }
     ensures ends { EndsBehind answer result (O.bytes_taken observer.old)
         (O.bytes_taken observer.new) }
     ensures failures { (before : ℕ)

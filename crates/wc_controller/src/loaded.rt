@@ -3,7 +3,7 @@ ghost use Rattle.wc_controller.specs.Blames.{IsNextUnloaded, IsUnloaded, Refuses
 ghost use Rattle.wc_controller.specs.Endings.{HasNotFailedAt, IsReadFaultAt, StopsAt, TellsMemory, TellsWriteFaults, WritesUpTo, begun_input, met};
 ghost use Rattle.wc_controller.specs.Files.{AnswersPrinting, IsLineAnswer, answer_written};
 ghost use Rattle.wc_controller.specs.InputStates.{observed_by, reader_of};
-ghost use Rattle.wc_controller.specs.TakenLogs.{IsLater, IsNextLoadedOf, log_alone, log_beside, log_with};
+ghost use Rattle.wc_controller.specs.TakenLogs.{IsLater, IsNextLoadedOf, log_alone, log_beside, log_by};
 ghost use Rattle.wc_model.specs.Instrument.Plates.{PlateData};
 ghost use Rattle.wc_model.specs.Language.Loading.{IsLoaded};
 ghost use Rattle.wc_model.specs.Language.Views.{text_view};
@@ -112,6 +112,7 @@ fn begin<O: Observer<SlotStore>>(
     next: Option<Program<'_, '_>>,
 ) -> Result<(), Stopped>
     requires { O.is_new observer.old }
+    ensures lender { O.lender observer.new ≡ O.lender observer.old }
     ensures plan { O.plan observer.new ≡ O.plan observer.old }
     ensures seen { OnOk result ((plate : PlateData)
         → O.has_seen observer.new plate (logic_of (loaded_of first.entry) (loaded_of next.entry)) []) }
@@ -157,6 +158,7 @@ fn run_scale<O: Observer<SlotStore>, L: ByteIn>(
     told: &mut RefusedRow,
 ) -> Result<(), Stopped>
     requires first { IsNotBehind scale.old 0 }
+    ensures lender { O.lender observer.new ≡ O.lender observer.old }
     ensures writes { (plate : PlateData) (logic : Option Logic)
         → Stands scale.old plate logic [] → O.has_seen observer.old plate logic []
         → IfSome (L.bytes_left log.old) (λ bytes.
@@ -166,7 +168,7 @@ fn run_scale<O: Observer<SlotStore>, L: ByteIn>(
     ensures input { IfErr result (λ stopped. stopped.input ≡ Input.Log) }
     ensures blames { (plate : PlateData) (logic : Option Logic)
         → Stands scale.old plate logic [] → O.has_seen observer.old plate logic []
-        → StopsFor Input.Log (RefusesLog (log_with logic) (fields_told told.new))
+        → StopsFor Input.Log (RefusesLog (log_by logic) (fields_told told.new))
         (L.bytes_left log.old) result }
     ensures read { IsReadFaultAt Input.Log result
         → HasCause (L.failure_count log.old) (L.failure_count log.new)
@@ -197,6 +199,7 @@ pub(crate) fn run_alone<O: Observer<SlotStore>, L: ByteIn>(
     told: &mut RefusedRow,
 ) -> Result<(), Stopped>
     requires new { O.is_new observer.old }
+    ensures lender { O.lender observer.new ≡ O.lender observer.old }
     ensures writes { IfSome (L.bytes_left log.old)
         (λ bytes. WritesUpTo (IsLineAnswer (observed_by O.plan O.may_refuse observer.old) plate.now
         (log_of (records_of bytes)))
@@ -242,6 +245,7 @@ pub(crate) fn run_loaded<O: Observer<SlotStore>, L: ByteIn>(
     told: &mut RefusedRow,
 ) -> Result<(), Stopped>
     requires new { O.is_new observer.old }
+    ensures lender { O.lender observer.new ≡ O.lender observer.old }
     ensures writes { IfSome (L.bytes_left log.old)
         (λ bytes. WritesUpTo (AnswersNext (option_map (λ text. text.now) programs.entry.next)
         (AnswersPrinting (observed_by O.plan O.may_refuse observer.old) plate.now

@@ -24,7 +24,8 @@ fn run_inputs<O: Observer<SlotStore>, P: ByteIn, T: ByteIn, N: ByteIn, L: ByteIn
     told: &mut RefusedRow,
 ) -> Result<(), Stopped>
     requires new { O.is_new observer.old }
-    ensures { RunsUpTo (observed_by O.plan O.may_refuse observer.old) inputs.old inputs.new
+    ensures lender { O.lender observer.new ≡ O.lender observer.old }
+    ensures runs { RunsUpTo (observed_by O.plan O.may_refuse observer.old) inputs.old inputs.new
         (fields_told told.new) result
         (writer_of O.bytes_taken O.failure_count observer.old)
         (writer_of O.bytes_taken O.failure_count observer.new) }
@@ -76,7 +77,8 @@ pub fn run_files<O: Observer<SlotStore>, P: ByteIn, T: ByteIn, N: ByteIn, L: Byt
     told: &mut RefusedRow,
 ) -> Ending
     requires new { O.is_new observer.old }
-    ensures { RunsAs (observed_by O.plan O.may_refuse observer.old) inputs.old inputs.new
+    ensures lender { O.lender observer.new ≡ O.lender observer.old }
+    ensures runs { RunsAs (observed_by O.plan O.may_refuse observer.old) inputs.old inputs.new
         (fields_told told.new) result
         (writer_of O.bytes_taken O.failure_count observer.old)
         (writer_of O.bytes_taken O.failure_count observer.new) }
@@ -96,7 +98,10 @@ pub fn report_files<P: ByteIn, T: ByteIn, N: ByteIn, L: ByteIn, W: ByteOut>(
         (writer_of W.bytes_taken W.failure_count writer.old)
         (writer_of W.bytes_taken W.failure_count writer.new) }
 {
-    run_files(alloc, &mut Report::new(alloc, writer), inputs, told)
+    let mut report = Report::new(alloc, writer);
+    let ending = run_files(alloc, &mut report, inputs, told);
+    let _writer = report.into_writer();
+    ending
 }
 
 /// Runs a log as `run_files` does, and writes its report, with the lines of the last `last` scans

@@ -44,7 +44,8 @@ fn program_bound(loaded: &Loaded<'_>) -> u32 {
 impl<'w, W: ByteOut> Picture<'w, W> {
     /// Before the first row. It takes no memory.
     pub(crate) fn new(alloc: Global, writer: &'w mut W) -> Picture<'w, W>
-        ensures { result.writer.now ≡ writer.old }
+        ensures writer { result.writer.now ≡ writer.old }
+        ensures lender { result.writer.ghost_name ≡ writer.entry.ghost_name }
     {
         Picture {
             alloc,
@@ -185,6 +186,8 @@ impl<W: ByteOut> Observer<SlotStore> for Picture<'_, W> {
     ghost plan = { λ picture. silent_plan };
 
     ghost has_seen = { λ picture plate logic past. ⊤ };
+
+    ghost lender = { λ picture. picture.writer.ghost_name };
 
     ghost failure_count = { λ picture. W.failure_count picture.writer.now };
 

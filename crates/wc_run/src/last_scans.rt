@@ -30,6 +30,8 @@ impl<'w, W: ByteOut> LastScans<'w, W> {
         requires some { 1 ≤ number }
         requires few { number ≤ 1000 }
         ensures writer { IfOk result (λ scans. scans.writer.now ≡ writer.old) }
+        ensures lender { IfOk result
+            (λ scans. scans.writer.ghost_name ≡ writer.entry.ghost_name) }
         ensures number { IfOk result (λ scans. scans.number ≡ number) }
         ensures holds { IfOk result (λ scans. HoldsScans scans.recorder number []) }
         ensures memory { IsOkUnless result RunFault.Memory }
@@ -69,6 +71,8 @@ impl<S: Store, W: ByteOut> Observer<S> for LastScans<'_, W> {
         HoldsScans scans.recorder scans.number (lines_so_far plate logic past) };
 
     ghost bytes_taken = { λ scans. W.bytes_taken scans.writer.now };
+
+    ghost lender = { λ scans. scans.writer.ghost_name };
 
     ghost failure_count = { λ scans. W.failure_count scans.writer.now };
 

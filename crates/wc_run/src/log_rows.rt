@@ -36,6 +36,7 @@ fn run_row<S: Store, O: Observer<S>>(
     requires early { row.ms < 2 ^ 40 }
     requires in_order { IsNotBehind scale.old row.ms }
     ensures plan { O.plan observer.new ≡ O.plan observer.old }
+    ensures lender { O.lender observer.new ≡ O.lender observer.old }
     ensures does { (plate : PlateData) (logic : Option Logic) (past : Past)
         → Stands scale.old plate logic past → O.has_seen observer.old plate logic past
         → Does O.has_seen (O.plan observer.old) plate logic past (head_view bytes.now row)
@@ -82,6 +83,7 @@ fn run_rows<S: Store, O: Observer<S>, R: ByteIn>(
     requires unread { rows_read rows.old ≡ 0 }
     requires in_order { IsNotBehind scale.old (last_ms rows.old) }
     ensures plan { O.plan observer.new ≡ O.plan observer.old }
+    ensures lender { O.lender observer.new ≡ O.lender observer.old }
     ensures runs { (log : LogOf) → HasLeft R.bytes_left rows.old log
         → (plate : PlateData) (logic : Option Logic)
         → Stands scale.old plate logic [] → O.has_seen observer.old plate logic []
@@ -117,6 +119,7 @@ pub(crate) fn run_log<S: Store, O: Observer<S>, R: ByteIn>(
 ) -> Result<u32, RunFault>
     requires { IsNotBehind scale.old 0 }
     ensures plan { O.plan observer.new ≡ O.plan observer.old }
+    ensures lender { O.lender observer.new ≡ O.lender observer.old }
     ensures runs { IfSome (R.bytes_left reader.old)
         (λ bytes. (plate : PlateData) (logic : Option Logic)
         → Stands scale.old plate logic [] → O.has_seen observer.old plate logic []

@@ -1,9 +1,10 @@
 ghost use Rattle.std.specs.Prelude.{◌≡◌, ⊤, [], ◌∷◌, ℕ, List, Option, None, IfErr, OnOk};
+ghost use Rattle.std.specs.Borrow.{GName};
 ghost use Rattle.wc_model.specs.Instrument.Plates.{PlateData};
 ghost use Rattle.wc_model.specs.Run.Rows.{Past};
 ghost use Rattle.wc_model.specs.Say.Job.{refused_text};
 ghost use Rattle.wc_model.specs.Say.ProgramReport.{Logic};
-ghost use Rattle.wc_run.specs.Doing.{Writes};
+ghost use Rattle.wc_run.specs.Doing.{Writes, WritesRefusal};
 ghost use Rattle.wc_run.specs.Observing.{IsShown, Plan, RefusesToBegin, loaded_of, logic_of, onto, refusal_of, row_of};
 ghost use Rattle.wc_run.specs.Runs.{IsNoRefusal, TellsWrites};
 
@@ -32,6 +33,9 @@ pub trait Observer<S: Store> {
     /// The bytes that it wrote so far, where they are known.
     ghost bytes_taken: { Self → Option (List ℕ) } = { λ _. None };
 
+    /// The loan of the writer that it holds, if it holds one: whoever lent it knows by this that it is still the same.
+    ghost lender: { Self → GName };
+
     /// How many of its writes failed, up to the greatest number of 64 bits.
     ghost failure_count: { Self → ℕ };
 
@@ -44,6 +48,7 @@ pub trait Observer<S: Store> {
     ) -> Result<(), RunFault>
         requires { is_new self.old }
         ensures plan { plan self.new ≡ plan self.old }
+        ensures lender { lender self.new ≡ lender self.old }
         ensures seen { OnOk result ((plate : PlateData)
             → has_seen self.new plate (logic_of (loaded_of first.entry) (loaded_of next.entry)) []) }
         ensures kept { bytes_taken self.new ≡ bytes_taken self.old }
@@ -57,6 +62,7 @@ pub trait Observer<S: Store> {
     /// there.
     fn see(&mut self, seen: &RowSeen<'_>, scale: &Scale<'_, S>) -> Result<(), RunFault>
         ensures plan { plan self.new ≡ plan self.old }
+        ensures lender { lender self.new ≡ lender self.old }
         ensures writes { (plate : PlateData) (logic : Option Logic) (past : Past)
             → IsShown seen.now plate logic past → has_seen self.old plate logic past
             → Writes ((plan self.old).at_row plate logic past (row_of seen.now)) result
@@ -69,6 +75,7 @@ pub trait Observer<S: Store> {
 
     /// Is told that the rows are over: all were done, or those before a refused row, by its number and the row.
     fn end(&mut self, refused: Option<(u16, u32)>) -> Result<(), RunFault>
+        ensures lender { lender self.new ≡ lender self.old }
         ensures writes { (plate : PlateData) (logic : Option Logic) (past : Past)
             → has_seen self.old plate logic past
             → Writes ((plan self.old).at_end plate logic (onto past []) (refusal_of refused))
@@ -76,9 +83,10 @@ pub trait Observer<S: Store> {
         ensures held { IfErr result IsNoRefusal }
         ensures failures { TellsWrites result (failure_count self.old) (failure_count self.new) };
 
-    /// Writes the line of a refusal behind what stands.
+    /// Writes the line of a refusal behind what stands; where its writer fails, a front of it that is not all.
     fn refuse(&mut self, alloc: Global, number: u16, place: u32) -> Result<(), RunFault>
-        ensures writes { Writes (refused_text number place) result
+        ensures lender { lender self.new ≡ lender self.old }
+        ensures writes { WritesRefusal (refused_text number place) result
             (bytes_taken self.old) (bytes_taken self.new) }
         ensures held { IfErr result IsNoRefusal }
         ensures failures { TellsWrites result (failure_count self.old) (failure_count self.new) };

@@ -65,12 +65,23 @@ pub struct Report<'w, W> {
 impl<'w, W: ByteOut> Report<'w, W> {
     /// Before the first row. It takes no memory.
     pub fn new(alloc: Global, writer: &'w mut W) -> Report<'w, W>
-        ensures { result.writer.now ≡ writer.old }
+        ensures writer { result.writer.now ≡ writer.old }
+        ensures lender { result.writer.ghost_name ≡ writer.entry.ghost_name }
     {
         Report {
             writer,
             text: Vec::new(alloc),
         }
+    }
+
+    /// The writer, with all that was written to it.
+    pub fn into_writer(self) -> &'w mut W
+        ensures writer { result.now ≡ self.entry.writer.now }
+        ensures lender { result.ghost_name ≡ self.entry.writer.ghost_name }
+    {
+        let Report { writer, text } = self;
+        drop(text);
+        writer
     }
 }
 
@@ -83,6 +94,8 @@ impl<S: Store, W: ByteOut> Observer<S> for Report<'_, W> {
     ghost has_seen = { λ report plate logic past. ⊤ };
 
     ghost bytes_taken = { λ report. W.bytes_taken report.writer.now };
+
+    ghost lender = { λ report. report.writer.ghost_name };
 
     ghost failure_count = { λ report. W.failure_count report.writer.now };
 

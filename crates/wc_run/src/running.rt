@@ -56,6 +56,7 @@ fn run_to_end<S: Store, O: Observer<S>, R: ByteIn>(
     told: &mut RefusedRow,
 ) -> Result<u32, RunFault>
     requires { IsNotBehind scale.old 0 }
+    ensures lender { O.lender observer.new ≡ O.lender observer.old }
     ensures writes { IfSome (R.bytes_left reader.old)
         (λ bytes. (plate : PlateData) (logic : Option Logic)
         → Stands scale.old plate logic [] → O.has_seen observer.old plate logic []
@@ -125,6 +126,7 @@ pub fn run<S: Store, O: Observer<S>, R: ByteIn>(
     told: &mut RefusedRow,
 ) -> Result<u32, RunFault>
     requires first { IsNotBehind scale.old 0 }
+    ensures lender { O.lender observer.new ≡ O.lender observer.old }
     ensures writes { IfSome (R.bytes_left reader.old)
         (λ bytes. (plate : PlateData) (logic : Option Logic)
         → Stands scale.old plate logic [] → O.has_seen observer.old plate logic []

@@ -1,7 +1,7 @@
 ghost use Rattle.std.specs.Prelude.{◌≡◌, ◌<◌, ◌≤◌, ◌+◌, ◌++◌, IfErr, IfOk, IsOkUnless, OnOk};
 ghost use Rattle.wc_model.specs.Say.Job.{refused_text};
 ghost use Rattle.wc_model.specs.Say.Report.{line_text, report_text};
-ghost use Rattle.wc_run.specs.Doing.{Writes};
+ghost use Rattle.wc_run.specs.Doing.{Writes, WritesRefusal};
 ghost use Rattle.wc_run.specs.Outputs.{line_of_record, lines_of_records};
 ghost use Rattle.wc_run.specs.Runs.{IsNoRefusal, TellsWrites};
 
@@ -64,14 +64,18 @@ pub fn write_refusal<W: ByteOut>(
     place: u32,
     writer: &mut W,
 ) -> Result<(), RunFault>
-    ensures writes { Writes (refused_text number place) result (W.bytes_taken writer.old)
+    ensures writes { WritesRefusal (refused_text number place) result (W.bytes_taken writer.old)
         (W.bytes_taken writer.new) }
     ensures held { IfErr result IsNoRefusal }
     ensures failures { TellsWrites result (W.failure_count writer.old)
         (W.failure_count writer.new) }
 {
-    match refused_line(alloc, number, place) {
-        Ok(line) => write_text(&line, writer),
-        Err(_) => Err(RunFault::Memory),
+    let line = match refused_line(alloc, number, place) {
+        Ok(line) => line,
+        Err(_) => return Err(RunFault::Memory),
+    };
+    match write_whole(writer, &line) {
+        Ok(()) => Ok(()),
+        Err(_) => Err(RunFault::Write),
     }
 }

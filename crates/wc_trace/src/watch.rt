@@ -55,7 +55,8 @@ fn bound_in(scale: &Scale<'_, SlotStore>) -> u32 {
 impl<'w, W: ByteOut> Watch<'w, W> {
     /// Before the first scan.
     pub(crate) fn new(alloc: Global, chosen: Chosen, writer: &'w mut W) -> Watch<'w, W>
-        ensures { result.writer.now ≡ writer.old }
+        ensures writer { result.writer.now ≡ writer.old }
+        ensures lender { result.writer.ghost_name ≡ writer.entry.ghost_name }
     {
         Watch {
             alloc,
@@ -147,6 +148,8 @@ impl<W: ByteOut> Observer<SlotStore> for Watch<'_, W> {
     ghost plan = { λ watch. silent_plan };
 
     ghost has_seen = { λ watch plate logic past. ⊤ };
+
+    ghost lender = { λ watch. watch.writer.ghost_name };
 
     ghost failure_count = { λ watch. W.failure_count watch.writer.now };
 

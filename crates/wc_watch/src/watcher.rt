@@ -59,6 +59,8 @@ impl<'n, 'w, W: ByteOut> Watcher<'n, 'w, W> {
     ) -> Result<Watcher<'n, 'w, W>, Fault>
         requires few { IfSome last (λ n. (1 ≤ n) × (n ≤ 1000)) }
         ensures writer { IfOk result (λ watcher. watcher.writer.now ≡ writer.old) }
+        ensures lender { IfOk result
+            (λ watcher. watcher.writer.ghost_name ≡ writer.entry.ghost_name) }
         ensures memory { IsOkUnless result Fault.Memory }
     {
         match last_lines(alloc, last) {
@@ -156,6 +158,8 @@ impl<W: ByteOut> Observer<SlotStore> for Watcher<'_, '_, W> {
     ghost may_refuse = { λ watcher. ⊤ };
 
     ghost has_seen = { λ watcher plate logic past. ⊤ };
+
+    ghost lender = { λ watcher. watcher.writer.ghost_name };
 
     ghost failure_count = { λ watcher. W.failure_count watcher.writer.now };
 

@@ -39,6 +39,7 @@ loop-given-preserved g c =
           takes
           (rw (now.invariant.plan, c.bytes.ensures) at done.does plate logic r.past r.stands r.seen);
       plan = c.run_row.ensures.plan ∙ now.invariant.plan;
+      lender = c.run_row.ensures.lender ∙ now.invariant.lender;
       told = λ records reads. c.in-Ok.ensures.records records (now.invariant.told records reads);
       in_order = subst (λ ms. IsNotBehind c.run_row.new.scale ms) (sym next.kept) done.in_order;
       numbered = omega (arith, now.invariant.numbered, next.number_is, next.counted);

@@ -18,6 +18,7 @@ invariant-loop-given g l = record {
       → Running g.R.ByteIn.bytes_left l.rows l.scale g.O.Observer.has_seen l.observer (g.O.Observer.plan l.initial.observer) plate logic (log_for logic log) l.count
       (g.O.Observer.bytes_taken l.initial.observer) (g.O.Observer.bytes_taken l.observer);
   plan : g.O.Observer.plan l.observer ≡ g.O.Observer.plan l.initial.observer;
+  lender : g.O.Observer.lender l.observer ≡ g.O.Observer.lender l.initial.observer;
   told : (records : List Record) → Reads g.R.ByteIn.bytes_left l.initial.rows records → Reads g.R.ByteIn.bytes_left l.rows records;
   in_order : IsNotBehind l.scale (last_ms l.rows);
   numbered : l.count + 1 ≡ max 1 (rows_read l.rows);
