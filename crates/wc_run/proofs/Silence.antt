@@ -1,7 +1,6 @@
 -- Of an observer whose bytes are not known nothing is said but with which faults it fails.
 use Rattle.std.proofs.Common.{refl, ℕ, List, [], Option, None, Result, Ok, Err}
-use Rattle.wc_model.specs.Run.Writing.{TakesFront}
-use Rattle.wc_run.specs.Doing.{Writes, WritesRefusal}
+use Rattle.wc_run.specs.Doing.{Writes}
 use Rattle.wc_run.specs.declared.fault.RunFault.{RunFault}
 use Rattle.wc_run.specs.declared.fault.RunFault.TheVariants.{Refused, Read, Write, Memory}
 
@@ -11,11 +10,3 @@ silent (Err (Refused number place)) text old new writes = writes
 silent (Err Read) text old new writes = writes
 silent (Err Write) text old new writes = ([], [], refl, tt)
 silent (Err Memory) text old new writes = tt
-
--- so of the line of a refusal
-pub silent_refusal : {X : Type 0} (answer : Result X RunFault) (text : List ℕ) (old new : Option (List ℕ)) → WritesRefusal text answer old new → WritesRefusal text answer None None
-silent_refusal (Ok x) text old new writes = tt
-silent_refusal (Err (Refused number place)) text old new writes = writes
-silent_refusal (Err Read) text old new writes = writes
-silent_refusal (Err Write) text old new writes = record { front = writes.front; rest = writes.rest; cut = writes.cut; short = writes.short; taken = tt }
-silent_refusal (Err Memory) text old new writes = tt

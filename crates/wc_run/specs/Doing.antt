@@ -4,7 +4,6 @@ use Rattle.std.specs.Io.KnownBytes.{Appends, Keeps}
 use Rattle.wc_model.specs.Instrument.Plates.{PlateData}
 use Rattle.wc_model.specs.Run.Log.{LogOf}
 use Rattle.wc_model.specs.Run.Rows.{LogRow, Past}
-use Rattle.wc_model.specs.Run.Writing.{TakesFront}
 use Rattle.wc_record.specs.declared.row_kind.LogFault.{LogFault}
 use Rattle.wc_record.specs.declared.row_kind.LogFault.TheVariants as log
 use Rattle.wc_model.specs.Say.ProgramReport.{Logic}
@@ -28,14 +27,6 @@ IsCutShort Memory old new text = Keeps old new
 abbrev pub Writes : {X : Type 0} → List ℕ → Result X RunFault → Option (List ℕ) → Option (List ℕ) → Type 0
 Writes text (Ok x) old new = Appends old new text
 Writes text (Err fault) old new = IsCutShort fault old new text
-
--- the line of a refusal is written; where the writer failed a front of it that is not all; for want of memory nothing
-abbrev pub WritesRefusal : {X : Type 0} → List ℕ → Result X RunFault → Option (List ℕ) → Option (List ℕ) → Type 0
-WritesRefusal text (Ok x) old new = Appends old new text
-WritesRefusal text (Err (Refused number place)) old new = ⊥
-WritesRefusal text (Err Read) old new = ⊥
-WritesRefusal text (Err Write) old new = TakesFront old new text
-WritesRefusal text (Err Memory) old new = Keeps old new
 
 -- which rows an observer has seen, the newest first, of a run with this plate and this logic
 abbrev pub Seeing : Type 0 → Type 1

@@ -1,5 +1,5 @@
 -- What an observer of a run is shown of a row, and what it writes. (The profile's own.)
-use Rattle.std.specs.Prelude.{◌≡◌, ⊤, ℕ, List, [], ◌∷◌, ◌++◌, Option, Some, None, IfSome, option_map}
+use Rattle.std.specs.Prelude.{◌≡◌, ⊤, ℕ, Bool, true, false, List, [], ◌∷◌, ◌++◌, Option, Some, None, IfSome, option_map}
 use Rattle.wc_cost.specs.LoadedTexts.{LoadedText}
 use Rattle.wc_machine.specs.Seeing.{IsSeen}
 use Rattle.wc_machine.specs.declared.seen.SeenLine.{SeenLine}
@@ -42,6 +42,15 @@ text_in_all plan plate logic refusal rows = text_coming plan plate logic [] rows
 abbrev pub onto : Past → List LogRow → List LogRow
 onto [] rows = rows
 onto (row ∷ past) rows = onto past (row ∷ rows)
+
+-- of the bytes that a writer takes these are said, or none
+abbrev pub said : Bool → Option (List ℕ) → Option (List ℕ)
+said true bytes = bytes
+said false bytes = None
+
+-- so of a writer
+abbrev pub said_by : {W : Type 0} → Bool → (W → Option (List ℕ)) → W → Option (List ℕ)
+said_by speaks bytes_taken writer = said speaks (bytes_taken writer)
 
 -- the row that is shown
 abbrev pub row_of : RowSeen → LogRow

@@ -7,7 +7,7 @@ use crate::program::Program;
 use crate::report::put_answer;
 use crate::row_seen::{RowSeen, ScanSeen};
 use crate::scale::Scale;
-use crate::scan_lines::{last_text, write_refusal, write_text};
+use crate::scan_lines::{last_text, write_text};
 use std::alloc::Global;
 use wc_model::ByteOut;
 use wc_record::Recorder;
@@ -16,22 +16,18 @@ use wc_store::Store;
 /// Writes the report of a run with the last so many of its scans: the answers as their rows come, and behind the last row, or
 /// the last before a refused one, the lines of those scans. Each scan is kept as a record in a ring until then.
 #[derive(Drop)]
-pub struct LastScans<'w, W> {
+pub struct LastScans {
     alloc: Global,
-    writer: &'w mut W,
     text: Vec<u8>,
     number: u16,
     recorder: Recorder,
 }
 
-impl<'w, W: ByteOut> LastScans<'w, W> {
+impl LastScans {
     /// Before the first row, with room for so many scans, 1 to 1000. `Memory` is the only fault.
-    pub fn new(alloc: Global, number: u16, writer: &'w mut W) -> Result<LastScans<'w, W>, RunFault>
+    pub fn new(alloc: Global, number: u16) -> Result<LastScans, RunFault>
         requires some { 1 ≤ number }
         requires few { number ≤ 1000 }
-        ensures writer { IfOk result (λ scans. scans.writer.now ≡ writer.old) }
-        ensures lender { IfOk result
-            (λ scans. scans.writer.ghost_name ≡ writer.entry.ghost_name) }
         ensures number { IfOk result (λ scans. scans.number ≡ number) }
         ensures holds { IfOk result (λ scans. HoldsScans scans.recorder number []) }
         ensures memory { IsOkUnless result RunFault.Memory }
@@ -39,7 +35,6 @@ impl<'w, W: ByteOut> LastScans<'w, W> {
         match Recorder::new(alloc, number) {
             Ok(recorder) => Ok(LastScans {
                 alloc,
-                writer,
                 text: Vec::new(alloc),
                 number,
                 recorder,
@@ -59,7 +54,7 @@ fn keep_scan(recorder: &mut Recorder, scan: &Option<ScanSeen>)
     }
 }
 
-impl<S: Store, W: ByteOut> Observer<S> for LastScans<'_, W> {
+impl<S: Store, W: ByteOut> Observer<S, W> for LastScans {
     ghost use Rattle.std.specs.Prelude.{[]};
     ghost use Rattle.wc_run.specs.Reports.{HoldsScans, last_plan, lines_so_far};
 
@@ -69,12 +64,6 @@ impl<S: Store, W: ByteOut> Observer<S> for LastScans<'_, W> {
 
     ghost has_seen = { λ scans plate logic past.
         HoldsScans scans.recorder scans.number (lines_so_far plate logic past) };
-
-    ghost bytes_taken = { λ scans. W.bytes_taken scans.writer.now };
-
-    ghost lender = { λ scans. scans.writer.ghost_name };
-
-    ghost failure_count = { λ scans. W.failure_count scans.writer.now };
 
     fn begin(
         &mut self,
@@ -90,22 +79,24 @@ impl<S: Store, W: ByteOut> Observer<S> for LastScans<'_, W> {
     }
 
     #[inline(always)]
-    fn see(&mut self, seen: &RowSeen<'_>, _scale: &Scale<'_, S>) -> Result<(), RunFault> {
+    fn see(
+        &mut self,
+        seen: &RowSeen<'_>,
+        _scale: &Scale<'_, S>,
+        writer: &mut W,
+    ) -> Result<(), RunFault> {
         keep_scan(&mut self.recorder, &seen.scan);
         self.text.clear();
         match put_answer(&mut self.text, seen) {
-            Ok(()) => write_text(&self.text, self.writer),
+            Ok(()) => write_text(&self.text, writer),
             Err(fault) => Err(fault),
         }
     }
 
-    fn end(&mut self, _refused: Option<(u16, u32)>) -> Result<(), RunFault> {
+    fn end(&mut self, _refused: Option<(u16, u32)>, writer: &mut W) -> Result<(), RunFault> {
         match last_text(self.alloc, &self.recorder) {
-            Ok(text) => write_text(&text, self.writer),
+            Ok(text) => write_text(&text, writer),
             Err(fault) => Err(fault),
         }
-    }
-    fn refuse(&mut self, alloc: Global, number: u16, place: u32) -> Result<(), RunFault> {
-        write_refusal(alloc, number, place, self.writer)
     }
 }

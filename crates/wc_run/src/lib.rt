@@ -23,5 +23,5 @@ pub use report::{Report, put_answer};
 pub use row_seen::{RowSeen, ScanSeen};
 pub use running::{judged, run};
 pub use scale::Scale;
-pub use scan_lines::{put_record, write_refusal, write_text};
+pub use scan_lines::{put_record, write_text};
 pub use wc_record::RefusedRow;

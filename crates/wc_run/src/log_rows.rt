@@ -8,6 +8,7 @@ ghost use Rattle.wc_record.specs.Told.{Reads, at_hand, fields_told};
 ghost use Rattle.wc_record.specs.Views.{IsDataInRange, head_data_view, head_view};
 ghost use Rattle.wc_run.specs.Doing.{Does, RunsRows};
 ghost use Rattle.wc_run.specs.Doing as doing;
+ghost use Rattle.wc_run.specs.Observing.{said};
 ghost use Rattle.wc_model.specs.Say.LogFor.{log_for};
 ghost use Rattle.wc_model.specs.Say.ProgramReport.{Logic};
 ghost use Rattle.wc_run.specs.Runs.{IsFaultAt, TellsRefused, TellsRow, TellsWrites};
@@ -19,33 +20,34 @@ use crate::observer::Observer;
 use crate::row_seen::RowSeen;
 use crate::scale::Scale;
 use std::alloc::Global;
-use wc_model::ByteIn;
+use wc_model::{ByteIn, ByteOut};
 use wc_record::{LogFault, RefusedRow, RowHead, Rows};
 use wc_store::Store;
 
 /// Does a row, with the bytes that are lent with it, and shows it to the observer.
 #[inline(always)]
-fn run_row<S: Store, O: Observer<S>>(
+fn run_row<S: Store, W: ByteOut, O: Observer<S, W>>(
     observer: &mut O,
     scale: &mut Scale<'_, S>,
     answers: &mut Answers,
     row: RowHead,
     bytes: &[u8],
+    writer: &mut W,
 ) -> Result<(), RunFault>
     requires in_range { IsDataInRange (head_data_view bytes.now row.kind) }
     requires early { row.ms < 2 ^ 40 }
     requires in_order { IsNotBehind scale.old row.ms }
     ensures plan { O.plan observer.new ≡ O.plan observer.old }
-    ensures lender { O.lender observer.new ≡ O.lender observer.old }
     ensures does { (plate : PlateData) (logic : Option Logic) (past : Past)
         → Stands scale.old plate logic past → O.has_seen observer.old plate logic past
         → Does O.has_seen (O.plan observer.old) plate logic past (head_view bytes.now row)
         scale.new observer.new result
-        (O.bytes_taken observer.old) (O.bytes_taken observer.new) }
+        (said O.speaks (W.bytes_taken writer.old))
+        (said O.speaks (W.bytes_taken writer.new)) }
     ensures place { IfErr result (IsFaultAt row.number) }
     ensures in_order { OnOk result (IsNotBehind scale.new row.ms) }
-    ensures failures { TellsWrites result (O.failure_count observer.old)
-        (O.failure_count observer.new) }
+    ensures failures { TellsWrites result (W.failure_count writer.old)
+        (W.failure_count writer.new) }
 {
     let looks = observer.looks_at(row.ms);
     match scale.take(answers, looks, row, bytes) {
@@ -56,7 +58,7 @@ fn run_row<S: Store, O: Observer<S>>(
                 answer: &answers.bytes,
                 scan,
             };
-            observer.see(&seen, scale)
+            observer.see(&seen, scale, writer)
         }
         Err(fault) => Err(fault),
     }
@@ -74,31 +76,32 @@ fn answer_to(fault: LogFault) -> RunFault
 }
 
 /// Runs the rows that are left: how many there were.
-fn run_rows<S: Store, O: Observer<S>, R: ByteIn>(
+fn run_rows<S: Store, W: ByteOut, O: Observer<S, W>, R: ByteIn>(
     observer: &mut O,
     scale: &mut Scale<'_, S>,
     answers: &mut Answers,
     rows: &mut Rows<'_, R>,
+    writer: &mut W,
 ) -> Result<u32, RunFault>
     requires unread { rows_read rows.old ≡ 0 }
     requires in_order { IsNotBehind scale.old (last_ms rows.old) }
     ensures plan { O.plan observer.new ≡ O.plan observer.old }
-    ensures lender { O.lender observer.new ≡ O.lender observer.old }
     ensures runs { (log : LogOf) → HasLeft R.bytes_left rows.old log
         → (plate : PlateData) (logic : Option Logic)
         → Stands scale.old plate logic [] → O.has_seen observer.old plate logic []
         → RunsRows O.has_seen (O.plan observer.old) plate logic (log_for logic log)
-        observer.new result (O.bytes_taken observer.old) (O.bytes_taken observer.new) }
+        observer.new result (said O.speaks (W.bytes_taken writer.old))
+        (said O.speaks (W.bytes_taken writer.new)) }
     ensures told { (records : List Record) → Reads R.bytes_left rows.old records
         → TellsRow records (at_hand rows.new) result }
-    ensures failures { TellsWrites result (O.failure_count observer.old)
-        (O.failure_count observer.new) }
+    ensures failures { TellsWrites result (W.failure_count writer.old)
+        (W.failure_count writer.new) }
 {
     let mut count = 0;
     loop {
         match rows.next_head() {
             Ok(given) => match given {
-                Some(row) => match run_row(observer, scale, answers, row, rows.bytes()) {
+                Some(row) => match run_row(observer, scale, answers, row, rows.bytes(), writer) {
                     Ok(()) => count += 1,
                     Err(fault) => return Err(fault),
                 },
@@ -110,29 +113,30 @@ fn run_rows<S: Store, O: Observer<S>, R: ByteIn>(
 }
 
 /// Runs the log that the reader has to give, and tells its refused row, if it has one.
-pub(crate) fn run_log<S: Store, O: Observer<S>, R: ByteIn>(
+pub(crate) fn run_log<S: Store, W: ByteOut, O: Observer<S, W>, R: ByteIn>(
     alloc: Global,
     observer: &mut O,
     scale: &mut Scale<'_, S>,
     reader: &mut R,
+    writer: &mut W,
     told: &mut RefusedRow,
 ) -> Result<u32, RunFault>
     requires { IsNotBehind scale.old 0 }
     ensures plan { O.plan observer.new ≡ O.plan observer.old }
-    ensures lender { O.lender observer.new ≡ O.lender observer.old }
     ensures runs { IfSome (R.bytes_left reader.old)
         (λ bytes. (plate : PlateData) (logic : Option Logic)
         → Stands scale.old plate logic [] → O.has_seen observer.old plate logic []
         → RunsRows O.has_seen (O.plan observer.old) plate logic
         (log_for logic (log_of (records_of bytes)))
-        observer.new result (O.bytes_taken observer.old) (O.bytes_taken observer.new)) }
+        observer.new result (said O.speaks (W.bytes_taken writer.old))
+        (said O.speaks (W.bytes_taken writer.new))) }
     ensures told { TellsRefused (R.bytes_left reader.old) (fields_told told.new) result }
-    ensures failures { TellsWrites result (O.failure_count observer.old)
-        (O.failure_count observer.new) }
+    ensures failures { TellsWrites result (W.failure_count writer.old)
+        (W.failure_count writer.new) }
 {
     let mut answers = Answers::new(alloc);
     let mut rows = Rows::new(alloc, reader);
-    let answer = run_rows(observer, scale, &mut answers, &mut rows);
+    let answer = run_rows(observer, scale, &mut answers, &mut rows, writer);
     rows.tell(alloc, told);
     drop(rows);
     answer

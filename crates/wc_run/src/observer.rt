@@ -1,25 +1,26 @@
-ghost use Rattle.std.specs.Prelude.{◌≡◌, ⊤, [], ◌∷◌, ℕ, List, Option, None, IfErr, OnOk};
-ghost use Rattle.std.specs.Borrow.{GName};
+ghost use Rattle.std.specs.Prelude.{◌≡◌, ⊤, Bool, true, [], ◌∷◌, Option, IfErr, OnOk};
 ghost use Rattle.wc_model.specs.Instrument.Plates.{PlateData};
 ghost use Rattle.wc_model.specs.Run.Rows.{Past};
-ghost use Rattle.wc_model.specs.Say.Job.{refused_text};
 ghost use Rattle.wc_model.specs.Say.ProgramReport.{Logic};
-ghost use Rattle.wc_run.specs.Doing.{Writes, WritesRefusal};
-ghost use Rattle.wc_run.specs.Observing.{IsShown, Plan, RefusesToBegin, loaded_of, logic_of, onto, refusal_of, row_of};
+ghost use Rattle.wc_run.specs.Doing.{Writes};
+ghost use Rattle.wc_run.specs.Observing.{IsShown, Plan, RefusesToBegin, loaded_of, logic_of, onto, refusal_of, row_of, said};
 ghost use Rattle.wc_run.specs.Runs.{IsNoRefusal, TellsWrites};
 
 use crate::fault::RunFault;
 use crate::program::Program;
 use crate::row_seen::RowSeen;
 use crate::scale::Scale;
-use std::alloc::Global;
+use wc_model::ByteOut;
 use wc_store::Store;
 
 /// Who observes a run: it is shown each row that was done with what the row brought, and writes what it has to say of it. Whoever
-/// observes, the rows are done in the same way. `S` is the store of the machine that does the scans.
-pub trait Observer<S: Store> {
+/// observes, the rows are done in the same way. `S` is the store of the machine that does the scans, `W` the writer.
+pub trait Observer<S: Store, W: ByteOut> {
     /// What it writes of each row, and behind the last one.
     ghost plan: { Self → Plan };
+
+    /// Whether the plan says what the writer takes; else nothing is said of the bytes.
+    ghost speaks: { Bool } = { true };
 
     /// That it may refuse to begin.
     ghost may_refuse: { Self → Type 0 } = { λ _. ⊥ };
@@ -30,17 +31,8 @@ pub trait Observer<S: Store> {
     /// It has seen these rows, the newest first, of a run with this plate and this logic.
     ghost has_seen: { Self → PlateData → Option Logic → Past → Type 0 };
 
-    /// The bytes that it wrote so far, where they are known.
-    ghost bytes_taken: { Self → Option (List ℕ) } = { λ _. None };
-
-    /// The loan of the writer that it holds, if it holds one: whoever lent it knows by this that it is still the same.
-    ghost lender: { Self → GName };
-
-    /// How many of its writes failed, up to the greatest number of 64 bits.
-    ghost failure_count: { Self → ℕ };
-
-    /// Is shown the programs of a run before its first row: the first one, if there is one, and the next one, if there is one. It
-    /// writes nothing. It fails for want of memory, or refuses to begin: what it was to write of cannot be had of these programs.
+    /// Is shown the programs of a run before its first row: the first one, if there is one, and the next one, if there is one.
+    /// It fails for want of memory, or refuses to begin: what it was to write of cannot be had of these programs.
     fn begin(
         &mut self,
         first: Option<Program<'_, '_>>,
@@ -48,46 +40,41 @@ pub trait Observer<S: Store> {
     ) -> Result<(), RunFault>
         requires { is_new self.old }
         ensures plan { plan self.new ≡ plan self.old }
-        ensures lender { lender self.new ≡ lender self.old }
         ensures seen { OnOk result ((plate : PlateData)
             → has_seen self.new plate (logic_of (loaded_of first.entry) (loaded_of next.entry)) []) }
-        ensures kept { bytes_taken self.new ≡ bytes_taken self.old }
-        ensures failures { failure_count self.new ≡ failure_count self.old }
         ensures refused { IfErr result (RefusesToBegin (may_refuse self.old)) };
 
     /// Whether it looks at the items that a scan at this moment executes.
     fn looks_at(&self, ms: u64) -> bool;
 
-    /// Is shown a row that was done, and the scale behind it. It fails where its writer does, or for want of memory; the run ends
+    /// Is shown a row that was done, and the scale behind it. It fails where the writer does, or for want of memory; the run ends
     /// there.
-    fn see(&mut self, seen: &RowSeen<'_>, scale: &Scale<'_, S>) -> Result<(), RunFault>
+    fn see(
+        &mut self,
+        seen: &RowSeen<'_>,
+        scale: &Scale<'_, S>,
+        writer: &mut W,
+    ) -> Result<(), RunFault>
         ensures plan { plan self.new ≡ plan self.old }
-        ensures lender { lender self.new ≡ lender self.old }
         ensures writes { (plate : PlateData) (logic : Option Logic) (past : Past)
             → IsShown seen.now plate logic past → has_seen self.old plate logic past
             → Writes ((plan self.old).at_row plate logic past (row_of seen.now)) result
-            (bytes_taken self.old) (bytes_taken self.new) }
+            (said speaks (W.bytes_taken writer.old)) (said speaks (W.bytes_taken writer.new)) }
         ensures seen { OnOk result ((plate : PlateData) (logic : Option Logic) (past : Past)
             → IsShown seen.now plate logic past → has_seen self.old plate logic past
             → has_seen self.new plate logic (row_of seen.now ∷ past)) }
         ensures held { IfErr result IsNoRefusal }
-        ensures failures { TellsWrites result (failure_count self.old) (failure_count self.new) };
+        ensures failures { TellsWrites result (W.failure_count writer.old)
+            (W.failure_count writer.new) };
 
     /// Is told that the rows are over: all were done, or those before a refused row, by its number and the row.
-    fn end(&mut self, refused: Option<(u16, u32)>) -> Result<(), RunFault>
-        ensures lender { lender self.new ≡ lender self.old }
+    fn end(&mut self, refused: Option<(u16, u32)>, writer: &mut W) -> Result<(), RunFault>
         ensures writes { (plate : PlateData) (logic : Option Logic) (past : Past)
             → has_seen self.old plate logic past
             → Writes ((plan self.old).at_end plate logic (onto past []) (refusal_of refused))
-            result (bytes_taken self.old) (bytes_taken self.new) }
+            result (said speaks (W.bytes_taken writer.old))
+            (said speaks (W.bytes_taken writer.new)) }
         ensures held { IfErr result IsNoRefusal }
-        ensures failures { TellsWrites result (failure_count self.old) (failure_count self.new) };
-
-    /// Writes the line of a refusal behind what stands; where its writer fails, a front of it that is not all.
-    fn refuse(&mut self, alloc: Global, number: u16, place: u32) -> Result<(), RunFault>
-        ensures lender { lender self.new ≡ lender self.old }
-        ensures writes { WritesRefusal (refused_text number place) result
-            (bytes_taken self.old) (bytes_taken self.new) }
-        ensures held { IfErr result IsNoRefusal }
-        ensures failures { TellsWrites result (failure_count self.old) (failure_count self.new) };
+        ensures failures { TellsWrites result (W.failure_count writer.old)
+            (W.failure_count writer.new) };
 }

@@ -7,7 +7,7 @@ use crate::observer::Observer;
 use crate::program::Program;
 use crate::row_seen::{RowSeen, ScanSeen};
 use crate::scale::Scale;
-use crate::scan_lines::{put_record, write_refusal, write_text};
+use crate::scan_lines::{put_record, write_text};
 use std::alloc::Global;
 use wc_model::ByteOut;
 use wc_report::put_answer_line;
@@ -57,47 +57,26 @@ pub(crate) fn put_lines(text: &mut Vec<u8>, seen: &RowSeen<'_>) -> Result<(), Ru
 
 /// Writes the report of a run, each line as its row comes.
 #[derive(Drop)]
-pub struct Report<'w, W> {
-    writer: &'w mut W,
+pub struct Report {
     text: Vec<u8>,
 }
 
-impl<'w, W: ByteOut> Report<'w, W> {
+impl Report {
     /// Before the first row. It takes no memory.
-    pub fn new(alloc: Global, writer: &'w mut W) -> Report<'w, W>
-        ensures writer { result.writer.now ≡ writer.old }
-        ensures lender { result.writer.ghost_name ≡ writer.entry.ghost_name }
-    {
+    pub fn new(alloc: Global) -> Report {
         Report {
-            writer,
             text: Vec::new(alloc),
         }
     }
-
-    /// The writer, with all that was written to it.
-    pub fn into_writer(self) -> &'w mut W
-        ensures writer { result.now ≡ self.entry.writer.now }
-        ensures lender { result.ghost_name ≡ self.entry.writer.ghost_name }
-    {
-        let Report { writer, text } = self;
-        drop(text);
-        writer
-    }
 }
 
-impl<S: Store, W: ByteOut> Observer<S> for Report<'_, W> {
+impl<S: Store, W: ByteOut> Observer<S, W> for Report {
     ghost use Rattle.std.specs.Prelude.{⊤};
     ghost use Rattle.wc_run.specs.Reports.{report_plan};
 
     ghost plan = { λ report. report_plan };
 
     ghost has_seen = { λ report plate logic past. ⊤ };
-
-    ghost bytes_taken = { λ report. W.bytes_taken report.writer.now };
-
-    ghost lender = { λ report. report.writer.ghost_name };
-
-    ghost failure_count = { λ report. W.failure_count report.writer.now };
 
     fn begin(
         &mut self,
@@ -113,18 +92,20 @@ impl<S: Store, W: ByteOut> Observer<S> for Report<'_, W> {
     }
 
     #[inline(always)]
-    fn see(&mut self, seen: &RowSeen<'_>, _scale: &Scale<'_, S>) -> Result<(), RunFault> {
+    fn see(
+        &mut self,
+        seen: &RowSeen<'_>,
+        _scale: &Scale<'_, S>,
+        writer: &mut W,
+    ) -> Result<(), RunFault> {
         self.text.clear();
         match put_lines(&mut self.text, seen) {
-            Ok(()) => write_text(&self.text, self.writer),
+            Ok(()) => write_text(&self.text, writer),
             Err(fault) => Err(fault),
         }
     }
 
-    fn end(&mut self, _refused: Option<(u16, u32)>) -> Result<(), RunFault> {
+    fn end(&mut self, _refused: Option<(u16, u32)>, _writer: &mut W) -> Result<(), RunFault> {
         Ok(())
-    }
-    fn refuse(&mut self, alloc: Global, number: u16, place: u32) -> Result<(), RunFault> {
-        write_refusal(alloc, number, place, self.writer)
     }
 }

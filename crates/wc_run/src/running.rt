@@ -7,6 +7,7 @@ ghost use Rattle.wc_record.specs.Told.{fields_told};
 ghost use Rattle.wc_run.specs.Doing.{IsJudged, WritesBy, is_cut_short, refused_in};
 ghost use Rattle.wc_model.specs.Say.LogFor.{log_for};
 ghost use Rattle.wc_model.specs.Say.ProgramReport.{Logic};
+ghost use Rattle.wc_run.specs.Observing.{said};
 ghost use Rattle.wc_run.specs.Runs.{HasNotFailed, TellsRefused, TellsWrites};
 ghost use Rattle.wc_run.specs.Standing.{IsNotBehind, Stands};
 
@@ -15,7 +16,7 @@ use crate::log_rows::run_log;
 use crate::observer::Observer;
 use crate::scale::Scale;
 use std::alloc::Global;
-use wc_model::ByteIn;
+use wc_model::{ByteIn, ByteOut};
 use wc_record::{RefusedRow, is_used_up};
 use wc_store::Store;
 
@@ -48,35 +49,36 @@ fn refused_in(answer: &Result<u32, RunFault>) -> Option<(u16, u32)>
 /// Runs a log, and behind its rows tells the observer that they are over, unless a device failed or
 /// memory was refused. Where its reader failed, that is told, also if every row was read all the
 /// same: the library that reads records does not promise to tell each failure.
-fn run_to_end<S: Store, O: Observer<S>, R: ByteIn>(
+fn run_to_end<S: Store, W: ByteOut, O: Observer<S, W>, R: ByteIn>(
     alloc: Global,
     observer: &mut O,
     scale: &mut Scale<'_, S>,
     reader: &mut R,
+    writer: &mut W,
     told: &mut RefusedRow,
 ) -> Result<u32, RunFault>
     requires { IsNotBehind scale.old 0 }
-    ensures lender { O.lender observer.new ≡ O.lender observer.old }
     ensures writes { IfSome (R.bytes_left reader.old)
         (λ bytes. (plate : PlateData) (logic : Option Logic)
         → Stands scale.old plate logic [] → O.has_seen observer.old plate logic []
         → WritesBy (O.plan observer.old) plate logic (log_for logic (log_of (records_of bytes)))
-        result (O.bytes_taken observer.old) (O.bytes_taken observer.new)) }
+        result (said O.speaks (W.bytes_taken writer.old))
+        (said O.speaks (W.bytes_taken writer.new))) }
     ensures told { TellsRefused (R.bytes_left reader.old) (fields_told told.new) result }
-    ensures failures { TellsWrites result (O.failure_count observer.old)
-        (O.failure_count observer.new) }
+    ensures failures { TellsWrites result (W.failure_count writer.old)
+        (W.failure_count writer.new) }
     ensures reader { HasNotFailed result (R.failure_count reader.old)
         (R.failure_count reader.new) }
 {
     let before = reader.failures();
-    let answer = run_log(alloc, observer, scale, reader, told);
+    let answer = run_log(alloc, observer, scale, reader, writer, told);
     if is_cut_short(&answer) {
         return answer;
     }
     if reader.failures() > before {
         return Err(RunFault::Read);
     }
-    if let Err(fault) = observer.end(refused_in(&answer)) {
+    if let Err(fault) = observer.end(refused_in(&answer), writer) {
         return Err(fault);
     }
     answer
@@ -118,20 +120,21 @@ pub fn judged<R: ByteIn>(fault: RunFault, reader: &R, failures: u64, spent: u64)
 /// `Machine::new` alone, of a text that every pass accepts, and its `scan` promises that each scan is
 /// done. That takes two things of whoever calls it: the machine has run no scan (`first`), and it
 /// stands for the logic that the plan speaks of, as `new` promises of the text and its first store.
-pub fn run<S: Store, O: Observer<S>, R: ByteIn>(
+pub fn run<S: Store, W: ByteOut, O: Observer<S, W>, R: ByteIn>(
     alloc: Global,
     observer: &mut O,
     scale: &mut Scale<'_, S>,
     reader: &mut R,
+    writer: &mut W,
     told: &mut RefusedRow,
 ) -> Result<u32, RunFault>
     requires first { IsNotBehind scale.old 0 }
-    ensures lender { O.lender observer.new ≡ O.lender observer.old }
     ensures writes { IfSome (R.bytes_left reader.old)
         (λ bytes. (plate : PlateData) (logic : Option Logic)
         → Stands scale.old plate logic [] → O.has_seen observer.old plate logic []
         → WritesBy (O.plan observer.old) plate logic (log_for logic (log_of (records_of bytes)))
-        result (O.bytes_taken observer.old) (O.bytes_taken observer.new)) }
+        result (said O.speaks (W.bytes_taken writer.old))
+        (said O.speaks (W.bytes_taken writer.new))) }
     ensures told { TellsRefused (R.bytes_left reader.old) (fields_told told.new) result }
     ensures read { IsErrOf result RunFault.Read
         → HasCause (R.failure_count reader.old) (R.failure_count reader.new)
@@ -141,15 +144,15 @@ pub fn run<S: Store, O: Observer<S>, R: ByteIn>(
         → ¬ HasCause (R.failure_count reader.old) (R.failure_count reader.new)
         (R.spent_count reader.old) (R.spent_count reader.new) }
     // A write fault is told where the observer's writer failed, and only there.
-    ensures failures { TellsWrites result (O.failure_count observer.old)
-        (O.failure_count observer.new) }
+    ensures failures { TellsWrites result (W.failure_count writer.old)
+        (W.failure_count writer.new) }
     // Behind the last row, or a refused one, its reader has not failed.
     ensures reader { HasNotFailed result (R.failure_count reader.old)
         (R.failure_count reader.new) }
 {
     let failures = reader.failures();
     let spent = reader.spent();
-    match run_to_end(alloc, observer, scale, reader, told) {
+    match run_to_end(alloc, observer, scale, reader, writer, told) {
         Ok(count) => Ok(count),
         Err(fault) => Err(judged(fault, reader, failures, spent)),
     }

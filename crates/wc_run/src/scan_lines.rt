@@ -1,7 +1,6 @@
 ghost use Rattle.std.specs.Prelude.{◌≡◌, ◌<◌, ◌≤◌, ◌+◌, ◌++◌, IfErr, IfOk, IsOkUnless, OnOk};
-ghost use Rattle.wc_model.specs.Say.Job.{refused_text};
 ghost use Rattle.wc_model.specs.Say.Report.{line_text, report_text};
-ghost use Rattle.wc_run.specs.Doing.{Writes, WritesRefusal};
+ghost use Rattle.wc_run.specs.Doing.{Writes};
 ghost use Rattle.wc_run.specs.Outputs.{line_of_record, lines_of_records};
 ghost use Rattle.wc_run.specs.Runs.{IsNoRefusal, TellsWrites};
 
@@ -9,7 +8,7 @@ use crate::fault::RunFault;
 use std::alloc::Global;
 use wc_model::{ByteOut, Steps, write_whole};
 use wc_record::{Record, Recorder};
-use wc_report::{put_scan_line, refused_line};
+use wc_report::put_scan_line;
 
 /// Puts the line of a scan by its record behind a text.
 #[inline(always)]
@@ -52,29 +51,6 @@ pub fn write_text<W: ByteOut>(text: &[u8], writer: &mut W) -> Result<(), RunFaul
         (W.failure_count writer.new) }
 {
     match write_whole(writer, text) {
-        Ok(()) => Ok(()),
-        Err(_) => Err(RunFault::Write),
-    }
-}
-
-/// Writes the line of a refusal. `Memory` comes before anything is written.
-pub fn write_refusal<W: ByteOut>(
-    alloc: Global,
-    number: u16,
-    place: u32,
-    writer: &mut W,
-) -> Result<(), RunFault>
-    ensures writes { WritesRefusal (refused_text number place) result (W.bytes_taken writer.old)
-        (W.bytes_taken writer.new) }
-    ensures held { IfErr result IsNoRefusal }
-    ensures failures { TellsWrites result (W.failure_count writer.old)
-        (W.failure_count writer.new) }
-{
-    let line = match refused_line(alloc, number, place) {
-        Ok(line) => line,
-        Err(_) => return Err(RunFault::Memory),
-    };
-    match write_whole(writer, &line) {
         Ok(()) => Ok(()),
         Err(_) => Err(RunFault::Write),
     }

@@ -6,6 +6,7 @@ use Rattle.wc_record.specs.Left.{HasLeft, last_ms, rows_read}
 use Rattle.wc_record.specs.Told.{Reads}
 use Rattle.wc_model.specs.Say.LogFor.{log_for}
 use Rattle.wc_model.specs.Say.ProgramReport.{Logic}
+use Rattle.wc_run.specs.Observing.{said}
 use Rattle.wc_run.specs.Standing.{IsNotBehind, Stands}
 use Rattle.wc_run.proofs.RunsOn.{Running}
 use Rattle.wc_run.proofs.log_rows.run_rows.Given as goal
@@ -16,14 +17,13 @@ invariant-loop-given g l = record {
   running : (log : LogOf) → HasLeft g.R.ByteIn.bytes_left l.initial.rows log → (plate : PlateData) (logic : Option Logic)
       → Stands l.initial.scale plate logic [] → g.O.Observer.has_seen l.initial.observer plate logic []
       → Running g.R.ByteIn.bytes_left l.rows l.scale g.O.Observer.has_seen l.observer (g.O.Observer.plan l.initial.observer) plate logic (log_for logic log) l.count
-      (g.O.Observer.bytes_taken l.initial.observer) (g.O.Observer.bytes_taken l.observer);
+      (said g.O.Observer.speaks (g.W.ByteOut.bytes_taken l.initial.writer)) (said g.O.Observer.speaks (g.W.ByteOut.bytes_taken l.writer));
   plan : g.O.Observer.plan l.observer ≡ g.O.Observer.plan l.initial.observer;
-  lender : g.O.Observer.lender l.observer ≡ g.O.Observer.lender l.initial.observer;
   told : (records : List Record) → Reads g.R.ByteIn.bytes_left l.initial.rows records → Reads g.R.ByteIn.bytes_left l.rows records;
   in_order : IsNotBehind l.scale (last_ms l.rows);
   numbered : l.count + 1 ≡ max 1 (rows_read l.rows);
   few : rows_read l.rows ≤ 1000000;
-  steady : g.O.Observer.failure_count l.observer ≡ g.O.Observer.failure_count l.initial.observer;
+  steady : g.W.ByteOut.failure_count l.writer ≡ g.W.ByteOut.failure_count l.initial.writer;
 }
 
 abbrev pub decreases-loop-given : goal.decreases-loop-given

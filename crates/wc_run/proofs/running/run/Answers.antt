@@ -7,16 +7,17 @@ use Rattle.wc_record.specs.Told.{fields_told, records_read}
 use Rattle.wc_run.proofs.RunEnds.{judged_says}
 use Rattle.wc_run.proofs.ToldRows.{told_still}
 use Rattle.wc_run.proofs.running.run.Goals as goal
-use Rattle.wc_run.specs.Observing.{text_coming, text_in_all}
+use Rattle.wc_run.specs.Observing.{said_by, text_coming, text_in_all}
 
 pub returns-in-Err-clause-writes : goal.returns-in-Err-clause-writes
 returns-in-Err-clause-writes g c =
     let o = g.O.Observer in
+    let taken = said_by g.O.Observer.speaks g.W.ByteOut.bytes_taken in
     let plan = o.plan c.args.observer.now in
     IfSome_then (g.R.ByteIn.bytes_left c.args.reader.now) c.in-Err.ensures.writes
     (λ bytes says plate logic stands seen.
     let log : LogOf = log_for logic (log_of (records_of bytes)) in
-    judged_says (text_in_all plan plate logic log.refusal) (text_coming plan plate logic []) log (o.bytes_taken c.args.observer.now) (o.bytes_taken c.run_to_end.new.observer)
+    judged_says (text_in_all plan plate logic log.refusal) (text_coming plan plate logic []) log (taken c.args.writer.now) (taken c.run_to_end.new.writer)
     c.in-Err.fault c.judged.result c.judged.ensures.judged (says plate logic stands seen))
 
 pub returns-in-Err-clause-told : goal.returns-in-Err-clause-told

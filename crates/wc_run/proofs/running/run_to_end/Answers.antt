@@ -9,17 +9,18 @@ use Rattle.wc_run.proofs.RunEnds.{all_done, cut_at_end, ends_plan, ends_short, e
 use Rattle.wc_run.proofs.ToldRows.{none_told}
 use Rattle.wc_run.proofs.running.run_to_end.Goals as goal
 use Rattle.wc_run.specs.Doing.{Writes, is_cut_short, refused_in}
-use Rattle.wc_run.specs.Observing.{onto, refusal_of}
+use Rattle.wc_run.specs.Observing.{said_by, onto, refusal_of}
 use Rattle.wc_run.specs.Runs.{TellsWrite, TellsWrites}
 
 pub returns-then-is_cut_short-clause-writes : goal.returns-then-is_cut_short-clause-writes
 returns-then-is_cut_short-clause-writes g c =
     let o = g.O.Observer in
+    let taken = said_by g.O.Observer.speaks g.W.ByteOut.bytes_taken in
     let short : is_cut_short c.run_log-answer.result ≡ true = sym c.is_cut_short.ensures ∙ c.if-is_cut_short.true in
     IfSome_then (g.R.ByteIn.bytes_left c.args.reader.now) c.run_log-answer.ensures.runs
     (λ bytes says plate logic stands seen.
     ends_short o.has_seen (o.plan c.args.observer.now) plate logic (log_for logic (log_of (records_of bytes)))
-    (o.bytes_taken c.args.observer.now) (o.bytes_taken c.run_log-answer.new.observer) (o.bytes_taken c.run_log-answer.new.observer)
+    (taken c.args.writer.now) (taken c.run_log-answer.new.writer) (taken c.run_log-answer.new.writer)
     c.run_log-answer.new.observer c.run_log-answer.result short (says plate logic stands seen))
 
 pub returns-then-is_cut_short-clause-reader : goal.returns-then-is_cut_short-clause-reader
@@ -29,27 +30,29 @@ returns-then-is_cut_short-clause-reader g c =
 pub returns-then-failures-before-clause-writes : goal.returns-then-failures-before-clause-writes
 returns-then-failures-before-clause-writes g c =
     let o = g.O.Observer in
+    let taken = said_by g.O.Observer.speaks g.W.ByteOut.bytes_taken in
     let whole : is_cut_short c.run_log-answer.result ≡ false = sym c.is_cut_short.ensures ∙ c.if-is_cut_short.false in
     IfSome_then (g.R.ByteIn.bytes_left c.args.reader.now) c.run_log-answer.ensures.runs
     (λ bytes says plate logic stands seen.
     let log : LogOf = log_for logic (log_of (records_of bytes)) in
-    let done = all_done o.has_seen (o.plan c.args.observer.now) plate logic log (o.bytes_taken c.args.observer.now) (o.bytes_taken c.run_log-answer.new.observer)
-    (o.bytes_taken c.run_log-answer.new.observer) c.run_log-answer.new.observer c.run_log-answer.result whole (says plate logic stands seen) in
+    let done = all_done o.has_seen (o.plan c.args.observer.now) plate logic log (taken c.args.writer.now) (taken c.run_log-answer.new.writer)
+    (taken c.run_log-answer.new.writer) c.run_log-answer.new.observer c.run_log-answer.result whole (says plate logic stands seen) in
     (log.rows, [], sym (append-nil log.rows), done.written))
 
 pub returns-then-failures-before-clause-failures : goal.returns-then-failures-before-clause-failures
 returns-then-failures-before-clause-failures g c =
-    whole_writes c.run_log-answer.result (g.O.Observer.failure_count c.args.observer.now) (g.O.Observer.failure_count c.run_log-answer.new.observer)
+    whole_writes c.run_log-answer.result (g.W.ByteOut.failure_count c.args.writer.now) (g.W.ByteOut.failure_count c.run_log-answer.new.writer)
     (sym c.is_cut_short.ensures ∙ c.if-is_cut_short.false) c.run_log-answer.ensures.failures
 
 pub returns-in-Err-clause-writes : goal.returns-in-Err-clause-writes
 returns-in-Err-clause-writes g c =
     let o = g.O.Observer in
+    let taken = said_by g.O.Observer.speaks g.W.ByteOut.bytes_taken in
     let plan = o.plan c.args.observer.now in
     let whole : is_cut_short c.run_log-answer.result ≡ false = sym c.is_cut_short.ensures ∙ c.if-is_cut_short.false in
-    let old = o.bytes_taken c.args.observer.now in
-    let mid = o.bytes_taken c.run_log-answer.new.observer in
-    let new = o.bytes_taken c.end.new.self in
+    let old = taken c.args.writer.now in
+    let mid = taken c.run_log-answer.new.writer in
+    let new = taken c.end.new.writer in
     IfSome_then (g.R.ByteIn.bytes_left c.args.reader.now) c.run_log-answer.ensures.runs
     (λ bytes says plate logic stands seen.
     let log : LogOf = log_for logic (log_of (records_of bytes)) in
@@ -62,9 +65,9 @@ returns-in-Err-clause-writes g c =
 
 pub returns-in-Err-clause-failures : goal.returns-in-Err-clause-failures
 returns-in-Err-clause-failures g c =
-    let failures = g.O.Observer.failure_count in
-    subst (λ before. TellsWrite c.in-Err.fault before (failures c.end.new.self))
-    (whole_writes c.run_log-answer.result (failures c.args.observer.now) (failures c.run_log-answer.new.observer) (sym c.is_cut_short.ensures ∙ c.if-is_cut_short.false) c.run_log-answer.ensures.failures)
+    let failures = g.W.ByteOut.failure_count in
+    subst (λ before. TellsWrite c.in-Err.fault before (failures c.end.new.writer))
+    (whole_writes c.run_log-answer.result (failures c.args.writer.now) (failures c.run_log-answer.new.writer) (sym c.is_cut_short.ensures ∙ c.if-is_cut_short.false) c.run_log-answer.ensures.failures)
     c.in-Err.ensures.failures
 
 pub returns-in-Err-clause-told : goal.returns-in-Err-clause-told
@@ -73,11 +76,12 @@ returns-in-Err-clause-told g c = none_told (g.R.ByteIn.bytes_left c.args.reader.
 pub returns-clause-writes : goal.returns-clause-writes
 returns-clause-writes g c =
     let o = g.O.Observer in
+    let taken = said_by g.O.Observer.speaks g.W.ByteOut.bytes_taken in
     let plan = o.plan c.args.observer.now in
     let whole : is_cut_short c.run_log-answer.result ≡ false = sym c.is_cut_short.ensures ∙ c.if-is_cut_short.false in
-    let old = o.bytes_taken c.args.observer.now in
-    let mid = o.bytes_taken c.run_log-answer.new.observer in
-    let new = o.bytes_taken c.end.new.self in
+    let old = taken c.args.writer.now in
+    let mid = taken c.run_log-answer.new.writer in
+    let new = taken c.end.new.writer in
     IfSome_then (g.R.ByteIn.bytes_left c.args.reader.now) c.run_log-answer.ensures.runs
     (λ bytes says plate logic stands seen.
     let log : LogOf = log_for logic (log_of (records_of bytes)) in
@@ -91,5 +95,5 @@ returns-clause-writes g c =
 
 pub returns-clause-failures : goal.returns-clause-failures
 returns-clause-failures g c =
-    let failures = g.O.Observer.failure_count in
-    subst (λ after. TellsWrites c.run_log-answer.result (failures c.args.observer.now) after) (sym c.in_default.ensures.failures) c.run_log-answer.ensures.failures
+    let failures = g.W.ByteOut.failure_count in
+    subst (λ after. TellsWrites c.run_log-answer.result (failures c.args.writer.now) after) (sym c.in_default.ensures.failures) c.run_log-answer.ensures.failures
