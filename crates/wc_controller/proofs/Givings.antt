@@ -1,12 +1,12 @@
 -- How far an answer was written, step by step of a command.
 use Rattle.std.proofs.Common.{◌≡◌, ℕ, List, [], ◌++◌, Result, Ok, Err, refl, ap, sym, ◌∙◌, subst, append-nil, inl, inr}
 use Rattle.std.proofs.KnownBytes.{Appends-nil, Appends-trans, Appends-kept, Keeps-refl, Keeps-trans}
-use Rattle.std.specs.Prelude.{Bool, Option, Some, None}
+use Rattle.std.specs.Prelude.{Bool, true, false, Option, Some, None}
 use Rattle.std.specs.Io.KnownBytes.{Appends, Keeps}
 use Rattle.wc_controller.specs.Blames.{IsNextUnloaded, IsUnloaded}
 use Rattle.wc_controller.specs.Checking.{Checks}
 use Rattle.wc_controller.specs.Endings.{IsAt, IsReadFaultAt, EndsAs, EndsBehind, EndsBehindFault, EndsRefused, WritesFront, WritesUpTo, answered, failed, fault_in_memory, fault_met, met, run_fault_of, status_of}
-use Rattle.wc_controller.specs.Files.{AnswersCheck, IsAnswer, Observed, answer_written, refuses_text, reports_units}
+use Rattle.wc_controller.specs.Files.{AnswersCheck, AnswersLog, AnswersPrinting, IsAnswer, Observed, answer_written, refuses_text, reports_units}
 use Rattle.wc_controller.specs.Jobs as jobs
 use Rattle.wc_controller.specs.Jobs.{Gives}
 use Rattle.wc_controller.specs.Loads.{IsRefusedLoad}
@@ -20,16 +20,18 @@ use Rattle.wc_controller.specs.declared.input.Stopped.{Stopped}
 use Rattle.wc_model.specs.Instrument.Plates.{PlateData}
 use Rattle.wc_model.specs.Run.Log.{LogOf, LogRefusal}
 use Rattle.wc_model.specs.Language.Tree.{Text}
-use Rattle.wc_model.specs.Say.Job.{AnswersNext, AnswersProgram, JobAnswer, behind_report, loads_program, refused_text, refuses_program}
+use Rattle.wc_model.specs.Say.Job.{AnswersNext, AnswersProgram, JobAnswer, behind_report, loads_program, refused_text, refuses_program, run_answer}
 use Rattle.wc_model.specs.Say.LogFor.{log_for}
-use Rattle.wc_model.specs.Say.ProgramReport.{Logic}
+use Rattle.wc_model.specs.Say.ProgramReport.{Logic, first_logic}
 use Rattle.wc_model.specs.declared.fault.Fault.{Fault}
 use Rattle.wc_model.specs.declared.fault.Fault.TheVariants as fault
 use Rattle.wc_run.proofs.Fronts.{front_behind, front_of_more}
+use Rattle.wc_run.proofs.Lines.{whole_written}
 use Rattle.wc_run.proofs.Texts.{text_first}
+use Rattle.wc_run.specs.Reports.{report_plan}
 use Rattle.wc_run.specs.Logics.{text_of_next}
 use Rattle.wc_run.specs.Doing.{WritesBy}
-use Rattle.wc_run.specs.Observing.{Plan, RefusesToBegin, text_coming, text_in_all}
+use Rattle.wc_run.specs.Observing.{Plan, RefusesToBegin, Written, said, text_coming, text_in_all}
 use Rattle.wc_run.specs.Runs.{AppendsFirst, AppendsFront}
 use Rattle.wc_run.specs.declared.fault.RunFault.{RunFault}
 use Rattle.wc_run.specs.declared.fault.RunFault.TheVariants.{Refused, Read, Write, Memory}
@@ -216,3 +218,46 @@ read_fault_told input (Err stopped) ending old new k e = by_fault stopped.fault 
   by_fault (Refused number place) at same h = absurd (subst (λ one. EndsRefused at number place one old new) e h)
   by_fault Read at same h = (sym (subst (λ one. IsAt at one) (sym h.0 ∙ e) refl), same)
   by_fault why at same h = absurd (cc (sym h.0 ∙ e))
+
+-- what is said of an ending where its bytes are said, and where nothing is said of them
+ends_fault_said : (speaks : Bool) (input : Input) (why : RunFault) (ending : Ending) (old new : Option (List ℕ)) → EndsBehindFault input why ending old new
+    → EndsBehindFault input why ending (said speaks old) (said speaks new)
+ends_fault_said true input why ending old new h = h
+ends_fault_said false input (Refused number place) ended.Done old new h = absurd h
+ends_fault_said false input (Refused number place) (ended.Refused at other line) old new h = (h.0, h.1, h.2, tt)
+ends_fault_said false input (Refused number place) (ended.ReadFault at) old new h = absurd h
+ends_fault_said false input (Refused number place) ended.WriteFault old new h = record { front = h.front; rest = h.rest; cut = h.cut; short = h.short; taken = tt }
+ends_fault_said false input (Refused number place) ended.NoMemory old new h = tt
+ends_fault_said false input Read ending old new h = (h.0, tt)
+ends_fault_said false input Write ending old new h = (h.0, tt)
+ends_fault_said false input Memory ending old new h = (h.0, tt)
+
+pub ends_said : {X : Type 0} (speaks : Bool) (answer : Result X Stopped) (ending : Ending) (old new : Option (List ℕ)) → EndsBehind answer ending old new
+    → EndsBehind answer ending (said speaks old) (said speaks new)
+ends_said true answer ending old new h = h
+ends_said false (Ok done) ending old new h = (h.0, tt)
+ends_said false (Err stopped) ending old new h = ends_fault_said false stopped.input stopped.fault ending old new h
+
+-- what the observer of a report answers is what a job answers
+is_report : (plate : PlateData) (logic : Logic) (log : LogOf) (one : JobAnswer) → IsAnswer (record { written = text_in_all report_plan; may_refuse = ⊥ }) plate (Some logic) log one
+    → one ≡ run_answer plate logic log
+is_report plate logic log one (inl is) =
+    let taken : LogOf = log_for (Some logic) log in
+    is ∙ ap (λ (written : Written). behind_report (written plate (Some logic) taken.refusal taken.rows) taken.refusal) (whole_written None)
+is_report plate logic log one (inr refused) = absurd refused.0
+
+-- more may be answered with the next program
+next_more : (next : Option (List ℕ)) (P Q : Option Text → JobAnswer → Type 0) → ((text : Option Text) (one : JobAnswer) → P text one → Q text one)
+    → (one : JobAnswer) → AnswersNext next P one → AnswersNext next Q one
+next_more None P Q f one h = f None one h
+next_more (Some bytes) P Q f one (refuses_program number line refused is) = refuses_program number line refused is
+next_more (Some bytes) P Q f one (loads_program text loaded h) = loads_program text loaded (f (Some text) one h)
+
+-- so with whatever next program
+pub logged : (next : Option (List ℕ)) (plate : PlateData) (log : LogOf) (text : Text) (answer : Option RunFault) (old new : Option (List ℕ))
+    → WritesUpTo (AnswersNext next (AnswersPrinting (record { written = text_in_all report_plan; may_refuse = ⊥ }) plate log text)) answer old new
+    → WritesUpTo (AnswersNext next (AnswersLog plate log text)) answer old new
+logged next plate log text answer old new h =
+    upto_more (AnswersNext next (AnswersPrinting (record { written = text_in_all report_plan; may_refuse = ⊥ }) plate log text)) (AnswersNext next (AnswersLog plate log text)) answer old new
+    (λ one is. next_more next (AnswersPrinting (record { written = text_in_all report_plan; may_refuse = ⊥ }) plate log text) (AnswersLog plate log text)
+    (λ other this says. is_report plate (first_logic text other) log this says) one is) h

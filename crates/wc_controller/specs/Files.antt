@@ -7,7 +7,7 @@ use Rattle.wc_model.specs.Language.Loading.{IsLoaded, IsRefused}
 use Rattle.wc_model.specs.Language.Tree.{Text}
 use Rattle.wc_model.specs.Run.JobSections.{longest_job}
 use Rattle.wc_model.specs.Run.Log.{LogOf, log_of}
-use Rattle.wc_model.specs.Say.Job.{AnswersProgram, JobAnswer, behind_report, refusing}
+use Rattle.wc_model.specs.Say.Job.{AnswersProgram, JobAnswer, behind_report, refusing, run_answer}
 use Rattle.wc_model.specs.Say.LogFor.{log_for}
 use Rattle.wc_model.specs.Say.ProgramReport.{Logic, first_logic}
 use Rattle.wc_model.specs.Say.UnitReport.{IsUnitReport}
@@ -52,6 +52,10 @@ IsAnswer o plate logic log answer = (answer ≡ answer_written o.written plate l
 -- the answer of a run that begins with a text, and has a next one or none
 abbrev pub AnswersPrinting : Observed → PlateData → LogOf → Text → Option Text → JobAnswer → Type 0
 AnswersPrinting o plate log text next answer = IsAnswer o plate (Some (first_logic text next)) log answer
+
+-- the report of a log that begins with a text, and has a next one or none, as a job has it
+abbrev pub AnswersLog : PlateData → LogOf → Text → Option Text → JobAnswer → Type 0
+AnswersLog plate log text next answer = answer ≡ run_answer plate (first_logic text next) log
 
 -- the file of the next program, where there is one, is judged as the program's is, before any row
 abbrev pub AnswersNextFile : Option (List ℕ) → (Option Text → JobAnswer → Type 0) → JobAnswer → Type 0

@@ -1,10 +1,16 @@
-ghost use Rattle.std.specs.Prelude.{◌≡◌, ◌⊎◌, Some, IfSome, Ok};
-ghost use Rattle.wc_controller.specs.Blames.{BlamesPart, StopsForPart};
-ghost use Rattle.wc_controller.specs.Endings.{EndsAs, IsReadFaultAt, TakesInput, TellsFailures, TellsReadEndings, TellsReadFaults, TellsWriteFaults, WritesUpTo, fault_in_memory, met};
+ghost use Rattle.std.specs.Prelude.{◌≡◌, ◌⊎◌, Some, IfErr, IfSome, Ok, is_some, option_map};
+ghost use Rattle.wc_controller.specs.Blames.{BlamesPart, IsNextUnloaded, RefusesLog, StopsForPart};
+ghost use Rattle.wc_controller.specs.Endings.{EndsAs, IsReadFaultAt, StopsAt, TakesInput, TellsFailures, TellsReadEndings, TellsReadFaults, TellsWriteFaults, WritesUpTo, fault_in_memory, met};
+ghost use Rattle.wc_controller.specs.Files.{AnswersLog};
 ghost use Rattle.wc_controller.specs.Jobs.{Allows, AllowsSections, Gives, IsStatus};
+ghost use Rattle.wc_controller.specs.TakenLogs.{IsLater, log_beside};
 ghost use Rattle.wc_job.specs.Views.{sections_view};
+ghost use Rattle.wc_model.specs.Language.Views.{text_view};
 ghost use Rattle.wc_model.specs.Run.JobSections.{sections_of};
+ghost use Rattle.wc_model.specs.Run.Log.{log_of};
 ghost use Rattle.wc_model.specs.Run.Writing.{HasFailedSince};
+ghost use Rattle.wc_model.specs.Say.Job.{AnswersNext};
+ghost use Rattle.wc_record.specs.Reading.{records_of};
 ghost use Rattle.wc_record.specs.Told.{fields_told};
 
 use crate::ending::{Ending, end};
@@ -33,6 +39,33 @@ fn stopped_in_memory(stopped: Stopped) -> Stopped
     }
 }
 
+/// Loads the next program of a job, if it has one, and writes the report of its log.
+fn answer_log<W: ByteOut>(
+    alloc: Global,
+    programs: RunPrograms<'_>,
+    log: &[u8],
+    writer: &mut W,
+    told: &mut RefusedRow,
+) -> Result<(), Stopped>
+    ensures writes { WritesUpTo (AnswersNext (option_map (λ text. text.now) programs.entry.next)
+        (AnswersLog programs.entry.plate (log_of (records_of log.now))
+        (text_view programs.entry.loaded.source)))
+        (met result) (W.bytes_taken writer.old) (W.bytes_taken writer.new) }
+    ensures blames_next { IfErr result (λ stopped. stopped.input ≡ Input.Next
+        → IsNextUnloaded (option_map (λ text. text.now) programs.entry.next) stopped.fault) }
+    ensures blames_log { IfErr result (λ stopped. stopped.input ≡ Input.Log
+        → RefusesLog (log_beside (is_some (option_map (λ text. text.now) programs.entry.next)))
+        (fields_told told.new) log.now stopped.fault) }
+    ensures later { IsLater result }
+    ensures no_names { ¬ StopsAt Input.Names result }
+    ensures failures { TellsWriteFaults (met result) (W.failure_count writer.old)
+        (W.failure_count writer.new) }
+{
+    let mut report = Report::new(alloc);
+    let mut reader = Device::new(log);
+    run_loaded(alloc, &mut report, programs, &mut reader, writer, told)
+}
+
 /// Answers a job by its sections.
 fn answer_sections<W: ByteOut>(
     alloc: Global,
@@ -59,14 +92,13 @@ fn answer_sections<W: ByteOut>(
         Ok(loaded) => loaded,
         Err(stopped) => return Err(stopped),
     };
-    let mut log = Device::new(sections.log);
     let programs = RunPrograms {
+        plate,
         text: sections.program,
         loaded,
         next: sections.next,
     };
-    let mut report = Report::new(alloc, writer);
-    match run_loaded(alloc, &mut report, &plate, programs, &mut log, told) {
+    match answer_log(alloc, programs, sections.log, writer, told) {
         Ok(()) => Ok(()),
         Err(stopped) => Err(stopped_in_memory(stopped)),
     }
@@ -147,7 +179,7 @@ pub fn answer_job<R: ByteIn, W: ByteOut>(
     ensures taken { TakesInput (R.bytes_left reader.old) (R.bytes_left reader.new) }
 {
     let answer = answer_input(alloc, reader, writer, told);
-    end(alloc, answer, &mut Report::new(alloc, writer))
+    end(alloc, answer, writer)
 }
 
 /// Answers a job as `answer_job` does. The status is 0 where all rows ran, 1 where something was

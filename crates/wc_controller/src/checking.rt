@@ -13,7 +13,7 @@ use crate::unit_lines::text_of_units;
 use std::alloc::Global;
 use wc_cost::Loaded;
 use wc_model::{ByteIn, ByteOut, Fault, write_whole};
-use wc_run::{Report, RunFault};
+use wc_run::RunFault;
 
 /// Writes the report of the units.
 fn write_report<W: ByteOut>(
@@ -115,5 +115,5 @@ pub fn check_file<T: ByteIn, W: ByteOut>(
     ensures taken { TakesInput (T.bytes_left program.old) (T.bytes_left program.new) }
 {
     let answer = check_input(alloc, paths, program, writer);
-    end(alloc, answer, &mut Report::new(alloc, writer))
+    end(alloc, answer, writer)
 }

@@ -3,8 +3,9 @@ ghost use Rattle.wc_controller.specs.Endings.{EndsBehind, EndsRefused, TellsFail
 
 use crate::input::{Input, Stopped};
 use std::alloc::Global;
-use wc_run::{Observer, RunFault};
-use wc_store::SlotStore;
+use wc_model::{ByteOut, write_whole};
+use wc_report::refused_line;
+use wc_run::RunFault;
 
 /// How a command ended.
 #[derive(Clone, Copy, PartialEq, Eq)]
@@ -48,45 +49,40 @@ impl Ending {
 }
 
 /// The ending of a refusal, whose line is written behind what stands.
-fn end_refused<O: Observer<SlotStore>>(
+fn end_refused<W: ByteOut>(
     alloc: Global,
     input: Input,
     number: u16,
     place: u32,
-    observer: &mut O,
+    writer: &mut W,
 ) -> Ending
-    ensures lender { O.lender observer.new ≡ O.lender observer.old }
-    ensures ends { EndsRefused input number place result (O.bytes_taken observer.old)
-        (O.bytes_taken observer.new) }
-    ensures failures { TellsFailures result (O.failure_count observer.old)
-        (O.failure_count observer.new) }
+    ensures ends { EndsRefused input number place result (W.bytes_taken writer.old)
+        (W.bytes_taken writer.new) }
+    ensures failures { TellsFailures result (W.failure_count writer.old)
+        (W.failure_count writer.new) }
 {
-    match observer.refuse(alloc, number, place) {
+    let line = match refused_line(alloc, number, place) {
+        Ok(line) => line,
+        Err(_) => return Ending::NoMemory,
+    };
+    match write_whole(writer, &line) {
         Ok(()) => Ending::Refused {
             input,
             number,
             place,
         },
-        Err(fault) => match fault {
-            RunFault::Write => Ending::WriteFault,
-            _ => Ending::NoMemory,
-        },
+        Err(_) => Ending::WriteFault,
     }
 }
 
 /// The ending of what was done, or of what stopped it: a refusal's line is written behind what
 /// stands.
-pub fn end<O: Observer<SlotStore>>(
-    alloc: Global,
-    answer: Result<(), Stopped>,
-    observer: &mut O,
-) -> Ending
-    ensures lender { O.lender observer.new ≡ O.lender observer.old }
-    ensures ends { EndsBehind answer result (O.bytes_taken observer.old)
-        (O.bytes_taken observer.new) }
+pub fn end<W: ByteOut>(alloc: Global, answer: Result<(), Stopped>, writer: &mut W) -> Ending
+    ensures ends { EndsBehind answer result (W.bytes_taken writer.old)
+        (W.bytes_taken writer.new) }
     ensures failures { (before : ℕ)
-        → TellsWriteFaults (met answer) before (O.failure_count observer.old)
-        → TellsFailures result before (O.failure_count observer.new) }
+        → TellsWriteFaults (met answer) before (W.failure_count writer.old)
+        → TellsFailures result before (W.failure_count writer.new) }
 {
     let stopped = match answer {
         Ok(()) => return Ending::Done,
@@ -94,7 +90,7 @@ pub fn end<O: Observer<SlotStore>>(
     };
     let input = stopped.input;
     match stopped.fault {
-        RunFault::Refused { number, place } => end_refused(alloc, input, number, place, observer),
+        RunFault::Refused { number, place } => end_refused(alloc, input, number, place, writer),
         RunFault::Read => Ending::ReadFault { input },
         RunFault::Write => Ending::WriteFault,
         RunFault::Memory => Ending::NoMemory,

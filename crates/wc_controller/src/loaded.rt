@@ -14,7 +14,7 @@ ghost use Rattle.wc_record.specs.Left.{HasCause};
 ghost use Rattle.wc_record.specs.Told.{fields_told};
 ghost use Rattle.wc_record.specs.Reading.{records_of};
 ghost use Rattle.wc_run.specs.Logics.{text_of_next};
-ghost use Rattle.wc_run.specs.Observing.{RefusesToBegin, loaded_of, logic_of, text_in_all};
+ghost use Rattle.wc_run.specs.Observing.{RefusesToBegin, loaded_of, logic_of, said, text_in_all};
 ghost use Rattle.wc_run.specs.Standing.{IsNotBehind, Stands};
 
 use crate::input::{Input, Stopped};
@@ -23,16 +23,17 @@ use crate::reading::run_fault_of;
 use std::alloc::Global;
 use wc_cost::Loaded;
 use wc_machine::Machine;
-use wc_model::ByteIn;
+use wc_model::{ByteIn, ByteOut};
 use wc_plate::Plate;
 use wc_record::RefusedRow;
 use wc_run::{Observer, Program, RunFault, Scale, run};
 use wc_store::SlotStore;
 
-/// The programs of a run: the text of the first and what was loaded of it, and the text of the next
-/// one, if there is one.
+/// The plate of a run and its programs: the text of the first and what was loaded of it, and the
+/// text of the next one, if there is one.
 #[derive(Drop)]
 pub(crate) struct RunPrograms<'a> {
+    pub(crate) plate: Plate,
     pub(crate) text: &'a [u8],
     pub(crate) loaded: Loaded<'a>,
     pub(crate) next: Option<&'a [u8]>,
@@ -106,18 +107,15 @@ fn begun_input(fault: RunFault) -> Input
 }
 
 /// Shows an observer the programs of a run, before its log is read.
-fn begin<O: Observer<SlotStore>>(
+fn begin<W: ByteOut, O: Observer<SlotStore, W>>(
     observer: &mut O,
     first: Option<Program<'_, '_>>,
     next: Option<Program<'_, '_>>,
 ) -> Result<(), Stopped>
     requires { O.is_new observer.old }
-    ensures lender { O.lender observer.new ≡ O.lender observer.old }
     ensures plan { O.plan observer.new ≡ O.plan observer.old }
     ensures seen { OnOk result ((plate : PlateData)
         → O.has_seen observer.new plate (logic_of (loaded_of first.entry) (loaded_of next.entry)) []) }
-    ensures kept { O.bytes_taken observer.new ≡ O.bytes_taken observer.old }
-    ensures failures { O.failure_count observer.new ≡ O.failure_count observer.old }
     ensures refused { IfErr result
         (λ stopped. RefusesToBegin (O.may_refuse observer.old) stopped.fault) }
     ensures input { IfErr result (λ stopped. stopped.input ≡ begun_input stopped.fault) }
@@ -150,21 +148,22 @@ fn scale_of<'a>(
 }
 
 /// Runs a log on a scale to which no row has come.
-fn run_scale<O: Observer<SlotStore>, L: ByteIn>(
+fn run_scale<W: ByteOut, O: Observer<SlotStore, W>, L: ByteIn>(
     alloc: Global,
     observer: &mut O,
     scale: &mut Scale<'_, SlotStore>,
     log: &mut L,
+    writer: &mut W,
     told: &mut RefusedRow,
 ) -> Result<(), Stopped>
     requires first { IsNotBehind scale.old 0 }
-    ensures lender { O.lender observer.new ≡ O.lender observer.old }
     ensures writes { (plate : PlateData) (logic : Option Logic)
         → Stands scale.old plate logic [] → O.has_seen observer.old plate logic []
         → IfSome (L.bytes_left log.old) (λ bytes.
         WritesUpTo (λ one. one ≡ answer_written (text_in_all (O.plan observer.old)) plate logic
         (log_of (records_of bytes)))
-        (met result) (O.bytes_taken observer.old) (O.bytes_taken observer.new)) }
+        (met result) (said O.speaks (W.bytes_taken writer.old))
+        (said O.speaks (W.bytes_taken writer.new))) }
     ensures input { IfErr result (λ stopped. stopped.input ≡ Input.Log) }
     ensures blames { (plate : PlateData) (logic : Option Logic)
         → Stands scale.old plate logic [] → O.has_seen observer.old plate logic []
@@ -178,10 +177,10 @@ fn run_scale<O: Observer<SlotStore>, L: ByteIn>(
         (L.spent_count log.old) (L.spent_count log.new) }
     ensures reader { HasNotFailedAt Input.Log result (L.failure_count log.old)
         (L.failure_count log.new) }
-    ensures failures { TellsWriteFaults (met result) (O.failure_count observer.old)
-        (O.failure_count observer.new) }
+    ensures failures { TellsWriteFaults (met result) (W.failure_count writer.old)
+        (W.failure_count writer.new) }
 {
-    match run(alloc, observer, scale, log, told) {
+    match run(alloc, observer, scale, log, writer, told) {
         Ok(_) => Ok(()),
         Err(fault) => Err(Stopped {
             input: Input::Log,
@@ -191,19 +190,20 @@ fn run_scale<O: Observer<SlotStore>, L: ByteIn>(
 }
 
 /// Runs a log with no program.
-pub(crate) fn run_alone<O: Observer<SlotStore>, L: ByteIn>(
+pub(crate) fn run_alone<W: ByteOut, O: Observer<SlotStore, W>, L: ByteIn>(
     alloc: Global,
     observer: &mut O,
     plate: &Plate,
     log: &mut L,
+    writer: &mut W,
     told: &mut RefusedRow,
 ) -> Result<(), Stopped>
     requires new { O.is_new observer.old }
-    ensures lender { O.lender observer.new ≡ O.lender observer.old }
     ensures writes { IfSome (L.bytes_left log.old)
         (λ bytes. WritesUpTo (IsLineAnswer (observed_by O.plan O.may_refuse observer.old) plate.now
         (log_of (records_of bytes)))
-        (met result) (O.bytes_taken observer.old) (O.bytes_taken observer.new)) }
+        (met result) (said O.speaks (W.bytes_taken writer.old))
+        (said O.speaks (W.bytes_taken writer.new))) }
     ensures later { IsLater result }
     ensures no_next { ¬ StopsAt Input.Next result }
     ensures names { StopsAt Input.Names result
@@ -219,14 +219,14 @@ pub(crate) fn run_alone<O: Observer<SlotStore>, L: ByteIn>(
         (L.failure_count log.new) (L.spent_count log.old) (L.spent_count log.new) }
     ensures reader { HasNotFailedAt Input.Log result (L.failure_count log.old)
         (L.failure_count log.new) }
-    ensures failures { TellsWriteFaults (met result) (O.failure_count observer.old)
-        (O.failure_count observer.new) }
+    ensures failures { TellsWriteFaults (met result) (W.failure_count writer.old)
+        (W.failure_count writer.new) }
 {
     if let Err(stopped) = begin(observer, None, None) {
         return Err(stopped);
     }
     match Scale::new(alloc, plate, None, None) {
-        Ok(mut scale) => run_scale(alloc, observer, &mut scale, log, told),
+        Ok(mut scale) => run_scale(alloc, observer, &mut scale, log, writer, told),
         Err(fault) => Err(Stopped {
             input: Input::Log,
             fault,
@@ -236,21 +236,21 @@ pub(crate) fn run_alone<O: Observer<SlotStore>, L: ByteIn>(
 
 /// Loads the next program, if there is one, and runs a log with a program that is loaded. The log is
 /// not read where the next program is refused.
-pub(crate) fn run_loaded<O: Observer<SlotStore>, L: ByteIn>(
+pub(crate) fn run_loaded<W: ByteOut, O: Observer<SlotStore, W>, L: ByteIn>(
     alloc: Global,
     observer: &mut O,
-    plate: &Plate,
     programs: RunPrograms<'_>,
     log: &mut L,
+    writer: &mut W,
     told: &mut RefusedRow,
 ) -> Result<(), Stopped>
     requires new { O.is_new observer.old }
-    ensures lender { O.lender observer.new ≡ O.lender observer.old }
     ensures writes { IfSome (L.bytes_left log.old)
         (λ bytes. WritesUpTo (AnswersNext (option_map (λ text. text.now) programs.entry.next)
-        (AnswersPrinting (observed_by O.plan O.may_refuse observer.old) plate.now
+        (AnswersPrinting (observed_by O.plan O.may_refuse observer.old) programs.entry.plate
         (log_of (records_of bytes)) (text_view programs.entry.loaded.source)))
-        (met result) (O.bytes_taken observer.old) (O.bytes_taken observer.new)) }
+        (met result) (said O.speaks (W.bytes_taken writer.old))
+        (said O.speaks (W.bytes_taken writer.new))) }
     ensures blames_next { IfErr result
         (λ stopped. stopped.input ≡ Input.Next
         → IsNextUnloaded (option_map (λ text. text.now) programs.entry.next) stopped.fault) }
@@ -275,22 +275,28 @@ pub(crate) fn run_loaded<O: Observer<SlotStore>, L: ByteIn>(
         (L.spent_count log.old) (L.spent_count log.new) }
     ensures reader { HasNotFailedAt Input.Log result (L.failure_count log.old)
         (L.failure_count log.new) }
-    ensures failures { TellsWriteFaults (met result) (O.failure_count observer.old)
-        (O.failure_count observer.new) }
+    ensures failures { TellsWriteFaults (met result) (W.failure_count writer.old)
+        (W.failure_count writer.new) }
 {
-    let next = match load_next(alloc, programs.next) {
+    let RunPrograms {
+        plate,
+        text,
+        loaded,
+        next: other,
+    } = programs;
+    let next = match load_next(alloc, other) {
         Ok(next) => next,
         Err(stopped) => return Err(stopped),
     };
     let first = Program {
-        text: programs.text,
-        loaded: &programs.loaded,
+        text,
+        loaded: &loaded,
     };
-    if let Err(stopped) = begin(observer, Some(first), next_program(programs.next, &next)) {
+    if let Err(stopped) = begin(observer, Some(first), next_program(other, &next)) {
         return Err(stopped);
     }
-    match scale_of(alloc, plate, programs.loaded, next) {
-        Ok(mut scale) => run_scale(alloc, observer, &mut scale, log, told),
+    match scale_of(alloc, &plate, loaded, next) {
+        Ok(mut scale) => run_scale(alloc, observer, &mut scale, log, writer, told),
         Err(fault) => Err(Stopped {
             input: Input::Log,
             fault,

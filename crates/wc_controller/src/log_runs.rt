@@ -92,9 +92,10 @@ pub fn run<'a, S: Store, R: ByteIn, W: ByteOut>(
     match Scale::new(alloc, plate, machine, next) {
         Ok(mut scale) => wc_run::run(
             alloc,
-            &mut Report::new(alloc, writer),
+            &mut Report::new(alloc),
             &mut scale,
             reader,
+            writer,
             &mut RefusedRow::new(alloc),
         ),
         Err(fault) => Err(not_begun(fault, reader)),
@@ -148,7 +149,7 @@ pub fn run_last<'a, S: Store, R: ByteIn, W: ByteOut>(
     ensures reader { HasNotFailed result (R.failure_count reader.old)
         (R.failure_count reader.new) }
 {
-    let mut scans = match LastScans::new(alloc, last, writer) {
+    let mut scans = match LastScans::new(alloc, last) {
         Ok(scans) => scans,
         Err(fault) => return Err(not_begun(fault, reader)),
     };
@@ -158,6 +159,7 @@ pub fn run_last<'a, S: Store, R: ByteIn, W: ByteOut>(
             &mut scans,
             &mut scale,
             reader,
+            writer,
             &mut RefusedRow::new(alloc),
         ),
         Err(fault) => Err(not_begun(fault, reader)),

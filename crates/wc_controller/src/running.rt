@@ -3,6 +3,7 @@ ghost use Rattle.wc_controller.specs.Files.{report_observed};
 ghost use Rattle.wc_controller.specs.InputRuns.{RunsAs, RunsUpTo};
 ghost use Rattle.wc_controller.specs.InputStates.{observed_by, writer_of};
 ghost use Rattle.wc_record.specs.Told.{fields_told};
+ghost use Rattle.wc_run.specs.Observing.{said_by};
 
 use crate::ending::{Ending, end};
 use crate::input::{Input, Stopped};
@@ -17,18 +18,18 @@ use wc_store::SlotStore;
 
 /// Reads a plate, and a program and the next one, if there are such, and runs a log. What follows an
 /// input that is refused is not read.
-fn run_inputs<O: Observer<SlotStore>, P: ByteIn, T: ByteIn, N: ByteIn, L: ByteIn>(
+fn run_inputs<P: ByteIn, T: ByteIn, N: ByteIn, L: ByteIn, W: ByteOut, O: Observer<SlotStore, W>>(
     alloc: Global,
     observer: &mut O,
     inputs: &mut RunInputs<P, T, N, L>,
+    writer: &mut W,
     told: &mut RefusedRow,
 ) -> Result<(), Stopped>
     requires new { O.is_new observer.old }
-    ensures lender { O.lender observer.new ≡ O.lender observer.old }
-    ensures runs { RunsUpTo (observed_by O.plan O.may_refuse observer.old) inputs.old inputs.new
+    ensures { RunsUpTo (observed_by O.plan O.may_refuse observer.old) inputs.old inputs.new
         (fields_told told.new) result
-        (writer_of O.bytes_taken O.failure_count observer.old)
-        (writer_of O.bytes_taken O.failure_count observer.new) }
+        (writer_of (said_by O.speaks W.bytes_taken) W.failure_count writer.old)
+        (writer_of (said_by O.speaks W.bytes_taken) W.failure_count writer.new) }
 {
     let plate = match read_plate(alloc, &mut inputs.plate) {
         Ok(plate) => plate,
@@ -40,7 +41,7 @@ fn run_inputs<O: Observer<SlotStore>, P: ByteIn, T: ByteIn, N: ByteIn, L: ByteIn
     };
     let text = match read {
         Some(text) => text,
-        None => return run_alone(alloc, observer, &plate, &mut inputs.log, told),
+        None => return run_alone(alloc, observer, &plate, &mut inputs.log, writer, told),
     };
     let loaded = match load_input(alloc, Input::Program, &text) {
         Ok(loaded) => loaded,
@@ -51,11 +52,12 @@ fn run_inputs<O: Observer<SlotStore>, P: ByteIn, T: ByteIn, N: ByteIn, L: ByteIn
         Err(stopped) => return Err(stopped),
     };
     let programs = RunPrograms {
+        plate,
         text: &text,
         loaded,
         next: lent(&other),
     };
-    run_loaded(alloc, observer, &plate, programs, &mut inputs.log, told)
+    run_loaded(alloc, observer, programs, &mut inputs.log, writer, told)
 }
 
 /// Runs a log, whoever observes it. The plate is read and checked first, then the program, then the
@@ -70,21 +72,21 @@ fn run_inputs<O: Observer<SlotStore>, P: ByteIn, T: ByteIn, N: ByteIn, L: ByteIn
 /// is refused. A read fault names the input whose reader failed in this call, or the log if as much
 /// was read as may be; a write fault comes if the observer's writer failed in this call, and only
 /// then. After such a fault, and out of memory, a prefix of the output was written, or nothing.
-pub fn run_files<O: Observer<SlotStore>, P: ByteIn, T: ByteIn, N: ByteIn, L: ByteIn>(
+pub fn run_files<P: ByteIn, T: ByteIn, N: ByteIn, L: ByteIn, W: ByteOut, O: Observer<SlotStore, W>>(
     alloc: Global,
     observer: &mut O,
     inputs: &mut RunInputs<P, T, N, L>,
+    writer: &mut W,
     told: &mut RefusedRow,
 ) -> Ending
     requires new { O.is_new observer.old }
-    ensures lender { O.lender observer.new ≡ O.lender observer.old }
-    ensures runs { RunsAs (observed_by O.plan O.may_refuse observer.old) inputs.old inputs.new
+    ensures { RunsAs (observed_by O.plan O.may_refuse observer.old) inputs.old inputs.new
         (fields_told told.new) result
-        (writer_of O.bytes_taken O.failure_count observer.old)
-        (writer_of O.bytes_taken O.failure_count observer.new) }
+        (writer_of (said_by O.speaks W.bytes_taken) W.failure_count writer.old)
+        (writer_of (said_by O.speaks W.bytes_taken) W.failure_count writer.new) }
 {
-    let answer = run_inputs(alloc, observer, inputs, told);
-    end(alloc, answer, observer)
+    let answer = run_inputs(alloc, observer, inputs, writer, told);
+    end(alloc, answer, writer)
 }
 
 /// Runs a log as `run_files` does, and writes its report, with a line for every scan.
@@ -98,10 +100,7 @@ pub fn report_files<P: ByteIn, T: ByteIn, N: ByteIn, L: ByteIn, W: ByteOut>(
         (writer_of W.bytes_taken W.failure_count writer.old)
         (writer_of W.bytes_taken W.failure_count writer.new) }
 {
-    let mut report = Report::new(alloc, writer);
-    let ending = run_files(alloc, &mut report, inputs, told);
-    let _writer = report.into_writer();
-    ending
+    run_files(alloc, &mut Report::new(alloc), inputs, writer, told)
 }
 
 /// Runs a log as `run_files` does, and writes its report, with the lines of the last `last` scans
@@ -119,8 +118,8 @@ pub fn last_files<P: ByteIn, T: ByteIn, N: ByteIn, L: ByteIn, W: ByteOut>(
         (writer_of W.bytes_taken W.failure_count writer.old)
         (writer_of W.bytes_taken W.failure_count writer.new) }
 {
-    match LastScans::new(alloc, last, writer) {
-        Ok(mut scans) => run_files(alloc, &mut scans, inputs, told),
+    match LastScans::new(alloc, last) {
+        Ok(mut scans) => run_files(alloc, &mut scans, inputs, writer, told),
         Err(_) => Ending::NoMemory,
     }
 }

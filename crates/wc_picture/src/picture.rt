@@ -1,5 +1,3 @@
-ghost use Rattle.std.specs.Prelude.{◌≡◌, IsOkUnless};
-
 use std::alloc::{AllocError, Global};
 use wc_columns::{Column, Events, State, TimeLine, Tracker};
 use wc_cost::Loaded;
@@ -7,15 +5,14 @@ use wc_drawing::{RunSteps, ScanSteps, View, draw};
 use wc_model::{ByteOut, Outputs};
 use wc_plate::Plate;
 use wc_record::HeadKind;
-use wc_run::{Observer, Program, RowSeen, RunFault, Scale, write_refusal, write_text};
+use wc_run::{Observer, Program, RowSeen, RunFault, Scale, write_text};
 use wc_store::SlotStore;
 
 /// Observes a run, and behind its rows writes a picture of it. The room for what is kept of the rows is made at the first of
 /// them.
 #[derive(Drop)]
-pub(crate) struct Picture<'w, W> {
+pub(crate) struct Picture {
     alloc: Global,
-    writer: &'w mut W,
     line: Option<TimeLine>,
     plate: Option<Plate>,
     inputs: u16,
@@ -41,15 +38,11 @@ fn program_bound(loaded: &Loaded<'_>) -> u32 {
     loaded.bound(units - 1)
 }
 
-impl<'w, W: ByteOut> Picture<'w, W> {
+impl Picture {
     /// Before the first row. It takes no memory.
-    pub(crate) fn new(alloc: Global, writer: &'w mut W) -> Picture<'w, W>
-        ensures writer { result.writer.now ≡ writer.old }
-        ensures lender { result.writer.ghost_name ≡ writer.entry.ghost_name }
-    {
+    pub(crate) fn new(alloc: Global) -> Picture {
         Picture {
             alloc,
-            writer,
             line: None,
             plate: None,
             inputs: 0,
@@ -67,9 +60,7 @@ impl<'w, W: ByteOut> Picture<'w, W> {
     }
 
     /// What happened at a row.
-    fn events(&mut self, seen: &RowSeen<'_>) -> Events
-        ensures { self.new.writer ≡ self.old.writer }
-    {
+    fn events(&mut self, seen: &RowSeen<'_>) -> Events {
         let mut events = Events::none();
         match seen.row.kind {
             HeadKind::Bytes => {
@@ -94,9 +85,7 @@ impl<'w, W: ByteOut> Picture<'w, W> {
     }
 
     /// Keeps a row.
-    fn keep(&mut self, ms: u64, row: Column) -> Result<(), AllocError>
-        ensures { self.new.writer ≡ self.old.writer }
-    {
+    fn keep(&mut self, ms: u64, row: Column) -> Result<(), AllocError> {
         if self.line.is_none() {
             self.line = Some(TimeLine::new(self.alloc)?);
         }
@@ -107,9 +96,7 @@ impl<'w, W: ByteOut> Picture<'w, W> {
     }
 
     /// Counts the steps of a scan.
-    fn count(&mut self, steps: u32)
-        ensures { self.new.writer ≡ self.old.writer }
-    {
+    fn count(&mut self, steps: u32) {
         self.steps = Some(steps);
         if let Some(ScanSteps { most, bound }) = self.running {
             self.running = Some(ScanSteps {
@@ -135,9 +122,7 @@ impl<'w, W: ByteOut> Picture<'w, W> {
     }
 
     /// The next program takes the place of the first.
-    fn change(&mut self)
-        ensures { self.new.writer ≡ self.old.writer }
-    {
+    fn change(&mut self) {
         if self.running.is_some() {
             self.before = self.running;
             self.running = Some(ScanSteps {
@@ -148,9 +133,7 @@ impl<'w, W: ByteOut> Picture<'w, W> {
     }
 
     /// Keeps what a row brought.
-    fn follow(&mut self, seen: &RowSeen<'_>, scale: &Scale<'_, SlotStore>) -> Result<(), AllocError>
-        ensures { self.new.writer ≡ self.old.writer }
-    {
+    fn follow(&mut self, seen: &RowSeen<'_>, scale: &Scale<'_, SlotStore>) -> Result<(), AllocError> {
         if let HeadKind::Change = seen.row.kind {
             self.change();
         }
@@ -179,17 +162,15 @@ impl<'w, W: ByteOut> Picture<'w, W> {
     }
 }
 
-impl<W: ByteOut> Observer<SlotStore> for Picture<'_, W> {
-    ghost use Rattle.std.specs.Prelude.{⊤};
+impl<W: ByteOut> Observer<SlotStore, W> for Picture {
+    ghost use Rattle.std.specs.Prelude.{⊤, false};
     ghost use Rattle.wc_run.specs.Reports.{silent_plan};
 
     ghost plan = { λ picture. silent_plan };
 
     ghost has_seen = { λ picture plate logic past. ⊤ };
 
-    ghost lender = { λ picture. picture.writer.ghost_name };
-
-    ghost failure_count = { λ picture. W.failure_count picture.writer.now };
+    ghost speaks = { false };
 
     fn begin(
         &mut self,
@@ -210,21 +191,22 @@ impl<W: ByteOut> Observer<SlotStore> for Picture<'_, W> {
         false
     }
 
-    fn see(&mut self, seen: &RowSeen<'_>, scale: &Scale<'_, SlotStore>) -> Result<(), RunFault> {
+    fn see(
+        &mut self,
+        seen: &RowSeen<'_>,
+        scale: &Scale<'_, SlotStore>,
+        _writer: &mut W,
+    ) -> Result<(), RunFault> {
         match self.follow(seen, scale) {
             Ok(()) => Ok(()),
             Err(_) => Err(RunFault::Memory),
         }
     }
 
-    fn end(&mut self, refused: Option<(u16, u32)>) -> Result<(), RunFault> {
+    fn end(&mut self, refused: Option<(u16, u32)>, writer: &mut W) -> Result<(), RunFault> {
         match self.draw(refused) {
-            Ok(text) => write_text(text.as_bytes(), self.writer),
+            Ok(text) => write_text(text.as_bytes(), writer),
             Err(_) => Err(RunFault::Memory),
         }
-    }
-
-    fn refuse(&mut self, alloc: Global, number: u16, place: u32) -> Result<(), RunFault> {
-        write_refusal(alloc, number, place, self.writer)
     }
 }

@@ -7,15 +7,14 @@ use std::alloc::Global;
 use wc_machine::SeenLine;
 use wc_model::{ByteOut, Fault};
 use wc_record::HeadKind;
-use wc_run::{Observer, Program, RowSeen, RunFault, Scale, write_refusal, write_text};
+use wc_run::{Observer, Program, RowSeen, RunFault, Scale, write_text};
 use wc_store::SlotStore;
 
 /// Observes a run, and writes the rows of the scans that are chosen.
 #[derive(Drop)]
-pub(crate) struct Watch<'w, W> {
+pub(crate) struct Watch {
     alloc: Global,
     chosen: Chosen,
-    writer: &'w mut W,
     legend: Option<Legend>,
     next: Option<Legend>,
     scans: u32,
@@ -52,16 +51,12 @@ fn bound_in(scale: &Scale<'_, SlotStore>) -> u32 {
     }
 }
 
-impl<'w, W: ByteOut> Watch<'w, W> {
+impl Watch {
     /// Before the first scan.
-    pub(crate) fn new(alloc: Global, chosen: Chosen, writer: &'w mut W) -> Watch<'w, W>
-        ensures writer { result.writer.now ≡ writer.old }
-        ensures lender { result.writer.ghost_name ≡ writer.entry.ghost_name }
-    {
+    pub(crate) fn new(alloc: Global, chosen: Chosen) -> Watch {
         Watch {
             alloc,
             chosen,
-            writer,
             legend: None,
             next: None,
             scans: 0,
@@ -72,17 +67,14 @@ impl<'w, W: ByteOut> Watch<'w, W> {
     }
 
     /// The next program takes the place of the first.
-    fn change(&mut self)
-        ensures { self.new.writer ≡ self.old.writer }
-    {
+    fn change(&mut self) {
         self.legend = self.next.take();
         self.is_changed = true;
     }
 
     /// Makes the rows of a scan.
     fn make_rows(&mut self, ms: u64, bound: u32, lines: &[SeenLine]) -> Result<(), RunFault>
-        ensures writer { self.new.writer ≡ self.old.writer }
-        ensures memory { IsOkUnless result RunFault.Memory }
+        ensures { IsOkUnless result RunFault.Memory }
     {
         self.text.clear();
         self.shown = self.shown.saturating_add(1);
@@ -109,8 +101,7 @@ impl<'w, W: ByteOut> Watch<'w, W> {
 
     /// Counts a scan, and makes its rows where it is chosen.
     fn follow(&mut self, seen: &RowSeen<'_>, bound: u32) -> Result<(), RunFault>
-        ensures writer { self.new.writer ≡ self.old.writer }
-        ensures memory { IsOkUnless result RunFault.Memory }
+        ensures { IsOkUnless result RunFault.Memory }
     {
         self.text.clear();
         match &seen.scan {
@@ -127,8 +118,7 @@ impl<'w, W: ByteOut> Watch<'w, W> {
 
     /// Makes what is said at the end of a log none of whose scans was chosen.
     fn make_end(&mut self) -> Result<(), RunFault>
-        ensures writer { self.new.writer ≡ self.old.writer }
-        ensures memory { IsOkUnless result RunFault.Memory }
+        ensures { IsOkUnless result RunFault.Memory }
     {
         self.text.clear();
         if self.shown > 0 {
@@ -141,17 +131,15 @@ impl<'w, W: ByteOut> Watch<'w, W> {
     }
 }
 
-impl<W: ByteOut> Observer<SlotStore> for Watch<'_, W> {
-    ghost use Rattle.std.specs.Prelude.{⊤};
+impl<W: ByteOut> Observer<SlotStore, W> for Watch {
+    ghost use Rattle.std.specs.Prelude.{⊤, false};
     ghost use Rattle.wc_run.specs.Reports.{silent_plan};
 
     ghost plan = { λ watch. silent_plan };
 
+    ghost speaks = { false };
+
     ghost has_seen = { λ watch plate logic past. ⊤ };
-
-    ghost lender = { λ watch. watch.writer.ghost_name };
-
-    ghost failure_count = { λ watch. W.failure_count watch.writer.now };
 
     fn begin(
         &mut self,
@@ -173,27 +161,28 @@ impl<W: ByteOut> Observer<SlotStore> for Watch<'_, W> {
         self.chosen.has(self.scans.saturating_add(1), ms)
     }
 
-    fn see(&mut self, seen: &RowSeen<'_>, scale: &Scale<'_, SlotStore>) -> Result<(), RunFault> {
+    fn see(
+        &mut self,
+        seen: &RowSeen<'_>,
+        scale: &Scale<'_, SlotStore>,
+        writer: &mut W,
+    ) -> Result<(), RunFault> {
         if let HeadKind::Change = seen.row.kind {
             self.change();
         }
         match self.follow(seen, bound_in(scale)) {
-            Ok(()) => write_text(&self.text, self.writer),
+            Ok(()) => write_text(&self.text, writer),
             Err(fault) => Err(fault),
         }
     }
 
-    fn end(&mut self, refused: Option<(u16, u32)>) -> Result<(), RunFault> {
+    fn end(&mut self, refused: Option<(u16, u32)>, writer: &mut W) -> Result<(), RunFault> {
         if refused.is_some() {
             return Ok(());
         }
         match self.make_end() {
-            Ok(()) => write_text(&self.text, self.writer),
+            Ok(()) => write_text(&self.text, writer),
             Err(fault) => Err(fault),
         }
-    }
-
-    fn refuse(&mut self, alloc: Global, number: u16, place: u32) -> Result<(), RunFault> {
-        write_refusal(alloc, number, place, self.writer)
     }
 }

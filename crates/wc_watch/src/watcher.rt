@@ -1,5 +1,4 @@
-ghost use Rattle.std.specs.Prelude.{◌≡◌, ◌≤◌, IfErr, IfOk, IfSome, IsOkUnless};
-ghost use Rattle.wc_run.specs.Observing.{RefusesToBegin};
+ghost use Rattle.std.specs.Prelude.{◌≤◌, IfSome, IsOkUnless};
 
 use crate::last_lines::LastLines;
 use crate::watched_names::WatchedNames;
@@ -8,16 +7,15 @@ use wc_machine::Machine;
 use wc_model::{ByteOut, Fault};
 use wc_record::{HeadKind, Record};
 use wc_run::{
-    Observer, Program, RowSeen, RunFault, Scale, put_answer, put_record, write_refusal, write_text,
+    Observer, Program, RowSeen, RunFault, Scale, put_answer, put_record, write_text,
 };
 use wc_store::SlotStore;
 
 /// Observes a run, and writes its report and behind the line of each scan one with the values that are watched.
 #[derive(Drop)]
-pub(crate) struct Watcher<'n, 'w, W> {
+pub(crate) struct Watcher<'n> {
     alloc: Global,
     list: &'n [u8],
-    writer: &'w mut W,
     names: WatchedNames<'n>,
     unknown: Option<usize>,
     last: Option<LastLines>,
@@ -48,26 +46,21 @@ fn last_lines(alloc: Global, last: Option<u16>) -> Result<Option<LastLines>, Fau
     }
 }
 
-impl<'n, 'w, W: ByteOut> Watcher<'n, 'w, W> {
+impl<'n> Watcher<'n> {
     /// Before the first program is known, with the names to be watched, between commas. With `last` the last so many scans are
     /// written alone, 1 to 1000. `Memory` is the only fault.
     pub(crate) fn new(
         alloc: Global,
         list: &'n [u8],
         last: Option<u16>,
-        writer: &'w mut W,
-    ) -> Result<Watcher<'n, 'w, W>, Fault>
+    ) -> Result<Watcher<'n>, Fault>
         requires few { IfSome last (λ n. (1 ≤ n) × (n ≤ 1000)) }
-        ensures writer { IfOk result (λ watcher. watcher.writer.now ≡ writer.old) }
-        ensures lender { IfOk result
-            (λ watcher. watcher.writer.ghost_name ≡ writer.entry.ghost_name) }
         ensures memory { IsOkUnless result Fault.Memory }
     {
         match last_lines(alloc, last) {
             Ok(last) => Ok(Watcher {
                 alloc,
                 list,
-                writer,
                 names: WatchedNames::new(alloc),
                 unknown: None,
                 last,
@@ -83,9 +76,11 @@ impl<'n, 'w, W: ByteOut> Watcher<'n, 'w, W> {
     }
 
     /// Looks for the names in the programs, and makes room for the lines.
-    fn look(&mut self, first: Program<'_, '_>, next: Option<Program<'_, '_>>) -> Result<(), Fault>
-        ensures { self.new.writer ≡ self.old.writer }
-    {
+    fn look(
+        &mut self,
+        first: Program<'_, '_>,
+        next: Option<Program<'_, '_>>,
+    ) -> Result<(), Fault> {
         let next = match next {
             Some(next) => Some(next.loaded),
             None => None,
@@ -105,8 +100,7 @@ impl<'n, 'w, W: ByteOut> Watcher<'n, 'w, W> {
         record: &Record,
         machine: &Machine<'_, SlotStore>,
     ) -> Result<(), RunFault>
-        ensures writer { self.new.writer ≡ self.old.writer }
-        ensures memory { IsOkUnless result RunFault.Memory }
+        ensures { IsOkUnless result RunFault.Memory }
     {
         match &mut self.last {
             Some(last) => match last.keep(*record) {
@@ -122,8 +116,7 @@ impl<'n, 'w, W: ByteOut> Watcher<'n, 'w, W> {
 
     /// Puts what is written of a row.
     fn put_row(&mut self, seen: &RowSeen<'_>, scale: &Scale<'_, SlotStore>) -> Result<(), RunFault>
-        ensures writer { self.new.writer ≡ self.old.writer }
-        ensures memory { IsOkUnless result RunFault.Memory }
+        ensures { IsOkUnless result RunFault.Memory }
     {
         self.text.clear();
         match put_answer(&mut self.text, seen) {
@@ -138,8 +131,7 @@ impl<'n, 'w, W: ByteOut> Watcher<'n, 'w, W> {
 
     /// Puts what is written at the end.
     fn put_end(&mut self) -> Result<(), RunFault>
-        ensures writer { self.new.writer ≡ self.old.writer }
-        ensures memory { IsOkUnless result RunFault.Memory }
+        ensures { IsOkUnless result RunFault.Memory }
     {
         self.text.clear();
         match &mut self.last {
@@ -149,8 +141,8 @@ impl<'n, 'w, W: ByteOut> Watcher<'n, 'w, W> {
     }
 }
 
-impl<W: ByteOut> Observer<SlotStore> for Watcher<'_, '_, W> {
-    ghost use Rattle.std.specs.Prelude.{⊤};
+impl<W: ByteOut> Observer<SlotStore, W> for Watcher<'_> {
+    ghost use Rattle.std.specs.Prelude.{⊤, false};
     ghost use Rattle.wc_run.specs.Reports.{silent_plan};
 
     ghost plan = { λ watcher. silent_plan };
@@ -159,9 +151,7 @@ impl<W: ByteOut> Observer<SlotStore> for Watcher<'_, '_, W> {
 
     ghost has_seen = { λ watcher plate logic past. ⊤ };
 
-    ghost lender = { λ watcher. watcher.writer.ghost_name };
-
-    ghost failure_count = { λ watcher. W.failure_count watcher.writer.now };
+    ghost speaks = { false };
 
     fn begin(
         &mut self,
@@ -187,24 +177,25 @@ impl<W: ByteOut> Observer<SlotStore> for Watcher<'_, '_, W> {
         false
     }
 
-    fn see(&mut self, seen: &RowSeen<'_>, scale: &Scale<'_, SlotStore>) -> Result<(), RunFault> {
+    fn see(
+        &mut self,
+        seen: &RowSeen<'_>,
+        scale: &Scale<'_, SlotStore>,
+        writer: &mut W,
+    ) -> Result<(), RunFault> {
         if let HeadKind::Change = seen.row.kind {
             self.names.change(self.alloc);
         }
         match self.put_row(seen, scale) {
-            Ok(()) => write_text(&self.text, self.writer),
+            Ok(()) => write_text(&self.text, writer),
             Err(fault) => Err(fault),
         }
     }
 
-    fn end(&mut self, _refused: Option<(u16, u32)>) -> Result<(), RunFault> {
+    fn end(&mut self, _refused: Option<(u16, u32)>, writer: &mut W) -> Result<(), RunFault> {
         match self.put_end() {
-            Ok(()) => write_text(&self.text, self.writer),
+            Ok(()) => write_text(&self.text, writer),
             Err(fault) => Err(fault),
         }
-    }
-
-    fn refuse(&mut self, alloc: Global, number: u16, place: u32) -> Result<(), RunFault> {
-        write_refusal(alloc, number, place, self.writer)
     }
 }

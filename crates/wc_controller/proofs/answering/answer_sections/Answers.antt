@@ -6,7 +6,7 @@ use Rattle.wc_controller.proofs.Givings.{in_memory, unloaded, upto_more}
 use Rattle.wc_controller.proofs.answering.answer_sections.Goals as goal
 use Rattle.wc_controller.specs.Blames.{RefusesLog, StopsAsPart}
 use Rattle.wc_controller.specs.Endings.{WritesUpTo}
-use Rattle.wc_controller.specs.Files.{AnswersPrinting}
+use Rattle.wc_controller.specs.Files.{AnswersLog}
 use Rattle.wc_controller.specs.Jobs.{AllowsSections}
 use Rattle.wc_controller.specs.TakenLogs.{log_beside}
 use Rattle.wc_controller.specs.declared.input.Input.TheVariants as input
@@ -26,32 +26,30 @@ returns-in-Err-load_input-clause-writes g c =
     let why = c.in-Err-load_input.stopped.fault in
     upto_more (AnswersPrograms (λ logic. run_answer c.in-Ok.plate logic log) c.args.sections.program.now sections.next) (AllowsSections sections) (Some why) old old
     (sections_run sections c.in-Ok.plate c.in-Ok.ensures.verdict)
-    (unloaded c.args.sections.program.now (λ text. AnswersNext sections.next (AnswersPrinting None c.in-Ok.plate log text)) why old c.in-Err-load_input.ensures.refused)
+    (unloaded c.args.sections.program.now (λ text. AnswersNext sections.next (AnswersLog c.in-Ok.plate log text)) why old c.in-Err-load_input.ensures.refused)
 
-pub returns-in-Ok-run_loaded-clause-writes : goal.returns-in-Ok-run_loaded-clause-writes
-returns-in-Ok-run_loaded-clause-writes g c =
+pub returns-in-Ok-answer_log-clause-writes : goal.returns-in-Ok-answer_log-clause-writes
+returns-in-Ok-answer_log-clause-writes g c =
     let old = g.W.ByteOut.bytes_taken c.args.writer.now in
-    let new = g.W.ByteOut.bytes_taken c.run_loaded.new.writer in
+    let new = g.W.ByteOut.bytes_taken c.answer_log.new.writer in
     let sections = sections_view c.args.sections in
     let first = text_view c.in-Ok-load_input.loaded.source in
-    upto_more (AnswersNext sections.next (AnswersPrinting None c.in-Ok.plate (log_of (records_of c.args.sections.log.now)) first)) (AllowsSections sections) None old new
+    upto_more (AnswersNext sections.next (AnswersLog c.in-Ok.plate (log_of (records_of c.args.sections.log.now)) first)) (AllowsSections sections) None old new
     (λ one h. sections_run sections c.in-Ok.plate c.in-Ok.ensures.verdict one (loads_program first c.in-Ok-load_input.ensures.loaded h))
-    (subst (λ log. WritesUpTo (AnswersNext sections.next (AnswersPrinting None c.in-Ok.plate (log_of (records_of log)) first)) None old new)
-    (ap (λ log. log.now) c.new-log.ensures.inner) c.in-Ok-run_loaded.ensures.writes)
+    c.in-Ok-answer_log.ensures.writes
 
-pub returns-in-Err-run_loaded-clause-writes : goal.returns-in-Err-run_loaded-clause-writes
-returns-in-Err-run_loaded-clause-writes g c =
+pub returns-in-Err-answer_log-clause-writes : goal.returns-in-Err-answer_log-clause-writes
+returns-in-Err-answer_log-clause-writes g c =
     let old = g.W.ByteOut.bytes_taken c.args.writer.now in
-    let new = g.W.ByteOut.bytes_taken c.run_loaded.new.writer in
+    let new = g.W.ByteOut.bytes_taken c.answer_log.new.writer in
     let sections = sections_view c.args.sections in
     let first = text_view c.in-Ok-load_input.loaded.source in
-    let why = c.in-Err-run_loaded.stopped.fault in
+    let why = c.in-Err-answer_log.stopped.fault in
     subst (λ fault. WritesUpTo (AllowsSections sections) (Some fault) old new) (sym c.stopped_in_memory.ensures.fault)
     (in_memory (AllowsSections sections) why old new
-    (upto_more (AnswersNext sections.next (AnswersPrinting None c.in-Ok.plate (log_of (records_of c.args.sections.log.now)) first)) (AllowsSections sections) (Some why) old new
+    (upto_more (AnswersNext sections.next (AnswersLog c.in-Ok.plate (log_of (records_of c.args.sections.log.now)) first)) (AllowsSections sections) (Some why) old new
     (λ one h. sections_run sections c.in-Ok.plate c.in-Ok.ensures.verdict one (loads_program first c.in-Ok-load_input.ensures.loaded h))
-    (subst (λ log. WritesUpTo (AnswersNext sections.next (AnswersPrinting None c.in-Ok.plate (log_of (records_of log)) first)) (Some why) old new)
-    (ap (λ log. log.now) c.new-log.ensures.inner) c.in-Err-run_loaded.ensures.writes)))
+    c.in-Err-answer_log.ensures.writes))
 
 pub returns-in-Err-clause-blames : goal.returns-in-Err-clause-blames
 returns-in-Err-clause-blames g c =
@@ -71,13 +69,12 @@ returns-in-Err-load_input-clause-held g c = λ e.
     let same : stopped.fault ≡ fault.Read = cc in
     c.in-Err-load_input.ensures.held stopped.input (refl, same)
 
-pub returns-in-Err-run_loaded-clause-blames : goal.returns-in-Err-run_loaded-clause-blames
-returns-in-Err-run_loaded-clause-blames g c =
-    let told = fields_told c.run_loaded.new.told in
+pub returns-in-Err-answer_log-clause-blames : goal.returns-in-Err-answer_log-clause-blames
+returns-in-Err-answer_log-clause-blames g c =
+    let told = fields_told c.answer_log.new.told in
     let sections = sections_view c.args.sections in
-    let stopped = c.in-Err-run_loaded.stopped in
-    let said = c.in-Err-run_loaded.ensures in
+    let stopped = c.in-Err-answer_log.stopped in
+    let said = c.in-Err-answer_log.ensures in
     subst (λ at. StopsAsPart told (Ok sections) at c.stopped_in_memory.result.fault) (sym c.stopped_in_memory.ensures.input)
     (subst (λ why. StopsAsPart told (Ok sections) stopped.input why) (sym c.stopped_in_memory.ensures.fault)
-    (run_part told sections stopped.input stopped.fault said.blames_next
-    (subst (λ log. stopped.input ≡ input.Log → RefusesLog (log_beside (is_some sections.next)) told log stopped.fault) (ap (λ log. log.now) c.new-log.ensures.inner) said.blames_log) said.later))
+    (run_part told sections stopped.input stopped.fault said.blames_next said.blames_log said.later said.no_names))

@@ -1,29 +1,27 @@
-use Rattle.std.proofs.Common.{None, Some, sym, subst}
+use Rattle.std.proofs.Common.{None}
 use Rattle.wc_controller.proofs.Allowing.{on_each, on_known}
 use Rattle.wc_controller.proofs.Givings.{answered_so, not_begun}
 use Rattle.wc_controller.proofs.loaded.run_alone.Goals as goal
-use Rattle.wc_controller.specs.Endings.{WritesUpTo, met}
-use Rattle.wc_controller.specs.Files.{IsLineAnswer}
+use Rattle.wc_controller.specs.Endings.{met}
 use Rattle.wc_controller.specs.InputStates.{observed_by}
 use Rattle.wc_model.specs.Run.Log.{log_of}
 use Rattle.wc_record.specs.Reading.{records_of}
+use Rattle.wc_run.specs.Observing.{said_by}
 
 pub returns-in-Err-clause-writes : goal.returns-in-Err-clause-writes
 returns-in-Err-clause-writes g c =
     let o = g.O.Observer in
     let observed = observed_by o.plan o.may_refuse c.args.observer.now in
-    let old = o.bytes_taken c.args.observer.now in
-    let why = c.in-Err.stopped.fault in
     on_each (g.L.ByteIn.bytes_left c.args.log.now) _
-    (λ bytes. subst (λ new. WritesUpTo (IsLineAnswer observed c.args.plate.now (log_of (records_of bytes))) (Some why) old new) (sym c.begin.ensures.kept)
-    (not_begun observed c.args.plate.now None (log_of (records_of bytes)) why old c.in-Err.ensures.refused))
+    (λ bytes. not_begun observed c.args.plate.now None (log_of (records_of bytes)) c.in-Err.stopped.fault (said_by o.speaks g.W.ByteOut.bytes_taken c.args.writer.now)
+    c.in-Err.ensures.refused)
 
 pub returns-in-Ok-clause-writes : goal.returns-in-Ok-clause-writes
 returns-in-Ok-clause-writes g c =
     let o = g.O.Observer in
     on_known (g.L.ByteIn.bytes_left c.args.log.now) _ _
     (λ bytes told. answered_so (observed_by o.plan o.may_refuse c.args.observer.now) c.args.plate.now None (log_of (records_of bytes)) (met c.run_scale.result)
-    (o.bytes_taken c.args.observer.now) (o.bytes_taken c.run_scale.new.observer) (rw (c.begin.ensures.plan, c.begin.ensures.kept) at told))
+    (said_by o.speaks g.W.ByteOut.bytes_taken c.args.writer.now) (said_by o.speaks g.W.ByteOut.bytes_taken c.run_scale.new.writer) (rw c.begin.ensures.plan at told))
     (c.run_scale.ensures.writes c.args.plate.now None (c.in-Ok.ensures.stands None tt) (c.in_default.ensures.seen c.args.plate.now))
 
 pub returns-in-Ok-clause-blames : goal.returns-in-Ok-clause-blames

@@ -15,28 +15,29 @@ use Rattle.wc_model.specs.Run.Log.{log_of}
 use Rattle.wc_model.specs.Say.Job.{AnswersNext}
 use Rattle.wc_record.specs.Reading.{records_of}
 use Rattle.wc_record.specs.Told.{fields_told}
+use Rattle.wc_run.specs.Observing.{said_by}
 use Rattle.wc_run.specs.declared.fault.RunFault.TheVariants as fault
 
-pub returns-in-Err-clause-runs : goal.returns-in-Err-clause-runs
-returns-in-Err-clause-runs g c =
+pub returns-in-Err : goal.returns-in-Err
+returns-in-Err g c =
     let plate = reader_of g.P.ByteIn.bytes_left g.P.ByteIn.failure_count g.P.ByteIn.spent_count in
     let program = optional_of g.T.ByteIn.bytes_left g.T.ByteIn.failure_count g.T.ByteIn.spent_count c.inputs.inside.program in
     let next = optional_of g.N.ByteIn.bytes_left g.N.ByteIn.failure_count g.N.ByteIn.spent_count c.inputs.inside.next in
     let log = reader_of g.L.ByteIn.bytes_left g.L.ByteIn.failure_count g.L.ByteIn.spent_count c.inputs.inside.log in
-    let writer = writer_of g.O.Observer.bytes_taken g.O.Observer.failure_count c.args.observer.now in
+    let writer = writer_of (said_by g.O.Observer.speaks g.W.ByteOut.bytes_taken) g.W.ByteOut.failure_count c.args.writer.now in
     let observed = observed_by g.O.Observer.plan g.O.Observer.may_refuse c.args.observer.now in
     let told = fields_told c.args.told.now in
     subst (λ before. RunsUpTo observed before (inputs_of (plate c.read_plate.new.reader) program next log) told (Err c.in-Err.stopped) writer writer) c.inputs.view_is
     (at_plate observed told (plate c.inputs.inside.plate) (plate c.read_plate.new.reader) program program next next log c.in-Err.stopped writer
-    c.in-Err.ensures.input c.in-Err.ensures.plate c.in-Err.ensures.failures c.in-Err.ensures.taken (c.in-Err.ensures.silent (g.O.Observer.failure_count c.args.observer.now)))
+    c.in-Err.ensures.input c.in-Err.ensures.plate c.in-Err.ensures.failures c.in-Err.ensures.taken (c.in-Err.ensures.silent (g.W.ByteOut.failure_count c.args.writer.now)))
 
-pub returns-in-Err-read_optional-clause-runs : goal.returns-in-Err-read_optional-clause-runs
-returns-in-Err-read_optional-clause-runs g c =
+pub returns-in-Err-read_optional : goal.returns-in-Err-read_optional
+returns-in-Err-read_optional g c =
     let plate = reader_of g.P.ByteIn.bytes_left g.P.ByteIn.failure_count g.P.ByteIn.spent_count in
     let program = optional_of g.T.ByteIn.bytes_left g.T.ByteIn.failure_count g.T.ByteIn.spent_count in
     let next = optional_of g.N.ByteIn.bytes_left g.N.ByteIn.failure_count g.N.ByteIn.spent_count c.inputs.inside.next in
     let log = reader_of g.L.ByteIn.bytes_left g.L.ByteIn.failure_count g.L.ByteIn.spent_count c.inputs.inside.log in
-    let writer = writer_of g.O.Observer.bytes_taken g.O.Observer.failure_count c.args.observer.now in
+    let writer = writer_of (said_by g.O.Observer.speaks g.W.ByteOut.bytes_taken) g.W.ByteOut.failure_count c.args.writer.now in
     let observed = observed_by g.O.Observer.plan g.O.Observer.may_refuse c.args.observer.now in
     let told = fields_told c.args.told.now in
     subst (λ before. RunsUpTo observed before (inputs_of (plate c.read_plate.new.reader) (program c.read_optional.new.reader) next log) told (Err c.in-Err-read_optional.stopped) writer writer) c.inputs.view_is
@@ -44,32 +45,32 @@ returns-in-Err-read_optional-clause-runs g c =
     c.in-Ok.plate c.in-Ok.ensures.plate (c.in-Ok.ensures.failures.1 (λ none. none)) c.in-Ok.ensures.taken
     c.in-Err-read_optional.ensures.input c.in-Err-read_optional.ensures.too_long c.in-Err-read_optional.ensures.there c.in-Err-read_optional.ensures.failures c.in-Err-read_optional.ensures.taken)
 
-pub returns-in-None-clause-runs : goal.returns-in-None-clause-runs
-returns-in-None-clause-runs g c =
+pub returns-in-None : goal.returns-in-None
+returns-in-None g c =
     let plate = reader_of g.P.ByteIn.bytes_left g.P.ByteIn.failure_count g.P.ByteIn.spent_count in
     let program = optional_of g.T.ByteIn.bytes_left g.T.ByteIn.failure_count g.T.ByteIn.spent_count in
     let next = optional_of g.N.ByteIn.bytes_left g.N.ByteIn.failure_count g.N.ByteIn.spent_count c.inputs.inside.next in
     let log = reader_of g.L.ByteIn.bytes_left g.L.ByteIn.failure_count g.L.ByteIn.spent_count in
-    let writer = writer_of g.O.Observer.bytes_taken g.O.Observer.failure_count in
+    let writer = writer_of (said_by g.O.Observer.speaks g.W.ByteOut.bytes_taken) g.W.ByteOut.failure_count in
     let observed = observed_by g.O.Observer.plan g.O.Observer.may_refuse c.args.observer.now in
     let told = fields_told c.run_alone.new.told in
     let after = inputs_of (plate c.read_plate.new.reader) (program c.read_optional.new.reader) next (log c.run_alone.new.log) in
     let read = c.in-Ok-read_optional.ensures in
     let said = c.run_alone.ensures in
-    subst (λ before. RunsUpTo observed before after told c.run_alone.result (writer c.args.observer.now) (writer c.run_alone.new.observer)) c.inputs.view_is
+    subst (λ before. RunsUpTo observed before after told c.run_alone.result (writer c.args.writer.now) (writer c.run_alone.new.writer)) c.inputs.view_is
     (at_line observed told (plate c.inputs.inside.plate) (plate c.read_plate.new.reader) (program c.inputs.inside.program) (program c.read_optional.new.reader) next (log c.inputs.inside.log) (log c.run_alone.new.log)
     c.in-Ok.plate c.in-Ok.ensures.plate (c.in-Ok.ensures.failures.1 (λ none. none)) c.in-Ok.ensures.taken (read.failures.1 (λ none. none)) read.taken
-    c.run_alone.result (writer c.args.observer.now) (writer c.run_alone.new.observer)
+    c.run_alone.result (writer c.args.writer.now) (writer c.run_alone.new.writer)
     (subst (λ (text : Option _). AreReadOf (program c.inputs.inside.program) (option_map (λ held. held.items) text)) c.in-None.is read.whole)
     said.writes said.later said.no_next said.names said.blames said.read said.memory said.reader said.failures)
 
-pub returns-in-Err-load_input-clause-runs : goal.returns-in-Err-load_input-clause-runs
-returns-in-Err-load_input-clause-runs g c =
+pub returns-in-Err-load_input : goal.returns-in-Err-load_input
+returns-in-Err-load_input g c =
     let plate = reader_of g.P.ByteIn.bytes_left g.P.ByteIn.failure_count g.P.ByteIn.spent_count in
     let program = optional_of g.T.ByteIn.bytes_left g.T.ByteIn.failure_count g.T.ByteIn.spent_count in
     let next = optional_of g.N.ByteIn.bytes_left g.N.ByteIn.failure_count g.N.ByteIn.spent_count c.inputs.inside.next in
     let log = reader_of g.L.ByteIn.bytes_left g.L.ByteIn.failure_count g.L.ByteIn.spent_count c.inputs.inside.log in
-    let writer = writer_of g.O.Observer.bytes_taken g.O.Observer.failure_count c.args.observer.now in
+    let writer = writer_of (said_by g.O.Observer.speaks g.W.ByteOut.bytes_taken) g.W.ByteOut.failure_count c.args.writer.now in
     let observed = observed_by g.O.Observer.plan g.O.Observer.may_refuse c.args.observer.now in
     let told = fields_told c.args.told.now in
     let read = c.in-Ok-read_optional.ensures in
@@ -79,15 +80,15 @@ returns-in-Err-load_input-clause-runs g c =
     c.in-Ok.plate c.in-Ok.ensures.plate (c.in-Ok.ensures.failures.1 (λ none. none)) c.in-Ok.ensures.taken (read.failures.1 (λ none. none)) read.taken
     c.in-Some.text.items (subst (λ (text : Option _). AreReadOf (program c.inputs.inside.program) (option_map (λ held. held.items) text)) c.in-Some.is read.whole)
     c.in-Err-load_input.ensures.input (subst (λ text. IsUnloaded text stopped.fault) c.deref.ensures.value c.in-Err-load_input.ensures.refused)
-    (c.in-Err-load_input.ensures.silent (g.O.Observer.failure_count c.args.observer.now)))
+    (c.in-Err-load_input.ensures.silent (g.W.ByteOut.failure_count c.args.writer.now)))
 
-pub returns-in-Err-read_optional-2-clause-runs : goal.returns-in-Err-read_optional-2-clause-runs
-returns-in-Err-read_optional-2-clause-runs g c =
+pub returns-in-Err-read_optional-2 : goal.returns-in-Err-read_optional-2
+returns-in-Err-read_optional-2 g c =
     let plate = reader_of g.P.ByteIn.bytes_left g.P.ByteIn.failure_count g.P.ByteIn.spent_count in
     let program = optional_of g.T.ByteIn.bytes_left g.T.ByteIn.failure_count g.T.ByteIn.spent_count in
     let next = optional_of g.N.ByteIn.bytes_left g.N.ByteIn.failure_count g.N.ByteIn.spent_count in
     let log = reader_of g.L.ByteIn.bytes_left g.L.ByteIn.failure_count g.L.ByteIn.spent_count c.inputs.inside.log in
-    let writer = writer_of g.O.Observer.bytes_taken g.O.Observer.failure_count c.args.observer.now in
+    let writer = writer_of (said_by g.O.Observer.speaks g.W.ByteOut.bytes_taken) g.W.ByteOut.failure_count c.args.writer.now in
     let observed = observed_by g.O.Observer.plan g.O.Observer.may_refuse c.args.observer.now in
     let told = fields_told c.args.told.now in
     let read = c.in-Ok-read_optional.ensures in
@@ -101,13 +102,13 @@ returns-in-Err-read_optional-2-clause-runs g c =
     first (subst (λ text. IsLoaded text first) c.deref.ensures.value c.in-Ok-load_input.ensures.loaded)
     said.input said.too_long said.there said.failures said.taken)
 
-pub returns-clause-runs : goal.returns-clause-runs
-returns-clause-runs g c =
+pub returns : goal.returns
+returns g c =
     let plate = reader_of g.P.ByteIn.bytes_left g.P.ByteIn.failure_count g.P.ByteIn.spent_count in
     let program = optional_of g.T.ByteIn.bytes_left g.T.ByteIn.failure_count g.T.ByteIn.spent_count in
     let next = optional_of g.N.ByteIn.bytes_left g.N.ByteIn.failure_count g.N.ByteIn.spent_count in
     let log = reader_of g.L.ByteIn.bytes_left g.L.ByteIn.failure_count g.L.ByteIn.spent_count in
-    let writer = writer_of g.O.Observer.bytes_taken g.O.Observer.failure_count in
+    let writer = writer_of (said_by g.O.Observer.speaks g.W.ByteOut.bytes_taken) g.W.ByteOut.failure_count in
     let observed = observed_by g.O.Observer.plan g.O.Observer.may_refuse c.args.observer.now in
     let told = fields_told c.run_loaded.new.told in
     let after = inputs_of (plate c.read_plate.new.reader) (program c.read_optional.new.reader) (next c.read_optional-2.new.reader) (log c.run_loaded.new.log) in
@@ -117,14 +118,14 @@ returns-clause-runs g c =
     let first = text_view c.in-Ok-load_input.loaded.source in
     let old = log c.inputs.inside.log in
     let new = log c.run_loaded.new.log in
-    let taken_before = g.O.Observer.bytes_taken c.args.observer.now in
-    let taken_after = g.O.Observer.bytes_taken c.run_loaded.new.observer in
+    let taken_before = said_by g.O.Observer.speaks g.W.ByteOut.bytes_taken c.args.writer.now in
+    let taken_after = said_by g.O.Observer.speaks g.W.ByteOut.bytes_taken c.run_loaded.new.writer in
     let result = c.run_loaded.result in
     let said = c.run_loaded.ensures in
-    subst (λ before. RunsUpTo observed before after told result (writer c.args.observer.now) (writer c.run_loaded.new.observer)) c.inputs.view_is
+    subst (λ before. RunsUpTo observed before after told result (writer c.args.writer.now) (writer c.run_loaded.new.writer)) c.inputs.view_is
     (at_log observed told (plate c.inputs.inside.plate) (plate c.read_plate.new.reader) (program c.inputs.inside.program) (program c.read_optional.new.reader) (next c.inputs.inside.next) old new
     c.in-Ok.plate c.in-Ok.ensures.plate (c.in-Ok.ensures.failures.1 (λ none. none)) c.in-Ok.ensures.taken (read.failures.1 (λ none. none)) read.taken
-    result (writer c.args.observer.now) (writer c.run_loaded.new.observer)
+    result (writer c.args.writer.now) (writer c.run_loaded.new.writer)
     c.in-Some.text.items (subst (λ (text : Option _). AreReadOf (program c.inputs.inside.program) (option_map (λ held. held.items) text)) c.in-Some.is read.whole)
     first (subst (λ text. IsLoaded text first) c.deref.ensures.value c.in-Ok-load_input.ensures.loaded)
     (next c.read_optional-2.new.reader) held other.whole (other.failures.1 (λ none. none)) other.taken
