@@ -1,3 +1,6 @@
+ghost use Rattle.std.specs.Prelude.{ℕ, List, [], ◌∷◌, ◌++◌};
+ghost use Rattle.wc_columns.specs.Held.{AreBitsOf};
+
 /// Which of sixteen bits were 1, which were 0, and how they were last.
 #[derive(Clone, Copy, PartialEq, Eq)]
 pub struct Bits {
@@ -20,7 +23,9 @@ pub enum Level {
 
 impl Bits {
     /// Of one value.
-    pub(crate) fn at(value: u16) -> Bits {
+    pub(crate) fn at(value: u16) -> Bits
+        ensures { AreBitsOf (value ∷ []) result }
+    {
         Bits {
             high: value,
             low: value ^ u16::MAX,
@@ -29,7 +34,10 @@ impl Bits {
     }
 
     /// Of these values and then others.
-    pub(crate) fn joined(self, later: Bits) -> Bits {
+    pub(crate) fn joined(self, later: Bits) -> Bits
+        ensures { (values others : List ℕ) → AreBitsOf values self → AreBitsOf others later
+            → AreBitsOf (values ++ others) result }
+    {
         Bits {
             high: self.high | later.high,
             low: self.low | later.low,
