@@ -1,4 +1,6 @@
-ghost use Rattle.std.specs.Prelude.{ℕ, List, [], ◌∷◌, ◌++◌};
+ghost use Rattle.std.specs.Prelude.{◌≡◌, ◌<◌, ◌==◌, ℕ, List, [], ◌∷◌, ◌++◌};
+ghost use Rattle.std.specs.Int.{bit_at};
+ghost use Rattle.wc_columns.specs.Columns.{bit_level};
 ghost use Rattle.wc_columns.specs.Held.{AreBitsOf};
 
 /// Which of sixteen bits were 1, which were 0, and how they were last.
@@ -46,7 +48,9 @@ impl Bits {
     }
 
     /// How the bit of that number stood.
-    pub fn level(self, number: u32) -> Level {
+    pub fn level(self, number: u32) -> Level
+        ensures { number < 16 → result ≡ bit_level self number }
+    {
         match (is_set(self.high, number), is_set(self.low, number)) {
             (true, true) => Level::Both,
             (true, false) => Level::High,
@@ -56,7 +60,9 @@ impl Bits {
 }
 
 /// Whether the bit of that number is 1.
-fn is_set(value: u16, number: u32) -> bool {
+fn is_set(value: u16, number: u32) -> bool
+    ensures { number < 16 → result ≡ (bit_at value number == 1) }
+{
     match value.checked_shr(number) {
         Some(rest) => rest % 2 == 1,
         None => false,

@@ -1,5 +1,5 @@
-ghost use Rattle.std.specs.Prelude.{◌≡◌, ◌++◌, List, Some, None};
-ghost use Rattle.wc_columns.specs.Columns.{AreColumnsOf, IsWholeOf};
+ghost use Rattle.std.specs.Prelude.{◌≡◌, ◌++◌, not, List, Some, None};
+ghost use Rattle.wc_columns.specs.Columns.{AreColumnsOf, IsLevelOf, IsWholeOf, level_of};
 ghost use Rattle.wc_columns.specs.Held.{Held, IsStateOf};
 ghost use Rattle.wc_columns.specs.declared.columns.Column.{Column};
 
@@ -42,13 +42,17 @@ impl fmt::Display for Lane {
 }
 
 /// High where it is so, else low.
-fn level_of(is_so: bool) -> Level {
+fn level_of(is_so: bool) -> Level
+    ensures { result ≡ level_of is_so (not is_so) }
+{
     if is_so { Level::High } else { Level::Low }
 }
 
 impl Lane {
     /// How it stands in a column, where it has two values.
-    pub fn level(self, column: &Column) -> Level {
+    pub fn level(self, column: &Column) -> Level
+        ensures { IsLevelOf self column.now result }
+    {
         match self {
             Lane::Motion => level_of(column.state.motion),
             Lane::Over => level_of(column.state.over),
