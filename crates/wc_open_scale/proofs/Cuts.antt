@@ -7,7 +7,7 @@ use Rattle.wc_model.specs.Instrument.Requests.{requests_in}
 use Rattle.wc_model.specs.Instrument.WeighingHistories.{History}
 use Rattle.wc_open_scale.specs.Rows.{BytesAreCutAnywhere}
 
--- the requests of the second piece act behind those of the first
+-- the requests of the second piece act after those of the first
 same_history : (before first second : List ℕ) (history : History) →
     after_requests (requests_in (before ++ first) second) (after_requests (requests_in before first) history) ≡ after_requests (requests_in before (first ++ second)) history
 same_history before first second history =

@@ -24,7 +24,7 @@ abbrev pub IsDone : Outcome → Type 0
 IsDone (Done result store trace) = ⊤
 IsDone (Stuck reason) = ⊥
 
--- what is kept of a scan of this result at a moment
+-- what is kept of a scan of this result at this time
 abbrev pub record_of : ℕ → ScanResult Store → Record
 record_of ms result = record { ms = ms; steps = result.steps; outputs = result.outputs }
 
@@ -44,7 +44,7 @@ RecordsScan old ms image scanned = (text : Text) (store : Store) → StandsFor o
 abbrev pub scan_result : PlateData → Came → Running → ℕ → ScanResult Store
 scan_result plate came running ms = scans_of running.text running.store (image_of plate came) ms
 
--- the program behind it
+-- the program after it
 abbrev pub scanned_program : PlateData → Came → Running → ℕ → Running
 scanned_program plate came running ms = record { text = running.text; store = (scan_result plate came running ms).after }
 
@@ -60,7 +60,7 @@ abbrev pub Scans : {S : Type 0} → OpenScale S → OpenScale S → ℕ → Reco
 Scans old new ms scanned =
     (plate : PlateData) (came : Came) (running : Running) → came.program ≡ Some running → Stands old plate came → IsScanned new plate came running ms scanned
 
--- the lines, where memory was not refused for them, are what is seen of it
+-- the lines, unless there was no memory for them, are what is seen of it
 abbrev pub Sees : {S : Type 0} → OpenScale S → ℕ → Result (Vec SeenLine Global) Fault → Type 0
 Sees old ms seen =
     (plate : PlateData) (came : Came) (running : Running) → came.program ≡ Some running → Stands old plate came →

@@ -19,7 +19,7 @@ pub record Running : Type 0 where
 abbrev pub begun : Text → Running
 begun text = record { text = text; store = initial_of text }
 
--- what has come: the indicator's history, the line's bytes, the inputs, and the program where one is loaded
+-- what has come: the indicator's history, the line's bytes, the inputs, and the program if one is loaded
 pub record Came : Type 0 where
   pub history : History
   pub bytes : List ℕ
@@ -57,10 +57,10 @@ Goes old new step = (plate : PlateData) (came : Came) → Stands old plate came 
 abbrev pub HasNoProgram : {S : Type 0} → OpenScale S → Type 0
 HasNoProgram scale = scale.machine ≡ None
 
--- no scan so far was behind this moment
+-- no scan so far was after this time
 abbrev pub IsNotBehind : {S : Type 0} → OpenScale S → ℕ → Type 0
 IsNotBehind scale ms = IfSome scale.machine (λ machine. machine.last ≤ ms)
 
--- the last scan was at this moment
+-- the last scan was at this time
 abbrev pub IsScannedAt : {S : Type 0} → OpenScale S → ℕ → Type 0
 IsScannedAt scale ms = IfSome scale.machine (λ machine. machine.last ≡ ms)

@@ -11,7 +11,7 @@ use wc_store::Store;
 
 impl<'a, S: Store> OpenScale<'a, S> {
     /// Changes the program between two scans: what is named alike in both texts keeps its value, and all else begins with its
-    /// first; the moment of the last scan stays. Where there is a fault nothing changes.
+    /// first; the time of the last scan stays. If there is a fault nothing changes.
     pub fn change(&mut self, alloc: Global, next: Loaded<'a>) -> Result<(), ChangeFault>
         ensures changed { OnOk result
             (IsChangedTo self.old self.new (text_view next.entry.source)) }

@@ -16,7 +16,7 @@ use wc_record::image;
 use wc_sma::Line;
 use wc_store::Store;
 
-/// A scale that is open: it has the indicator of its plate, its line and its digital inputs, and where a program is loaded the
+/// A scale that is open: it has the indicator of its plate, its line and its digital inputs, and, if a program is loaded, the
 /// machine that runs it.
 #[derive(Drop)]
 pub struct OpenScale<'a, S: Store> {
@@ -58,8 +58,8 @@ impl<'a, S: Store> OpenScale<'a, S> {
         self.indicator.sample(counts);
     }
 
-    /// Takes bytes on the line, acts on the requests that they complete and writes their answers, in order. Where an answer could
-    /// not be written in full the line has failed: its request was acted on, those behind it are not, and each later call
+    /// Takes bytes on the line, acts on the requests that they complete and writes their answers, in order. If an answer could
+    /// not be written in full the line has failed: its request was acted on, those after it are not, and each later call
     /// answers `WriteFault` and does nothing.
     #[inline(always)]
     pub fn feed<W: ByteOut>(&mut self, bytes: &[u8], answers: &mut W) -> Result<(), WriteFault>
@@ -103,7 +103,8 @@ impl<'a, S: Store> OpenScale<'a, S> {
         self.machine = Some(machine);
     }
 
-    /// What a scan would see: the inputs, and the status and the weights of the indicator. It takes no memory.
+    /// What a scan would see: the inputs, and the status and the weights of the indicator. The status is below 64. It takes no
+    /// memory.
     #[inline(always)]
     pub fn image(&self) -> Image
         ensures told { (plate : PlateData) (came : Came) → Stands self.now plate came
@@ -123,7 +124,7 @@ impl<'a, S: Store> OpenScale<'a, S> {
         &self.indicator
     }
 
-    /// The machine that runs the program, where one is loaded.
+    /// The machine that runs the program, if one is loaded.
     #[inline(always)]
     pub fn machine(&self) -> Option<&Machine<'a, S>>
         ensures { option_copied result ≡ self.now.machine }
@@ -138,7 +139,7 @@ impl<'a, S: Store> OpenScale<'a, S> {
         self.machine.is_some()
     }
 
-    /// The moment of the program's last scan in milliseconds, 0 before the first; none where no program is loaded.
+    /// The time of the program's last scan in milliseconds, 0 before the first; none if no program is loaded.
     pub fn last(&self) -> Option<u64>
         ensures { result ≡ option_map (λ machine. machine.last) self.now.machine }
     {

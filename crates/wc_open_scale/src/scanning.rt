@@ -10,7 +10,7 @@ use wc_model::Image;
 use wc_record::{Record, image};
 use wc_store::Store;
 
-/// Does one scan of an image at a moment.
+/// Does one scan of an image at a time in milliseconds.
 #[inline(always)]
 fn scan_at<S: Store>(ms: u64, image: &Image, machine: &mut Machine<'_, S>) -> Record
     requires not_before { machine.old.last ≤ ms }
@@ -32,8 +32,8 @@ fn scan_at<S: Store>(ms: u64, image: &Image, machine: &mut Machine<'_, S>) -> Re
 }
 
 impl<'a, S: Store> OpenScale<'a, S> {
-    /// Scans the program once, at a moment in milliseconds, and gives the scan's record; none, and nothing is done, where no
-    /// program is loaded. It sees the inputs and the indicator as they are. It takes no memory.
+    /// Scans the program once, at a time in milliseconds, and gives the scan's record. The scan sees the inputs and the indicator
+    /// as they are. If no program is loaded nothing is done, and there is no record. It takes no memory.
     #[inline(always)]
     pub fn scan(&mut self, ms: u64) -> Option<Record>
         requires early { ms < 2 ^ 40 }

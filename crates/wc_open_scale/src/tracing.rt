@@ -14,7 +14,7 @@ use wc_model::{Fault, Image};
 use wc_record::{Record, image};
 use wc_store::Store;
 
-/// Does one scan of an image at a moment, with what is seen of each item.
+/// Does one scan of an image at a time in milliseconds, with what is seen of each item.
 fn trace_at<S: Store>(
     alloc: Global,
     ms: u64,
@@ -44,8 +44,8 @@ fn trace_at<S: Store>(
 }
 
 impl<'a, S: Store> OpenScale<'a, S> {
-    /// Scans as `scan` does, and gives with the record what was seen of each item that the scan executed, in order. Where memory is
-    /// refused for what was seen the scan is done all the same, and `Memory` stands in place of the lines.
+    /// Scans as `scan` does, and gives with the record what was seen of each item that the scan executed, in order. If there is no
+    /// memory for what was seen, the scan is done all the same, and `Memory` stands in place of the lines.
     pub fn trace(
         &mut self,
         alloc: Global,

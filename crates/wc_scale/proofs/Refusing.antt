@@ -41,7 +41,7 @@ pub has_a_program : {X : Type 0} (kept : Option X) (there : Bool) → there ≡ 
 has_a_program None there said is = λ _. absurd (cc)
 has_a_program (Some x) there said is = λ other. absurd (cc)
 
--- a scale in which something is open is what it was where that is put back
+-- a scale is what it was once what is open in it is put back
 put_back : (old : Scale) (opened : OpenScale SlotStore) → old.opened ≡ Some opened → record old { opened = Some opened } ≡ old
 put_back old opened is = λ i. record old { opened = sym is i }
 

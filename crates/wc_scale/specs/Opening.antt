@@ -22,7 +22,7 @@ pub record HasPlate {S : Type 0} (text : List ℕ) (opened : OpenScale S) : Type
   pub given : GivesPlate text plate
   pub stands : Stands opened plate nothing_yet
 
--- why there is none; want of memory says nothing
+-- why there is none; out of memory says nothing
 abbrev pub IsRefusedPlate : List ℕ → Fault → Type 0
 IsRefusedPlate text (Refused number place) = RefusesPlate text number place
 IsRefusedPlate text Memory = ⊤

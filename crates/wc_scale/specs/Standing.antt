@@ -11,7 +11,7 @@ abbrev pub IsOpenAt : {S : Type 0} → Option (OpenScale S) → PlateData → Ca
 IsOpenAt None plate came = ⊥
 IsOpenAt (Some opened) plate came = OpenStands opened plate came
 
--- the machine of what is open, where a program is loaded
+-- the machine of what is open, if a program is loaded
 abbrev pub machine_in : {S : Type 0} → Option (OpenScale S) → Option MachineState
 machine_in None = None
 machine_in (Some opened) = opened.machine
@@ -28,7 +28,7 @@ IsClosed scale = scale.opened ≡ None
 abbrev pub HasNoProgram : Scale → Type 0
 HasNoProgram scale = machine_in scale.opened ≡ None
 
--- the last scan was not behind this moment
+-- the last scan was not after this time
 abbrev pub IsNotBehind : Scale → ℕ → Type 0
 IsNotBehind scale ms = IfSome (machine_in scale.opened) (λ machine. machine.last ≤ ms)
 
