@@ -6,11 +6,11 @@ use Rattle.wc_model.specs.Language.Carried.{carried}
 use Rattle.wc_model.specs.Language.Store.{Store}
 use Rattle.wc_model.specs.Language.Tree.{Text}
 use Rattle.wc_model.specs.Language.Views.{text_view}
-use Rattle.wc_scale.specs.Programs.{IsChangedTo}
-use Rattle.wc_scale.specs.Standing.{IsRunning}
-use Rattle.wc_scale.specs.declared.scale.Scale.{Scale}
+use Rattle.wc_open_scale.specs.Changing.{IsChangedTo}
+use Rattle.wc_open_scale.specs.Standing.{IsRunning}
+use Rattle.wc_open_scale.specs.declared.open_scale.OpenScale.{OpenScale}
 
-pub is_changed : (old : Scale) (machine new : MachineState) (loaded : LoadedText) → old.machine ≡ Some machine →
+pub is_changed : {S : Type 0} (old : OpenScale S) (machine new : MachineState) (loaded : LoadedText) → old.machine ≡ Some machine →
     ((text : Text) (store : Store) → StandsFor machine text store → StandsFor new (text_view loaded.source) (carried text store (text_view loaded.source))) →
     new.last ≡ machine.last → IsChangedTo old (record old { machine = Some new }) (text_view loaded.source)
 is_changed old machine new loaded is changes same =
