@@ -6,7 +6,9 @@ ghost use Rattle.std.specs.Prelude.{◌≡◌, Some};
 ghost use Rattle.wc_words.specs.Asked.{asked, explain as explain_asked, form_asked, texts_of, view};
 
 mod commands;
+mod desk;
 mod explaining;
+mod files;
 mod opening;
 mod output;
 mod telling;
@@ -14,10 +16,12 @@ mod telling;
 use clap::Error;
 use clap::error::ErrorKind;
 use commands::{
-    Desk, check_words, decode_words, line_words, preview_words, run_job, run_words, show_words,
+    Watched, check_words, decode_words, line_words, preview_words, run_job, run_words, show_words,
     trace_words, watch_words,
 };
+use desk::Desk;
 use explaining::explain;
+use files::RunPaths;
 use output::shared_output;
 use std::fs::File;
 use std::io::Write;
@@ -177,7 +181,7 @@ fn execute_at(desk: Desk<'_>, words: &[String], row: &mut RefusedRow, wanted: Wa
         } => match last {
             Some(number) if number < 1 || number > 1000 => WRONG_WORDS,
             last => match watch {
-                Some(names) => watch_words(desk, words, row, last, names, plate, files),
+                Some(names) => watch_words(desk, words, row, Watched { names, last }, plate, files),
                 None => run_words(desk, words, row, last, plate, files),
             },
         },
@@ -191,7 +195,17 @@ fn execute_at(desk: Desk<'_>, words: &[String], row: &mut RefusedRow, wanted: Wa
             program,
             next,
             log,
-        } => show_words(desk, words, row, plate, program, next, log),
+        } => show_words(
+            desk,
+            words,
+            row,
+            RunPaths {
+                plate,
+                program,
+                next,
+                log,
+            },
+        ),
         Wanted::Decode { table } => decode_words(desk, words, row, table),
         Wanted::Explain { number } => show_page(desk.rt, words, number),
         Wanted::Line { plate, log } => line_words(desk, words, row, plate, log),

@@ -1,8 +1,8 @@
+use crate::desk::Desk;
 use std::io;
 use std::io::Write;
 use wc_controller::{Ending, Input, RefusedRow};
 use wc_messages::{Evidence, JobSection, Part, Refusal, explained, section_of, shown};
-use wc_refusals::Form;
 use wc_watch::UnknownName;
 
 /// How a command ended, and what the system said of a read and of a write that failed.
@@ -33,12 +33,8 @@ pub(crate) enum Sources<'a> {
     },
     Files {
         plate: ReadFile<'a>,
-        program: ReadFile<'a>,
+        program: Option<ReadFile<'a>>,
         next: Option<ReadFile<'a>>,
-        log: &'a str,
-    },
-    Line {
-        plate: ReadFile<'a>,
         log: &'a str,
     },
     /// An option's list of names, of which one is unknown.
@@ -75,11 +71,7 @@ impl<'a> Sources<'a> {
                 Input::Plate => Some(*plate),
                 Input::Next => *next,
                 Input::Log => Some(log_file(log)),
-                _ => Some(*program),
-            },
-            Sources::Line { plate, log } => match input {
-                Input::Plate => Some(*plate),
-                _ => Some(log_file(log)),
+                _ => *program,
             },
             Sources::Names { option, list, .. } => Some(ReadFile {
                 path: option,
@@ -160,8 +152,7 @@ fn evidence_of<'a>(
 
 /// Says why an input is refused, where, and what to write instead.
 fn tell_refusal(
-    rt: &HostRuntime,
-    form: Form,
+    desk: Desk<'_>,
     sources: &Sources<'_>,
     row: &RefusedRow,
     input: Input,
@@ -179,8 +170,8 @@ fn tell_refusal(
         evidence,
         above,
     };
-    let message = explained(rt.alloc(), form, &refusal)?;
-    rt.stderr().write_all(&message)
+    let message = explained(desk.rt.alloc(), desk.form, &refusal)?;
+    desk.rt.stderr().write_all(&message)
 }
 
 /// Says which input could not be read, and why.
@@ -211,8 +202,7 @@ pub(crate) fn tell_write_fault(rt: &HostRuntime, cause: Option<io::Error>) -> io
 
 /// Says on standard error how a command ended, where it did not succeed.
 fn tell(
-    rt: &HostRuntime,
-    form: Form,
+    desk: Desk<'_>,
     met: &CommandEnd,
     sources: &Sources<'_>,
     row: &RefusedRow,
@@ -223,10 +213,10 @@ fn tell(
             input,
             number,
             place,
-        } => tell_refusal(rt, form, sources, row, input, number, place),
-        Ending::ReadFault { input } => tell_read_fault(rt, sources, input, met.reading),
-        Ending::WriteFault => tell_write_fault(rt, met.writing),
-        Ending::NoMemory => rt.eprintln("memory"),
+        } => tell_refusal(desk, sources, row, input, number, place),
+        Ending::ReadFault { input } => tell_read_fault(desk.rt, sources, input, met.reading),
+        Ending::WriteFault => tell_write_fault(desk.rt, met.writing),
+        Ending::NoMemory => desk.rt.eprintln("memory"),
     }
 }
 
@@ -251,18 +241,12 @@ fn with_memory(met: &CommandEnd) -> Ending {
 }
 
 /// Tells how a command ended: the exit status.
-pub(crate) fn end(
-    rt: &HostRuntime,
-    form: Form,
-    met: &CommandEnd,
-    sources: &Sources<'_>,
-    row: &RefusedRow,
-) -> u8 {
+pub(crate) fn end(desk: Desk<'_>, met: &CommandEnd, sources: &Sources<'_>, row: &RefusedRow) -> u8 {
     let met = CommandEnd {
         ending: with_memory(met),
         ..*met
     };
     // Where standard error fails there is nobody left to tell.
-    let _told = tell(rt, form, &met, sources, row);
+    let _told = tell(desk, &met, sources, row);
     met.ending.status()
 }

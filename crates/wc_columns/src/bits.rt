@@ -1,3 +1,8 @@
+ghost use Rattle.std.specs.Prelude.{◌≡◌, ◌<◌, ◌==◌, ℕ, List, [], ◌∷◌, ◌++◌};
+ghost use Rattle.std.specs.Int.{bit_at};
+ghost use Rattle.wc_columns.specs.Columns.{bit_level};
+ghost use Rattle.wc_columns.specs.Held.{AreBitsOf};
+
 /// Which of sixteen bits were 1, which were 0, and how they were last.
 #[derive(Clone, Copy, PartialEq, Eq)]
 pub struct Bits {
@@ -20,7 +25,9 @@ pub enum Level {
 
 impl Bits {
     /// Of one value.
-    pub(crate) fn at(value: u16) -> Bits {
+    pub(crate) fn at(value: u16) -> Bits
+        ensures { AreBitsOf (value ∷ []) result }
+    {
         Bits {
             high: value,
             low: value ^ u16::MAX,
@@ -29,7 +36,10 @@ impl Bits {
     }
 
     /// Of these values and then others.
-    pub(crate) fn joined(self, later: Bits) -> Bits {
+    pub(crate) fn joined(self, later: Bits) -> Bits
+        ensures { (values others : List ℕ) → AreBitsOf values self → AreBitsOf others later
+            → AreBitsOf (values ++ others) result }
+    {
         Bits {
             high: self.high | later.high,
             low: self.low | later.low,
@@ -38,7 +48,9 @@ impl Bits {
     }
 
     /// How the bit of that number stood.
-    pub fn level(self, number: u32) -> Level {
+    pub fn level(self, number: u32) -> Level
+        ensures { number < 16 → result ≡ bit_level self number }
+    {
         match (is_set(self.high, number), is_set(self.low, number)) {
             (true, true) => Level::Both,
             (true, false) => Level::High,
@@ -48,7 +60,9 @@ impl Bits {
 }
 
 /// Whether the bit of that number is 1.
-fn is_set(value: u16, number: u32) -> bool {
+fn is_set(value: u16, number: u32) -> bool
+    ensures { number < 16 → result ≡ (bit_at value number == 1) }
+{
     match value.checked_shr(number) {
         Some(rest) => rest % 2 == 1,
         None => false,

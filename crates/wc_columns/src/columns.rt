@@ -1,3 +1,7 @@
+ghost use Rattle.std.specs.Prelude.{◌++◌, List};
+ghost use Rattle.wc_columns.specs.Happened.{AreBoth};
+ghost use Rattle.wc_columns.specs.Held.{Held, IsStateOf};
+
 use crate::events::Events;
 use crate::state::State;
 
@@ -18,7 +22,11 @@ impl Column {
     }
 
     /// Of this time and the time behind it.
-    pub fn joined(&self, later: &Column) -> Column {
+    pub fn joined(&self, later: &Column) -> Column
+        ensures state { (held others : List Held) → IsStateOf held self.now.state
+            → IsStateOf others later.now.state → IsStateOf (held ++ others) result.state }
+        ensures events { AreBoth self.now.events later.now.events result.events }
+    {
         Column {
             state: self.state.joined(&later.state),
             events: self.events.joined(&later.events),

@@ -1,14 +1,35 @@
-ghost use Rattle.std.specs.Prelude.{◌≡◌, max};
+ghost use Rattle.std.specs.Prelude.{◌≡◌, ◌+◌, max};
+ghost use Rattle.std.specs.Option.{option_or};
+ghost use Rattle.wc_columns.specs.Happened.{AreBoth, counted};
+
+use wc_decode::Answer;
+use wc_sma::{Command, Status};
 
 /// A request of the line that was answered.
 #[derive(Clone, Copy)]
 pub struct Request {
-    /// The moment of its end in milliseconds.
+    /// The timestamp of its end in milliseconds.
     pub ms: u64,
-    /// Its letter; `?` where it is none of the five.
-    pub letter: u8,
-    /// The answer, where it tells a weight.
-    pub answer: Option<[u8; 20]>,
+    pub command: Command,
+    /// Its answer, if one could be read.
+    pub answer: Option<Answer>,
+}
+
+/// Whether an answer says that its command was refused.
+fn is_refusal(answer: Option<Answer>) -> bool {
+    match answer {
+        Some(Answer::Weight(reading)) => {
+            matches!(reading.status, Status::ZeroRefused | Status::TareRefused)
+        }
+        _ => false,
+    }
+}
+
+/// The later request, if there is one, else the earlier.
+fn last_of(earlier: Option<Request>, later: Option<Request>) -> Option<Request>
+    ensures { result ≡ option_or later earlier }
+{
+    if later.is_some() { later } else { earlier }
 }
 
 /// What happened in some time.
@@ -32,7 +53,10 @@ pub struct Events {
 
 impl Events {
     /// Nothing.
-    pub fn none() -> Events {
+    pub fn none() -> Events
+        ensures steps { result.steps ≡ 0 }
+        ensures requests { result.requests ≡ 0 }
+    {
         Events {
             zeros: 0,
             zeros_refused: 0,
@@ -50,12 +74,8 @@ impl Events {
     /// These and later ones.
     pub fn joined(&self, later: &Events) -> Events
         ensures steps { result.steps ≡ max self.now.steps later.now.steps }
+        ensures both { AreBoth self.now later.now result }
     {
-        let last = if later.last.is_some() {
-            later.last
-        } else {
-            self.last
-        };
         Events {
             zeros: self.zeros.saturating_add(later.zeros),
             zeros_refused: self.zeros_refused.saturating_add(later.zeros_refused),
@@ -66,33 +86,39 @@ impl Events {
             scans: self.scans.saturating_add(later.scans),
             steps: self.steps.max(later.steps),
             requests: self.requests.saturating_add(later.requests),
-            last,
+            last: last_of(self.last, later.last),
         }
     }
 
     /// One more scan of so many steps.
     pub fn scan(&mut self, steps: u32)
         ensures steps { self.new.steps ≡ max self.old.steps steps }
+        ensures scans { self.new.scans ≡ counted (self.old.scans + 1) }
     {
         self.scans = self.scans.saturating_add(1);
         self.steps = self.steps.max(steps);
     }
 
-    /// One more request; the answer's status tells whether its command was refused.
-    pub(crate) fn request(&mut self, request: Request) {
+    /// One more request.
+    pub(crate) fn request(&mut self, request: Request)
+        ensures count { self.new.requests ≡ counted (self.old.requests + 1) }
+    {
+        self.mark(request);
         self.requests = self.requests.saturating_add(1);
-        let status = match request.answer {
-            Some(answer) => answer[1],
-            None => b'?',
-        };
-        match (request.letter, status) {
-            (b'Z', b'E') => self.zeros_refused = self.zeros_refused.saturating_add(1),
-            (b'Z', _) => self.zeros = self.zeros.saturating_add(1),
-            (b'T', b'T') => self.tares_refused = self.tares_refused.saturating_add(1),
-            (b'T', _) => self.tares = self.tares.saturating_add(1),
-            (b'C', _) => self.clears = self.clears.saturating_add(1),
+        self.last = Some(request);
+    }
+
+    /// Counts what a request did.
+    fn mark(&mut self, request: Request)
+        ensures requests { self.new.requests ≡ self.old.requests }
+    {
+        match (request.command, is_refusal(request.answer)) {
+            (Command::Zero, true) => self.zeros_refused = self.zeros_refused.saturating_add(1),
+            (Command::Zero, false) => self.zeros = self.zeros.saturating_add(1),
+            (Command::TakeTare, true) => self.tares_refused = self.tares_refused.saturating_add(1),
+            (Command::TakeTare, false) => self.tares = self.tares.saturating_add(1),
+            (Command::Clear, _) => self.clears = self.clears.saturating_add(1),
             _ => {}
         }
-        self.last = Some(request);
     }
 }

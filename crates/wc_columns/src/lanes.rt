@@ -1,3 +1,8 @@
+ghost use Rattle.std.specs.Prelude.{◌≡◌, ◌++◌, not, List, Some, None};
+ghost use Rattle.wc_columns.specs.Columns.{AreColumnsOf, IsLevelOf, IsWholeOf, level_of};
+ghost use Rattle.wc_columns.specs.Held.{Held, IsStateOf};
+ghost use Rattle.wc_columns.specs.declared.columns.Column.{Column};
+
 use crate::bits::Level;
 use crate::columns::Column;
 use std::alloc::{AllocError, Global};
@@ -37,13 +42,17 @@ impl fmt::Display for Lane {
 }
 
 /// High where it is so, else low.
-fn level_of(is_so: bool) -> Level {
+fn level_of(is_so: bool) -> Level
+    ensures { result ≡ level_of is_so (not is_so) }
+{
     if is_so { Level::High } else { Level::Low }
 }
 
 impl Lane {
     /// How it stands in a column, where it has two values.
-    pub fn level(self, column: &Column) -> Level {
+    pub fn level(self, column: &Column) -> Level
+        ensures { IsLevelOf self column.now result }
+    {
         match self {
             Lane::Motion => level_of(column.state.motion),
             Lane::Over => level_of(column.state.over),
@@ -73,14 +82,26 @@ impl Lane {
     }
 }
 
-/// All columns as one.
-pub fn whole(columns: &[Column]) -> Option<Column> {
+/// Columns and one more as one.
+fn with_column(all: Option<Column>, column: &Column) -> Column
+    ensures first { all ≡ None → result ≡ column.now }
+    ensures more { (before : Column) (held others : List Held) → all ≡ Some before
+        → IsStateOf held before.state → IsStateOf others column.now.state
+        → IsStateOf (held ++ others) result.state }
+{
+    match all {
+        Some(all) => all.joined(column),
+        None => *column,
+    }
+}
+
+/// All columns as one; none where there are none.
+pub fn whole(columns: &[Column]) -> Option<Column>
+    ensures { (held : List (List Held)) → AreColumnsOf held columns.now → IsWholeOf result held }
+{
     let mut all: Option<Column> = None;
     for column in columns {
-        all = match all {
-            Some(all) => Some(all.joined(column)),
-            None => Some(*column),
-        };
+        all = Some(with_column(all, column));
     }
     all
 }

@@ -1,96 +1,64 @@
-use crate::events::{Events, Request};
+ghost use Rattle.std.specs.Prelude.{◌≡◌, ◌+◌, ◌^◌, ◌<◌, ℕ, List, [], ◌∷◌, ◌++◌, length};
+ghost use Rattle.wc_columns.specs.Happened.{counted};
+ghost use Rattle.wc_model.specs.Instrument.Requests.{requests_in};
+ghost use Rattle.wc_sma.specs.Standing.{HasRead};
 
-/// What is known of a request whose end has not come. It serves the picture alone: what the line does stands in the answers.
+use crate::events::{Events, Request};
+use wc_decode::{answer_length, first_answer};
+use wc_sma::RequestReader;
+
+/// Follows the bytes of the line: which requests they complete, and how each was answered.
 #[derive(Clone, Copy)]
 pub struct Tracker {
-    is_inside: bool,
-    letter: u8,
-    length: u32,
-}
-
-/// The letter of a request, or `?`.
-fn letter_of(letter: u8, length: u32) -> u8 {
-    match (letter, length) {
-        (b'W' | b'Z' | b'T' | b'M' | b'C', 1) => letter,
-        _ => b'?',
-    }
-}
-
-/// An answer with a weight at the front of some bytes.
-fn weight_answer(answers: &[u8]) -> Option<[u8; 20]> {
-    let Some(front) = answers.get(0..20) else {
-        return None;
-    };
-    let mut answer = [0; 20];
-    for (to, from) in answer.iter_mut().zip(front) {
-        *to = *from;
-    }
-    Some(answer)
-}
-
-/// How many bytes the answer to a letter has.
-fn answer_length(letter: u8) -> usize {
-    if letter == b'?' { 3 } else { 20 }
+    requests: RequestReader,
 }
 
 impl Tracker {
     /// Before the first byte.
-    pub fn new() -> Tracker {
+    pub fn new() -> Tracker
+        ensures { HasRead result.requests [] }
+    {
         Tracker {
-            is_inside: false,
-            letter: 0,
-            length: 0,
+            requests: RequestReader::new(),
         }
     }
 
-    /// Takes a byte: the letter of the request that it ends, if it ends one.
-    fn take(&mut self, byte: u8) -> Option<u8> {
-        match byte {
-            b'\n' => {
-                *self = Tracker {
-                    is_inside: true,
-                    letter: 0,
-                    length: 0,
-                };
-                None
-            }
-            27 => {
-                self.is_inside = false;
-                None
-            }
-            b'\r' => self.end(),
-            _ => {
-                self.letter = byte;
-                self.length = self.length.saturating_add(1);
-                None
-            }
+    /// Takes a byte, and adds the request that it completes, with the answer at that place.
+    fn take(&mut self, ms: u64, byte: u8, answers: &[u8], at: &mut usize, events: &mut Events)
+        ensures read { (before : List ℕ) → HasRead self.old.requests before
+            → HasRead self.new.requests (before ++ (byte ∷ [])) }
+        ensures count { (before : List ℕ) → HasRead self.old.requests before
+            → events.old.requests < 2 ^ 32 → events.new.requests
+            ≡ counted (events.old.requests + length (requests_in before (byte ∷ []))) }
+    {
+        let Some(command) = self.requests.take(byte) else {
+            return;
+        };
+        let answer = match answers.get(*at..) {
+            Some(rest) => first_answer(rest),
+            None => None,
+        };
+        if let Some(answer) = &answer {
+            *at = at.saturating_add(answer_length(answer));
         }
+        events.request(Request {
+            ms,
+            command,
+            answer,
+        });
     }
 
-    /// The end of a request, if one has begun.
-    fn end(&mut self) -> Option<u8> {
-        if self.is_inside {
-            self.is_inside = false;
-            Some(letter_of(self.letter, self.length))
-        } else {
-            None
-        }
-    }
-
-    /// Takes the bytes of a row and what was answered to them.
-    pub fn follow(&mut self, ms: u64, bytes: &[u8], answers: &[u8]) -> Events {
+    /// Takes the bytes of a row and the answers to the requests that they complete.
+    pub fn follow(&mut self, ms: u64, bytes: &[u8], answers: &[u8]) -> Events
+        ensures read { (before : List ℕ) → HasRead self.old.requests before
+            → HasRead self.new.requests (before ++ bytes.now) }
+        ensures count { (before : List ℕ) → HasRead self.old.requests before
+            → result.requests ≡ counted (length (requests_in before bytes.now)) }
+    {
         let mut events = Events::none();
         let mut at = 0_usize;
         for byte in bytes {
-            let Some(letter) = self.take(*byte) else {
-                continue;
-            };
-            let answer = match answers.get(at..) {
-                Some(rest) if letter != b'?' => weight_answer(rest),
-                _ => None,
-            };
-            at = at.saturating_add(answer_length(letter));
-            events.request(Request { ms, letter, answer });
+            self.take(ms, *byte, answers, &mut at, &mut events);
         }
         events
     }

@@ -1,5 +1,7 @@
-ghost use Rattle.std.specs.Prelude.{◌≡◌, ◌<ℤ◌, None, Some, true, false};
+ghost use Rattle.std.specs.Prelude.{◌≡◌, ◌<ℤ◌, ℤ, List, ◌++◌, None, Some, true, false};
 ghost use Rattle.std.specs.Int.{int_max, int_min};
+ghost use Rattle.std.specs.Option.{option_to_list};
+ghost use Rattle.wc_columns.specs.Spans.{span_of};
 
 /// The least, the greatest and the last of some numbers.
 #[derive(Clone, Copy, PartialEq, Eq)]
@@ -20,6 +22,16 @@ impl Span {
             least: number,
             greatest: number,
             last: number,
+        }
+    }
+
+    /// Of one number or none.
+    pub(crate) fn of(number: Option<i32>) -> Option<Span>
+        ensures { result ≡ span_of (option_to_list number) }
+    {
+        match number {
+            Some(number) => Some(Span::at(number)),
+            None => None,
         }
     }
 
@@ -49,6 +61,8 @@ impl Span {
 pub fn join(earlier: Option<Span>, later: Option<Span>) -> Option<Span>
     ensures first { earlier ≡ None → result ≡ later }
     ensures second { later ≡ None → result ≡ earlier }
+    ensures both { (numbers others : List ℤ) → earlier ≡ span_of numbers → later ≡ span_of others
+        → result ≡ span_of (numbers ++ others) }
 {
     match (earlier, later) {
         (Some(earlier), Some(later)) => Some(earlier.joined(later)),

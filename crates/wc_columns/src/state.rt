@@ -1,3 +1,12 @@
+ghost use Rattle.std.specs.Prelude.{◌≡◌, ◌<◌, ◌||◌, ℕ, ℤ, pos, List, [], ◌∷◌, ◌++◌, Some, None, get_or, if◌then◌else◌};
+ghost use Rattle.wc_columns.specs.Held.{Held, IsStateOf, held_at};
+ghost use Rattle.wc_columns.specs.Spans.{span_of};
+ghost use Rattle.wc_columns.specs.declared.span.Span.{Span};
+ghost use Rattle.wc_indicator.specs.Kept.{StandsForHistory, Tells};
+ghost use Rattle.wc_model.specs.Instrument.Indication as told;
+ghost use Rattle.wc_model.specs.Instrument.Plates.{PlateData};
+ghost use Rattle.wc_model.specs.Instrument.WeighingHistories.{History};
+
 use crate::bits::Bits;
 use crate::span::{Span, join};
 use wc_indicator::Indicator;
@@ -21,27 +30,28 @@ pub struct State {
     pub words: [Span; 4],
 }
 
-/// One number or none.
-fn one(number: Option<i32>) -> Option<Span> {
-    match number {
-        Some(number) => Some(Span::at(number)),
-        None => None,
-    }
-}
-
-/// The four words of the outputs.
-fn words_of(outputs: &Outputs) -> [Span; 4] {
-    let words = outputs.words;
+/// The spans of four words.
+fn words_of(outputs: &Outputs) -> [Span; 4]
+    ensures { (other : Span) (i : ℕ) → i < 4
+        → Some (get_or result i other) ≡ span_of (get_or outputs.now.words i (pos 0) ∷ []) }
+{
+    let [first, second, third, fourth] = outputs.words;
     [
-        Span::at(words[0]),
-        Span::at(words[1]),
-        Span::at(words[2]),
-        Span::at(words[3]),
+        Span::at(first),
+        Span::at(second),
+        Span::at(third),
+        Span::at(fourth),
     ]
 }
 
-/// Some words and then others.
-fn joined_words(earlier: [Span; 4], later: [Span; 4]) -> [Span; 4] {
+/// The spans of some words and then of others.
+fn joined_words(earlier: [Span; 4], later: [Span; 4]) -> [Span; 4]
+    ensures { (words others : ℕ → List ℤ)
+        → ((other : Span) (i : ℕ) → i < 4 → Some (get_or earlier i other) ≡ span_of (words i))
+        → ((other : Span) (i : ℕ) → i < 4 → Some (get_or later i other) ≡ span_of (others i))
+        → (other : Span) (i : ℕ) → i < 4
+        → Some (get_or result i other) ≡ span_of (words i ++ others i) }
+{
     [
         earlier[0].joined(later[0]),
         earlier[1].joined(later[1]),
@@ -50,17 +60,35 @@ fn joined_words(earlier: [Span; 4], later: [Span; 4]) -> [Span; 4] {
     ]
 }
 
+/// Whether one of two holds.
+fn either(one: bool, other: bool) -> bool
+    ensures { result ≡ (one || other) }
+{
+    one || other
+}
+
+/// The net weight while a tare is active.
+fn net_of(indicator: &Indicator) -> Option<i32>
+    ensures { Tells
+        (λ p history. if told.is_tare_active p history then told.net p history else None)
+        indicator.now result }
+{
+    if indicator.tare_active() {
+        indicator.net()
+    } else {
+        None
+    }
+}
+
 impl State {
     /// What holds at an indicator, with these inputs and outputs beside it.
-    pub fn at(indicator: &Indicator, inputs: u16, outputs: &Outputs) -> State {
-        let net = if indicator.tare_active() {
-            indicator.net()
-        } else {
-            None
-        };
+    pub fn at(indicator: &Indicator, inputs: u16, outputs: &Outputs) -> State
+        ensures { (p : PlateData) (history : History) → StandsForHistory indicator.now p history
+            → IsStateOf (held_at p history inputs outputs.now ∷ []) result }
+    {
         State {
-            gross: one(indicator.gross()),
-            net: one(net),
+            gross: Span::of(indicator.gross()),
+            net: Span::of(net_of(indicator)),
             motion: !indicator.stable(),
             over: indicator.over(),
             under: indicator.under(),
@@ -72,14 +100,17 @@ impl State {
     }
 
     /// What held over these moments and later ones.
-    pub(crate) fn joined(&self, later: &State) -> State {
+    pub(crate) fn joined(&self, later: &State) -> State
+        ensures { (held others : List Held) → IsStateOf held self.now → IsStateOf others later.now
+            → IsStateOf (held ++ others) result }
+    {
         State {
             gross: join(self.gross, later.gross),
             net: join(self.net, later.net),
-            motion: self.motion || later.motion,
-            over: self.over || later.over,
-            under: self.under || later.under,
-            invalid: self.invalid || later.invalid,
+            motion: either(self.motion, later.motion),
+            over: either(self.over, later.over),
+            under: either(self.under, later.under),
+            invalid: either(self.invalid, later.invalid),
             inputs: self.inputs.joined(later.inputs),
             outputs: self.outputs.joined(later.outputs),
             words: joined_words(self.words, later.words),

@@ -1,4 +1,4 @@
-ghost use Rattle.std.specs.Prelude.{◌≤◌, ◌<◌, length, vec_len};
+ghost use Rattle.std.specs.Prelude.{◌≡◌, ◌≤◌, ◌<◌, ◌^◌, length, vec_len};
 
 use crate::columns::Column;
 use crate::state::State;
@@ -41,12 +41,16 @@ impl TimeLine {
     }
 
     /// The first moment in milliseconds.
-    pub fn start(&self) -> u64 {
+    pub fn start(&self) -> u64
+        ensures { result ≡ self.now.start }
+    {
         self.start
     }
 
     /// How many milliseconds a column has.
-    pub fn width(&self) -> u64 {
+    pub fn width(&self) -> u64
+        ensures { self.now.power < 64 → result ≡ 2 ^ self.now.power }
+    {
         match 1_u64.checked_shl(self.power) {
             Some(width) => width,
             None => u64::MAX,

@@ -129,14 +129,14 @@ abbrev pub EndsBehind : {X : Type 0} → Result X Stopped → Ending → Option 
 EndsBehind (Ok done) ending old new = (ending ≡ ended.Done) × Keeps old new
 EndsBehind (Err stopped) ending old new = EndsBehindFault stopped.input stopped.fault ending old new
 
--- the ending of a fault at an input, where the line of a refusal can be written
+-- the ending of a fault at an input, if the line of a refusal can be written
 abbrev pub fault_ending : Input → RunFault → Ending
 fault_ending input (Refused number place) = ended.Refused input number place
 fault_ending input Read = ended.ReadFault input
 fault_ending input Write = ended.WriteFault
 fault_ending input Memory = ended.NoMemory
 
--- the same of whatever is answered
+-- likewise for whatever is answered
 abbrev pub ending_of : {X : Type 0} → Result X Stopped → Ending
 ending_of (Ok done) = ended.Done
 ending_of (Err stopped) = fault_ending stopped.input stopped.fault
@@ -184,12 +184,12 @@ IsAt input (ended.Refused at number place) = at ≡ input
 IsAt input (ended.ReadFault at) = at ≡ input
 IsAt input ending = ⊥
 
--- where all was done, and behind a refusal of this input, its reader has not failed
+-- if all was done, or this input is refused, its reader has not failed
 abbrev pub HasNotFailedAt : {X : Type 0} → Input → Result X Stopped → ℕ → ℕ → Type 0
 HasNotFailedAt input (Ok done) old new = new ≤ old
 HasNotFailedAt input (Err stopped) old new = stopped.input ≡ input → HasNotFailed (Err stopped.fault) old new
 
--- the same of an ending
+-- likewise for an ending
 abbrev pub HasNotFailedIn : Input → Ending → ℕ → ℕ → Type 0
 HasNotFailedIn input ended.Done old new = new ≤ old
 HasNotFailedIn input (ended.Refused at number place) old new = at ≡ input → new ≤ old

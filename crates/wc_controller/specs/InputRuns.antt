@@ -13,8 +13,11 @@ use Rattle.wc_controller.specs.declared.input.Stopped.{Stopped}
 use Rattle.wc_model.specs.Run.Log.{Record}
 use Rattle.wc_model.specs.Say.Job.{JobAnswer}
 use Rattle.wc_record.specs.Left.{HasCause}
+use Rattle.wc_run.specs.Observing.{text_in_all}
+use Rattle.wc_run.specs.Reports.{silent_plan}
 
--- this is said of the answers to inputs with a program or with none, where the bytes of all that are read are known
+-- this holds of the answers that are allowed for these inputs, with a program or with none, if the bytes of all that are read
+-- are known
 abbrev pub OfAnswersTo : Observed → Reader → Option Reader → Option Reader → Reader → ((JobAnswer → Type 0) → Type 0) → Type 0
 OfAnswersTo o plate None next log said =
     IfSome plate.bytes (λ table. IfSome log.bytes (λ bytes. said (AnswersLine o table bytes)))
@@ -22,7 +25,7 @@ OfAnswersTo o plate (Some program) next log said =
     IfSome plate.bytes (λ table. IfSome program.bytes (λ text. IfKnown next (λ known. IfSome log.bytes
     (λ bytes. said (AnswersRun o table text known bytes)))))
 
--- the same of the inputs of a run
+-- likewise for the inputs of a run
 abbrev pub OfAnswers : Observed → InputStates → ((JobAnswer → Type 0) → Type 0) → Type 0
 OfAnswers o inputs said = OfAnswersTo o inputs.plate inputs.program inputs.next inputs.log said
 
@@ -32,15 +35,15 @@ pub record TakesInputs (before after : InputStates) : Type 0 where
   pub program : TakesInput (known_of before.program) (known_of after.program)
   pub next : TakesInput (known_of before.next) (known_of after.next)
 
--- The plate is read and judged, then the program, then the next one, then the log is run; and the ending names the input at
--- which that stopped:
---     blames_..     the input that a refusal names is the one that breaks the rule, and these are the fields of a refused row
---     no_job        there is no job: what it names is one of these inputs
---     .._there      it names no program where there is none, and no next one
---     unread_..     what follows the input that it names is not read, and with no program no next one is; the log is not read
---                   where a name is refused of those that are to be observed
---     log_fault     the log is named with a read fault only where its reader failed, or as much was read as may be
---     log_read      where all was done, or a row is refused, the log's reader has not failed
+-- The plate is read and checked, then the program, then the next program, then the log is run; and the ending names the input
+-- at which that stopped:
+--     blames_..     the input that a refusal names is the one that breaks the rule, and `told` has the fields of a refused row
+--     no_job        there is no job: what the ending names is one of these inputs
+--     .._there      it names a program or a next one only if there is one, and a next one only if there is a program
+--     unread_..     what follows the input that it names is not read; without a program the next one is not read;
+--                   the log is not read if a name is refused that was to be observed
+--     log_fault     a read fault names the log only if its reader failed, or as much was read as may be
+--     log_read      if all was done, or a row is refused, the log's reader has not failed
 pub record ReadsInOrder (before after : InputStates) (told : Record) (ending : Ending) : Type 0 where
   pub blames_plate : Blames input.Plate RefusesPlate before.plate.bytes ending
   pub blames_program : Blames input.Program RefusesProgram (known_of before.program) ending
@@ -58,17 +61,19 @@ pub record ReadsInOrder (before after : InputStates) (told : Record) (ending : E
   pub log_read : HasNotFailedIn input.Log ending before.log.failures after.log.failures
   pub taken : TakesInputs before after
 
--- a read fault of the plate, of the program or of the next one is told where its reader failed, and only there
+-- a read fault names the plate, the program or the next one if its reader failed, and only then
 pub record TellsReaders (before after : InputStates) (ending : Ending) : Type 0 where
   pub plate : TellsReadEndings input.Plate ending before.plate.failures after.plate.failures
   pub program : TellsReadEndings input.Program ending (failures_of before.program) (failures_of after.program)
   pub next : TellsReadEndings input.Next ending (failures_of before.next) (failures_of after.next)
 
 -- What a run of these inputs does:
---     ends         an answer that is allowed was written whole, and the ending tells how it ends; or something failed, and a
---                  front of such an answer was written, or nothing
---     memory       a fault of the log's reader, or the bound that was met, is not told as want of memory
---     failures     a write fault is told where the writer failed, and only there
+--     ends         an answer that is allowed was written whole, and the ending says how it ends; or something failed, and a
+--                  prefix of such an answer was written, or nothing
+--     inputs       which inputs were read, and which one the ending names
+--     readers      a read fault names the input whose reader failed
+--     memory       a fault of the log's reader, or the limit on what is read, is not reported as out of memory
+--     failures     a write fault is reported if the writer failed, and only then
 pub record RunsAs (o : Observed) (before after : InputStates) (told : Record) (ending : Ending) (old new : Writer) : Type 0 where
   pub ends : OfAnswers o before (λ allowed. EndsAs allowed ending old.taken new.taken)
   pub inputs : ReadsInOrder before after told ending
@@ -77,7 +82,7 @@ pub record RunsAs (o : Observed) (before after : InputStates) (told : Record) (e
       → TellsMemory (log_taken before) before.log.bytes before.log.failures after.log.failures before.log.spent after.log.spent
   pub failures : TellsFailures ending old.failures new.failures
 
--- How far it came when it stopped, before the line of a refusal is written.
+-- How far such a run came when it stopped, before the line of a refusal is written.
 pub record RunsUpTo (o : Observed) (before after : InputStates) (told : Record) (answer : Result (Unit {0}) Stopped) (old new : Writer) : Type 0 where
   pub writes : OfAnswers o before (λ allowed. WritesUpTo allowed (met answer) old.taken new.taken)
   pub inputs : ReadsInOrder before after told (ending_of answer)
@@ -86,16 +91,23 @@ pub record RunsUpTo (o : Observed) (before after : InputStates) (told : Record) 
       → TellsMemory (log_taken before) before.log.bytes before.log.failures after.log.failures before.log.spent after.log.spent
   pub failures : TellsWriteFaults (met answer) old.failures new.failures
 
--- a read fault of the plate, of the program or of the next one is told only where its reader failed, and where it failed
--- unless what is shown fails, too
+-- a read fault names the plate, the program or the next one only if its reader failed; and if it failed, unless what is shown
+-- fails too
 pub record TellsShownReaders (before after : InputStates) (ending : Ending) : Type 0 where
   pub plate : TellsShownReads input.Plate ending before.plate.failures after.plate.failures
   pub program : TellsShownReads input.Program ending (failures_of before.program) (failures_of after.program)
   pub next : TellsShownReads input.Next ending (failures_of before.next) (failures_of after.next)
 
--- What a run of these inputs does that is shown, beside its report or in place of it: it ends as a run of them does, or
+-- What a run of these inputs does that is shown, next to its report or in place of it. It ends as a run of them does, or
 -- something failed, which can be what is shown.
 pub record ShowsRun (o : Observed) (before after : InputStates) (told : Record) (ending : Ending) : Type 0 where
   pub ends : OfAnswers o before (λ allowed. EndsLike allowed ending)
   pub inputs : ReadsInOrder before after told ending
   pub readers : TellsShownReaders before after ending
+
+-- So with an observer of whose bytes nothing is said, and which may refuse to begin or may not; of its writer the calls that failed
+-- are counted.
+abbrev pub RunsUnsaid : Type 0 → InputStates → InputStates → Record → Ending → ℕ → ℕ → Type 0
+RunsUnsaid may_refuse before after told ending failed_before failed =
+    RunsAs (record { written = text_in_all silent_plan; may_refuse = may_refuse }) before after told ending (record { taken = None; failures = failed_before })
+    (record { taken = None; failures = failed })

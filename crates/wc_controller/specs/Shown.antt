@@ -22,7 +22,7 @@ abbrev pub EndsLike : (JobAnswer → Type 0) → Ending → Type 0
 EndsLike allowed ending =
     IsFailing ending ⊎ ((answer : JobAnswer) × (allowed answer × IsEndingOf answer ending))
 
--- a read fault of this input is told only where its reader failed; and where it failed, but for a fault of what is shown
+-- a read fault names this input only if its reader failed; and if it failed, unless what is shown fails too
 abbrev pub TellsShownReads : Input → Ending → ℕ → ℕ → Type 0
 TellsShownReads input ending old new =
     (ending ≡ ended.ReadFault input → HasFailedSince old new) × ((ending ≡ ended.ReadFault input → ⊥) → (IsFaulty ending → ⊥) → new ≡ old)

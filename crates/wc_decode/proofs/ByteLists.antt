@@ -4,15 +4,16 @@ use Rattle.hex.specs.Hex.{IsBytes}
 use Rattle.std.proofs.lemmas.Bool.{and_parts}
 use Rattle.std.proofs.lemmas.Grind.{common_steps}
 use Rattle.std.specs.List.{list_all}
-use Rattle.wc_decode.specs.AnswerBytes.{AreAllAnswers, IsAnswer, answer_bytes, bytes_of_answers, is_weight_byte, kind_letter, motion_letter, status_letter, unit_bytes}
+use Rattle.wc_decode.specs.AnswerBytes.{AreAllAnswers, IsAnswer, answer_bytes, bytes_of_answers, is_weight_byte}
 use Rattle.wc_decode.specs.declared.answer.Answer.{Answer}
 use Rattle.wc_decode.specs.declared.answer.Answer.TheVariants.{Weight, NotUnderstood}
-use Rattle.wc_decode.specs.declared.answer.MassUnit.{MassUnit}
-use Rattle.wc_decode.specs.declared.answer.MassUnit.TheVariants.{Gram, Kilogram, Tonne}
-use Rattle.wc_decode.specs.declared.answer.Status.{Status}
-use Rattle.wc_decode.specs.declared.answer.Status.TheVariants.{Normal, CentreOfZero, Over, Under, NoSample, ZeroRefused, TareRefused}
-use Rattle.wc_decode.specs.declared.answer.WeightKind.{WeightKind}
-use Rattle.wc_decode.specs.declared.answer.WeightKind.TheVariants.{Gross, Net, Tare}
+use Rattle.wc_sma.specs.Letters.{kind_letter, motion_letter, status_letter, unit_letters}
+use Rattle.wc_sma.specs.declared.letters.MassUnit.{MassUnit}
+use Rattle.wc_sma.specs.declared.letters.MassUnit.TheVariants.{Gram, Kilogram, Tonne}
+use Rattle.wc_sma.specs.declared.letters.Status.{Status}
+use Rattle.wc_sma.specs.declared.letters.Status.TheVariants.{Normal, CentreOfZero, Over, Under, NoSample, ZeroRefused, TareRefused}
+use Rattle.wc_sma.specs.declared.letters.WeightKind.{WeightKind}
+use Rattle.wc_sma.specs.declared.letters.WeightKind.TheVariants.{Gross, Net, Tare}
 
 -- each is below 256
 AreSmall : List ℕ → Type 0
@@ -61,7 +62,7 @@ motion_small : (b : Bool) → motion_letter b < 256
 motion_small true = lit< tt
 motion_small false = lit< tt
 
-unit_small : (u : MassUnit) → AreSmall (unit_bytes u)
+unit_small : (u : MassUnit) → AreSmall (unit_letters u)
 unfolding AreSmall
 unit_small Gram = (lit< tt, (lit< tt, (lit< tt, tt)))
 unit_small Kilogram = (lit< tt, (lit< tt, (lit< tt, tt)))
@@ -82,7 +83,7 @@ answer_small (Weight r) (size, bytes) = (
           motion_small r.is_stable,
           (
             lit< tt,
-            small_behind (r.weight ++ unit_bytes r.unit) (13 ∷ []) (small_behind r.weight (unit_bytes r.unit) (weight_small r.weight bytes) (unit_small r.unit)) (lit< tt, tt),
+            small_behind (r.weight ++ unit_letters r.unit) (13 ∷ []) (small_behind r.weight (unit_letters r.unit) (weight_small r.weight bytes) (unit_small r.unit)) (lit< tt, tt),
           ),
         ),
       ),

@@ -3,6 +3,7 @@ mod ByteLists
 mod CutLines
 mod Digits
 mod Framed
+mod LineReadings
 mod Pieces
 mod RowTexts
 mod Several

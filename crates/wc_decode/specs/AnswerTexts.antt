@@ -3,18 +3,18 @@ use Rattle.std.specs.Prelude.{ℕ, ◌==◌, Bool, true, false, List, [], ◌++�
 use Rattle.std.specs.List.{prefix_len}
 use Rattle.wc_decode.specs.declared.answer.Answer.{Answer}
 use Rattle.wc_decode.specs.declared.answer.Answer.TheVariants.{Weight, NotUnderstood}
-use Rattle.wc_decode.specs.declared.answer.MassUnit.{MassUnit}
-use Rattle.wc_decode.specs.declared.answer.MassUnit.TheVariants.{Gram, Kilogram, Tonne}
-use Rattle.wc_decode.specs.declared.answer.Status.{Status}
-use Rattle.wc_decode.specs.declared.answer.Status.TheVariants.{Normal, CentreOfZero, Over, Under, NoSample, ZeroRefused, TareRefused}
-use Rattle.wc_decode.specs.declared.answer.WeightKind.{WeightKind}
-use Rattle.wc_decode.specs.declared.answer.WeightKind.TheVariants.{Gross, Net, Tare}
+use Rattle.wc_sma.specs.declared.letters.MassUnit.{MassUnit}
+use Rattle.wc_sma.specs.declared.letters.MassUnit.TheVariants.{Gram, Kilogram, Tonne}
+use Rattle.wc_sma.specs.declared.letters.Status.{Status}
+use Rattle.wc_sma.specs.declared.letters.Status.TheVariants.{Normal, CentreOfZero, Over, Under, NoSample, ZeroRefused, TareRefused}
+use Rattle.wc_sma.specs.declared.letters.WeightKind.{WeightKind}
+use Rattle.wc_sma.specs.declared.letters.WeightKind.TheVariants.{Gross, Net, Tare}
 
--- the unit, behind a space
+-- the symbol of a unit
 abbrev pub unit_text : MassUnit → List ℕ
-unit_text Gram = codes " g"
-unit_text Kilogram = codes " kg"
-unit_text Tonne = codes " t"
+unit_text Gram = codes "g"
+unit_text Kilogram = codes "kg"
+unit_text Tonne = codes "t"
 
 -- which weight it is
 abbrev pub kind_text : WeightKind → List ℕ
@@ -44,6 +44,6 @@ without_spaces weight = drop (prefix_len (λ byte. byte == 32) weight) weight
 -- the words for an answer
 abbrev pub answer_text : Answer → List ℕ
 answer_text (Weight reading) =
-    without_spaces reading.weight ++ unit_text reading.unit ++ kind_text reading.kind ++ motion_text reading.is_stable
+    without_spaces reading.weight ++ codes " " ++ unit_text reading.unit ++ kind_text reading.kind ++ motion_text reading.is_stable
     ++ status_text reading.status
 answer_text NotUnderstood = codes "not understood"

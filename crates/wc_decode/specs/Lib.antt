@@ -5,6 +5,7 @@ pub mod Entries
 pub mod Fields
 pub mod Forms
 pub mod Found
+pub mod LineAnswers
 pub mod Lines
 pub mod Running
 pub mod Standing

@@ -1,40 +1,7 @@
-/// The status of an answer.
-#[derive(Clone, Copy, PartialEq, Eq)]
-pub enum Status {
-    /// None of the others.
-    Normal,
-    /// The gross weight is within a quarter of an interval of zero.
-    CentreOfZero,
-    /// Overload.
-    Over,
-    /// Too far below zero.
-    Under,
-    /// There was no sample yet.
-    NoSample,
-    /// The zero command of this answer was refused.
-    ZeroRefused,
-    /// The tare command of this answer was refused.
-    TareRefused,
-}
+use wc_sma::{MassUnit, Status, WeightKind};
 
-/// Which weight is told.
-#[derive(Clone, Copy, PartialEq, Eq)]
-pub enum WeightKind {
-    Gross,
-    Net,
-    Tare,
-}
-
-/// The unit of a weight.
-#[derive(Clone, Copy, PartialEq, Eq)]
-pub enum MassUnit {
-    Gram,
-    Kilogram,
-    Tonne,
-}
-
-/// What an answer with a weight tells.
-#[derive(Clone, Copy, PartialEq, Eq)]
+/// What an answer with a weight says.
+#[derive(Clone, Copy)]
 pub struct Reading {
     pub status: Status,
     pub kind: WeightKind,
@@ -45,7 +12,7 @@ pub struct Reading {
 }
 
 /// An answer of the line.
-#[derive(Clone, Copy, PartialEq, Eq)]
+#[derive(Clone, Copy)]
 pub enum Answer {
     /// A weight.
     Weight(Reading),

@@ -3,50 +3,51 @@ ghost use Rattle.std.specs.List.{prefix_len};
 ghost use Rattle.wc_decode.specs.declared.answer.Answer.TheVariants.{Weight};
 ghost use Rattle.wc_decode.specs.AnswerTexts.{answer_text, kind_text, motion_text, status_text, unit_text};
 
-use crate::answer::{Answer, MassUnit, Reading, Status, WeightKind};
+use crate::answer::{Answer, Reading};
 use wc_model::{Fault, put_bytes};
+use wc_sma::{MassUnit, Status, WeightKind};
 
-/// The unit, behind a space.
-fn unit_text(unit: MassUnit) -> &'static [u8]
+/// The symbol of a unit.
+pub fn unit_text(unit: MassUnit) -> &'static str
     ensures { result.now ≡ unit_text unit }
 {
     match unit {
-        MassUnit::Gram => b" g",
-        MassUnit::Kilogram => b" kg",
-        MassUnit::Tonne => b" t",
+        MassUnit::Gram => "g",
+        MassUnit::Kilogram => "kg",
+        MassUnit::Tonne => "t",
     }
 }
 
-/// Which weight it is.
-fn kind_text(kind: WeightKind) -> &'static [u8]
+/// Which weight it is, with a space in front and a comma after it.
+pub fn kind_text(kind: WeightKind) -> &'static str
     ensures { result.now ≡ kind_text kind }
 {
     match kind {
-        WeightKind::Gross => b" gross, ",
-        WeightKind::Net => b" net, ",
-        WeightKind::Tare => b" tare, ",
+        WeightKind::Gross => " gross, ",
+        WeightKind::Net => " net, ",
+        WeightKind::Tare => " tare, ",
     }
 }
 
 /// Whether it moves.
-fn motion_text(is_stable: bool) -> &'static [u8]
+pub fn motion_text(is_stable: bool) -> &'static str
     ensures { result.now ≡ motion_text is_stable }
 {
-    if is_stable { b"stable" } else { b"in motion" }
+    if is_stable { "stable" } else { "in motion" }
 }
 
-/// The status, where there is something to tell.
-fn status_text(status: Status) -> &'static [u8]
+/// The status after a comma, or nothing where all is normal.
+pub fn status_text(status: Status) -> &'static str
     ensures { result.now ≡ status_text status }
 {
     match status {
-        Status::Normal => b"",
-        Status::CentreOfZero => b", centre of zero",
-        Status::Over => b", over",
-        Status::Under => b", under",
-        Status::NoSample => b", no sample",
-        Status::ZeroRefused => b", zero refused",
-        Status::TareRefused => b", tare refused",
+        Status::Normal => "",
+        Status::CentreOfZero => ", centre of zero",
+        Status::Over => ", over",
+        Status::Under => ", under",
+        Status::NoSample => ", no sample",
+        Status::ZeroRefused => ", zero refused",
+        Status::TareRefused => ", tare refused",
     }
 }
 
@@ -66,10 +67,11 @@ fn put_reading(text: &mut Vec<u8>, reading: &Reading) -> Result<(), Fault>
 {
     let (_spaces, weight) = reading.weight.split_at(spaces_before(&reading.weight));
     put_bytes(text, weight)?;
-    put_bytes(text, unit_text(reading.unit))?;
-    put_bytes(text, kind_text(reading.kind))?;
-    put_bytes(text, motion_text(reading.is_stable))?;
-    put_bytes(text, status_text(reading.status))
+    put_bytes(text, b" ")?;
+    put_bytes(text, unit_text(reading.unit).as_bytes())?;
+    put_bytes(text, kind_text(reading.kind).as_bytes())?;
+    put_bytes(text, motion_text(reading.is_stable).as_bytes())?;
+    put_bytes(text, status_text(reading.status).as_bytes())
 }
 
 /// Puts the words for an answer behind a text. `Memory` is the only fault.

@@ -1,4 +1,4 @@
-ghost use Rattle.std.specs.Prelude.{◌≡◌, ◌<◌, ◌^◌, ◌↔◌, ℕ, List, IfOk, IsOkUnless, IsTrue, option_map, slice_index};
+ghost use Rattle.std.specs.Prelude.{◌≡◌, ◌<◌, ◌^◌, ℕ, List, IfOk, IsOkUnless, option_map, slice_index};
 ghost use Rattle.hex.specs.Hex.{IsBytes};
 ghost use Rattle.wc_decode.specs.Entries.{entry_told};
 ghost use Rattle.wc_decode.specs.Lines.{AreToldBy, IsToldBy};
@@ -53,17 +53,6 @@ fn row_in(alloc: Global, line: &[u8]) -> Result<ByteRow, Fault>
     })
 }
 
-/// Whether this is the line of the moment and the bytes.
-fn is_line_of(alloc: Global, row: &ByteRow, line: &[u8]) -> Result<bool, Fault>
-    ensures same { IfOk result
-        (λ same. IsTrue same ↔ (line_text (AnswerLine row.now.ms row.now.bytes.items) ≡ line.now)) }
-    ensures memory { IsOkUnless result Fault.Memory }
-{
-    let mut text = Vec::new(alloc);
-    put_answer_line(&mut text, row.ms, &row.bytes)?;
-    Ok(is_same(&text, line))
-}
-
 /// The answers of a row, if its bytes are answers.
 fn entry_of(alloc: Global, row: &ByteRow) -> Result<Option<ReportEntry>, Fault>
     ensures told { IfOk result (λ found. AreToldBy row.now.ms (option_map entry_told found)
@@ -92,9 +81,11 @@ pub(crate) fn answers_entry(alloc: Global, line: &[u8]) -> Result<Option<ReportE
     ensures memory { IsOkUnless result Fault.Memory }
 {
     let row = row_in(alloc, line)?;
-    match is_line_of(alloc, &row, line) {
-        Ok(true) => entry_of(alloc, &row),
-        Ok(false) => Ok(None),
-        Err(fault) => Err(fault),
+    let mut text = Vec::new(alloc);
+    put_answer_line(&mut text, row.ms, &row.bytes)?;
+    if is_same(&text, line) {
+        entry_of(alloc, &row)
+    } else {
+        Ok(None)
     }
 }

@@ -1,4 +1,4 @@
-ghost use Rattle.std.specs.Prelude.{◌≡◌, ◌≤◌, ◌==◌, ◌++◌, ◌∷◌, [], true, false, length, IsOkUnless, OnOk};
+ghost use Rattle.std.specs.Prelude.{◌≡◌, ◌≤◌, ◌==◌, ◌∷◌, [], true, false, length, IsOkUnless};
 ghost use Rattle.std.specs.List.{position_or_len};
 ghost use Rattle.wc_decode.specs.Decoding.{longest_line, without_end};
 ghost use Rattle.wc_decode.specs.Forms.{heading};
@@ -9,7 +9,7 @@ use crate::form::DecodeForm;
 use crate::lines::line_entry;
 use crate::unknown_lines::{put_closing, put_opening, put_passed, put_passed_on, put_unknown};
 use std::alloc::Global;
-use wc_model::Fault;
+use wc_model::{Fault, put_bytes};
 
 /// The most bytes before the line feed of a line that is looked at.
 const LONGEST_LINE: usize = 65536;
@@ -61,17 +61,6 @@ fn put_line(alloc: Global, form: DecodeForm, line: &[u8], text: &mut Vec<u8>) ->
     }
 }
 
-/// Puts a byte behind a line.
-fn push_byte(line: &mut Vec<u8>, byte: u8) -> Result<(), Fault>
-    ensures byte { OnOk result (line.new.items ≡ line.old.items ++ byte ∷ []) }
-    ensures memory { IsOkUnless result Fault.Memory }
-{
-    match line.push(byte) {
-        Ok(()) => Ok(()),
-        Err(_) => Err(Fault::Memory),
-    }
-}
-
 /// Takes the line feed of the line at hand.
 fn end_line(alloc: Global, decoder: &mut Decoder, text: &mut Vec<u8>) -> Result<(), Fault>
     requires { decoder.old.is_long ≡ false }
@@ -80,7 +69,7 @@ fn end_line(alloc: Global, decoder: &mut Decoder, text: &mut Vec<u8>) -> Result<
         text.new.items }
     ensures memory { IsOkUnless result Fault.Memory }
 {
-    push_byte(&mut decoder.line, b'\n')?;
+    put_bytes(&mut decoder.line, b"\n")?;
     put_line(alloc, decoder.form, &decoder.line, text)?;
     decoder.line.clear();
     Ok(())
@@ -140,7 +129,7 @@ fn take_byte(
     if decoder.line.len() == LONGEST_LINE {
         return begin_long(decoder, byte, text);
     }
-    push_byte(&mut decoder.line, byte)
+    put_bytes(&mut decoder.line, &[byte])
 }
 
 /// Takes bytes of a report, and puts what is written of them behind a text. `Memory` is the only fault.

@@ -1,7 +1,6 @@
 ghost use Rattle.std.specs.Prelude.{◌≡◌, ◌++◌, IsOkUnless, OnOk};
 ghost use Rattle.wc_decode.specs.Entries.{entry_told};
 ghost use Rattle.wc_decode.specs.Forms.{answer_form, answer_forms, decoded, refusal_form, scan_form, scan_front};
-ghost use Rattle.wc_decode.specs.declared.form.DecodeForm.TheVariants.{Table, Text};
 
 use crate::answer::Answer;
 use crate::answer_texts::put_answer;
@@ -25,54 +24,6 @@ fn put_scan_front(text: &mut Vec<u8>, row: &ScanRow) -> Result<(), Fault>
     put_bits(text, row.outputs.bits)
 }
 
-/// Puts the line of a scan for people behind a text.
-fn put_scan_line(text: &mut Vec<u8>, row: &ScanRow) -> Result<(), Fault>
-    ensures line { OnOk result (text.new.items
-        ≡ text.old.items ++ scan_form Text row.now.ms row.now.steps.0 row.now.outputs) }
-    ensures memory { IsOkUnless result Fault.Memory }
-{
-    put_scan_front(text, row)?;
-    put_words(text, &row.outputs.words)?;
-    put_bytes(text, b"\n")
-}
-
-/// Puts the row of a scan behind a text.
-fn put_scan_row(text: &mut Vec<u8>, row: &ScanRow) -> Result<(), Fault>
-    ensures row { OnOk result (text.new.items
-        ≡ text.old.items ++ scan_form Table row.now.ms row.now.steps.0 row.now.outputs) }
-    ensures memory { IsOkUnless result Fault.Memory }
-{
-    put_number(text, row.ms)?;
-    put_bytes(text, b",S,")?;
-    put_number(text, u64::from(row.steps.0))?;
-    put_bit_columns(text, row.outputs.bits)?;
-    put_word_columns(text, &row.outputs.words)?;
-    put_bytes(text, b",\n")
-}
-
-/// Puts the line of an answer for people behind a text.
-fn put_answer_line(text: &mut Vec<u8>, ms: u64, answer: &Answer) -> Result<(), Fault>
-    ensures line { OnOk result (text.new.items ≡ text.old.items ++ answer_form Text ms answer.now) }
-    ensures memory { IsOkUnless result Fault.Memory }
-{
-    put_bytes(text, b"L ")?;
-    put_number(text, ms)?;
-    put_bytes(text, b"  ")?;
-    put_answer(text, answer)?;
-    put_bytes(text, b"\n")
-}
-
-/// Puts the row of an answer behind a text.
-fn put_answer_row(text: &mut Vec<u8>, ms: u64, answer: &Answer) -> Result<(), Fault>
-    ensures row { OnOk result (text.new.items ≡ text.old.items ++ answer_form Table ms answer.now) }
-    ensures memory { IsOkUnless result Fault.Memory }
-{
-    put_number(text, ms)?;
-    put_bytes(text, b",L,,,,,,,,,,,,,,,,,,,,,,\"")?;
-    put_answer(text, answer)?;
-    put_bytes(text, b"\"\n")
-}
-
 /// Puts an answer behind a text.
 fn put_one_answer(
     text: &mut Vec<u8>,
@@ -85,8 +36,19 @@ fn put_one_answer(
     ensures memory { IsOkUnless result Fault.Memory }
 {
     match form {
-        DecodeForm::Text => put_answer_line(text, ms, answer),
-        DecodeForm::Table => put_answer_row(text, ms, answer),
+        DecodeForm::Text => {
+            put_bytes(text, b"L ")?;
+            put_number(text, ms)?;
+            put_bytes(text, b"  ")?;
+            put_answer(text, answer)?;
+            put_bytes(text, b"\n")
+        }
+        DecodeForm::Table => {
+            put_number(text, ms)?;
+            put_bytes(text, b",L,,,,,,,,,,,,,,,,,,,,,,\"")?;
+            put_answer(text, answer)?;
+            put_bytes(text, b"\"\n")
+        }
     }
 }
 
@@ -130,8 +92,19 @@ fn put_scan(text: &mut Vec<u8>, form: DecodeForm, row: &ScanRow) -> Result<(), F
     ensures memory { IsOkUnless result Fault.Memory }
 {
     match form {
-        DecodeForm::Text => put_scan_line(text, row),
-        DecodeForm::Table => put_scan_row(text, row),
+        DecodeForm::Text => {
+            put_scan_front(text, row)?;
+            put_words(text, &row.outputs.words)?;
+            put_bytes(text, b"\n")
+        }
+        DecodeForm::Table => {
+            put_number(text, row.ms)?;
+            put_bytes(text, b",S,")?;
+            put_number(text, u64::from(row.steps.0))?;
+            put_bit_columns(text, row.outputs.bits)?;
+            put_word_columns(text, &row.outputs.words)?;
+            put_bytes(text, b",\n")
+        }
     }
 }
 

@@ -1,17 +1,14 @@
 // Answers in the bytes of a row.
 ghost use Rattle.std.specs.Prelude.{◌≡◌, ◌≤◌, ◌++◌, ◌∷◌, [], drop, length, option_map, IfOk, IsOkUnless, OnOk};
-ghost use Rattle.wc_decode.specs.AnswerBytes.{IsAnswer, answer_bytes, reading_bytes};
+ghost use Rattle.std.specs.List.{list_all};
+ghost use Rattle.wc_decode.specs.AnswerBytes.{IsAnswer, answer_bytes, is_framed, is_weight_byte};
 ghost use Rattle.wc_decode.specs.Found.{AreAnswersOf, IsAnswerOf, IsFirstAnswer};
-ghost use Rattle.wc_decode.specs.declared.answer.Reading.{Reading};
+ghost use Rattle.wc_decode.specs.LineAnswers.{AnswersAreRead};
 
 use crate::answer::{Answer, Reading};
-use crate::same::is_same;
-use crate::weights::{
-    is_stable, is_weight, kind_letter, kind_of, motion_letter, status_letter, status_of,
-    unit_bytes, unit_of,
-};
 use std::alloc::Global;
 use wc_model::Fault;
+use wc_sma::{MassUnit, Status, WeightKind, stable_of_letter};
 
 /// How many bytes an answer with a weight has.
 const READING_LENGTH: usize = 20;
@@ -19,37 +16,26 @@ const READING_LENGTH: usize = 20;
 /// The answer to a request that is none.
 const NOT_UNDERSTOOD: &[u8] = b"\n?\r";
 
-/// The bytes of an answer with a weight.
-fn reading_bytes(reading: &Reading) -> [u8; 20]
-    ensures { result ≡ reading_bytes reading.now }
+/// Whether these bytes may be a weight.
+fn is_weight(weight: &[u8]) -> bool
+    ensures { result ≡ list_all is_weight_byte weight.now }
 {
-    let [a, b, c, d, e, f, g, h, i, j] = reading.weight;
-    let [first, second, third] = unit_bytes(reading.unit);
-    let status = status_letter(reading.status);
-    let kind = kind_letter(reading.kind);
-    let motion = motion_letter(reading.is_stable);
-    [
-        b'\n', status, b'1', kind, motion, b' ', a, b, c, d, e, f, g, h, i, j, first, second,
-        third, b'\r',
-    ]
+    weight.iter().all(|byte| *byte == b' '
+        || *byte == b'-'
+        || *byte == b'.'
+        || byte.is_ascii_digit())
 }
 
-/// What twenty bytes tell, if they are an answer.
-fn reading_of(frame: &[u8]) -> Reading
+/// Whether twenty bytes have what each answer with a weight has, and bytes of a weight.
+fn is_framed(frame: &[u8]) -> bool
     requires { length frame.now ≡ 20 }
-    ensures length { length result.weight ≡ 10 }
-    ensures reading { (reading : Reading) → length reading.weight ≡ 10
-        → frame.now ≡ reading_bytes reading → result ≡ reading }
+    ensures { result ≡ is_framed frame.now }
 {
-    let mut weight = [0; 10];
-    weight.copy_from_slice(&frame[6..16]);
-    Reading {
-        status: status_of(frame[1]),
-        kind: kind_of(frame[3]),
-        is_stable: is_stable(frame[4]),
-        weight,
-        unit: unit_of(frame[16]),
-    }
+    frame[0] == b'\n'
+        && frame[2] == b'1'
+        && frame[5] == b' '
+        && frame[19] == b'\r'
+        && is_weight(&frame[6..16])
 }
 
 /// The answer with a weight that twenty bytes are.
@@ -57,19 +43,34 @@ fn weight_in(frame: &[u8]) -> Option<Answer>
     requires { length frame.now ≡ 20 }
     ensures { IsAnswerOf result frame.now }
 {
-    let reading = reading_of(frame);
-    if !is_weight(&reading.weight) {
+    if !is_framed(frame) {
         return None;
     }
-    if is_same(frame, &reading_bytes(&reading)) {
-        Some(Answer::Weight(reading))
-    } else {
-        None
-    }
+    let Some(status) = Status::of_letter(frame[1]) else {
+        return None;
+    };
+    let Some(kind) = WeightKind::of_letter(frame[3]) else {
+        return None;
+    };
+    let Some(is_stable) = stable_of_letter(frame[4]) else {
+        return None;
+    };
+    let Some(unit) = MassUnit::of_letters(&frame[16..19]) else {
+        return None;
+    };
+    let mut weight = [0; 10];
+    weight.copy_from_slice(&frame[6..16]);
+    Some(Answer::Weight(Reading {
+        status,
+        kind,
+        is_stable,
+        weight,
+        unit,
+    }))
 }
 
-/// The answer that stands in front.
-fn first_answer(bytes: &[u8]) -> Option<Answer>
+/// The answer at the front of these bytes, if there is one.
+pub fn first_answer(bytes: &[u8]) -> Option<Answer>
     ensures { IsFirstAnswer result bytes.now }
 {
     if bytes.starts_with(NOT_UNDERSTOOD) {
@@ -82,9 +83,8 @@ fn first_answer(bytes: &[u8]) -> Option<Answer>
 }
 
 /// How many bytes an answer has.
-fn answer_length(answer: &Answer) -> usize
-    requires { IsAnswer answer.now }
-    ensures { result ≡ length (answer_bytes answer.now) }
+pub fn answer_length(answer: &Answer) -> usize
+    ensures { IsAnswer answer.now → result ≡ length (answer_bytes answer.now) }
 {
     match answer {
         Answer::Weight(_) => READING_LENGTH,
@@ -129,3 +129,8 @@ pub(crate) fn answers_of(alloc: Global, bytes: &[u8]) -> Result<Option<Vec<Answe
     }
     Ok(Some(answers))
 }
+
+/// Each answer that the line gives is read back, as what is so of the scale; those to requests as one answer each.
+pub fn answers_of_the_line_are_read()
+    ensures { AnswersAreRead }
+{}

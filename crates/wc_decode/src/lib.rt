@@ -17,8 +17,9 @@ mod row_forms;
 mod same;
 mod scans;
 mod unknown_lines;
-mod weights;
 
-pub use answer::{Answer, MassUnit, Reading, Status, WeightKind};
+pub use answer::{Answer, Reading};
+pub use answer_texts::{kind_text, motion_text, status_text, unit_text};
 pub use decoding::decode;
 pub use form::{DecodeFault, DecodeForm};
+pub use frames::{answer_length, answers_of_the_line_are_read, first_answer};

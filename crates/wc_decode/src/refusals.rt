@@ -1,4 +1,4 @@
-ghost use Rattle.std.specs.Prelude.{◌≡◌, ◌↔◌, ℕ, IfOk, IsOkUnless, IsTrue, option_map, slice_index};
+ghost use Rattle.std.specs.Prelude.{◌≡◌, ℕ, IfOk, IsOkUnless, option_map, slice_index};
 ghost use Rattle.wc_decode.specs.Entries.{entry_told, refusal_told};
 ghost use Rattle.wc_decode.specs.Lines.{InRange, IsToldBy, TellsRefusal, told_text};
 
@@ -25,16 +25,6 @@ fn refusal_in(line: &[u8]) -> RefusalRow
     }
 }
 
-/// Whether this is the line of the refusal.
-fn is_line_of(alloc: Global, row: &RefusalRow, line: &[u8]) -> Result<bool, Fault>
-    ensures same { IfOk result
-        (λ same. IsTrue same ↔ (told_text (refusal_told row.now) ≡ line.now)) }
-    ensures memory { IsOkUnless result Fault.Memory }
-{
-    let text = refused_line(alloc, row.number, row.place)?;
-    Ok(is_same(&text, line))
-}
-
 /// The refusal that a line with an r in front tells.
 pub(crate) fn refusal_entry(alloc: Global, line: &[u8]) -> Result<Option<ReportEntry>, Fault>
     requires { slice_index line.now 0 ≡ 114 }
@@ -42,9 +32,10 @@ pub(crate) fn refusal_entry(alloc: Global, line: &[u8]) -> Result<Option<ReportE
     ensures memory { IsOkUnless result Fault.Memory }
 {
     let row = refusal_in(line);
-    match is_line_of(alloc, &row, line) {
-        Ok(true) => Ok(Some(ReportEntry::Refusal(row))),
-        Ok(false) => Ok(None),
-        Err(fault) => Err(fault),
+    let text = refused_line(alloc, row.number, row.place)?;
+    if is_same(&text, line) {
+        Ok(Some(ReportEntry::Refusal(row)))
+    } else {
+        Ok(None)
     }
 }

@@ -1,4 +1,4 @@
-ghost use Rattle.std.specs.Prelude.{◌≡◌, ◌↔◌, ℕ, ℤ, List, IfOk, IsOkUnless, IsTrue, option_map, slice_index};
+ghost use Rattle.std.specs.Prelude.{◌≡◌, ℕ, ℤ, List, IfOk, IsOkUnless, option_map, slice_index};
 ghost use Rattle.wc_decode.specs.Entries.{entry_told, scan_told};
 ghost use Rattle.wc_decode.specs.Fields.{words_text};
 ghost use Rattle.wc_decode.specs.Lines.{AreWords, InRange, IsToldBy, TellsScan, told_text};
@@ -50,17 +50,6 @@ fn scan_in(line: &[u8]) -> ScanRow
     }
 }
 
-/// Whether this is the line of the scan.
-fn is_line_of(alloc: Global, row: &ScanRow, line: &[u8]) -> Result<bool, Fault>
-    ensures same { IfOk result
-        (λ same. IsTrue same ↔ (told_text (scan_told row.now) ≡ line.now)) }
-    ensures memory { IsOkUnless result Fault.Memory }
-{
-    let mut text = Vec::new(alloc);
-    put_scan_line(&mut text, row.ms, row.steps, &row.outputs)?;
-    Ok(is_same(&text, line))
-}
-
 /// The scan that a line with an S in front tells.
 pub(crate) fn scan_entry(alloc: Global, line: &[u8]) -> Result<Option<ReportEntry>, Fault>
     requires { slice_index line.now 0 ≡ 83 }
@@ -68,9 +57,11 @@ pub(crate) fn scan_entry(alloc: Global, line: &[u8]) -> Result<Option<ReportEntr
     ensures memory { IsOkUnless result Fault.Memory }
 {
     let row = scan_in(line);
-    match is_line_of(alloc, &row, line) {
-        Ok(true) => Ok(Some(ReportEntry::Scan(row))),
-        Ok(false) => Ok(None),
-        Err(fault) => Err(fault),
+    let mut text = Vec::new(alloc);
+    put_scan_line(&mut text, row.ms, row.steps, &row.outputs)?;
+    if is_same(&text, line) {
+        Ok(Some(ReportEntry::Scan(row)))
+    } else {
+        Ok(None)
     }
 }

@@ -1,64 +1,51 @@
 use crate::numbers::{Moment, Tenths};
 use crate::view::{HEIGHT, TOP, View};
 use std::alloc::AllocError;
-use std::fmt;
 use std::fmt::Write;
 use wc_columns::Events;
 
-/// The letters of what was done to zero, tare and program in some time; a cross behind one says that it was refused.
-#[derive(Clone, Copy)]
-struct Letters(Events);
-
-impl fmt::Display for Letters {
-    fn fmt<W: fmt::Write>(&self, f: &mut fmt::Formatter<W>) -> fmt::Result {
-        for (count, letter) in [
-            (self.0.zeros, "Z"),
-            (self.0.zeros_refused, "Z×"),
-            (self.0.tares, "T"),
-            (self.0.tares_refused, "T×"),
-            (self.0.clears, "C"),
-            (self.0.changes, "P"),
-        ] {
-            if count != 0 {
-                write!(f, "{letter}")?;
-            }
-        }
-        Ok(())
-    }
+/// How often each was done to zero, tare and program in some time, with its letter and its words. A cross after a letter
+/// says that it was refused.
+fn marks_of(events: &Events) -> [(u32, &'static str, &'static str); 6] {
+    [
+        (events.zeros, "Z", "zero set"),
+        (events.zeros_refused, "Z×", "zero refused"),
+        (events.tares, "T", "tare set"),
+        (events.tares_refused, "T×", "tare refused"),
+        (events.clears, "C", "tare cleared"),
+        (events.changes, "P", "program changed"),
+    ]
 }
 
-/// The same in words, each with a comma before it.
-#[derive(Clone, Copy)]
-struct Words(Events);
-
-impl fmt::Display for Words {
-    fn fmt<W: fmt::Write>(&self, f: &mut fmt::Formatter<W>) -> fmt::Result {
-        for (count, words) in [
-            (self.0.zeros, "zero set"),
-            (self.0.zeros_refused, "zero refused"),
-            (self.0.tares, "tare set"),
-            (self.0.tares_refused, "tare refused"),
-            (self.0.clears, "tare cleared"),
-            (self.0.changes, "program changed"),
-        ] {
-            if count == 1 {
-                write!(f, ", {words}")?;
-            } else if count != 0 {
-                write!(f, ", {words} {count} times")?;
-            }
+/// Puts the letters of what was done.
+fn put_letters(out: &mut String, events: &Events) -> Result<(), AllocError> {
+    for (count, letter, _words) in marks_of(events) {
+        if count != 0 {
+            out.push_str(letter)?;
         }
-        Ok(())
     }
+    Ok(())
+}
+
+/// Puts what was done in words, each after a comma.
+fn put_words(out: &mut String, events: &Events) -> Result<(), AllocError> {
+    for (count, _letter, words) in marks_of(events) {
+        if count == 1 {
+            write!(out, ", {words}")?;
+        } else if count != 0 {
+            write!(out, ", {words} {count} times")?;
+        }
+    }
+    Ok(())
 }
 
 /// Whether something was done.
 fn is_marked(events: &Events) -> bool {
-    events.zeros != 0
-        || events.zeros_refused != 0
-        || events.tares != 0
-        || events.tares_refused != 0
-        || events.clears != 0
-        || events.changes != 0
+    let mut is_marked = false;
+    for (count, _letter, _words) in marks_of(events) {
+        is_marked = is_marked || count != 0;
+    }
+    is_marked
 }
 
 /// Puts the bound that holds behind a change of the program.
@@ -83,19 +70,21 @@ fn put_mark(
     events: &Events,
     y: Option<u64>,
 ) -> Result<(), AllocError> {
-    let (letters, words) = (Letters(*events), Words(*events));
     let (moment, x) = (Moment(view.moment(index)), Tenths(view.x(index)));
     let (top, base) = (Tenths(TOP), Tenths(TOP + HEIGHT));
     let look = match (events.zeros, events.tares, events.clears, events.changes) {
         (0, 0, 0, 0) => "refused",
         _ => "mark",
     };
-    write!(out, "<g class=\"{look}\"><title>{moment}{words}")?;
+    write!(out, "<g class=\"{look}\"><title>{moment}")?;
+    put_words(out, events)?;
     put_bound(out, view, events)?;
     write!(out, "</title><path d=\"M{x} {base}V{top}\"/>")?;
     if let Some(y) = y {
         let y = Tenths(y);
-        write!(out, "<text x=\"{x}\" y=\"{y}\">{letters}</text>")?;
+        write!(out, "<text x=\"{x}\" y=\"{y}\">")?;
+        put_letters(out, events)?;
+        out.push_str("</text>")?;
     }
     out.push_str("</g>\n")
 }

@@ -40,18 +40,9 @@ pub(crate) struct Moment(pub(crate) u64);
 
 impl fmt::Display for Moment {
     fn fmt<W: fmt::Write>(&self, f: &mut fmt::Formatter<W>) -> fmt::Result {
-        let ms = self.0;
-        if ms % 1000 != 0 {
-            return write!(f, "{ms} ms");
-        }
-        let (seconds, minutes, hours) = (ms / 1000, ms / 60_000, ms / 3_600_000);
-        if ms % 60_000 != 0 || ms == 0 {
-            write!(f, "{seconds} s")
-        } else if ms % 3_600_000 != 0 {
-            write!(f, "{minutes} min")
-        } else {
-            write!(f, "{hours} h")
-        }
+        let (ms, step) = (self.0, self.0);
+        let moment = Tick { ms, step };
+        write!(f, "{moment}")
     }
 }
 
@@ -66,11 +57,14 @@ impl fmt::Display for Tick {
     fn fmt<W: fmt::Write>(&self, f: &mut fmt::Formatter<W>) -> fmt::Result {
         let ms = self.ms;
         let (seconds, minutes, hours) = (ms / 1000, ms / 60_000, ms / 3_600_000);
-        match self.step {
-            0..1000 => write!(f, "{ms} ms"),
-            1000..60_000 => write!(f, "{seconds} s"),
-            60_000..3_600_000 => write!(f, "{minutes} min"),
-            _ => write!(f, "{hours} h"),
+        if self.step % 1000 != 0 {
+            write!(f, "{ms} ms")
+        } else if self.step % 60_000 != 0 || self.step == 0 {
+            write!(f, "{seconds} s")
+        } else if self.step % 3_600_000 != 0 {
+            write!(f, "{minutes} min")
+        } else {
+            write!(f, "{hours} h")
         }
     }
 }

@@ -1,4 +1,4 @@
-use crate::answers::Decoded;
+use crate::answers::Answered;
 use crate::numbers::Tenths;
 use crate::view::View;
 use std::alloc::AllocError;
@@ -28,10 +28,10 @@ fn put_request(
         let requests = events.requests;
         write!(out, "{requests} requests, the last at ")?;
     }
-    let decoded = Decoded(request);
-    write!(out, "{decoded}</title><path d=\"M{x} {base}V{middle}\"/>")?;
+    let answered = Answered(request);
+    write!(out, "{answered}</title><path d=\"M{x} {base}V{middle}\"/>")?;
     if has_room {
-        let letter = char::from(request.letter);
+        let letter = char::from(request.command.letter());
         write!(out, "<text x=\"{x}\" y=\"{foot}\">{letter}</text>")?;
     }
     out.push_str("</g>\n")

@@ -1,7 +1,8 @@
-use crate::answers::unit_text;
 use crate::steps::RunSteps;
 use wc_columns::{Column, Span, join};
+use wc_decode::unit_text;
 use wc_plate::Plate;
+use wc_sma::MassUnit;
 
 /// Where the curves begin at the left, and how wide and high they are, in tenths.
 pub(crate) const LEFT: u64 = 1300;
@@ -33,7 +34,10 @@ impl WeightScale {
         WeightScale {
             max: i64::from(plate.max()),
             decimals: plate.decimals().unsigned_abs(),
-            unit: unit_text(plate.unit()[0]),
+            unit: match MassUnit::of_letters(&plate.unit()) {
+                Some(unit) => unit_text(unit),
+                None => "",
+            },
         }
     }
 }

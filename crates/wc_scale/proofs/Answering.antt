@@ -10,12 +10,11 @@ use Rattle.wc_model.specs.Instrument.Plates.{IsPlate, PlateData}
 use Rattle.wc_model.specs.Instrument.Requests.{carriage_return, open_request, requests_in}
 use Rattle.wc_model.specs.Instrument.WeighingHistories.{ClearTare, History, SetTare, SetZero}
 use Rattle.wc_model.specs.Run.Writing.{HasFailedSince}
-use Rattle.wc_scale.specs.Standing.{Came, IsShowing, Stands}
+use Rattle.wc_open_scale.specs.Calls.{HasLineFailed, IsCutShortAt}
+use Rattle.wc_open_scale.specs.Standing.{Came, Stands}
+use Rattle.wc_open_scale.specs.declared.open_scale.OpenScale.{OpenScale}
 use Rattle.wc_scale.specs.declared.answer_room.AnswerRoom.{AnswerRoom}
-use Rattle.wc_scale.specs.declared.scale.Scale.{Scale}
-use Rattle.wc_sma.specs.Feeding.{Fails, IsCutShort}
-use Rattle.wc_sma.specs.Standing.{HasFailed}
-use Rattle.wc_sma.specs.declared.line.Line.{Line}
+use Rattle.wc_sma.specs.Feeding.{IsCutShort}
 
 -- no answer has more than twenty bytes
 answer_short : (p : PlateData) (command : Command) (history : History) → IsPlate p → length (answer_to p command history) ≤ 20
@@ -61,14 +60,13 @@ is_full room failed =
     omega (arith, length-take room.taken room.bytes, full, room.whole)
 
 -- a line of a scale that is open takes each byte
-pub never_fails : (old : Scale) (indicator indicator' : IndicatorState) (line' : Line) (empty room : AnswerRoom) (byte : ℕ) (plate : PlateData) (came : Came) →
-    old.indicator ≡ Some indicator → Stands old plate came → empty.taken ≡ 0 → empty.failures ≡ 0 →
-    Fails old.line indicator (Some (take empty.taken empty.bytes)) line' indicator' (Some (take room.taken room.bytes)) (byte ∷ []) →
-    (HasFailed old.line ⊎ HasFailedSince empty.failures room.failures) → ⊥
-never_fails old indicator indicator' line' empty room byte plate came shown stands none works fails (inl failed) = absurd (cc)
-never_fails old indicator indicator' line' empty room byte plate came shown stands none works fails (inr failed) =
-    let cut : IsCutShort plate (requests_in came.bytes (byte ∷ [])) came.history indicator' (Some (take empty.taken empty.bytes)) (Some (take room.taken room.bytes)) =
-    fails.cut came.bytes plate came.history stands.line (subst (λ held. IsShowing held plate came.history) shown stands.indicator) in
-    never_cut plate came.bytes byte came.history indicator' (take room.taken room.bytes) stands.is_plate
+pub never_fails : {S : Type 0} (opened new : OpenScale S) (empty room : AnswerRoom) (byte : ℕ) (plate : PlateData) (came : Came) →
+    Stands opened plate came → empty.taken ≡ 0 → empty.failures ≡ 0 →
+    IsCutShortAt opened new (byte ∷ []) (Some (take empty.taken empty.bytes)) (Some (take room.taken room.bytes)) →
+    (HasLineFailed opened ⊎ HasFailedSince empty.failures room.failures) → ⊥
+never_fails opened new empty room byte plate came stands none works fails (inl failed) = absurd (cc)
+never_fails opened new empty room byte plate came stands none works fails (inr failed) =
+    never_cut plate came.bytes byte came.history new.indicator (take room.taken room.bytes) stands.is_plate
     (is_full room (subst (λ n. HasFailedSince n room.failures) works failed))
-    (subst (λ n. IsCutShort plate (requests_in came.bytes (byte ∷ [])) came.history indicator' (Some (take n empty.bytes)) (Some (take room.taken room.bytes))) none cut)
+    (subst (λ n. IsCutShort plate (requests_in came.bytes (byte ∷ [])) came.history new.indicator (Some (take n empty.bytes)) (Some (take room.taken room.bytes))) none
+    (fails.cut plate came stands))

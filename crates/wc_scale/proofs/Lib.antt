@@ -1,4 +1,3 @@
 pub mod Answering
-pub mod Changes
+pub mod Opened
 pub mod Refusing
-pub mod Scans

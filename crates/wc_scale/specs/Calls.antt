@@ -1,18 +1,19 @@
 -- What each call with a row's work does to a scale and what it answers, for whatever plate and whatever has come the scale
 -- stands for. A call that answers any status but 0 changes nothing. (The profile's own.)
-use Rattle.std.specs.Prelude.{◌≡◌, ℕ, ◌<◌, ◌≤◌, List, [], ◌∷◌, ◌++◌, take, replicate, ℤ, pos, ◌≤ℤ◌, IfSome, Some}
-use Rattle.wc_model.specs.Instrument.Answers.{after_requests, answers_to}
-use Rattle.wc_model.specs.Instrument.Plates.{PlateData, greatest_sample, least_sample}
+use Rattle.std.specs.Prelude.{◌≡◌, ℕ, ◌<◌, ◌≤◌, List, [], ◌∷◌, take, replicate, ℤ, pos, IfSome, Some}
+use Rattle.wc_model.specs.Instrument.Answers.{answers_to}
+use Rattle.wc_model.specs.Instrument.Plates.{PlateData}
 use Rattle.wc_model.specs.Instrument.Requests.{requests_in}
-use Rattle.wc_model.specs.Instrument.WeighingHistories.{Sample}
 use Rattle.wc_model.specs.Language.Paths.{IsProgramBound}
-use Rattle.wc_model.specs.Run.ProcessImage.{image_with}
-use Rattle.wc_model.specs.Say.ProgramReport.{scans_of}
+use Rattle.wc_model.specs.Language.Scans.{scan_of}
+use Rattle.wc_model.specs.Language.Store.{Store}
+use Rattle.wc_model.specs.Say.Report.{ScanResult}
+use Rattle.wc_open_scale.specs.Coming.{IsSample, image_of, with_byte, with_inputs, with_program, with_sample}
+use Rattle.wc_open_scale.specs.Scanning.{IsDone, scan_result, scanned_program}
+use Rattle.wc_open_scale.specs.Standing.{Came, Running, nothing_yet}
 use Rattle.wc_scale.specs.Opening.{GivesPlate, RefusesPlate}
 use Rattle.wc_scale.specs.Refusals.{IsBare}
-use Rattle.wc_model.specs.Language.Scans.{scan_of}
-use Rattle.wc_scale.specs.Scanning.{IsDone, IsToldOf}
-use Rattle.wc_scale.specs.Standing.{Came, HasNoProgram, IsClosed, IsKept, IsNotBehind, Running, Stands, nothing_yet}
+use Rattle.wc_scale.specs.Standing.{HasNoProgram, IsClosed, IsKept, IsNotBehind, Stands, machine_in}
 use Rattle.wc_scale.specs.declared.results.Answer.{Answer}
 use Rattle.wc_scale.specs.declared.results.Engraved.{Engraved}
 use Rattle.wc_scale.specs.declared.results.Reading.{Reading}
@@ -39,14 +40,6 @@ pub record RefusesOpen (old new : Scale) (text : List ℕ) (told : Refusal) : Ty
   pub else : IsClosed old → told.status ≤ 2
 
 -- ---- a sample
--- no farther than the sensor reaches
-abbrev pub IsSample : ℤ → Type 0
-IsSample counts = (least_sample ≤ℤ counts) × (counts ≤ℤ greatest_sample)
-
--- what has come, and a sample
-abbrev pub with_sample : ℤ → Came → Came
-with_sample counts came = record came { history = Sample counts ∷ came.history }
-
 abbrev pub TakesSample : Scale → Scale → ℤ → ℕ → Type 0
 TakesSample old new counts status = IsSample counts → (plate : PlateData) (came : Came) → Stands old plate came → (status ≡ 0) × Stands new plate (with_sample counts came)
 
@@ -57,10 +50,6 @@ pub record RefusesSample (old new : Scale) (counts : ℤ) (status : ℕ) : Type 
   pub range : ¬ (IsClosed old) → ¬ (IsSample counts) → status ≡ 6
 
 -- ---- inputs
--- what has come, with these inputs from now on
-abbrev pub with_inputs : ℕ → Came → Came
-with_inputs inputs came = record came { inputs = inputs }
-
 abbrev pub TakesInputs : Scale → Scale → ℕ → ℕ → Type 0
 TakesInputs old new inputs status = (plate : PlateData) (came : Came) → Stands old plate came → (status ≡ 0) × Stands new plate (with_inputs inputs came)
 
@@ -69,10 +58,6 @@ pub record RefusesInputs (old new : Scale) (status : ℕ) : Type 0 where
   pub closed : IsClosed old → status ≡ 3
 
 -- ---- a byte on the line
--- what has come, and a byte, which acts on the request that it completes
-abbrev pub with_byte : ℕ → Came → Came
-with_byte byte came = record came { history = after_requests (requests_in came.bytes (byte ∷ [])) came.history; bytes = came.bytes ++ (byte ∷ []) }
-
 -- the byte is taken, and answered as the samples and the line's bytes so far say: the program has no part in it
 pub record IsAnswered (new : Scale) (plate : PlateData) (came : Came) (byte : ℕ) (answer : Answer) : Type 0 where
   pub done : answer.status ≡ 0
@@ -87,13 +72,19 @@ pub record RefusesByte (old new : Scale) (answer : Answer) : Type 0 where
   pub short : answer.length ≤ 20
 
 -- ---- a scan
+-- the steps and the outputs are those of this result
+pub record IsToldOf (scanned : Scanned) (result : ScanResult Store) : Type 0 where
+  pub steps : scanned.steps ≡ result.steps
+  pub bits : scanned.bits ≡ result.outputs.bits
+  pub words : scanned.words ≡ result.outputs.words
+
 -- the scan does what the text means, without a trap and within its bound, from the inputs and the indicator as they are
 pub record IsScanned (new : Scale) (plate : PlateData) (came : Came) (running : Running) (ms : ℕ) (scanned : Scanned) : Type 0 where
-  pub done : IsDone (scan_of running.text running.store (image_with plate came.inputs came.history) ms)
-  pub told : IsToldOf scanned (scans_of running.text running.store (image_with plate came.inputs came.history) ms)
-  pub stands : Stands new plate (record came { program = Some (record { text = running.text; store = (scans_of running.text running.store (image_with plate came.inputs came.history) ms).after }) })
+  pub done : IsDone (scan_of running.text running.store (image_of plate came) ms)
+  pub told : IsToldOf scanned (scan_result plate came running ms)
+  pub stands : Stands new plate (with_program (scanned_program plate came running ms) came)
   pub within : (n : ℕ) → IsProgramBound running.text n → scanned.steps ≤ n
-  pub last : IfSome new.machine (λ machine. machine.last ≡ ms)
+  pub last : IfSome (machine_in new.opened) (λ machine. machine.last ≡ ms)
 
 abbrev pub TakesScan : Scale → Scale → ℕ → Scanned → Type 0
 TakesScan old new ms scanned = scanned.status ≡ 0 →
@@ -114,7 +105,7 @@ pub record RefusesScan (old new : Scale) (ms : ℕ) (scanned : Scanned) : Type 0
 -- the status and the weights of the process image
 abbrev pub TellsReading : Scale → Reading → Type 0
 TellsReading scale reading = (plate : PlateData) (came : Came) → Stands scale plate came →
-    (reading.status ≡ 0) × (reading.flags ≡ (image_with plate came.inputs came.history).status) × (reading.weights ≡ (image_with plate came.inputs came.history).weights)
+    (reading.status ≡ 0) × (reading.flags ≡ (image_of plate came).status) × (reading.weights ≡ (image_of plate came).weights)
 
 -- what is engraved: the unit, the digits behind the point, the greatest load and the scale interval of the plate
 abbrev pub TellsEngraved : Scale → Engraved → Type 0

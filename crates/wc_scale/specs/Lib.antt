@@ -4,5 +4,4 @@ pub mod Calls
 pub mod Opening
 pub mod Programs
 pub mod Refusals
-pub mod Scanning
 pub mod Standing

@@ -1,21 +1,19 @@
 -- What a call with a program's text does to a scale and what it answers. (The profile's own.)
-use Rattle.std.specs.Prelude.{◌≡◌, ℕ, ◌≤◌, ◌⊎◌, List, IfSome, Some}
+use Rattle.std.specs.Prelude.{◌≡◌, ℕ, ◌≤◌, List, IfSome, Some}
 use Rattle.wc_controller.specs.Loads.{IsNeverRefused}
-use Rattle.wc_cost.specs.LoadedTexts.{LoadedText}
 use Rattle.wc_model.specs.Instrument.Plates.{PlateData}
-use Rattle.wc_model.specs.Language.Carried.{carried}
 use Rattle.wc_model.specs.Language.Loading.{IsLoaded}
 use Rattle.wc_model.specs.Language.Tree.{Text}
-use Rattle.wc_model.specs.Language.Views.{text_view}
+use Rattle.wc_open_scale.specs.Changing.{changed_program}
+use Rattle.wc_open_scale.specs.Coming.{with_program}
+use Rattle.wc_open_scale.specs.Standing.{Came, Running, begun}
+use Rattle.wc_open_scale.specs.declared.change_fault.ChangeFault.{ChangeFault}
+use Rattle.wc_open_scale.specs.declared.change_fault.ChangeFault.TheVariants.{Memory, NoProgram}
 use Rattle.wc_scale.specs.Beginning.{IsRefusedAt}
 use Rattle.wc_scale.specs.Refusals.{IsBare}
-use Rattle.wc_scale.specs.Standing.{Came, HasNoProgram, IsClosed, IsKept, IsNotBehind, Running, Stands, begun}
+use Rattle.wc_scale.specs.Standing.{HasNoProgram, IsClosed, IsKept, IsNotBehind, Stands, machine_in}
 use Rattle.wc_scale.specs.declared.results.Refusal.{Refusal}
 use Rattle.wc_scale.specs.declared.scale.Scale.{Scale}
-
--- what has come, with this program
-abbrev pub with_program : Running → Came → Came
-with_program running came = record came { program = Some running }
 
 -- the bytes are loaded as a text, which starts from its declarations, and no time is before its first scan
 pub record IsBegun (old new : Scale) (bytes : List ℕ) : Type 0 where
@@ -23,7 +21,7 @@ pub record IsBegun (old new : Scale) (bytes : List ℕ) : Type 0 where
   pub loaded : IsLoaded bytes text
   pub accepted : IsNeverRefused bytes
   pub stands : (plate : PlateData) (came : Came) → Stands old plate came → Stands new plate (with_program (begun text) came)
-  pub last : IfSome new.machine (λ machine. machine.last ≡ 0)
+  pub last : IfSome (machine_in new.opened) (λ machine. machine.last ≡ 0)
 
 abbrev pub TakesLoad : Scale → Scale → List ℕ → Refusal → Type 0
 TakesLoad old new bytes told = told.status ≡ 0 → IsBegun old new bytes
@@ -39,16 +37,14 @@ pub record RefusesLoad (old new : Scale) (bytes : List ℕ) (told : Refusal) : T
 -- the store of the new text is what is carried over to it, and the moment of the last scan stays
 pub record IsChangedTo (old new : Scale) (text : Text) : Type 0 where
   pub stands : (plate : PlateData) (came : Came) (running : Running) → came.program ≡ Some running → Stands old plate came →
-      Stands new plate (with_program (record { text = text; store = carried running.text running.store text }) came)
+      Stands new plate (with_program (changed_program running text) came)
   pub last : (ms : ℕ) → IsNotBehind old ms → IsNotBehind new ms
   pub stays : (ms : ℕ) → IsNotBehind new ms → IsNotBehind old ms
 
-abbrev pub TakesChangeTo : Scale → Scale → LoadedText → ℕ → Type 0
-TakesChangeTo old new loaded status = status ≡ 0 → IsChangedTo old new (text_view loaded.source)
-
-pub record RefusesChangeTo (old new : Scale) (status : ℕ) : Type 0 where
-  pub kept : IsKept old new status
-  pub else : ¬ (HasNoProgram old) → (status ≡ 0) ⊎ (status ≡ 2)
+-- why a change was not made, as a status
+abbrev pub IsChangeStatus : ChangeFault → ℕ → Type 0
+IsChangeStatus NoProgram status = status ≡ 5
+IsChangeStatus Memory status = status ≡ 2
 
 -- the bytes are loaded as a text, to which the program is changed
 pub record IsChanged (old new : Scale) (bytes : List ℕ) : Type 0 where

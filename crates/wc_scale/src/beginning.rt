@@ -32,15 +32,15 @@ impl Scale {
         ensures taken { TakesLoad self.old self.new text.now result }
         ensures refused { RefusesLoad self.old self.new text.now result }
     {
-        if self.indicator.is_none() {
-            return only(CLOSED);
-        }
-        match machine_of(self.alloc, text) {
-            Ok(machine) => {
-                self.machine = Some(machine);
-                only(DONE)
-            }
-            Err(fault) => of_fault(fault),
+        match &mut self.opened {
+            Some(opened) => match machine_of(self.alloc, text) {
+                Ok(machine) => {
+                    opened.load(machine);
+                    only(DONE)
+                }
+                Err(fault) => of_fault(fault),
+            },
+            None => only(CLOSED),
         }
     }
 }

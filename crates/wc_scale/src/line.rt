@@ -37,10 +37,10 @@ impl Scale {
         ensures taken { TakesByte self.old self.new byte result }
         ensures refused { RefusesByte self.old self.new result }
     {
-        match &mut self.indicator {
-            Some(indicator) => {
+        match &mut self.opened {
+            Some(opened) => {
                 let mut room = AnswerRoom::new();
-                match self.line.feed(&[byte], indicator, &mut room) {
+                match opened.feed(&[byte], &mut room) {
                     Ok(()) => answer_in(&room),
                     Err(_) => no_answer(LINE_FAILED),
                 }

@@ -1,23 +1,23 @@
 ghost use Rattle.std.specs.Prelude.{IfErr, IfOk};
-ghost use Rattle.wc_scale.specs.Opening.{IsRefusedPlate, ShowsPlate};
+ghost use Rattle.wc_scale.specs.Opening.{HasPlate, IsRefusedPlate};
 ghost use Rattle.wc_scale.specs.Calls.{RefusesOpen, TakesOpen};
 
 use crate::results::{Refusal, of_fault, only};
 use crate::scale::Scale;
 use crate::statuses::{ALREADY_OPEN, DONE};
 use std::alloc::Global;
-use wc_indicator::Indicator;
 use wc_model::Fault;
+use wc_open_scale::OpenScale;
 use wc_plate::plate;
-use wc_sma::Line;
+use wc_store::SlotStore;
 
-/// An indicator by a plate's text.
-fn indicator_of(alloc: Global, text: &[u8]) -> Result<Indicator, Fault>
-    ensures plate { IfOk result (λ indicator. ShowsPlate text.now indicator) }
+/// A scale by a plate's text, to which nothing has come.
+fn opened_by(alloc: Global, text: &[u8]) -> Result<OpenScale<'static, SlotStore>, Fault>
+    ensures plate { IfOk result (λ opened. HasPlate text.now opened) }
     ensures refused { IfErr result (λ fault. IsRefusedPlate text.now fault) }
 {
     match plate(alloc, text) {
-        Ok(plate) => Indicator::new(alloc, plate),
+        Ok(plate) => OpenScale::new(alloc, &plate, None),
         Err(fault) => Err(fault),
     }
 }
@@ -28,15 +28,12 @@ impl Scale {
         ensures taken { TakesOpen self.new text.now result }
         ensures refused { RefusesOpen self.old self.new text.now result }
     {
-        if self.indicator.is_some() {
+        if self.opened.is_some() {
             return only(ALREADY_OPEN);
         }
-        match indicator_of(self.alloc, text) {
-            Ok(indicator) => {
-                self.line = Line::new();
-                self.inputs = 0;
-                self.machine = None;
-                self.indicator = Some(indicator);
+        match opened_by(self.alloc, text) {
+            Ok(opened) => {
+                self.opened = Some(opened);
                 only(DONE)
             }
             Err(fault) => of_fault(fault),

@@ -4,7 +4,6 @@ ghost use Rattle.wc_scale.specs.Standing.{IsClosed};
 use crate::results::{Engraved, Reading};
 use crate::scale::Scale;
 use crate::statuses::{CLOSED, DONE};
-use wc_record::image;
 
 impl Scale {
     /// What the indicator shows. It takes no memory.
@@ -12,9 +11,9 @@ impl Scale {
         ensures shows { TellsReading self.now result }
         ensures closed { IsClosed self.now → ShowsNothing result }
     {
-        match &self.indicator {
-            Some(indicator) => {
-                let image = image(indicator, self.inputs);
+        match &self.opened {
+            Some(opened) => {
+                let image = opened.image();
                 let weights = image.weights;
                 Reading {
                     status: DONE,
@@ -35,9 +34,9 @@ impl Scale {
         ensures shows { TellsEngraved self.now result }
         ensures closed { IsClosed self.now → ShowsNoPlate result }
     {
-        match &self.indicator {
-            Some(indicator) => {
-                let plate = indicator.plate();
+        match &self.opened {
+            Some(opened) => {
+                let plate = opened.indicator().plate();
                 Engraved {
                     status: DONE,
                     unit: plate.unit(),

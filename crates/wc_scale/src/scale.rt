@@ -4,20 +4,15 @@ ghost use Rattle.wc_scale.specs.Calls.{RefusesSample, TakesSample, RefusesInputs
 
 use crate::statuses::{CLOSED, COUNTS_OUT_OF_RANGE, DONE};
 use std::alloc::Global;
-use wc_indicator::Indicator;
-use wc_machine::Machine;
 use wc_model::{GREATEST_COUNTS, LEAST_COUNTS};
-use wc_sma::Line;
+use wc_open_scale::OpenScale;
 use wc_store::SlotStore;
 
-/// A scale. It is closed while it has no indicator.
+/// A scale, open or closed.
 #[derive(Drop)]
 pub struct Scale {
     pub(crate) alloc: Global,
-    pub(crate) indicator: Option<Indicator>,
-    pub(crate) line: Line,
-    pub(crate) inputs: u16,
-    pub(crate) machine: Option<Machine<'static, SlotStore>>,
+    pub(crate) opened: Option<OpenScale<'static, SlotStore>>,
 }
 
 impl Scale {
@@ -27,10 +22,7 @@ impl Scale {
     {
         Scale {
             alloc,
-            indicator: None,
-            line: Line::new(),
-            inputs: 0,
-            machine: None,
+            opened: None,
         }
     }
 
@@ -39,8 +31,7 @@ impl Scale {
         ensures done { result ≡ 0 }
         ensures closed { IsEmptied self.new }
     {
-        self.machine = None;
-        self.indicator = None;
+        self.opened = None;
         DONE
     }
 
@@ -49,12 +40,12 @@ impl Scale {
         ensures taken { TakesSample self.old self.new counts result }
         ensures refused { RefusesSample self.old self.new counts result }
     {
-        match &mut self.indicator {
-            Some(indicator) => {
+        match &mut self.opened {
+            Some(opened) => {
                 if counts < LEAST_COUNTS || counts > GREATEST_COUNTS {
                     return COUNTS_OUT_OF_RANGE;
                 }
-                indicator.sample(counts);
+                opened.sample(counts);
                 DONE
             }
             None => CLOSED,
@@ -66,10 +57,12 @@ impl Scale {
         ensures taken { TakesInputs self.old self.new inputs result }
         ensures refused { RefusesInputs self.old self.new result }
     {
-        if self.indicator.is_none() {
-            return CLOSED;
+        match &mut self.opened {
+            Some(opened) => {
+                opened.inputs(inputs);
+                DONE
+            }
+            None => CLOSED,
         }
-        self.inputs = inputs;
-        DONE
     }
 }

@@ -1,16 +1,11 @@
-ghost use Rattle.std.specs.Prelude.{◌≡◌, ◌<◌, ◌≤◌, ℕ, pos, replicate};
-ghost use Rattle.wc_model.specs.Language.Paths.{IsProgramBound};
-ghost use Rattle.wc_machine.specs.Machines.{text_of};
+ghost use Rattle.std.specs.Prelude.{◌≡◌, pos, replicate};
 ghost use Rattle.wc_scale.specs.Calls.{RefusesScan, TakesScan};
-ghost use Rattle.wc_scale.specs.Scanning.{EndsScan, LeavesScan, ShowsScan};
 
 use crate::results::Scanned;
 use crate::scale::Scale;
 use crate::statuses::{CLOSED, DONE, MOMENT_BACK, MOMENT_OUT_OF_RANGE, NO_PROGRAM};
-use wc_machine::Machine;
-use wc_model::{Image, LAST_MOMENT};
-use wc_record::image;
-use wc_store::SlotStore;
+use wc_model::LAST_MOMENT;
+use wc_record::Record;
 
 /// No scan, for this reason.
 fn no_scan(status: u32) -> Scanned
@@ -25,25 +20,18 @@ fn no_scan(status: u32) -> Scanned
     }
 }
 
-/// Does one scan of an image at a moment. It takes no memory.
-fn scan_of(ms: u64, image: &Image, machine: &mut Machine<'_, SlotStore>) -> Scanned
-    requires not_before { machine.old.last ≤ ms }
-    requires early { ms ≤ 1099511627775 }
-    requires status { image.now.status < 64 }
-    ensures done { result.status ≡ 0 }
-    ensures leaves { LeavesScan machine.old machine.new ms image.now }
-    ensures shows { ShowsScan machine.old ms image.now result }
-    ensures within { (n : ℕ) → IsProgramBound (text_of machine.old) n → result.steps ≤ n }
-    ensures last { machine.new.last ≡ ms }
-    ensures ends { EndsScan machine.old ms image.now }
+/// A scan that is done.
+fn scanned(record: &Record) -> Scanned
+    ensures status { result.status ≡ 0 }
+    ensures steps { result.steps ≡ record.now.steps }
+    ensures bits { result.bits ≡ record.now.outputs.bits }
+    ensures words { result.words ≡ record.now.outputs.words }
 {
-    let steps = machine.scan(ms, image);
-    let outputs = machine.outputs();
-    let words = outputs.words;
+    let words = record.outputs.words;
     Scanned {
         status: DONE,
-        steps: steps.0,
-        bits: u32::from(outputs.bits),
+        steps: record.steps,
+        bits: u32::from(record.outputs.bits),
         words,
     }
 }
@@ -55,20 +43,20 @@ impl Scale {
         ensures taken { TakesScan self.old self.new ms result }
         ensures refused { RefusesScan self.old self.new ms result }
     {
-        let Some(indicator) = &self.indicator else {
+        let Some(opened) = &mut self.opened else {
             return no_scan(CLOSED);
         };
-        match &mut self.machine {
-            Some(machine) => {
-                if ms > LAST_MOMENT {
-                    return no_scan(MOMENT_OUT_OF_RANGE);
-                }
-                if ms < machine.last() {
-                    return no_scan(MOMENT_BACK);
-                }
-                let image = image(indicator, self.inputs);
-                scan_of(ms, &image, machine)
-            }
+        let Some(last) = opened.last() else {
+            return no_scan(NO_PROGRAM);
+        };
+        if ms > LAST_MOMENT {
+            return no_scan(MOMENT_OUT_OF_RANGE);
+        }
+        if ms < last {
+            return no_scan(MOMENT_BACK);
+        }
+        match opened.scan(ms) {
+            Some(record) => scanned(&record),
             None => no_scan(NO_PROGRAM),
         }
     }

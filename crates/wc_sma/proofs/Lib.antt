@@ -2,3 +2,4 @@ pub mod Digits
 pub mod Joining
 pub mod Stepping
 pub mod Pieces
+pub mod AnswerLetters

@@ -1,6 +1,6 @@
 -- One byte of the stream.
 use Rattle.std.proofs.Common.{◌≡◌, ℕ, Bool, true, false, ◌==◌, List, [], ◌∷◌, ◌++◌, refl, ap, sym, ◌∙◌, subst, append-nil}
-use Rattle.std.specs.Prelude.{Option, Some, None, option_map, if◌then◌else◌}
+use Rattle.std.specs.Prelude.{Option, Some, None, map, option_map, if◌then◌else◌}
 use Rattle.std.specs.Option.{option_to_list}
 use Rattle.std.specs.Io.KnownBytes.{Appends}
 use Rattle.std.proofs.KnownBytes.{Appends-nil}
@@ -40,6 +40,20 @@ completed_list byte o = go (byte == carriage_return)
 completed_behind : (before : List ℕ) (byte : ℕ) (o : Option (List ℕ)) → completes byte (open_request before) ≡ o →
     requests_in before (byte ∷ []) ≡ option_to_list o
 completed_behind before byte o e = requests_in_byte before byte ∙ completed_list byte (open_request before) ∙ ap option_to_list e
+
+-- the command of the request that a byte completes
+pub command_behind : (before : List ℕ) (byte : ℕ) (seen : Seen) (command : Command) → Some seen ≡ option_map seen_in (completes byte (open_request before)) →
+    ((text : List ℕ) → seen ≡ seen_in text → command_told command ≡ told.command_of text) →
+    command_told command ∷ [] ≡ map told.command_of (requests_in before (byte ∷ []))
+command_behind before byte seen command was asks =
+    let found = seen_text (completes byte (open_request before)) seen was in
+    ap (λ k. k ∷ []) (asks found.0 found.2) ∙ ap (map told.command_of) (sym (completed_behind before byte (Some found.0) found.1))
+
+-- and none where it completes none
+pub no_command_behind : (before : List ℕ) (byte : ℕ) → None ≡ option_map seen_in (completes byte (open_request before)) →
+    [] ≡ map told.command_of (requests_in before (byte ∷ []))
+no_command_behind before byte was =
+    ap (map told.command_of) (sym (completed_behind before byte None (unseen_text (completes byte (open_request before)) was)))
 
 module _ (line line' : Line) (indicator indicator' : IndicatorState) (taken taken' : Option (List ℕ)) (byte : ℕ) where
   -- what the line sees of a request is carried over a byte

@@ -4,3 +4,4 @@ pub mod Seen
 pub mod Replies
 pub mod Standing
 pub mod Feeding
+pub mod Letters

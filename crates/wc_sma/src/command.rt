@@ -16,12 +16,18 @@ pub(crate) enum Seen {
 
 /// What a request asks of the indicator.
 #[derive(Clone, Copy, PartialEq, Eq)]
-pub(crate) enum Command {
+pub enum Command {
+    /// The weight that is shown.
     AskWeight,
+    /// Set zero.
     Zero,
+    /// Take a tare.
     TakeTare,
+    /// The tare value.
     AskTare,
+    /// Clear the tare.
     Clear,
+    /// It is no request that the line knows.
     Unknown,
 }
 

@@ -5,9 +5,14 @@
 mod acting;
 mod answers;
 mod command;
+mod letters;
 mod line;
+mod requests;
 mod weight;
 
 pub use answers::{Asked, Mode, answer};
+pub use command::Command;
+pub use letters::{MassUnit, Status, WeightKind, letters_are_those_of_answers, stable_of_letter};
 pub use line::Line;
+pub use requests::RequestReader;
 pub use wc_model::WriteFault;

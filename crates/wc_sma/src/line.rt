@@ -23,7 +23,7 @@ pub struct Line {
 }
 
 /// The request that a byte completes.
-fn completed(begun: Option<Seen>, byte: u8) -> Option<Seen>
+pub(crate) fn completed(begun: Option<Seen>, byte: u8) -> Option<Seen>
     ensures { (text : Option (List ℕ)) → begun ≡ option_map seen_in text
         → result ≡ option_map seen_in (completes byte text) }
 {

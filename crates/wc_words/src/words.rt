@@ -17,7 +17,7 @@ use wc_refusals::Form;
 /// tools/legal_digest computes. Whether a build was proved is not known to the program.
 const VERSION: &str = "0.1.0 (Narbeddo)
 toolchain rattle-kit-13 logic dac8208d650f15bf
-legal part sha256 3319970a5be15ee2560ca351eff0e0601233bf84338d6ecb587708465c4f0888";
+legal part sha256 26c97ed763b5f3d1e114f4776667d830bd566c2cdd8ca5eb6924361de8b7e747";
 
 /// What the program does, with an example of each word.
 const ABOUT: &str =

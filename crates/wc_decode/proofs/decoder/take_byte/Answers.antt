@@ -11,6 +11,6 @@ returns-clause-takes c =
     let kept = c.args.decoder.now.line.items in
     let old = c.args.text.now.items in
     let size : c.len.result ≡ length kept = grind (arith, common_steps) in
-    takes_if c.push_byte.result c.args.decoder.now (record { form = form; line = c.push_byte.new.line; is_long = c.args.decoder.now.is_long }) (c.args.byte ∷ []) old old _ c.push_byte.ensures.byte
+    takes_if c.put_bytes.result c.args.decoder.now (record { form = form; line = c.put_bytes.new.text; is_long = c.args.decoder.now.is_long }) (c.args.byte ∷ []) old old _ c.put_bytes.ensures.bytes
     (λ e read text stands. rw (e, c.if-decoder.false)
     (byte_kept form read kept (text ++ old) c.args.byte c.if-byte-eq10.false (λ full. c.if-len-eq-LONGEST_LINE.false (size ∙ full)) (subst (λ b. StandsIn form read kept b (text ++ old)) c.if-decoder.false stands)))

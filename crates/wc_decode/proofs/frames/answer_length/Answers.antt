@@ -4,6 +4,6 @@ use Rattle.wc_decode.specs.AnswerBytes.{IsAnswer}
 use Rattle.wc_decode.proofs.frames.answer_length.Goals as goal
 
 pub returns-in-Weight : goal.returns-in-Weight
-returns-in-Weight c =
-    let ok = subst IsAnswer c.in-Weight.is c.requires in
+returns-in-Weight c given =
+    let ok = subst IsAnswer c.in-Weight.is given in
     rw c.in-Weight.is (sym (reading_length c.in-Weight.field-0 ok.0))

@@ -1,0 +1,11 @@
+use crate::output::Gathered;
+use std::cell::RefCell;
+use wc_refusals::Form;
+
+/// What each command is given: the system, the form in which a refusal is told, and standard output with what is gathered for it.
+#[derive(Clone, Copy)]
+pub(crate) struct Desk<'a> {
+    pub(crate) rt: &'a HostRuntime,
+    pub(crate) form: Form,
+    pub(crate) gathered: &'a RefCell<Gathered>,
+}

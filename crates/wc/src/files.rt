@@ -1,0 +1,128 @@
+use crate::desk::Desk;
+use crate::opening::LateFile;
+use crate::output::Emptying;
+use crate::telling::{ReadFile, Sources};
+use std::io;
+use wc_controller::RunInputs;
+use wc_devices::{Keeping, Noting};
+use wc_model::Device;
+use wc_words::ProgramFiles;
+
+/// A file that is read, and before each read the output is written.
+type Source<'a> = Device<Emptying<'a, Noting<LateFile<'a>>>>;
+
+/// The same of a file whose bytes are kept, so that a refusal shows those that were read.
+pub(crate) type KeptSource<'a> = Device<Emptying<'a, Keeping<Noting<LateFile<'a>>>>>;
+
+/// A file whose bytes are kept. It is opened when it is first read.
+pub(crate) fn kept_source<'a>(desk: Desk<'a>, path: &'a str) -> KeptSource<'a> {
+    let keeping = Keeping::new(desk.rt.alloc(), Noting::new(LateFile::new(desk.rt, path)));
+    Device::new(Emptying::new(desk.gathered, keeping))
+}
+
+/// A file of which no bytes are kept. It is opened when it is first read.
+fn source<'a>(desk: Desk<'a>, path: &'a str) -> Source<'a> {
+    let noting = Noting::new(LateFile::new(desk.rt, path));
+    Device::new(Emptying::new(desk.gathered, noting))
+}
+
+/// Why a file could not be read, if the system said so.
+pub(crate) fn kept_cause(source: &KeptSource<'_>) -> Option<io::Error> {
+    source.get_ref().get_ref().get_ref().cause()
+}
+
+/// A file by its path, with the bytes that were read of it.
+pub(crate) fn read_of<'a>(path: &'a str, source: &'a KeptSource<'_>) -> ReadFile<'a> {
+    ReadFile {
+        path,
+        bytes: source.get_ref().get_ref().bytes_read(),
+    }
+}
+
+/// A file that may be missing. It is opened when it is first read.
+fn optional_source<'a>(desk: Desk<'a>, path: Option<&'a str>) -> Option<KeptSource<'a>> {
+    match path {
+        Some(path) => Some(kept_source(desk, path)),
+        None => None,
+    }
+}
+
+/// Why such a file could not be read, if the system said so.
+fn optional_cause(source: &Option<KeptSource<'_>>) -> Option<io::Error> {
+    match source {
+        Some(source) => kept_cause(source),
+        None => None,
+    }
+}
+
+/// Such a file by its path, with the bytes that were read of it.
+fn optional_read<'a>(
+    path: Option<&'a str>,
+    source: &'a Option<KeptSource<'_>>,
+) -> Option<ReadFile<'a>> {
+    match (path, source) {
+        (Some(path), Some(source)) => Some(read_of(path, source)),
+        _ => None,
+    }
+}
+
+/// The paths of the files of a run. With no program the line alone is run.
+#[derive(Clone, Copy)]
+pub(crate) struct RunPaths<'a> {
+    pub(crate) plate: &'a str,
+    pub(crate) program: Option<&'a str>,
+    pub(crate) next: Option<&'a str>,
+    pub(crate) log: &'a str,
+}
+
+impl<'a> RunPaths<'a> {
+    /// The paths of a run with a program.
+    pub(crate) fn with_program(plate: &'a str, files: ProgramFiles<'a>) -> RunPaths<'a> {
+        RunPaths {
+            plate,
+            program: Some(files.program),
+            next: files.next,
+            log: files.log,
+        }
+    }
+}
+
+/// The files of a run: each is opened when it is first read. The bytes of all but the log are kept.
+#[derive(Drop)]
+pub(crate) struct RunFiles<'a> {
+    paths: RunPaths<'a>,
+    pub(crate) inputs: RunInputs<KeptSource<'a>, KeptSource<'a>, KeptSource<'a>, Source<'a>>,
+}
+
+impl<'a> RunFiles<'a> {
+    /// The files at these paths.
+    pub(crate) fn new(desk: Desk<'a>, paths: RunPaths<'a>) -> RunFiles<'a> {
+        RunFiles {
+            paths,
+            inputs: RunInputs {
+                plate: kept_source(desk, paths.plate),
+                program: optional_source(desk, paths.program),
+                next: optional_source(desk, paths.next),
+                log: source(desk, paths.log),
+            },
+        }
+    }
+
+    /// Why one of the files could not be read, if the system said so.
+    pub(crate) fn cause(&self) -> Option<io::Error> {
+        kept_cause(&self.inputs.plate)
+            .or(optional_cause(&self.inputs.program))
+            .or(optional_cause(&self.inputs.next))
+            .or(self.inputs.log.get_ref().get_ref().cause())
+    }
+
+    /// The files by their paths, with the bytes that were read of them.
+    pub(crate) fn sources(&self) -> Sources<'_> {
+        Sources::Files {
+            plate: read_of(self.paths.plate, &self.inputs.plate),
+            program: optional_read(self.paths.program, &self.inputs.program),
+            next: optional_read(self.paths.next, &self.inputs.next),
+            log: self.paths.log,
+        }
+    }
+}

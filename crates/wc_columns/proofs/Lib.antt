@@ -1,0 +1,4 @@
+mod Followed
+mod Joined
+mod Together
+mod Wholes

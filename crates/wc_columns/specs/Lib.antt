@@ -1,0 +1,4 @@
+pub mod Spans
+pub mod Held
+pub mod Happened
+pub mod Columns

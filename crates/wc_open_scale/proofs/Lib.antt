@@ -1,0 +1,5 @@
+pub mod Cuts
+pub mod Feeding
+pub mod ProgramChanges
+pub mod RowCalls
+pub mod Scans

@@ -1,0 +1,6 @@
+pub mod Calls
+pub mod Changing
+pub mod Coming
+pub mod Rows
+pub mod Scanning
+pub mod Standing

@@ -1,5 +1,0 @@
-use Rattle.wc_scale.proofs.Scans.{leaves_done}
-use Rattle.wc_scale.proofs.scanning.scan_of.Goals as goal
-
-pub returns-clause-ends : goal.returns-clause-ends
-returns-clause-ends c = λ text store stands. leaves_done _ text _ _ (c.scan-steps.ensures.means text store stands)
