@@ -7,7 +7,7 @@ use crate::output::{Emptying, Sharing};
 use crate::telling::{CommandEnd, Sources, end};
 use std::io;
 use std::io::{IsTerminal, Stdin};
-use wc_controller::{Ending, Input, RefusedRow, Unwatched, answer_job, check_file, run_files};
+use wc_controller::{Ending, Input, RefusedRow, answer_job, check_file, last_files, report_files};
 use wc_decode::{DecodeFault, DecodeForm, decode as decode_report};
 use wc_devices::{Keeping, Noting};
 use wc_model::Device;
@@ -150,15 +150,13 @@ pub(crate) fn run_words(
     requires form { form_asked (texts_of _words.now) ≡ Some desk.form }
     requires so_many { IfSome last (λ n. (1 ≤ n) × (n ≤ 1000)) }
 {
+    let alloc = desk.rt.alloc();
     let mut opened = RunFiles::new(desk, RunPaths::with_program(plate, files));
-    let ending = run_files(
-        desk.rt.alloc(),
-        last,
-        &mut Unwatched,
-        &mut opened.inputs,
-        &mut Device::new(Sharing::new(desk.gathered)),
-        row,
-    );
+    let mut writer = Device::new(Sharing::new(desk.gathered));
+    let ending = match last {
+        Some(number) => last_files(alloc, number, &mut opened.inputs, &mut writer, row),
+        None => report_files(alloc, &mut opened.inputs, &mut writer, row),
+    };
     finish_run(desk, ending, &opened, row)
 }
 
@@ -186,13 +184,11 @@ pub(crate) fn watch_words(
     requires so_many { IfSome watched.last (λ n. (1 ≤ n) × (n ≤ 1000)) }
 {
     let mut opened = RunFiles::new(desk, RunPaths::with_program(plate, files));
-    // What stands beside the report goes to the same output, so that it stands behind its line.
     let answer = watch_files(
         desk.rt.alloc(),
         watched.names.as_bytes(),
         watched.last,
         &mut opened.inputs,
-        &mut Device::new(Sharing::new(desk.gathered)),
         &mut Device::new(Sharing::new(desk.gathered)),
         row,
     );
@@ -205,7 +201,7 @@ pub(crate) fn watch_words(
 /// Tells that a name is unknown which is to be watched: the exit status.
 fn refuse_name(desk: Desk<'_>, list: &str, unknown: UnknownName, row: &RefusedRow) -> u8 {
     let ending = Ending::Refused {
-        input: Input::Program,
+        input: Input::Names,
         number: 401,
         place: 0,
     };
@@ -334,10 +330,8 @@ pub(crate) fn line_words<'a>(
         log,
     };
     let mut opened = RunFiles::new(desk, paths);
-    let ending = run_files(
+    let ending = report_files(
         desk.rt.alloc(),
-        None,
-        &mut Unwatched,
         &mut opened.inputs,
         &mut Device::new(Sharing::new(desk.gathered)),
         row,

@@ -108,6 +108,7 @@ fn section(input: Input) -> &'static str {
         Input::Program => "standard input, section @program",
         Input::Next => "standard input, section @next",
         Input::Log => "standard input, section @log",
+        Input::Names => "standard input",
     }
 }
 
@@ -119,6 +120,7 @@ fn part_of(input: Input) -> Part {
         Input::Program => Part::Program,
         Input::Next => Part::Next,
         Input::Log => Part::Log,
+        Input::Names => Part::Program,
     }
 }
 

@@ -27,7 +27,7 @@ use Rattle.wc_model.specs.declared.fault.Fault.{Fault}
 use Rattle.wc_model.specs.declared.fault.Fault.TheVariants as fault
 use Rattle.wc_run.proofs.Fronts.{front_behind, front_of_more}
 use Rattle.wc_run.proofs.Lines.{whole_written}
-use Rattle.wc_run.proofs.Texts.{text_first}
+use Rattle.wc_run.proofs.Texts.{lines_first}
 use Rattle.wc_run.specs.Reports.{report_plan}
 use Rattle.wc_run.specs.Logics.{text_of_next}
 use Rattle.wc_run.specs.Doing.{WritesBy}
@@ -80,7 +80,7 @@ module _ (plan : Plan) (plate : PlateData) (logic : Option Logic) (log : LogOf) 
 
   -- what is written of the first rows is a front of all of it
   first_rows : AppendsFirst (text_coming plan plate logic []) log.rows old new → AppendsFront old new whole
-  first_rows f = let rest = text_first plan plate logic log.refusal f.0 f.1 in
+  first_rows f = let rest = lines_first plan plate logic log.refusal f.0 f.1 in
       (text_coming plan plate logic [] f.0, rest.0, ap (text_in_all plan plate logic log.refusal) f.2 ∙ rest.1, f.3)
 
   -- all rows ran, or it was stopped

@@ -1,10 +1,10 @@
 -- How far a run came, by the input at which it stopped.
-use Rattle.std.proofs.Common.{◌≡◌, ℕ, ◌≤◌, List, length, false, refl, ap, sym, subst, ◌∙◌, arith}
+use Rattle.std.proofs.Common.{◌≡◌, ℕ, ◌≤◌, List, length, false, refl, ap, subst, arith}
 use Rattle.std.specs.Prelude.{Option, Some, None, IfErr, IfSome, IsSome, is_some, Result, Ok, Err}
 use Rattle.wc_controller.proofs.Allowing.{on_each, on_known, plate_not_read, plate_read}
 use Rattle.wc_controller.proofs.Blaming.{next_read, one_input, same_next}
 use Rattle.wc_controller.proofs.FileRuns as files
-use Rattle.wc_controller.proofs.StoppedInputs.{apart, blamed_by, length_refused, memory_by, named_by, no_read_fault, none_taken, read_by, read_on_by, told_by, untold_by}
+use Rattle.wc_controller.proofs.StoppedInputs.{blamed_by, length_refused, memory_by, named_by, no_read_fault, none_taken, read_by, read_on_by, told_by, untold_by}
 use Rattle.wc_controller.specs.Blames.{IsNextUnloaded, IsUnloaded, RefusesLog, RefusesProgram, StopsFor}
 use Rattle.wc_controller.specs.Endings.{HasNotFailedAt, IsReadFaultAt, RefusesLength, RefusesPlate, StopsAt, TakesInput, TellsMemory, TellsReadEndings, TellsReadFaults, TellsWriteFaults, WritesUpTo, fault_ending, met, of_unread_log, status_of}
 use Rattle.wc_controller.specs.Files.{AnswersPrinting, IsLineAnswer, Observed}

@@ -4,7 +4,6 @@ use Rattle.wc_controller.specs.Blames.{Blames, RefusesLog, RefusesProgram}
 use Rattle.wc_controller.specs.Endings.{EndsAs, HasNotFailedIn, IsAt, RefusesPlate, TakesInput, TellsFailures, TellsMemory, TellsReadEndings, TellsWriteFaults, WritesUpTo, ending_of, met}
 use Rattle.wc_controller.specs.Files.{AnswersLine, AnswersRun, Observed}
 use Rattle.wc_controller.specs.InputStates.{InputStates, Reader, Writer}
-use Rattle.wc_controller.specs.Shown.{EndsLike, TellsShownReads}
 use Rattle.wc_controller.specs.TakenLogs.{IfKnown, failures_of, known_of, log_taken}
 use Rattle.wc_controller.specs.declared.ending.Ending.{Ending}
 use Rattle.wc_controller.specs.declared.ending.Ending.TheVariants as ended
@@ -90,20 +89,6 @@ pub record RunsUpTo (o : Observed) (before after : InputStates) (told : Record) 
   pub memory : ending_of answer ≡ ended.NoMemory
       → TellsMemory (log_taken before) before.log.bytes before.log.failures after.log.failures before.log.spent after.log.spent
   pub failures : TellsWriteFaults (met answer) old.failures new.failures
-
--- a read fault names the plate, the program or the next one only if its reader failed; and if it failed, unless what is shown
--- fails too
-pub record TellsShownReaders (before after : InputStates) (ending : Ending) : Type 0 where
-  pub plate : TellsShownReads input.Plate ending before.plate.failures after.plate.failures
-  pub program : TellsShownReads input.Program ending (failures_of before.program) (failures_of after.program)
-  pub next : TellsShownReads input.Next ending (failures_of before.next) (failures_of after.next)
-
--- What a run of these inputs does that is shown, next to its report or in place of it. It ends as a run of them does, or
--- something failed, which can be what is shown.
-pub record ShowsRun (o : Observed) (before after : InputStates) (told : Record) (ending : Ending) : Type 0 where
-  pub ends : OfAnswers o before (λ allowed. EndsLike allowed ending)
-  pub inputs : ReadsInOrder before after told ending
-  pub readers : TellsShownReaders before after ending
 
 -- So with an observer of whose bytes nothing is said, and which may refuse to begin or may not; of its writer the calls that failed
 -- are counted.

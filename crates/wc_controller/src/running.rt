@@ -1,4 +1,4 @@
-ghost use Rattle.std.specs.Prelude.{◌≡◌, ◌≤◌, IfSome};
+ghost use Rattle.std.specs.Prelude.{◌≤◌};
 ghost use Rattle.wc_controller.specs.Files.{report_observed};
 ghost use Rattle.wc_controller.specs.InputRuns.{RunsAs, RunsUpTo};
 ghost use Rattle.wc_controller.specs.InputStates.{observed_by, writer_of};

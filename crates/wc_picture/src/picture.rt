@@ -64,9 +64,7 @@ impl Picture {
         let mut events = Events::none();
         match seen.row.kind {
             HeadKind::Bytes => {
-                return self
-                    .tracker
-                    .follow(seen.row.ms, seen.bytes, seen.answer);
+                return self.tracker.follow(seen.row.ms, seen.bytes, seen.answer);
             }
             HeadKind::Inputs(inputs) => self.inputs = inputs,
             HeadKind::Scan => {
@@ -133,7 +131,11 @@ impl Picture {
     }
 
     /// Keeps what a row brought.
-    fn follow(&mut self, seen: &RowSeen<'_>, scale: &Scale<'_, SlotStore>) -> Result<(), AllocError> {
+    fn follow(
+        &mut self,
+        seen: &RowSeen<'_>,
+        scale: &Scale<'_, SlotStore>,
+    ) -> Result<(), AllocError> {
         if let HeadKind::Change = seen.row.kind {
             self.change();
         }

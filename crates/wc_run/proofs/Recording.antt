@@ -9,10 +9,10 @@ use Rattle.wc_model.specs.Instrument.Plates.{PlateData}
 use Rattle.wc_model.specs.Instrument.WeighingHistories.{last_items}
 use Rattle.wc_model.specs.Run.Rows.{Past}
 use Rattle.wc_model.specs.Say.ProgramReport.{Logic}
-use Rattle.wc_model.specs.Say.Report.{ReportLine, answer_line, is_answer_line, is_scan_line, line_text, report_text}
+use Rattle.wc_model.specs.Say.Report.{ReportLine, answer_line, is_scan_line, line_text, report_text}
 use Rattle.wc_record.specs.Recorders.{RecorderState, HoldsLast}
 use Rattle.wc_record.specs.declared.last_scans.Record.{Record}
-use Rattle.wc_run.proofs.Lines.{answer_dropped, answer_kept, lines_at_last}
+use Rattle.wc_run.proofs.Lines.{answer_dropped, lines_at_last}
 use Rattle.wc_run.specs.Doing.{Writes}
 use Rattle.wc_run.specs.Logics.{lines_of_row, lines_of_rows}
 use Rattle.wc_run.specs.Observing.{IsShown, lines_of_scan, lines_of_seen, onto, row_of}
@@ -22,25 +22,15 @@ use Rattle.wc_run.specs.declared.fault.RunFault.{RunFault}
 use Rattle.wc_run.specs.declared.row_seen.RowSeen.{RowSeen}
 use Rattle.wc_run.specs.declared.row_seen.ScanSeen.{ScanSeen}
 
--- the scans of what is shown, and its answers
+-- the scans of what is shown
 scans_of_lines : (scan : Option ScanSeen) → filter is_scan_line (lines_of_scan scan) ≡ lines_of_scan scan
 scans_of_lines None = refl
 scans_of_lines (Some scan) = refl
-
-no_answers : (scan : Option ScanSeen) → filter is_answer_line (lines_of_scan scan) ≡ []
-no_answers None = refl
-no_answers (Some scan) = refl
 
 scans_shown : (seen : RowSeen) → filter is_scan_line (lines_of_seen seen) ≡ lines_of_scan seen.scan
 scans_shown seen =
     filter-append is_scan_line (answer_line seen.row.ms seen.answer.now) (lines_of_scan seen.scan)
     ∙ λ i. answer_dropped seen.row.ms seen.answer.now i ++ scans_of_lines seen.scan i
-
-pub answers_shown : (seen : RowSeen) → filter is_answer_line (lines_of_seen seen) ≡ answer_line seen.row.ms seen.answer.now
-answers_shown seen =
-    filter-append is_answer_line (answer_line seen.row.ms seen.answer.now) (lines_of_scan seen.scan)
-    ∙ (λ i. answer_kept seen.row.ms seen.answer.now i ++ no_answers seen.scan i)
-    ∙ append-nil (answer_line seen.row.ms seen.answer.now)
 
 -- the scans of the rows so far, and of one more
 scans_more : (seen : RowSeen) (plate : PlateData) (logic : Option Logic) (past : Past) → IsShown seen plate logic past
@@ -54,11 +44,11 @@ keeps_by : (seen : RowSeen) (scan : Option ScanSeen) (recorder kept : RecorderSt
     → IsShown seen plate logic past → seen.scan ≡ scan → KeepsScan recorder kept scan
     → HoldsScans recorder number (lines_so_far plate logic past) → HoldsScans kept number (lines_so_far plate logic (row_of seen ∷ past))
 keeps_by seen None recorder kept number plate logic past shown is keeps holds = (
-    holds.0,
-    subst (λ held. HoldsLast held number holds.0) (sym keeps) holds.1,
-    holds.2 ∙ sym (scans_more seen plate logic past shown ∙ ap (λ s. filter is_scan_line (lines_so_far plate logic past) ++ lines_of_scan s) is
-        ∙ append-nil (filter is_scan_line (lines_so_far plate logic past))),
-  )
+  holds.0,
+  subst (λ held. HoldsLast held number holds.0) (sym keeps) holds.1,
+  holds.2 ∙ sym (scans_more seen plate logic past shown ∙ ap (λ s. filter is_scan_line (lines_so_far plate logic past) ++ lines_of_scan s) is
+      ∙ append-nil (filter is_scan_line (lines_so_far plate logic past))),
+)
 keeps_by seen (Some scan) recorder kept number plate logic past shown is keeps holds =
     let all : List Record = holds.0 in
     let same : recorder.most ≡ number = holds.1.0 in (
@@ -90,7 +80,7 @@ pub writes_last : {X : Type 0} (answer : Result X RunFault) (recorder : Recorder
 writes_last answer recorder number plate logic past text old new same holds writes =
     subst (λ t. Writes t answer old new)
     (same ∙ ap report_text (last_lines recorder number (lines_so_far plate logic past) holds)
-        ∙ ap (λ lines. report_text (last_items number (filter is_scan_line lines))) (sym (lines_at_last plate logic past)))
+    ∙ ap (λ lines. report_text (last_items number (filter is_scan_line lines))) (sym (lines_at_last plate logic past)))
     writes
 
 -- the text of the records up to one is that of those before it, and its line

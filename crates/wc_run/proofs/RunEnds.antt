@@ -1,14 +1,14 @@
 -- The end of a run: what the observer writes behind the rest, and how a fault is judged.
-use Rattle.std.proofs.Common.{inl, inr, ◌≡◌, sym, subst, ◌∙◌, ap, ℕ, List, [], ◌++◌, Option, Some, None, Ok, Err, Result, append-nil, true, false}
+use Rattle.std.proofs.Common.{inl, inr, ◌≡◌, sym, subst, ℕ, List, [], Option, Ok, Err, Result, append-nil, true, false}
 use Rattle.std.proofs.KnownBytes.{Appends-kept, Appends-trans}
 use Rattle.std.specs.Io.KnownBytes.{Appends}
-use Rattle.wc_model.specs.Run.Log.{LogOf, LogRefusal}
+use Rattle.wc_model.specs.Run.Log.{LogOf}
 use Rattle.wc_model.specs.Instrument.Plates.{PlateData}
 use Rattle.wc_model.specs.Run.Rows.{LogRow, Past}
 use Rattle.wc_run.proofs.Fronts.{front_behind, front_of_more}
 use Rattle.wc_run.specs.Doing.{HasSeenAll, IsCutShort, IsJudged, RunsRows, Seeing, Writes, WritesBy, is_cut_short, refused_in}
 use Rattle.wc_model.specs.Say.ProgramReport.{Logic}
-use Rattle.wc_run.specs.Observing.{Plan, onto, refusal_of, text_coming, text_in_all}
+use Rattle.wc_run.specs.Observing.{Plan, onto, refusal_of, text_coming}
 use Rattle.wc_run.specs.Runs.{ReportsBy}
 use Rattle.wc_run.specs.declared.fault.RunFault.{RunFault}
 use Rattle.wc_run.specs.declared.fault.RunFault.TheVariants.{Refused, Read, Write, Memory}

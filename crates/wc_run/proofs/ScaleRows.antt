@@ -71,7 +71,7 @@ pub gives_answers : {S : Type 0} (old : Scale S) (line : Line) (indicator : Indi
 gives_answers old line indicator before answers ms bytes none feeds plate logic past number stands =
     gives_bytes old line indicator answers ms bytes plate logic past number
     (feeds.answers (line_bytes past) plate (history_of past) stands.line stands.indicator
-        ∙ ap (λ b. b ++ answers_to plate (requests_in (line_bytes past) bytes) (history_of past)) none)
+    ∙ ap (λ b. b ++ answers_to plate (requests_in (line_bytes past) bytes) (history_of past)) none)
 
 -- what a scan sees is the image of the rows so far
 seen_image : {S : Type 0} (old : Scale S) (image : Image) (plate : PlateData) (logic : Option Logic) (past : Past) →

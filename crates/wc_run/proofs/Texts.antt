@@ -35,9 +35,9 @@ pub text_at_last : (plan : Plan) (plate : PlateData) (logic : Option Logic) (pas
 text_at_last plan plate logic past = text_of_all plan plate logic past [] ∙ append-nil (text_so_far plan plate logic past)
 
 -- what is written of the first rows is a front of what is written in all
-pub text_first : (plan : Plan) (plate : PlateData) (logic : Option Logic) (refusal : Option LogRefusal) (first left : List LogRow)
+pub lines_first : (plan : Plan) (plate : PlateData) (logic : Option Logic) (refusal : Option LogRefusal) (first left : List LogRow)
     → (rest : List ℕ) × (text_in_all plan plate logic refusal (first ++ left) ≡ text_coming plan plate logic [] first ++ rest)
-text_first plan plate logic refusal first left =
+lines_first plan plate logic refusal first left =
     let end : List ℕ = plan.at_end plate logic (first ++ left) refusal in
     let more = coming [] first in
     (more.0 ++ end, ap (λ text. text ++ end) more.1 ∙ append_assoc (text_coming plan plate logic [] first) more.0 end) where

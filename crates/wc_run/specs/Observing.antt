@@ -5,7 +5,7 @@ use Rattle.wc_machine.specs.Seeing.{IsSeen}
 use Rattle.wc_machine.specs.declared.seen.SeenLine.{SeenLine}
 use Rattle.wc_model.specs.Instrument.Plates.{PlateData}
 use Rattle.wc_model.specs.Language.Views.{text_view}
-use Rattle.wc_model.specs.Run.Log.{LogOf, LogRefusal}
+use Rattle.wc_model.specs.Run.Log.{LogRefusal}
 use Rattle.wc_model.specs.Run.ProcessImage.{image_after}
 use Rattle.wc_model.specs.Run.Rows.{LogRow, Past}
 use Rattle.wc_model.specs.Say.ProgramReport.{Logic, first_logic, logic_behind}

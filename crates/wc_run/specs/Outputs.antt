@@ -1,5 +1,5 @@
 -- The lines that kept records stand for.
-use Rattle.std.specs.Prelude.{ℕ, List, map}
+use Rattle.std.specs.Prelude.{List, map}
 use Rattle.wc_model.specs.Say.Report.{ReportLine, ScanLine}
 use Rattle.wc_record.specs.declared.last_scans.Record.{Record}
 

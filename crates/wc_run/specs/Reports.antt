@@ -3,7 +3,7 @@
 use Rattle.std.specs.Prelude.{◌≡◌, ℕ, List, [], ◌++◌, ◌∷◌, filter, Option, Some, None}
 use Rattle.wc_model.specs.Instrument.Plates.{PlateData}
 use Rattle.wc_model.specs.Instrument.WeighingHistories.{last_items}
-use Rattle.wc_model.specs.Run.Rows.{LogRow, Past}
+use Rattle.wc_model.specs.Run.Rows.{Past}
 use Rattle.wc_model.specs.Say.ProgramReport.{Logic}
 use Rattle.wc_model.specs.Say.Report.{ReportLine, is_answer_line, is_scan_line, report_text}
 use Rattle.wc_record.specs.Recorders.{RecorderState, HoldsLast}

@@ -1,4 +1,4 @@
-ghost use Rattle.std.specs.Prelude.{◌≡◌, ◌<◌, ◌≤◌, ◌^◌, ◌++◌, ℕ, List, [], ◌∷◌, None, Option, IfErr, IfOk, IfSome, IsOkUnless, OnOk, option_map};
+ghost use Rattle.std.specs.Prelude.{◌≡◌, ◌<◌, ◌^◌, ◌++◌, ℕ, [], ◌∷◌, None, Option, IfErr, IfOk, IfSome, IsOkUnless, OnOk, option_map};
 ghost use Rattle.wc_model.specs.Instrument.Plates.{PlateData};
 ghost use Rattle.wc_model.specs.Run.Rows.{Past, Counts, Bytes, Inputs, Scan, Change};
 ghost use Rattle.wc_record.specs.Views.{IsDataInRange, head_data_view, head_view};

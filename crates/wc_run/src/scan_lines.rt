@@ -1,4 +1,4 @@
-ghost use Rattle.std.specs.Prelude.{◌≡◌, ◌<◌, ◌≤◌, ◌+◌, ◌++◌, IfErr, IfOk, IsOkUnless, OnOk};
+ghost use Rattle.std.specs.Prelude.{◌≡◌, ◌<◌, ◌+◌, ◌++◌, IfErr, IfOk, IsOkUnless, OnOk};
 ghost use Rattle.wc_model.specs.Say.Report.{line_text, report_text};
 ghost use Rattle.wc_run.specs.Doing.{Writes};
 ghost use Rattle.wc_run.specs.Outputs.{line_of_record, lines_of_records};

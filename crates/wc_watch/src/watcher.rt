@@ -6,9 +6,7 @@ use std::alloc::Global;
 use wc_machine::Machine;
 use wc_model::{ByteOut, Fault};
 use wc_record::{HeadKind, Record};
-use wc_run::{
-    Observer, Program, RowSeen, RunFault, Scale, put_answer, put_record, write_text,
-};
+use wc_run::{Observer, Program, RowSeen, RunFault, Scale, put_answer, put_record, write_text};
 use wc_store::SlotStore;
 
 /// Observes a run, and writes its report and behind the line of each scan one with the values that are watched.
@@ -70,17 +68,13 @@ impl<'n> Watcher<'n> {
         }
     }
 
-    /// The number of the first name that no program has, counted from 0, where a run did not begin for that.
-    pub(crate) fn unknown(&self) -> Option<usize> {
-        self.unknown
+    /// The number of the first name that no program has, counted from 0, if a run did not begin for that.
+    pub(crate) fn unknown(&self) -> usize {
+        self.unknown.unwrap_or(0)
     }
 
     /// Looks for the names in the programs, and makes room for the lines.
-    fn look(
-        &mut self,
-        first: Program<'_, '_>,
-        next: Option<Program<'_, '_>>,
-    ) -> Result<(), Fault> {
+    fn look(&mut self, first: Program<'_, '_>, next: Option<Program<'_, '_>>) -> Result<(), Fault> {
         let next = match next {
             Some(next) => Some(next.loaded),
             None => None,

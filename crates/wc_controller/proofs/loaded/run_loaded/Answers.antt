@@ -1,5 +1,5 @@
 use Rattle.std.proofs.Common.{[], Some, subst}
-use Rattle.std.specs.Prelude.{is_some, option_map}
+use Rattle.std.specs.Prelude.{option_map}
 use Rattle.wc_controller.proofs.Allowing.{on_each, on_known}
 use Rattle.wc_controller.proofs.Blaming.{taken_beside}
 use Rattle.wc_controller.proofs.Givings.{answered_so, next_loaded, next_unloaded, not_begun}

@@ -1,7 +1,7 @@
 use Rattle.wc_run.specs.Observing.{said_by}
 use Rattle.std.proofs.Common.{Ok, Err, ap, sym, subst, ◌∙◌, arith}
 use Rattle.wc_model.specs.Say.LogFor.{log_for}
-use Rattle.wc_run.proofs.RunsOn.{at_end, at_fault, at_first, at_row, one_more}
+use Rattle.wc_run.proofs.RunsOn.{at_end, at_fault, at_row, one_more}
 use Rattle.wc_record.specs.Left.{end_behind}
 use Rattle.wc_run.proofs.ToldRows.{told_at_end, told_at_row}
 use Rattle.wc_record.specs.Views.{head_view}

@@ -1,4 +1,4 @@
-use Rattle.std.proofs.Common.{◌≡◌, ◌≤◌, ◌+◌, ◌-◌, ℕ, List, [], Option}
+use Rattle.std.proofs.Common.{◌≡◌, ◌≤◌, ◌+◌, ◌-◌, List, [], Option}
 use Rattle.std.specs.Prelude.{max}
 use Rattle.wc_model.specs.Run.Log.{LogOf, Record}
 use Rattle.wc_model.specs.Instrument.Plates.{PlateData}
