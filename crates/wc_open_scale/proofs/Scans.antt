@@ -15,7 +15,7 @@ use Rattle.wc_model.specs.Say.ProgramReport.{scans_of}
 use Rattle.wc_model.specs.declared.fault.Fault.{Fault}
 use Rattle.wc_model.specs.declared.image.Image.{Image}
 use Rattle.wc_open_scale.specs.Coming.{image_of}
-use Rattle.wc_open_scale.specs.Scanning.{EndsScan, IsDone, LeavesScan, RecordsScan, Scans, Sees, record_of}
+use Rattle.wc_open_scale.specs.Scanning.{EndsScan, IsDone, IsScannedBy, LeavesScan, RecordsScan, Scans, ScansBy, Sees, record_of}
 use Rattle.wc_open_scale.specs.Standing.{Came, IsRunning, Running, Stands}
 use Rattle.wc_open_scale.specs.declared.open_scale.OpenScale.{OpenScale}
 use Rattle.wc_record.specs.declared.last_scans.Record.{Record}
@@ -36,14 +36,14 @@ machine_stands : {S : Type 0} (old : OpenScale S) (machine : MachineState) (plat
 machine_stands old machine plate came running is loaded stands =
     subst (λ program. IsRunning (Some machine) program) loaded (subst (λ held. IsRunning held came.program) is stands.program)
 
-pub scans : {S : Type 0} (old : OpenScale S) (machine new : MachineState) (ms : ℕ) (image : Image) (scanned : Record) → old.machine ≡ Some machine →
+-- whoever does it
+pub scans_by : {S : Type 0} (old : OpenScale S) (machine new : MachineState) (ms : ℕ) (image : Image) (scanned : Record) → old.machine ≡ Some machine →
     Tells (λ p history. image_with p old.inputs history) old.indicator image → LeavesScan machine new ms image → RecordsScan machine ms image scanned →
-    ((n : ℕ) → IsProgramBound (text_of machine) n → scanned.steps ≤ n) → EndsScan machine ms image → Scans old (record old { machine = Some new }) ms scanned
-scans old machine new ms image scanned is told leaves records within ends plate came running loaded stands =
+    ScansBy old (record old { machine = Some new }) ms scanned
+scans_by old machine new ms image scanned is told leaves records plate came running loaded stands =
     let same : image ≡ image_of plate came = seen_image old image plate came told stands in
     let at : StandsFor machine running.text running.store = machine_stands old machine plate came running is loaded stands in
     record {
-      done = subst (λ i. IsDone (scan_of running.text running.store i ms)) same (ends running.text running.store at);
       recorded = subst (λ i. scanned ≡ record_of ms (scans_of running.text running.store i ms)) same (records running.text running.store at);
       stands = record {
         is_plate = stands.is_plate;
@@ -52,6 +52,20 @@ scans old machine new ms image scanned is told leaves records within ends plate 
         inputs = stands.inputs;
         program = subst (λ i. StandsFor new running.text (scans_of running.text running.store i ms).after) same (leaves running.text running.store at);
       };
+    }
+
+pub scans : {S : Type 0} (old : OpenScale S) (machine new : MachineState) (ms : ℕ) (image : Image) (scanned : Record) → old.machine ≡ Some machine →
+    Tells (λ p history. image_with p old.inputs history) old.indicator image → LeavesScan machine new ms image → RecordsScan machine ms image scanned →
+    ((n : ℕ) → IsProgramBound (text_of machine) n → scanned.steps ≤ n) → EndsScan machine ms image → Scans old (record old { machine = Some new }) ms scanned
+scans old machine new ms image scanned is told leaves records within ends plate came running loaded stands =
+    let same : image ≡ image_of plate came = seen_image old image plate came told stands in
+    let at : StandsFor machine running.text running.store = machine_stands old machine plate came running is loaded stands in
+    let by : IsScannedBy (record old { machine = Some new }) plate came running ms scanned =
+    scans_by old machine new ms image scanned is told leaves records plate came running loaded stands in
+    record {
+      done = subst (λ i. IsDone (scan_of running.text running.store i ms)) same (ends running.text running.store at);
+      recorded = by.recorded;
+      stands = by.stands;
       within = λ n bound. within n (subst (λ text. IsProgramBound text n) (sym at.same_text) bound);
     }
 

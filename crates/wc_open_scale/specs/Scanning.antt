@@ -60,6 +60,15 @@ abbrev pub Scans : {S : Type 0} → OpenScale S → OpenScale S → ℕ → Reco
 Scans old new ms scanned =
     (plate : PlateData) (came : Came) (running : Running) → came.program ≡ Some running → Stands old plate came → IsScanned new plate came running ms scanned
 
+-- a scan that another does: the record is the scan's, and the scale goes on with what the scan leaves
+pub record IsScannedBy {S : Type 0} (new : OpenScale S) (plate : PlateData) (came : Came) (running : Running) (ms : ℕ) (scanned : Record) : Type 0 where
+  pub recorded : scanned ≡ record_of ms (scan_result plate came running ms)
+  pub stands : Stands new plate (with_program (scanned_program plate came running ms) came)
+
+abbrev pub ScansBy : {S : Type 0} → OpenScale S → OpenScale S → ℕ → Record → Type 0
+ScansBy old new ms scanned =
+    (plate : PlateData) (came : Came) (running : Running) → came.program ≡ Some running → Stands old plate came → IsScannedBy new plate came running ms scanned
+
 -- the lines, unless there was no memory for them, are what is seen of it
 abbrev pub Sees : {S : Type 0} → OpenScale S → ℕ → Result (Vec SeenLine Global) Fault → Type 0
 Sees old ms seen =

@@ -4,11 +4,13 @@
 
 mod change_fault;
 mod changing;
+mod hook;
 mod laws;
 mod open_scale;
 mod scanning;
 mod tracing;
 
 pub use change_fault::ChangeFault;
+pub use hook::ScansWith;
 pub use laws::{bytes_are_cut_anywhere, each_row_is_a_call};
 pub use open_scale::OpenScale;
