@@ -1,16 +1,13 @@
 -- What a row does to a scale, whatever the scale stands for: told of the row's moment and of what
 -- it brings.
-use Rattle.std.specs.Prelude.{◌≡◌, ⊤, ℕ, List, ◌∷◌, Option, Some, None, Result, Ok, Err}
-use Rattle.wc_cost.specs.LoadedTexts.{LoadedText}
+use Rattle.std.specs.Prelude.{◌≡◌, ⊤, ℕ, List, ◌∷◌, Option}
 use Rattle.wc_machine.specs.Machines.{MachineState, StandsFor}
 use Rattle.wc_model.specs.Instrument.Plates.{PlateData}
 use Rattle.wc_model.specs.Say.ProgramReport.{Logic, scans_of}
 use Rattle.wc_model.specs.Say.Report.{ScanLine}
 use Rattle.wc_model.specs.Run.Rows.{RowData, LogRow, Past}
-use Rattle.wc_model.specs.Language.Carried.{carried}
 use Rattle.wc_model.specs.Language.Store.{Store}
 use Rattle.wc_model.specs.Language.Tree.{Text}
-use Rattle.wc_model.specs.Language.Views.{text_view}
 use Rattle.wc_model.specs.declared.image.Image.{Image}
 use Rattle.wc_record.specs.declared.last_scans.Record.{Record}
 use Rattle.wc_run.specs.Logics.{IsRefusedRow, IsTaken, lines_of_row, logic_after}
@@ -41,15 +38,6 @@ TakesScan old new ms image = (text : Text) (store : Store) → StandsFor old tex
 abbrev pub RecordsScan : MachineState → ℕ → Image → Record → Type 0
 RecordsScan old ms image scan =
     (text : Text) (store : Store) → StandsFor old text store → line_of_record scan ≡ ScanLine ms (scans_of text store image ms).steps (scans_of text store image ms).outputs
-
--- A machine goes on with the next program, from what is carried over and at the moment of its last
--- scan; for want of memory it does not. Where no next program is left the row is refused.
-abbrev pub Changes : MachineState → Option LoadedText → ℕ → Result MachineState RunFault → Type 0
-Changes old None number result = result ≡ Err (Refused 609 number)
-Changes old (Some next) number (Ok new) =
-    (new.last ≡ old.last)
-    × ((text : Text) (store : Store) → StandsFor old text store → StandsFor new (text_view next.source) (carried text store (text_view next.source)))
-Changes old (Some next) number (Err fault) = fault ≡ Memory
 
 -- a run with whatever logic the scale stands for takes the row
 abbrev pub RunsRow : {S : Type 0} → Scale S → LogRow → Type 0

@@ -3,7 +3,6 @@
 #![tactic(auto)]
 
 mod answers;
-mod changing;
 mod fault;
 mod log_rows;
 mod printing;

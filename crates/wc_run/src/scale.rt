@@ -10,28 +10,22 @@ ghost use Rattle.wc_run.specs.Standing.{IsNotBehind, Stands};
 ghost use Rattle.wc_run.specs.Taking.{Gives, RunsRow, StopsAtRow, TakesRow, row_at};
 
 use crate::answers::answer_output;
-use crate::changing::changed;
 use crate::fault::RunFault;
 use crate::room::Room;
 use crate::row_output::RowOutput;
-use crate::scanner::Scanner;
+use crate::scanner::{Scanner, ScansOf};
 use std::alloc::Global;
 use wc_cost::Loaded;
-use wc_indicator::Indicator;
 use wc_machine::Machine;
+use wc_open_scale::OpenScale;
 use wc_plate::Plate;
-use wc_record::{HeadKind, RowHead, image};
-use wc_sma::Line;
+use wc_record::{HeadKind, RowHead};
 use wc_store::Store;
 
-/// A scale: its indicator, its line, the digital inputs, the machine beside it, if there is one,
-/// and the next program, if one is left.
+/// A scale that is open, and the next program, if one is left. A row does what a call of the open scale does.
 #[derive(Drop)]
 pub(crate) struct Scale<'a, S: Store> {
-    indicator: Indicator,
-    line: Line,
-    inputs: u16,
-    machine: Option<Machine<'a, S>>,
+    opened: OpenScale<'a, S>,
     next: Option<Loaded<'a>>,
 }
 
@@ -46,17 +40,11 @@ impl<'a, S: Store> Scale<'a, S> {
         ensures stands { IfOk result
             (λ scale. (logic : Option Logic) → StandsAt machine.entry next.entry logic
             → Stands scale plate.now logic []) }
-        ensures machine { IfOk result (λ scale. scale.machine ≡ machine.entry) }
+        ensures machine { IfOk result (λ scale. scale.opened.machine ≡ machine.entry) }
         ensures memory { IsOkUnless result RunFault.Memory }
     {
-        match Indicator::new(alloc, *plate) {
-            Ok(indicator) => Ok(Scale {
-                indicator,
-                line: Line::new(),
-                inputs: 0,
-                machine,
-                next,
-            }),
+        match OpenScale::new(alloc, plate, machine) {
+            Ok(opened) => Ok(Scale { opened, next }),
             Err(_) => Err(RunFault::Memory),
         }
     }
@@ -121,8 +109,13 @@ impl<'a, S: Store> Scale<'a, S> {
         bytes: &[u8],
     ) {
         match row.kind {
-            HeadKind::Bytes => scanner.see(row, bytes, &self.indicator, &room.answers.bytes),
-            _ => scanner.see(row, bytes, &self.indicator, b""),
+            HeadKind::Bytes => scanner.see(
+                row,
+                bytes,
+                self.opened.indicator(),
+                &room.answers.bytes,
+            ),
+            _ => scanner.see(row, bytes, self.opened.indicator(), b""),
         }
     }
 
@@ -131,9 +124,9 @@ impl<'a, S: Store> Scale<'a, S> {
     fn take_sample(&mut self, counts: i32)
         requires { IsDataInRange (Counts counts) }
         ensures stands { (ms : ℕ) → TakesRow self.old self.new ms (Counts counts) }
-        ensures machine { self.new.machine ≡ self.old.machine }
+        ensures machine { self.new.opened.machine ≡ self.old.opened.machine }
     {
-        self.indicator.sample(counts);
+        self.opened.sample(counts);
     }
 
     /// Takes bytes on the line, and gives the line of what was answered, if anything was.
@@ -142,14 +135,11 @@ impl<'a, S: Store> Scale<'a, S> {
         ensures stands { OnOk result (TakesRow self.old self.new ms (Bytes bytes.now)) }
         ensures output { IfOk result
             (λ output. Gives self.old ms (Bytes bytes.now) output room.new.text.items) }
-        ensures machine { self.new.machine ≡ self.old.machine }
+        ensures machine { self.new.opened.machine ≡ self.old.opened.machine }
         ensures memory { IsOkUnless result RunFault.Memory }
     {
         room.answers.bytes.clear();
-        match self
-            .line
-            .feed(bytes, &mut self.indicator, &mut room.answers)
-        {
+        match self.opened.feed(bytes, &mut room.answers) {
             Ok(()) => answer_output(ms, &room.answers.bytes, &mut room.text),
             Err(_) => Err(RunFault::Memory),
         }
@@ -159,9 +149,9 @@ impl<'a, S: Store> Scale<'a, S> {
     #[inline(always)]
     fn take_inputs(&mut self, inputs: u16)
         ensures stands { (ms : ℕ) → TakesRow self.old self.new ms (Inputs inputs) }
-        ensures machine { self.new.machine ≡ self.old.machine }
+        ensures machine { self.new.opened.machine ≡ self.old.opened.machine }
     {
-        self.inputs = inputs;
+        self.opened.inputs(inputs);
     }
 
     /// Has a scan done where there is a machine, and gives its record.
@@ -173,16 +163,15 @@ impl<'a, S: Store> Scale<'a, S> {
         ensures output { (text : List ℕ) → Gives self.old ms Scan result text }
         ensures in_order { IsNotBehind self.new ms }
     {
-        match &mut self.machine {
-            Some(machine) => {
-                let image = image(&self.indicator, self.inputs);
-                RowOutput::Scan(scanner.scan(ms, &image, machine))
-            }
+        match self.opened.scan_by(ms, &mut ScansOf { scanner }) {
+            Some(scan) => RowOutput::Scan(scan),
             None => RowOutput::Nothing,
         }
     }
 
     /// Takes the next program where there is a machine. Nothing is printed of it.
+    #[cold]
+    #[inline(never)]
     fn take_change(&mut self, alloc: Global, number: u32) -> Result<(), RunFault>
         ensures stands { OnOk result ((ms : ℕ) → TakesRow self.old self.new ms Change) }
         ensures runs { OnOk result ((ms : ℕ) → RunsRow self.old (row_at number ms Change)) }
@@ -192,15 +181,18 @@ impl<'a, S: Store> Scale<'a, S> {
         ensures in_order { OnOk result
             ((ms : ℕ) → IsNotBehind self.old ms → IsNotBehind self.new ms) }
     {
-        let Some(machine) = self.machine.take() else {
+        if !self.opened.has_program() {
             return Ok(());
-        };
-        match changed(alloc, machine, self.next.take(), number) {
-            Ok(machine) => {
-                self.machine = Some(machine);
-                Ok(())
-            }
-            Err(fault) => Err(fault),
+        }
+        match self.next.take() {
+            Some(next) => match self.opened.change(alloc, next) {
+                Ok(()) => Ok(()),
+                Err(_) => Err(RunFault::Memory),
+            },
+            None => Err(RunFault::Refused {
+                number: 609,
+                place: number,
+            }),
         }
     }
 }

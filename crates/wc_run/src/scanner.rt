@@ -6,6 +6,7 @@ use wc_cost::Loaded;
 use wc_indicator::Indicator;
 use wc_machine::Machine;
 use wc_model::Image;
+use wc_open_scale::ScansWith;
 use wc_record::{Record, RowHead};
 use wc_store::Store;
 
@@ -31,6 +32,19 @@ pub trait Scanner<S: Store> {
 
     /// Is shown a row that was done, with its line bytes, the indicator behind it and what the line answered to it.
     fn see(&mut self, row: RowHead, bytes: &[u8], indicator: &Indicator, answers: &[u8]);
+}
+
+/// Who does the scans of a run, lent to the scale that is scanned.
+#[derive(Drop)]
+pub(crate) struct ScansOf<'v, V> {
+    pub(crate) scanner: &'v mut V,
+}
+
+impl<S: Store, V: Scanner<S>> ScansWith<S> for ScansOf<'_, V> {
+    #[inline(always)]
+    fn scan_with(&mut self, ms: u64, image: &Image, machine: &mut Machine<'_, S>) -> Record {
+        self.scanner.scan(ms, image, machine)
+    }
 }
 
 /// Does the scans of a run, and shows nothing of them.
