@@ -1,51 +1,49 @@
 -- What a change of the program leaves in a scale.
-use Rattle.std.proofs.Common.{◌≡◌, refl, ◌≤◌, ℕ, ◌∷◌, sym, subst, append-nil, Option, Some, None, Ok, Err}
-use Rattle.std.specs.Prelude.{is_some}
+use Rattle.std.proofs.Common.{◌≡◌, refl, ℕ, ◌∷◌, subst, true, false, Option, Some, None, is_some}
 use Rattle.wc_cost.specs.LoadedTexts.{LoadedText}
-use Rattle.wc_machine.specs.Machines.{MachineState, StandsFor}
 use Rattle.wc_model.specs.Instrument.Plates.{PlateData}
-use Rattle.wc_model.specs.Language.Carried.{carried}
-use Rattle.wc_model.specs.Language.Store.{Store}
 use Rattle.wc_model.specs.Language.Tree.{Text}
 use Rattle.wc_model.specs.Language.Views.{text_view}
 use Rattle.wc_model.specs.Run.Log.{LogOf, refused_at, with_row}
-use Rattle.wc_model.specs.Run.Rows.{Change, LogRow, Past, line_bytes}
+use Rattle.wc_model.specs.Run.Rows.{Change, LogRow, Past}
 use Rattle.wc_model.specs.Say.LogFor.{change_on, log_for, log_while}
 use Rattle.wc_model.specs.Say.ProgramReport.{Logic, change_to, logic_behind}
-use Rattle.wc_run.specs.Logics.{IsRefusedRow, IsTaken, StandsAt, logic_after}
-use Rattle.wc_run.specs.Taking.{row_at, Changes, RunsRow, StopsAtRow, TakesRow}
-use Rattle.wc_run.specs.declared.fault.RunFault.{RunFault}
+use Rattle.wc_open_scale.proofs.RowCalls.{each_row_is_a_call}
+use Rattle.wc_open_scale.specs.Changing.{IsChangedTo, changed_program}
+use Rattle.wc_open_scale.specs.Rows.{came_by}
+use Rattle.wc_open_scale.specs.Standing.{Running}
+use Rattle.wc_open_scale.specs.Standing as open_scale
+use Rattle.wc_open_scale.specs.declared.open_scale.OpenScale.{OpenScale}
+use Rattle.wc_run.proofs.ScaleRows.{not_none, not_some}
+use Rattle.wc_run.specs.Logics.{text_of_next}
+use Rattle.wc_run.specs.Standing.{IsNext, Stands, program_of}
+use Rattle.wc_run.specs.Taking.{row_at, RunsRow, StopsAtRow, TakesRow}
 use Rattle.wc_run.specs.declared.fault.RunFault.TheVariants.{Refused}
 use Rattle.wc_run.specs.declared.scale.Scale.{Scale}
-use Rattle.wc_sma.specs.Standing.{StandsAfter}
 
--- behind a change a machine stands for the next text and what is carried over to it
-changed_logic : (machine new : MachineState) (next : LoadedText) (logic : Logic) (left : Option Text) → Some (text_view next.source) ≡ left →
-    ((text : Text) (store : Store) → StandsFor machine text store → StandsFor new (text_view next.source) (carried text store (text_view next.source))) →
-    StandsFor machine logic.text logic.store → StandsAt (Some new) None (Some (change_to logic left))
-changed_logic machine new next logic left is stands at =
-    subst (λ text. StandsAt (Some new) None (Some (change_to logic text))) is (stands logic.text logic.store at, refl)
+-- what is loaded is the next text
+next_text : (next : Option LoadedText) (loaded : LoadedText) (left : Option Text) → next ≡ Some loaded → text_of_next next ≡ left → Some (text_view loaded.source) ≡ left
+next_text next loaded left is same = subst (λ n. text_of_next n ≡ left) is same
 
--- whatever logic the machine stood for
-changed_at : (machine new : MachineState) (next : Option LoadedText) (place : ℕ) → Changes machine next place (Ok new) →
-    (plate : PlateData) (logic : Option Logic) (past : Past) (number ms : ℕ) → StandsAt (Some machine) next (logic_after plate logic past) →
-    StandsAt (Some new) None (logic_after plate logic (row_at number ms Change ∷ past))
-changed_at machine new None place changes plate logic past number ms stands = absurd (cc)
-changed_at machine new (Some next) place changes plate None past number ms stands = stands
-changed_at machine new (Some next) place changes plate (Some logic) past number ms stands =
-    changed_logic machine new next (logic_behind plate logic past) (logic_behind plate logic past).next stands.1 changes.1 stands.0
+-- behind a change an open scale stands for the next text and what is carried over to it
+changed_logic : {S : Type 0} (opened : OpenScale S) (plate : PlateData) (past : Past) (number ms : ℕ) (logic : Logic) (text : Text) (left : Option Text) → Some text ≡ left →
+    open_scale.Stands opened plate (came_by past (Some (changed_program (record { text = logic.text; store = logic.store }) text))) →
+    open_scale.Stands opened plate (came_by (row_at number ms Change ∷ past) (program_of (Some (change_to logic left)))) × IsNext None (Some (change_to logic left))
+changed_logic opened plate past number ms logic text left is stands =
+    let program : Running = changed_program (record { text = logic.text; store = logic.store }) text in
+    subst (λ t. open_scale.Stands opened plate (came_by (row_at number ms Change ∷ past) (program_of (Some (change_to logic t)))) × IsNext None (Some (change_to logic t))) is
+    (subst (λ came. open_scale.Stands opened plate came) (each_row_is_a_call.change past (Some program) number ms) stands, refl)
 
--- a machine that is changed takes the row
-pub takes_change : {S : Type 0} (old : Scale S) (machine new : MachineState) (place ms : ℕ) → old.machine ≡ Some machine → Changes machine old.next place (Ok new) →
-    TakesRow old (record old { machine = Some new; next = None }) ms Change
-takes_change old machine new place ms is changes plate logic past number stands =
-    record {
-      indicator = stands.indicator;
-      line = subst (λ bytes. StandsAfter old.line bytes) (sym (append-nil (line_bytes past))) stands.line;
-      inputs = stands.inputs;
-      machine = changed_at machine new old.next place changes plate logic past number ms
-          (subst (λ kept. StandsAt kept old.next (logic_after plate logic past)) is stands.machine);
-    }
+-- a scale whose program is changed takes the row
+pub takes_change : {S : Type 0} (old : Scale S) (opened : OpenScale S) (loaded : LoadedText) (ms : ℕ) → is_some old.opened.machine ≡ true → old.next ≡ Some loaded →
+    IsChangedTo old.opened opened (text_view loaded.source) → TakesRow old (record { opened = opened; next = None }) ms Change
+takes_change old opened loaded ms there is changed plate None past number stands = absurd (not_none old.opened.machine there stands.opened.program)
+takes_change old opened loaded ms there is changed plate (Some logic) past number stands =
+    let before : Logic = logic_behind plate logic past in
+    let running : Running = record { text = before.text; store = before.store } in
+    let both = changed_logic opened plate past number ms before (text_view loaded.source) before.next (next_text old.next loaded before.next is stands.next)
+    (changed.stands plate (came_by past (Some running)) running refl stands.opened) in
+    record { opened = both.0; next = both.1 }
 
 -- where a next text is left the log goes on behind the row
 goes_on : (logic : Logic) (text : Text) (left : Option Text) → Some text ≡ left → (row : LogRow) (rest : LogOf) →
@@ -53,20 +51,17 @@ goes_on : (logic : Logic) (text : Text) (left : Option Text) → Some text ≡ l
 goes_on logic text left is row rest =
     subst (λ t. change_on (is_some t) row (λ more. log_while more rest.rows rest.refusal) ≡ with_row row (log_for (Some (change_to logic t)) rest)) is refl
 
-runs_at : (machine new : MachineState) (next : Option LoadedText) (place : ℕ) → Changes machine next place (Ok new) →
-    (plate : PlateData) (logic : Option Logic) (past : Past) (number ms : ℕ) → StandsAt (Some machine) next (logic_after plate logic past) →
-    IsTaken (logic_after plate logic past) (logic_after plate logic (row_at number ms Change ∷ past)) (row_at number ms Change)
-runs_at machine new None place changes plate logic past number ms stands rest = absurd (cc)
-runs_at machine new (Some next) place changes plate None past number ms stands rest = refl
-runs_at machine new (Some next) place changes plate (Some logic) past number ms stands rest =
-    goes_on (logic_behind plate logic past) (text_view next.source) (logic_behind plate logic past).next stands.1 (row_at number ms Change) rest
-
 -- and a run with whatever logic it stands for takes it
-pub runs_change : {S : Type 0} (old : Scale S) (machine new : MachineState) (place number ms : ℕ) → old.machine ≡ Some machine → Changes machine old.next place (Ok new) →
-    RunsRow old (row_at number ms Change)
-runs_change old machine new place number ms is changes plate logic past stands =
-    runs_at machine new old.next place changes plate logic past number ms
-    (subst (λ kept. StandsAt kept old.next (logic_after plate logic past)) is stands.machine)
+pub runs_change : {S : Type 0} (old : Scale S) (loaded : LoadedText) (number ms : ℕ) → is_some old.opened.machine ≡ true → old.next ≡ Some loaded → RunsRow old (row_at number ms Change)
+runs_change old loaded number ms there is plate None past stands = absurd (not_none old.opened.machine there stands.opened.program)
+runs_change old loaded number ms there is plate (Some logic) past stands = λ rest.
+    let before : Logic = logic_behind plate logic past in
+    goes_on before (text_view loaded.source) before.next (next_text old.next loaded before.next is stands.next) (row_at number ms Change) rest
+
+-- with no program any log takes it
+pub runs_past : {S : Type 0} (old : Scale S) (number ms : ℕ) → is_some old.opened.machine ≡ false → RunsRow old (row_at number ms Change)
+runs_past old number ms none plate None past stands = λ rest. refl
+runs_past old number ms none plate (Some logic) past stands = absurd (not_some old.opened.machine _ none stands.opened.program)
 
 -- where none is left the row is refused
 refused_at_row : (left : Option Text) → None ≡ left → (row : LogRow) (rest : LogOf) →
@@ -74,27 +69,7 @@ refused_at_row : (left : Option Text) → None ≡ left → (row : LogRow) (rest
 refused_at_row left is row rest =
     subst (λ t. change_on (is_some t) row (λ more. log_while more rest.rows rest.refusal) ≡ refused_at 609 row.number) is refl
 
-refuses_at : (machine : MachineState) (plate : PlateData) (logic : Option Logic) (past : Past) (number ms : ℕ) → StandsAt (Some machine) None (logic_after plate logic past) →
-    IsRefusedRow (logic_after plate logic past) (row_at number ms Change) 609 number
-refuses_at machine plate None past number ms stands rest = absurd stands
-refuses_at machine plate (Some logic) past number ms stands rest = refused_at_row (logic_behind plate logic past).next stands.1 (row_at number ms Change) rest
-
-stops_by : {S : Type 0} (old : Scale S) (machine : MachineState) (number ms : ℕ) (fault : RunFault) → old.machine ≡ Some machine → (next : Option LoadedText) → old.next ≡ next →
-    Changes machine next number (Err fault) → StopsAtRow old (row_at number ms Change) fault
-stops_by old machine number ms fault is None left changes =
-    let same : fault ≡ Refused 609 number = cc in
-    subst (λ f. StopsAtRow old (row_at number ms Change) f) (sym same)
-    (λ plate logic past stands. refuses_at machine plate logic past number ms
-    (subst (λ kept. StandsAt kept None (logic_after plate logic past)) is
-    (subst (λ next. StandsAt old.machine next (logic_after plate logic past)) left stands.machine)))
-stops_by old machine number ms fault is (Some next) left changes = subst (λ f. StopsAtRow old (row_at number ms Change) f) (sym changes) tt
-
--- a machine that is not changed keeps the scale from the row
-pub stops_change : {S : Type 0} (old : Scale S) (machine : MachineState) (number ms : ℕ) (fault : RunFault) → old.machine ≡ Some machine → Changes machine old.next number (Err fault) →
-    StopsAtRow old (row_at number ms Change) fault
-stops_change old machine number ms fault is changes = stops_by old machine number ms fault is old.next refl changes
-
--- the moment of the last scan stays
-pub keeps_moment : (machine new : MachineState) (next : Option LoadedText) (place ms : ℕ) → Changes machine next place (Ok new) → machine.last ≤ ms → new.last ≤ ms
-keeps_moment machine new None place ms changes early = absurd (cc)
-keeps_moment machine new (Some next) place ms changes early = subst (λ last. last ≤ ms) (sym changes.0) early
+pub stops_change : {S : Type 0} (old : Scale S) (number ms : ℕ) → is_some old.opened.machine ≡ true → old.next ≡ None → StopsAtRow old (row_at number ms Change) (Refused 609 number)
+stops_change old number ms there is plate None past stands = absurd (not_none old.opened.machine there stands.opened.program)
+stops_change old number ms there is plate (Some logic) past stands = λ rest.
+    refused_at_row (logic_behind plate logic past).next (subst (λ n. text_of_next n ≡ (logic_behind plate logic past).next) is stands.next) (row_at number ms Change) rest

@@ -1,35 +1,33 @@
--- What a row leaves in a scale, and what is printed of it, kind by kind.
-use Rattle.std.proofs.Common.{◌≡◌, refl, ℕ, List, [], ◌∷◌, ◌++◌, sym, ◌∙◌, ap, subst, append-nil, Option, Some, None, Result, Ok, Err, IfErr, IfOk, IfSome, IsOkUnless, OnOk}
+-- What a row leaves in a scale, and what is printed of it, kind by kind: it does what a call of the open scale does.
+use Rattle.std.proofs.Common.{◌≡◌, refl, ℕ, ℤ, true, false, List, [], ◌∷◌, ◌++◌, sym, ◌∙◌, ap, subst, append-nil, Option, Some, None, is_some, Result, Ok, Err, IfErr, IfOk, IfSome, IsOkUnless, OnOk}
 use Rattle.wc_instrument_laws.specs.Changes.{IsNoChange}
-use Rattle.wc_indicator.specs.Kept.{IndicatorState as IndicatorKept, Tells}
 use Rattle.wc_cost.specs.LoadedTexts.{LoadedText}
-use Rattle.wc_machine.specs.Machines.{MachineState, StandsFor}
+use Rattle.wc_machine.specs.Machines.{MachineState}
 use Rattle.wc_model.specs.Instrument.Plates.{PlateData}
-use Rattle.wc_model.specs.Run.ProcessImage.{image_after, image_with}
-use Rattle.wc_model.specs.Say.ProgramReport.{Logic, logic_behind, scans_of}
-use Rattle.wc_model.specs.Run.Rows.{RowData, Counts, Bytes, Inputs, Scan, Change, LogRow, Past, history_of, line_bytes}
-use Rattle.wc_model.specs.declared.image.Image.{Image}
-use Rattle.wc_record.specs.Views.{head_data_view, head_view}
-use Rattle.wc_record.specs.declared.row_head.RowHead.{RowHead}
-use Rattle.wc_run.specs.Logics.{IsTaken, StandsAt, lines_of_row, logic_after}
-use Rattle.wc_run.specs.Standing.{Stands}
-use Rattle.wc_machine.specs.Seeing.{IsSeen}
+use Rattle.wc_model.specs.Say.ProgramReport.{Logic, logic_behind}
+use Rattle.wc_model.specs.Say.Report.{answer_line}
+use Rattle.wc_model.specs.Run.Rows.{RowData, Counts, Bytes, Inputs, Scan, Change, LogRow, Past, answer_of_row}
+use Rattle.wc_open_scale.proofs.RowCalls.{each_row_is_a_call}
+use Rattle.wc_open_scale.specs.Calls.{Answers}
+use Rattle.wc_open_scale.specs.Coming.{with_bytes, with_inputs, with_sample}
+use Rattle.wc_open_scale.specs.Rows.{came_by}
+use Rattle.wc_open_scale.specs.Scanning.{Scans, Sees}
+use Rattle.wc_open_scale.specs.Standing.{Came, Goes, IsRunning, Running}
+use Rattle.wc_open_scale.specs.Standing as open_scale
+use Rattle.wc_open_scale.specs.declared.open_scale.OpenScale.{OpenScale}
 use Rattle.wc_machine.specs.declared.seen.SeenLine.{SeenLine}
-use Rattle.wc_model.specs.Instrument.Answers.{answers_to}
-use Rattle.wc_model.specs.Instrument.Requests.{requests_in}
-use Rattle.wc_model.specs.Language.Store.{Store as Contents}
-use Rattle.wc_model.specs.Language.Tree.{Text}
-use Rattle.wc_model.specs.Say.Report.{ScanLine, answer_line}
-use Rattle.wc_run.specs.Observing.{AreItems, items_of, lines_of_scan}
+use Rattle.wc_record.specs.Views.{head_data_view, head_view}
+use Rattle.wc_record.specs.declared.last_scans.Record.{Record}
+use Rattle.wc_record.specs.declared.row_head.RowHead.{RowHead}
+use Rattle.wc_run.specs.Logics.{IsTaken, StandsAt, logic_after}
+use Rattle.wc_run.specs.Observing.{AreItems, items_of}
 use Rattle.wc_run.specs.Outputs.{line_of_record}
-use Rattle.wc_run.specs.Taking.{row_at, Gives, GivesItems, LooksAt, RecordsScan, RunsRow, StopsAtRow, TakesRow, TakesScan}
-use Rattle.wc_run.specs.declared.row_seen.ScanSeen.{ScanSeen}
+use Rattle.wc_run.specs.Standing.{IsNext, Stands, program_of}
+use Rattle.wc_run.specs.Taking.{row_at, Gives, GivesItems, RunsRow, StopsAtRow, TakesRow}
 use Rattle.wc_run.specs.declared.fault.RunFault.{RunFault}
 use Rattle.wc_run.specs.declared.fault.RunFault.TheVariants.{Memory}
+use Rattle.wc_run.specs.declared.row_seen.ScanSeen.{ScanSeen}
 use Rattle.wc_run.specs.declared.scale.Scale.{Scale}
-use Rattle.wc_sma.specs.Feeding.{Feeds}
-use Rattle.wc_sma.specs.Standing.{StandsAfter}
-use Rattle.wc_sma.specs.declared.line.Line.{Line}
 
 -- what holds at all holds of a success
 pub on_ok : {T E : Type 0} (P : Type 0) (r : Result T E) → P → OnOk r P
@@ -41,99 +39,145 @@ pub on_ok_of : {T E : Type 0} (P Q : Type 0) (r : Result T E) → (P → Q) → 
 on_ok_of P Q (Ok x) f h = f h
 on_ok_of P Q (Err e) f h = tt
 
--- bytes on the line leave the logic as it was
-still_of_bytes : (machine : Option MachineState) (next : Option LoadedText) (plate : PlateData) (logic : Option Logic) (past : Past) (number ms : ℕ) (bytes : List ℕ) →
-    StandsAt machine next (logic_after plate logic past) → StandsAt machine next (logic_after plate logic (row_at number ms (Bytes bytes) ∷ past))
-still_of_bytes machine next plate None past number ms bytes h = h
-still_of_bytes machine next plate (Some logic) past number ms bytes h = h
+-- a machine that stands for the logic runs its program
+runs_program : (plate : PlateData) (machine : Option MachineState) (next : Option LoadedText) (logic : Option Logic) → StandsAt machine next logic →
+    IsRunning machine (program_of (logic_after plate logic []))
+runs_program plate None next None stands = tt
+runs_program plate None next (Some logic) stands = stands
+runs_program plate (Some machine) next None stands = stands
+runs_program plate (Some machine) next (Some logic) stands = stands.0
 
--- a line that is fed takes the row
-pub takes_bytes : {S : Type 0} (old : Scale S) (line : Line) (indicator : IndicatorKept) (taken taken' : Option (List ℕ)) (ms : ℕ) (bytes : List ℕ) →
-    Feeds old.line old.indicator taken line indicator taken' bytes →
-    TakesRow old (record old { indicator = indicator; line = line }) ms (Bytes bytes)
-takes_bytes old line indicator taken taken' ms bytes feeds plate logic past number stands =
+-- and what is loaded stands for the next text
+has_next : (plate : PlateData) (machine : Option MachineState) (next : Option LoadedText) (logic : Option Logic) → StandsAt machine next logic →
+    IsNext next (logic_after plate logic [])
+has_next plate machine next None stands = tt
+has_next plate None next (Some logic) stands = absurd stands
+has_next plate (Some machine) next (Some logic) stands = stands.1
+
+-- an open scale to which nothing has come stands for no row
+pub stands_first : {S : Type 0} (alloc : Global) (opened : OpenScale S) (machine : Option MachineState) (next : Option LoadedText) (plate : PlateData) (logic : Option Logic) →
+    ((program : Option Running) → IsRunning machine program → open_scale.Stands opened plate (open_scale.only_program program)) → StandsAt machine next logic →
+    Stands (record { alloc = alloc; opened = opened; next = next }) plate logic []
+stands_first alloc opened machine next plate logic begins stands =
     record {
-      indicator = feeds.acts (line_bytes past) plate (history_of past) stands.line stands.indicator;
-      line = feeds.stands (line_bytes past) stands.line;
-      inputs = stands.inputs;
-      machine = still_of_bytes old.machine old.next plate logic past number ms bytes stands.machine;
+      opened = begins (program_of (logic_after plate logic [])) (runs_program plate machine next logic stands);
+      next = has_next plate machine next logic stands;
     }
 
--- what is answered to them, where nothing was gathered before, is what the report has
-gives_bytes : {S : Type 0} (old : Scale S) (line : Line) (indicator : IndicatorKept) (answers : List ℕ) (ms : ℕ) (bytes : List ℕ) (plate : PlateData) (logic : Option Logic)
-    (past : Past) (number : ℕ) → answers ≡ answers_to plate (requests_in (line_bytes past) bytes) (history_of past) →
-    lines_of_row plate logic past (row_at number ms (Bytes bytes)) ≡ answer_line ms answers ++ lines_of_scan None
-gives_bytes old line indicator answers ms bytes plate None past number same = ap (answer_line ms) (sym same) ∙ sym (append-nil (answer_line ms answers))
-gives_bytes old line indicator answers ms bytes plate (Some logic) past number same = ap (answer_line ms) (sym same) ∙ sym (append-nil (answer_line ms answers))
+-- a row that leaves any logic as it was leaves the logic beside a scale as it was, if there is one
+still : (ms : ℕ) (brings : RowData) → ((plate : PlateData) (logic : Logic) (past : Past) (number : ℕ) → logic_behind plate logic (row_at number ms brings ∷ past) ≡ logic_behind plate logic past) →
+    (plate : PlateData) (logic : Option Logic) (past : Past) (number : ℕ) → logic_after plate logic (row_at number ms brings ∷ past) ≡ logic_after plate logic past
+still ms brings leaves plate None past number = refl
+still ms brings leaves plate (Some logic) past number = ap Some (leaves plate logic past number)
 
-pub gives_answers : {S : Type 0} (old : Scale S) (line : Line) (indicator : IndicatorKept) (before answers : List ℕ) (ms : ℕ) (bytes : List ℕ) → before ≡ [] →
-    Feeds old.line old.indicator (Some before) line indicator (Some answers) bytes → Gives old ms (Bytes bytes) answers None
-gives_answers old line indicator before answers ms bytes none feeds plate logic past number stands =
-    gives_bytes old line indicator answers ms bytes plate logic past number
-    (feeds.answers (line_bytes past) plate (history_of past) stands.line stands.indicator
-    ∙ ap (λ b. b ++ answers_to plate (requests_in (line_bytes past) bytes) (history_of past)) none)
+-- a call that does what such a row brings takes the row
+takes_call : {S : Type 0} (old : Scale S) (opened : OpenScale S) (step : Came → Came) (ms : ℕ) (brings : RowData) → Goes old.opened opened step →
+    ((past : Past) (program : Option Running) (number : ℕ) → step (came_by past program) ≡ came_by (row_at number ms brings ∷ past) program) →
+    ((plate : PlateData) (logic : Logic) (past : Past) (number : ℕ) → logic_behind plate logic (row_at number ms brings ∷ past) ≡ logic_behind plate logic past) →
+    TakesRow old (record old { opened = opened }) ms brings
+takes_call old opened step ms brings goes brought leaves plate logic past number stands =
+    let after : Option Logic = logic_after plate logic past in
+    let same : logic_after plate logic (row_at number ms brings ∷ past) ≡ after = still ms brings leaves plate logic past number in
+    let went : open_scale.Stands opened plate (came_by (row_at number ms brings ∷ past) (program_of after)) =
+    subst (λ came. open_scale.Stands opened plate came) (brought past (program_of after) number) (goes plate (came_by past (program_of after)) stands.opened) in
+    record {
+      opened = subst (λ logic. open_scale.Stands opened plate (came_by (row_at number ms brings ∷ past) (program_of logic))) (sym same) went;
+      next = subst (λ logic. IsNext old.next logic) (sym same) stands.next;
+    }
 
--- what a scan sees is the image of the rows so far
-seen_image : {S : Type 0} (old : Scale S) (image : Image) (plate : PlateData) (logic : Option Logic) (past : Past) →
-    Tells (λ p history. image_with p old.inputs history) old.indicator image → Stands old plate logic past → image ≡ image_after plate past
-seen_image old image plate logic past told stands =
-    told plate (history_of past) stands.indicator ∙ ap (λ inputs. image_with plate inputs (history_of past)) stands.inputs
+pub takes_sample : {S : Type 0} (old : Scale S) (opened : OpenScale S) (counts : ℤ) → Goes old.opened opened (with_sample counts) → (ms : ℕ) →
+    TakesRow old (record old { opened = opened }) ms (Counts counts)
+takes_sample old opened counts goes ms =
+    takes_call old opened (with_sample counts) ms (Counts counts) goes (λ past program number. each_row_is_a_call.sample past program number ms counts) (λ plate logic past number. refl)
 
--- a scan of a machine leaves the logic after one row more
-scanned : (machine new : MachineState) (next : Option LoadedText) (ms : ℕ) (image : Image) (plate : PlateData) (logic : Option Logic) (past : Past) (number : ℕ) →
-    TakesScan machine new ms image → image ≡ image_after plate past → StandsAt (Some machine) next (logic_after plate logic past) →
-    StandsAt (Some new) next (logic_after plate logic (row_at number ms Scan ∷ past))
-scanned machine new next ms image plate None past number takes same stands = stands
-scanned machine new next ms image plate (Some logic) past number takes same stands =
-    let before : Logic = logic_behind plate logic past in (
-      subst (λ seen. StandsFor new before.text (scans_of before.text before.store seen ms).after) same (takes before.text before.store stands.0),
-      stands.1,
-    )
+pub takes_bytes : {S : Type 0} (old : Scale S) (opened : OpenScale S) (bytes : List ℕ) → Goes old.opened opened (with_bytes bytes) → (ms : ℕ) →
+    TakesRow old (record old { opened = opened }) ms (Bytes bytes)
+takes_bytes old opened bytes goes ms =
+    takes_call old opened (with_bytes bytes) ms (Bytes bytes) goes (λ past program number. each_row_is_a_call.bytes past program number ms bytes) (λ plate logic past number. refl)
 
--- what a scan of a machine is recorded with is the line that the report has
-gives_line : (machine : MachineState) (next : Option LoadedText) (ms : ℕ) (image : Image) (plate : PlateData) (logic : Option Logic) (past : Past) (number : ℕ) (scan : ScanSeen) →
-    RecordsScan machine ms image scan.record → image ≡ image_after plate past → StandsAt (Some machine) next (logic_after plate logic past) →
-    lines_of_row plate logic past (row_at number ms Scan) ≡ lines_of_scan (Some scan)
-gives_line machine next ms image plate None past number scan records same stands = absurd stands
-gives_line machine next ms image plate (Some logic) past number scan records same stands =
-    let before : Logic = logic_behind plate logic past in
-    ap (λ line. line ∷ []) (sym (subst (λ seen. line_of_record scan.record ≡ ScanLine ms (scans_of before.text before.store seen ms).steps (scans_of before.text before.store seen ms).outputs)
-    same (records before.text before.store stands.0)))
+pub takes_inputs : {S : Type 0} (old : Scale S) (opened : OpenScale S) (inputs : ℕ) → Goes old.opened opened (with_inputs inputs) → (ms : ℕ) →
+    TakesRow old (record old { opened = opened }) ms (Inputs inputs)
+takes_inputs old opened inputs goes ms =
+    takes_call old opened (with_inputs inputs) ms (Inputs inputs) goes (λ past program number. each_row_is_a_call.inputs past program number ms inputs) (λ plate logic past number. refl)
 
-pub gives_scan : {S : Type 0} (old : Scale S) (machine : MachineState) (ms : ℕ) (image : Image) (scan : ScanSeen) → old.machine ≡ Some machine →
-    Tells (λ p history. image_with p old.inputs history) old.indicator image → RecordsScan machine ms image scan.record → Gives old ms Scan [] (Some scan)
-gives_scan old machine ms image scan is told records plate logic past number stands =
-    gives_line machine old.next ms image plate logic past number scan records (seen_image old image plate logic past told stands)
-    (subst (λ kept. StandsAt kept old.next (logic_after plate logic past)) is stands.machine)
+-- what is answered to bytes is what the report has, with a program or with none
+pub gives_answer : {S : Type 0} (old : Scale S) (bytes before answers : List ℕ) → before ≡ [] → Answers old.opened bytes (Some before) (Some answers) → (ms : ℕ) →
+    Gives old ms (Bytes bytes) answers None
+gives_answer old bytes before answers none answered ms plate None past number stands =
+    ap (answer_line ms) (sym (answered plate _ stands.opened ∙ ap (λ b. b ++ answer_of_row plate past (row_at number ms (Bytes bytes))) none)) ∙ sym (append-nil (answer_line ms answers))
+gives_answer old bytes before answers none answered ms plate (Some logic) past number stands =
+    ap (answer_line ms) (sym (answered plate _ stands.opened ∙ ap (λ b. b ++ answer_of_row plate past (row_at number ms (Bytes bytes))) none)) ∙ sym (append-nil (answer_line ms answers))
 
--- where it is looked at what the scan executes, these are its items
-gives_seen : (machine : MachineState) (next : Option LoadedText) (ms : ℕ) (image : Image) (plate : PlateData) (logic : Option Logic) (past : Past) (number : ℕ)
-    (lines : Option (List SeenLine)) → ((text : Text) (store : Contents) → StandsFor machine text store → IfSome lines (λ seen. IsSeen text store image ms seen)) →
-    image ≡ image_after plate past → StandsAt (Some machine) next (logic_after plate logic past) → AreItems plate logic past (row_at number ms Scan) lines
-gives_seen machine next ms image plate logic past number None looks same stands = tt
-gives_seen machine next ms image plate None past number (Some lines) looks same stands = tt
-gives_seen machine next ms image plate (Some logic) past number (Some lines) looks same stands =
-    let before : Logic = logic_behind plate logic past in
-    subst (λ seen. IsSeen before.text before.store seen ms lines) same (looks before.text before.store stands.0)
+-- a machine that is there runs a program
+pub not_none : (machine : Option MachineState) → is_some machine ≡ true → IsRunning machine None → ⊥
+not_none None there runs = absurd (cc)
+not_none (Some machine) there runs = runs
 
-pub gives_items : {S : Type 0} (old : Scale S) (machine : MachineState) (ms : ℕ) (image : Image) (scan : ScanSeen) → old.machine ≡ Some machine →
-    Tells (λ p history. image_with p old.inputs history) old.indicator image → LooksAt machine ms image scan → GivesItems old ms Scan (Some scan)
-gives_items old machine ms image scan is told looks plate logic past number stands =
-    gives_seen machine old.next ms image plate logic past number (items_of scan) looks (seen_image old image plate logic past told stands)
-    (subst (λ kept. StandsAt kept old.next (logic_after plate logic past)) is stands.machine)
+-- a program is run by a machine
+pub not_some : (machine : Option MachineState) (running : Running) → is_some machine ≡ false → IsRunning machine (Some running) → ⊥
+not_some None running none runs = runs
+not_some (Some machine) running none runs = absurd (cc)
 
 -- with a machine the scan takes the row
-pub takes_scan : {S : Type 0} (old : Scale S) (machine new : MachineState) (ms : ℕ) (image : Image) → old.machine ≡ Some machine →
-    Tells (λ p history. image_with p old.inputs history) old.indicator image → TakesScan machine new ms image →
-    TakesRow old (record old { machine = Some new }) ms Scan
-takes_scan old machine new ms image is told takes plate logic past number stands =
+pub takes_scan : {S : Type 0} (old : Scale S) (opened : OpenScale S) (ms : ℕ) (scanned : Record) → is_some old.opened.machine ≡ true → Scans old.opened opened ms scanned →
+    TakesRow old (record old { opened = opened }) ms Scan
+takes_scan old opened ms scanned there scans plate None past number stands = absurd (not_none old.opened.machine there stands.opened.program)
+takes_scan old opened ms scanned there scans plate (Some logic) past number stands =
+    let before : Logic = logic_behind plate logic past in
     record {
-      indicator = stands.indicator;
-      line = subst (λ bytes. StandsAfter old.line bytes) (sym (append-nil (line_bytes past))) stands.line;
-      inputs = stands.inputs;
-      machine = scanned machine new old.next ms image plate logic past number takes (seen_image old image plate logic past told stands)
-          (subst (λ kept. StandsAt kept old.next (logic_after plate logic past)) is stands.machine);
+      opened = subst (λ came. open_scale.Stands opened plate came) (each_row_is_a_call.scan past (program_of (logic_after plate (Some logic) (row_at number ms Scan ∷ past))) number ms)
+          (scans plate (came_by past (program_of (Some before))) (record { text = before.text; store = before.store }) refl stands.opened).stands;
+      next = stands.next;
     }
+
+-- and its record has the line of the report
+pub gives_scan : {S : Type 0} (old : Scale S) (opened : OpenScale S) (ms : ℕ) (scan : ScanSeen) → is_some old.opened.machine ≡ true → Scans old.opened opened ms scan.record →
+    Gives old ms Scan [] (Some scan)
+gives_scan old opened ms scan there scans plate None past number stands = absurd (not_none old.opened.machine there stands.opened.program)
+gives_scan old opened ms scan there scans plate (Some logic) past number stands =
+    let before : Logic = logic_behind plate logic past in
+    sym (ap (λ s. line_of_record s ∷ []) (scans plate (came_by past (program_of (Some before))) (record { text = before.text; store = before.store }) refl stands.opened).recorded)
+
+-- where it is looked at what it executes, these are its items
+pub gives_items : {S : Type 0} (old : Scale S) (ms : ℕ) (record' : Record) (lines : Vec SeenLine Global) → is_some old.opened.machine ≡ true → Sees old.opened ms (Ok lines) →
+    GivesItems old ms Scan (Some (record { record = record'; lines = Some lines }))
+gives_items old ms record' lines there sees plate None past number stands = tt
+gives_items old ms record' lines there sees plate (Some logic) past number stands =
+    let before : Logic = logic_behind plate logic past in
+    sees plate (came_by past (program_of (Some before))) (record { text = before.text; store = before.store }) refl stands.opened
+
+-- where it is not, nothing is said
+pub gives_none : {S : Type 0} (old : Scale S) (ms : ℕ) (record' : Record) → GivesItems old ms Scan (Some (record { record = record'; lines = None }))
+gives_none old ms record' plate logic past number stands = tt
+
+-- with no machine a row that brings nothing else is passed over
+passes : {S : Type 0} (old : Scale S) (ms : ℕ) (brings : RowData) → is_some old.opened.machine ≡ false →
+    ((past : Past) (program : Option Running) (number : ℕ) → came_by past program ≡ came_by (row_at number ms brings ∷ past) program) → TakesRow old old ms brings
+passes old ms brings none brought plate None past number stands =
+    record { opened = subst (λ came. open_scale.Stands old.opened plate came) (brought past None number) stands.opened; next = tt }
+passes old ms brings none brought plate (Some logic) past number stands = absurd (not_some old.opened.machine _ none stands.opened.program)
+
+-- where no machine is said to be, there is none
+none_of : (machine : Option MachineState) → is_some machine ≡ false → machine ≡ None
+none_of None none = refl
+none_of (Some machine) none = absurd (cc)
+
+pub passes_scan : {S : Type 0} (old : Scale S) (opened : OpenScale S) (ms : ℕ) → is_some old.opened.machine ≡ false → (old.opened.machine ≡ None → opened ≡ old.opened) →
+    TakesRow old (record old { opened = opened }) ms Scan
+passes_scan old opened ms none same =
+    subst (λ o. TakesRow old (record old { opened = o }) ms Scan) (sym (same (none_of old.opened.machine none)))
+    (passes old ms Scan none (λ past program number. each_row_is_a_call.scan past program number ms))
+
+pub passes_change : {S : Type 0} (old : Scale S) (ms : ℕ) → is_some old.opened.machine ≡ false → TakesRow old old ms Change
+passes_change old ms none = passes old ms Change none (λ past program number. each_row_is_a_call.change past program number ms)
+
+-- and the report has no line of a scan
+pub gives_no_scan : {S : Type 0} (old : Scale S) (ms : ℕ) → is_some old.opened.machine ≡ false → Gives old ms Scan [] None
+gives_no_scan old ms none plate None past number stands = refl
+gives_no_scan old ms none plate (Some logic) past number stands = absurd (not_some old.opened.machine _ none stands.opened.program)
+
+pub gives_no_items : {S : Type 0} (old : Scale S) (ms : ℕ) → GivesItems old ms Scan None
+gives_no_items old ms plate logic past number stands = tt
 
 -- the scale stands after the row that brings this
 pub takes_row : {S : Type 0} (old new : Scale S) (bytes : List ℕ) (row : RowHead) (brings : RowData) → head_data_view bytes row.kind ≡ brings → TakesRow old new row.ms brings →

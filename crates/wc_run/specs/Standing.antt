@@ -1,21 +1,31 @@
--- What the parts of a scale stand for while a log is run.
-use Rattle.std.specs.Prelude.{◌≡◌, ℕ, ◌≤◌, Option, IfSome}
-use Rattle.wc_indicator.specs.Kept.{StandsForHistory}
+-- What a scale stands for while a log is run.
+use Rattle.std.specs.Prelude.{◌≡◌, ⊤, ℕ, Option, Some, None}
+use Rattle.wc_cost.specs.LoadedTexts.{LoadedText}
 use Rattle.wc_model.specs.Instrument.Plates.{PlateData}
-use Rattle.wc_model.specs.Run.ProcessImage.{inputs_of}
-use Rattle.wc_model.specs.Run.Rows.{Past, history_of, line_bytes}
+use Rattle.wc_model.specs.Run.Rows.{Past}
 use Rattle.wc_model.specs.Say.ProgramReport.{Logic}
-use Rattle.wc_run.specs.Logics.{StandsAt, logic_after}
+use Rattle.wc_open_scale.specs.Rows.{came_by}
+use Rattle.wc_open_scale.specs.Standing.{Running}
+use Rattle.wc_open_scale.specs.Standing as open_scale
+use Rattle.wc_run.specs.Logics.{logic_after, text_of_next}
 use Rattle.wc_run.specs.declared.scale.Scale.{Scale}
-use Rattle.wc_sma.specs.Standing.{StandsAfter}
 
--- the scale stands for a plate, the logic with which it began, and the rows so far
+-- the program of the logic, if there is one
+abbrev pub program_of : Option Logic → Option Running
+program_of None = None
+program_of (Some logic) = Some (record { text = logic.text; store = logic.store })
+
+-- what is loaded stands for the next text; with no program that is not told
+abbrev pub IsNext : Option LoadedText → Option Logic → Type 0
+IsNext next None = ⊤
+IsNext next (Some logic) = text_of_next next ≡ logic.next
+
+-- the scale stands for a plate, the logic with which it began, and the rows so far: the open scale for what they have brought
+-- beside the logic behind them, and what is loaded for the next text
 pub record Stands {S : Type 0} (scale : Scale S) (plate : PlateData) (logic : Option Logic) (past : Past) : Type 0 where
-  pub indicator : StandsForHistory scale.indicator plate (history_of past)
-  pub line : StandsAfter scale.line (line_bytes past)
-  pub inputs : scale.inputs ≡ inputs_of past
-  pub machine : StandsAt scale.machine scale.next (logic_after plate logic past)
+  pub opened : open_scale.Stands scale.opened plate (came_by past (program_of (logic_after plate logic past)))
+  pub next : IsNext scale.next (logic_after plate logic past)
 
 -- no scan so far was behind this moment
 abbrev pub IsNotBehind : {S : Type 0} → Scale S → ℕ → Type 0
-IsNotBehind scale ms = IfSome scale.machine (λ machine. machine.last ≤ ms)
+IsNotBehind scale ms = open_scale.IsNotBehind scale.opened ms

@@ -39,28 +39,6 @@ Gives old ms brings answers scan = (plate : PlateData) (logic : Option Logic) (p
 abbrev pub GivesItems : {S : Type 0} → Scale S → ℕ → RowData → Option ScanSeen → Type 0
 GivesItems old ms brings scan = (plate : PlateData) (logic : Option Logic) (past : Past) (number : ℕ) → Stands old plate logic past → IfSome scan (λ done. AreItems plate logic past (row_at number ms brings) (items_of done))
 
--- the machine stands for the store that the scan leaves
-abbrev pub TakesScan : MachineState → MachineState → ℕ → Image → Type 0
-TakesScan old new ms image = (text : Text) (store : Store) → StandsFor old text store → StandsFor new text (scans_of text store image ms).after
-
--- the record has the scan's line
-abbrev pub RecordsScan : MachineState → ℕ → Image → Record → Type 0
-RecordsScan old ms image scan =
-    (text : Text) (store : Store) → StandsFor old text store → line_of_record scan ≡ ScanLine ms (scans_of text store image ms).steps (scans_of text store image ms).outputs
-
--- where it is looked at what the scan executes, these are its items
-abbrev pub LooksAt : MachineState → ℕ → Image → ScanSeen → Type 0
-LooksAt old ms image scan = (text : Text) (store : Store) → StandsFor old text store → IfSome (items_of scan) (λ lines. IsSeen text store image ms lines)
-
--- A machine goes on with the next program, from what is carried over and at the moment of its last
--- scan; for want of memory it does not. Where no next program is left the row is refused.
-abbrev pub Changes : MachineState → Option LoadedText → ℕ → Result MachineState RunFault → Type 0
-Changes old None number result = result ≡ Err (Refused 609 number)
-Changes old (Some next) number (Ok new) =
-    (new.last ≡ old.last)
-    × ((text : Text) (store : Store) → StandsFor old text store → StandsFor new (text_view next.source) (carried text store (text_view next.source)))
-Changes old (Some next) number (Err fault) = fault ≡ Memory
-
 -- a run with whatever logic the scale stands for takes the row
 abbrev pub RunsRow : {S : Type 0} → Scale S → LogRow → Type 0
 RunsRow old row = (plate : PlateData) (logic : Option Logic) (past : Past) → Stands old plate logic past → IsTaken (logic_after plate logic past) (logic_after plate logic (row ∷ past)) row

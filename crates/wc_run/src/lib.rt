@@ -2,7 +2,6 @@
 #![tactic(auto)]
 
 mod answers;
-mod changing;
 mod fault;
 mod last_scans;
 mod log_rows;
@@ -13,7 +12,6 @@ mod row_seen;
 mod running;
 mod scale;
 mod scan_lines;
-mod scanning;
 
 pub use fault::RunFault;
 pub use last_scans::LastScans;

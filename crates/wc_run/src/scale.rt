@@ -1,4 +1,4 @@
-ghost use Rattle.std.specs.Prelude.{◌≡◌, ◌<◌, ◌^◌, ◌++◌, ℕ, [], ◌∷◌, None, Option, IfErr, IfOk, IfSome, IsOkUnless, OnOk, option_map};
+ghost use Rattle.std.specs.Prelude.{◌≡◌, ◌<◌, ◌^◌, ◌++◌, ℕ, [], ◌∷◌, None, Option, IfErr, IfOk, IfSome, IsOkUnless, OnOk, option_copied};
 ghost use Rattle.wc_model.specs.Instrument.Plates.{PlateData};
 ghost use Rattle.wc_model.specs.Run.Rows.{Past, Counts, Bytes, Inputs, Scan, Change};
 ghost use Rattle.wc_record.specs.Views.{IsDataInRange, head_data_view, head_view};
@@ -11,28 +11,23 @@ ghost use Rattle.wc_run.specs.Standing.{IsNotBehind, Stands};
 ghost use Rattle.wc_run.specs.Taking.{Gives, GivesItems, RunsRow, StopsAtRow, TakesRow, row_at};
 
 use crate::answers::Answers;
-use crate::changing::changed;
 use crate::fault::RunFault;
 use crate::row_seen::ScanSeen;
-use crate::scanning::scan_seen;
 use std::alloc::Global;
 use wc_cost::Loaded;
 use wc_indicator::Indicator;
 use wc_machine::Machine;
+use wc_open_scale::OpenScale;
 use wc_plate::Plate;
-use wc_record::{HeadKind, RowHead, image};
-use wc_sma::Line;
+use wc_record::{HeadKind, RowHead};
 use wc_store::Store;
 
-/// A scale on which a log is run: its indicator, its line, the digital inputs, the machine beside
-/// it, if there is one, and the next program, if one is left.
+/// A scale on which a log is run: an open scale, and the next program, if one is left. A row does
+/// what a call of the open scale does.
 #[derive(Drop)]
 pub struct Scale<'a, S: Store> {
     alloc: Global,
-    indicator: Indicator,
-    line: Line,
-    inputs: u16,
-    machine: Option<Machine<'a, S>>,
+    opened: OpenScale<'a, S>,
     next: Option<Loaded<'a>>,
 }
 
@@ -47,16 +42,13 @@ impl<'a, S: Store> Scale<'a, S> {
         ensures stands { IfOk result
             (λ scale. (logic : Option Logic) → StandsAt machine.entry next.entry logic
             → Stands scale plate.now logic []) }
-        ensures machine { IfOk result (λ scale. scale.machine ≡ machine.entry) }
+        ensures machine { IfOk result (λ scale. scale.opened.machine ≡ machine.entry) }
         ensures memory { IsOkUnless result RunFault.Memory }
     {
-        match Indicator::new(alloc, *plate) {
-            Ok(indicator) => Ok(Scale {
+        match OpenScale::new(alloc, plate, machine) {
+            Ok(opened) => Ok(Scale {
                 alloc,
-                indicator,
-                line: Line::new(),
-                inputs: 0,
-                machine,
+                opened,
                 next,
             }),
             Err(_) => Err(RunFault::Memory),
@@ -65,16 +57,16 @@ impl<'a, S: Store> Scale<'a, S> {
 
     /// The indicator.
     pub fn indicator(&self) -> &Indicator
-        ensures { result.now ≡ self.now.indicator }
+        ensures { result.now ≡ self.now.opened.indicator }
     {
-        &self.indicator
+        self.opened.indicator()
     }
 
     /// The machine, if there is one.
     pub fn machine(&self) -> Option<&Machine<'a, S>>
-        ensures { option_map (λ machine. machine.now) result ≡ self.now.machine }
+        ensures { option_copied result ≡ self.now.opened.machine }
     {
-        self.machine.as_ref()
+        self.opened.machine()
     }
 
     /// Does a row, with the bytes that are lent with it. The line's answer is gathered; a scan is
@@ -137,9 +129,9 @@ impl<'a, S: Store> Scale<'a, S> {
     fn take_sample(&mut self, counts: i32)
         requires { IsDataInRange (Counts counts) }
         ensures stands { (ms : ℕ) → TakesRow self.old self.new ms (Counts counts) }
-        ensures machine { self.new.machine ≡ self.old.machine }
+        ensures machine { self.new.opened.machine ≡ self.old.opened.machine }
     {
-        self.indicator.sample(counts);
+        self.opened.sample(counts);
     }
 
     /// Takes bytes on the line; what is answered is gathered behind no other answers.
@@ -149,10 +141,10 @@ impl<'a, S: Store> Scale<'a, S> {
         ensures stands { OnOk result ((ms : ℕ) → TakesRow self.old self.new ms (Bytes bytes.now)) }
         ensures lines { OnOk result
             ((ms : ℕ) → Gives self.old ms (Bytes bytes.now) answers.new.bytes.items None) }
-        ensures machine { self.new.machine ≡ self.old.machine }
+        ensures machine { self.new.opened.machine ≡ self.old.opened.machine }
         ensures memory { IsOkUnless result RunFault.Memory }
     {
-        match self.line.feed(bytes, &mut self.indicator, answers) {
+        match self.opened.feed(bytes, answers) {
             Ok(()) => Ok(()),
             Err(_) => Err(RunFault::Memory),
         }
@@ -162,9 +154,9 @@ impl<'a, S: Store> Scale<'a, S> {
     #[inline(always)]
     fn take_inputs(&mut self, inputs: u16)
         ensures stands { (ms : ℕ) → TakesRow self.old self.new ms (Inputs inputs) }
-        ensures machine { self.new.machine ≡ self.old.machine }
+        ensures machine { self.new.opened.machine ≡ self.old.opened.machine }
     {
-        self.inputs = inputs;
+        self.opened.inputs(inputs);
     }
 
     /// Does a scan where there is a machine.
@@ -178,19 +170,45 @@ impl<'a, S: Store> Scale<'a, S> {
         ensures in_order { IsNotBehind self.new ms }
         ensures memory { IsOkUnless result RunFault.Memory }
     {
-        match &mut self.machine {
-            Some(machine) => {
-                let image = image(&self.indicator, self.inputs);
-                match scan_seen(self.alloc, looks, ms, &image, machine) {
-                    Ok(scan) => Ok(Some(scan)),
-                    Err(fault) => Err(fault),
-                }
-            }
+        if looks {
+            return self.look_at(ms);
+        }
+        match self.opened.scan(ms) {
+            Some(record) => Ok(Some(ScanSeen {
+                record,
+                lines: None,
+            })),
+            None => Ok(None),
+        }
+    }
+
+    /// Does a scan where there is a machine, and gives the items that it executes. `Memory` is want of memory for these.
+    #[cold]
+    #[inline(never)]
+    fn look_at(&mut self, ms: u64) -> Result<Option<ScanSeen>, RunFault>
+        requires early { ms < 2 ^ 40 }
+        requires in_order { IsNotBehind self.old ms }
+        ensures stands { TakesRow self.old self.new ms Scan }
+        ensures lines { IfOk result (λ scan. Gives self.old ms Scan [] scan) }
+        ensures items { IfOk result (λ scan. GivesItems self.old ms Scan scan) }
+        ensures in_order { IsNotBehind self.new ms }
+        ensures memory { IsOkUnless result RunFault.Memory }
+    {
+        match self.opened.trace(self.alloc, ms) {
+            Some((record, seen)) => match seen {
+                Ok(lines) => Ok(Some(ScanSeen {
+                    record,
+                    lines: Some(lines),
+                })),
+                Err(_) => Err(RunFault::Memory),
+            },
             None => Ok(None),
         }
     }
 
     /// Takes the next program where there is a machine.
+    #[cold]
+    #[inline(never)]
     fn take_change(&mut self, number: u32) -> Result<(), RunFault>
         ensures stands { OnOk result ((ms : ℕ) → TakesRow self.old self.new ms Change) }
         ensures runs { OnOk result ((ms : ℕ) → RunsRow self.old (row_at number ms Change)) }
@@ -200,15 +218,18 @@ impl<'a, S: Store> Scale<'a, S> {
         ensures in_order { OnOk result
             ((ms : ℕ) → IsNotBehind self.old ms → IsNotBehind self.new ms) }
     {
-        let Some(machine) = self.machine.take() else {
+        if !self.opened.has_program() {
             return Ok(());
-        };
-        match changed(self.alloc, machine, self.next.take(), number) {
-            Ok(machine) => {
-                self.machine = Some(machine);
-                Ok(())
-            }
-            Err(fault) => Err(fault),
+        }
+        match self.next.take() {
+            Some(next) => match self.opened.change(self.alloc, next) {
+                Ok(()) => Ok(()),
+                Err(_) => Err(RunFault::Memory),
+            },
+            None => Err(RunFault::Refused {
+                number: 609,
+                place: number,
+            }),
         }
     }
 }

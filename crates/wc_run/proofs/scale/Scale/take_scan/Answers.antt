@@ -1,18 +1,24 @@
-use Rattle.wc_run.proofs.ScaleRows.{gives_items, gives_scan, takes_scan}
+use Rattle.std.proofs.Common.{None, sym}
+use Rattle.wc_run.proofs.ScaleRows.{gives_no_items, gives_no_scan, gives_none, gives_scan, passes_scan, takes_scan}
 use Rattle.wc_run.proofs.scale.Scale.take_scan.Goals as goal
 
-pub returns-in-Ok-clause-stands : goal.returns-in-Ok-clause-stands
-returns-in-Ok-clause-stands g c =
-    takes_scan c.args.self.now c.in-Some.machine c.scan_seen.new.machine c.args.ms c.image-image.result c.in-Some.is c.image-image.ensures.told c.scan_seen.ensures.stands
+pub returns-in-Some-clause-stands : goal.returns-in-Some-clause-stands
+returns-in-Some-clause-stands g c =
+    takes_scan c.args.self.now c.scan.new.self c.args.ms c.in-Some.record (sym c.in-Some.ensures.there) c.in-Some.ensures.scans
 
-pub returns-in-Err-clause-stands : goal.returns-in-Err-clause-stands
-returns-in-Err-clause-stands g c =
-    takes_scan c.args.self.now c.in-Some.machine c.scan_seen.new.machine c.args.ms c.image-image.result c.in-Some.is c.image-image.ensures.told c.scan_seen.ensures.stands
+pub returns-in-Some-clause-lines : goal.returns-in-Some-clause-lines
+returns-in-Some-clause-lines g c =
+    gives_scan c.args.self.now c.scan.new.self c.args.ms (record { record = c.in-Some.record; lines = None }) (sym c.in-Some.ensures.there) c.in-Some.ensures.scans
 
-pub returns-in-Ok-clause-lines : goal.returns-in-Ok-clause-lines
-returns-in-Ok-clause-lines g c =
-    gives_scan c.args.self.now c.in-Some.machine c.args.ms c.image-image.result c.in-Ok.scan c.in-Some.is c.image-image.ensures.told c.in-Ok.ensures.records
+pub returns-in-Some-clause-items : goal.returns-in-Some-clause-items
+returns-in-Some-clause-items g c = gives_none c.args.self.now c.args.ms c.in-Some.record
 
-pub returns-in-Ok-clause-items : goal.returns-in-Ok-clause-items
-returns-in-Ok-clause-items g c =
-    gives_items c.args.self.now c.in-Some.machine c.args.ms c.image-image.result c.in-Ok.scan c.in-Some.is c.image-image.ensures.told c.in-Ok.ensures.items
+pub returns-in-None-clause-stands : goal.returns-in-None-clause-stands
+returns-in-None-clause-stands g c =
+    passes_scan c.args.self.now c.scan.new.self c.args.ms (sym c.in-None.ensures.there) c.in-None.ensures.none
+
+pub returns-in-None-clause-lines : goal.returns-in-None-clause-lines
+returns-in-None-clause-lines g c = gives_no_scan c.args.self.now c.args.ms (sym c.in-None.ensures.there)
+
+pub returns-in-None-clause-items : goal.returns-in-None-clause-items
+returns-in-None-clause-items g c = gives_no_items c.args.self.now c.args.ms
