@@ -21,10 +21,10 @@ pub(crate) struct Watcher<'n> {
 }
 
 /// What a run ends with for a fault of a line.
-fn in_run(result: Result<(), Fault>) -> Result<(), RunFault>
+fn in_run(made: Result<(), Fault>) -> Result<(), RunFault>
     ensures { IsOkUnless result RunFault.Memory }
 {
-    match result {
+    match made {
         Ok(()) => Ok(()),
         Err(_) => Err(RunFault::Memory),
     }
