@@ -36,7 +36,7 @@ changed_logic opened plate past number ms logic text left is stands =
 
 -- a scale whose program is changed takes the row
 pub takes_change : {S : Type 0} (old : Scale S) (opened : OpenScale S) (loaded : LoadedText) (ms : ℕ) → is_some old.opened.machine ≡ true → old.next ≡ Some loaded →
-    IsChangedTo old.opened opened (text_view loaded.source) → TakesRow old (record { opened = opened; next = None }) ms Change
+    IsChangedTo old.opened opened (text_view loaded.source) → TakesRow old (record old { opened = opened; next = None }) ms Change
 takes_change old opened loaded ms there is changed plate None past number stands = absurd (not_none old.opened.machine there stands.opened.program)
 takes_change old opened loaded ms there is changed plate (Some logic) past number stands =
     let before : Logic = logic_behind plate logic past in

@@ -1,5 +1,5 @@
 -- What a row leaves in a scale, and what is printed of it, kind by kind: it does what a call of the open scale does.
-use Rattle.std.proofs.Common.{◌≡◌, refl, ℕ, ℤ, true, false, List, [], ◌∷◌, ◌++◌, sym, ◌∙◌, ap, subst, append-nil, Option, Some, None, is_some, Result, Ok, Err, IfErr, IfOk, IfSome, IsOkUnless, OnOk}
+use Rattle.std.proofs.Common.{Global, Vec, ◌≡◌, refl, ℕ, ℤ, true, false, List, [], ◌∷◌, ◌++◌, sym, ◌∙◌, ap, subst, append-nil, Option, Some, None, is_some, Result, Ok, Err, IfErr, IfOk, IfSome, IsOkUnless, OnOk}
 use Rattle.wc_instrument_laws.specs.Changes.{IsNoChange}
 use Rattle.wc_cost.specs.LoadedTexts.{LoadedText}
 use Rattle.wc_machine.specs.Machines.{MachineState}
@@ -140,14 +140,14 @@ gives_scan old opened ms scan there scans plate (Some logic) past number stands 
 
 -- where it is looked at what it executes, these are its items
 pub gives_items : {S : Type 0} (old : Scale S) (ms : ℕ) (record' : Record) (lines : Vec SeenLine Global) → is_some old.opened.machine ≡ true → Sees old.opened ms (Ok lines) →
-    GivesItems old ms Scan (Some (record { record = record'; lines = Some lines }))
+    GivesItems old ms Scan (Some (record { «record» = record'; lines = Some lines }))
 gives_items old ms record' lines there sees plate None past number stands = tt
 gives_items old ms record' lines there sees plate (Some logic) past number stands =
     let before : Logic = logic_behind plate logic past in
     sees plate (came_by past (program_of (Some before))) (record { text = before.text; store = before.store }) refl stands.opened
 
 -- where it is not, nothing is said
-pub gives_none : {S : Type 0} (old : Scale S) (ms : ℕ) (record' : Record) → GivesItems old ms Scan (Some (record { record = record'; lines = None }))
+pub gives_none : {S : Type 0} (old : Scale S) (ms : ℕ) (record' : Record) → GivesItems old ms Scan (Some (record { «record» = record'; lines = None }))
 gives_none old ms record' plate logic past number stands = tt
 
 -- with no machine a row that brings nothing else is passed over

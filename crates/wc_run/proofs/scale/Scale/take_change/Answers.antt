@@ -13,7 +13,7 @@ returns-then-not-has_program-clause-runs g c = λ ms. runs_past c.args.self.now 
 
 pub returns-in-Ok-clause-stands : goal.returns-in-Ok-clause-stands
 returns-in-Ok-clause-stands g c = λ ms.
-    subst (λ next. TakesRow c.args.self.now (record { opened = c.change.new.self; next = next }) ms Change) (sym c.in-Some.ensures.after)
+    subst (λ next. TakesRow c.args.self.now (record c.args.self.now { opened = c.change.new.self; next = next }) ms Change) (sym c.in-Some.ensures.after)
     (takes_change c.args.self.now c.change.new.self c.in-Some.next ms (sym c.has_program.ensures ∙ c.if-not-has_program.false) (sym c.in-Some.ensures.value) c.in-Ok.ensures.changed)
 
 pub returns-in-Ok-clause-runs : goal.returns-in-Ok-clause-runs

@@ -8,7 +8,7 @@ returns-in-Some-clause-stands g c =
 
 pub returns-in-Some-clause-lines : goal.returns-in-Some-clause-lines
 returns-in-Some-clause-lines g c =
-    gives_scan c.args.self.now c.scan.new.self c.args.ms (record { record = c.in-Some.record; lines = None }) (sym c.in-Some.ensures.there) c.in-Some.ensures.scans
+    gives_scan c.args.self.now c.scan.new.self c.args.ms (record { «record» = c.in-Some.record; lines = None }) (sym c.in-Some.ensures.there) c.in-Some.ensures.scans
 
 pub returns-in-Some-clause-items : goal.returns-in-Some-clause-items
 returns-in-Some-clause-items g c = gives_none c.args.self.now c.args.ms c.in-Some.record
