@@ -1,22 +1,12 @@
 -- What a row does to a scale, whatever the scale stands for: told of the row's moment and of what
 -- it brings.
-use Rattle.std.specs.Prelude.{◌≡◌, ⊤, ℕ, List, ◌∷◌, ◌++◌, Option, Some, None, IfSome, Result, Ok, Err}
-use Rattle.wc_cost.specs.LoadedTexts.{LoadedText}
-use Rattle.wc_machine.specs.Machines.{MachineState, StandsFor}
-use Rattle.wc_machine.specs.Seeing.{IsSeen}
+use Rattle.std.specs.Prelude.{◌≡◌, ⊤, ℕ, List, ◌∷◌, ◌++◌, Option, IfSome}
 use Rattle.wc_model.specs.Instrument.Plates.{PlateData}
-use Rattle.wc_model.specs.Say.ProgramReport.{Logic, scans_of}
-use Rattle.wc_model.specs.Say.Report.{ScanLine, answer_line}
+use Rattle.wc_model.specs.Say.ProgramReport.{Logic}
+use Rattle.wc_model.specs.Say.Report.{answer_line}
 use Rattle.wc_model.specs.Run.Rows.{RowData, LogRow, Past}
-use Rattle.wc_model.specs.Language.Carried.{carried}
-use Rattle.wc_model.specs.Language.Store.{Store}
-use Rattle.wc_model.specs.Language.Tree.{Text}
-use Rattle.wc_model.specs.Language.Views.{text_view}
-use Rattle.wc_model.specs.declared.image.Image.{Image}
-use Rattle.wc_record.specs.declared.last_scans.Record.{Record}
 use Rattle.wc_run.specs.Logics.{IsRefusedRow, IsTaken, lines_of_row, logic_after}
 use Rattle.wc_run.specs.Observing.{AreItems, items_of, lines_of_scan}
-use Rattle.wc_run.specs.Outputs.{line_of_record}
 use Rattle.wc_run.specs.Standing.{Stands}
 use Rattle.wc_run.specs.declared.fault.RunFault.{RunFault}
 use Rattle.wc_run.specs.declared.fault.RunFault.TheVariants.{Refused, Read, Write, Memory}
