@@ -1,4 +1,5 @@
-ghost use Rattle.std.specs.Prelude.{◌≡◌, ◌≤◌, ◌+◌, ⊤, length, IfErr, IfOk, IfSome};
+ghost use Rattle.std.specs.Prelude.{◌≡◌, ◌≤◌, ◌+◌, ⊤, true, false, length, IfErr, IfOk, IfSome};
+ghost use Rattle.wc_controller.specs.Endings.{IsAt};
 ghost use Rattle.wc_controller.specs.InputRuns.{RunsUnsaid, TakesInputs};
 ghost use Rattle.wc_record.specs.Told.{fields_told};
 
@@ -7,6 +8,18 @@ use crate::watcher::Watcher;
 use std::alloc::Global;
 use wc_controller::{Ending, Input, RefusedRow, RunInputs, run_files};
 use wc_model::{ByteIn, ByteOut};
+
+/// Whether a run did not begin for a name that was to be watched.
+fn is_at_names(ending: &Ending) -> bool
+    ensures names { result ≡ true → IsAt Input.Names ending.now }
+    ensures others { result ≡ false → ¬ (IsAt Input.Names ending.now) }
+{
+    match ending {
+        Ending::Refused { input, .. } => *input == Input::Names,
+        Ending::ReadFault { input } => *input == Input::Names,
+        Ending::Done | Ending::WriteFault | Ending::NoMemory => false,
+    }
+}
 
 /// Runs a log with a program as `run_files` does, and watches variables: it writes the report, with every scan or the last `last`
 /// alone, 1 to 1000, and behind the line of each scan one with the values of the variables. It begins with `V` and the moment,
@@ -33,6 +46,8 @@ pub fn watch_files<P: ByteIn, T: ByteIn, N: ByteIn, L: ByteIn, W: ByteOut>(
     ensures runs { IfOk result (λ ending.
         RunsUnsaid ⊤ inputs.old inputs.new (fields_told told.new) ending
         (W.failure_count writer.old) (W.failure_count writer.new)) }
+    // So no ending names them.
+    ensures named { IfOk result (λ ending. ¬ (IsAt Input.Names ending)) }
     ensures taken { TakesInputs inputs.old inputs.new }
 {
     let mut watcher = match Watcher::new(alloc, names, last) {
@@ -40,11 +55,8 @@ pub fn watch_files<P: ByteIn, T: ByteIn, N: ByteIn, L: ByteIn, W: ByteOut>(
         Err(_) => return Ok(Ending::NoMemory),
     };
     let ending = run_files(alloc, &mut watcher, inputs, writer, told);
-    match ending {
-        Ending::Refused {
-            input: Input::Names,
-            ..
-        } => Err(name_at(names, watcher.unknown())),
-        ending => Ok(ending),
+    if is_at_names(&ending) {
+        return Err(name_at(names, watcher.unknown()));
     }
+    Ok(ending)
 }
