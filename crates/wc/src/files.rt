@@ -1,45 +1,34 @@
 use crate::desk::Desk;
-use crate::opening::LateFile;
-use crate::output::Emptying;
+use crate::file_source::FileSource;
 use crate::telling::{ReadFile, Sources};
 use std::io;
 use wc_controller::RunInputs;
-use wc_devices::{Keeping, Noting};
+use wc_devices::Keeping;
 use wc_model::Device;
 use wc_words::ProgramFiles;
 
-/// A file that is read, and before each read the output is written.
-type Source<'a> = Device<Emptying<'a, Noting<LateFile<'a>>>>;
+/// A file whose bytes are kept, so that a refusal shows those that were read.
+pub(crate) type KeptSource<'a> = Device<Keeping<FileSource<'a>>>;
 
-/// The same of a file whose bytes are kept, so that a refusal shows those that were read.
-pub(crate) type KeptSource<'a> = Device<Emptying<'a, Keeping<Noting<LateFile<'a>>>>>;
-
-/// A file whose bytes are kept. It is opened when it is first read.
+/// A file whose bytes are kept. It is opened at the first read.
 pub(crate) fn kept_source<'a>(desk: Desk<'a>, path: &'a str) -> KeptSource<'a> {
-    let keeping = Keeping::new(desk.rt.alloc(), Noting::new(LateFile::new(desk.rt, path)));
-    Device::new(Emptying::new(desk.gathered, keeping))
-}
-
-/// A file of which no bytes are kept. It is opened when it is first read.
-fn source<'a>(desk: Desk<'a>, path: &'a str) -> Source<'a> {
-    let noting = Noting::new(LateFile::new(desk.rt, path));
-    Device::new(Emptying::new(desk.gathered, noting))
+    Device::new(Keeping::new(desk.rt.alloc(), FileSource::new(desk, path)))
 }
 
 /// Why a file could not be read, if the system said so.
 pub(crate) fn kept_cause(source: &KeptSource<'_>) -> Option<io::Error> {
-    source.get_ref().get_ref().get_ref().cause()
+    source.get_ref().get_ref().cause()
 }
 
 /// A file by its path, with the bytes that were read of it.
 pub(crate) fn read_of<'a>(path: &'a str, source: &'a KeptSource<'_>) -> ReadFile<'a> {
     ReadFile {
         path,
-        bytes: source.get_ref().get_ref().bytes_read(),
+        bytes: source.get_ref().bytes_read(),
     }
 }
 
-/// A file that may be missing. It is opened when it is first read.
+/// A file that may be missing. It is opened at the first read.
 fn optional_source<'a>(desk: Desk<'a>, path: Option<&'a str>) -> Option<KeptSource<'a>> {
     match path {
         Some(path) => Some(kept_source(desk, path)),
@@ -87,11 +76,16 @@ impl<'a> RunPaths<'a> {
     }
 }
 
-/// The files of a run: each is opened when it is first read. The bytes of all but the log are kept.
+/// The files of a run: each is opened at the first read. The bytes of all but the log are kept.
 #[derive(Drop)]
 pub(crate) struct RunFiles<'a> {
     paths: RunPaths<'a>,
-    pub(crate) inputs: RunInputs<KeptSource<'a>, KeptSource<'a>, KeptSource<'a>, Source<'a>>,
+    pub(crate) inputs: RunInputs<
+        KeptSource<'a>,
+        KeptSource<'a>,
+        KeptSource<'a>,
+        Device<FileSource<'a>>,
+    >,
 }
 
 impl<'a> RunFiles<'a> {
@@ -103,7 +97,7 @@ impl<'a> RunFiles<'a> {
                 plate: kept_source(desk, paths.plate),
                 program: optional_source(desk, paths.program),
                 next: optional_source(desk, paths.next),
-                log: source(desk, paths.log),
+                log: Device::new(FileSource::new(desk, paths.log)),
             },
         }
     }
@@ -113,7 +107,7 @@ impl<'a> RunFiles<'a> {
         kept_cause(&self.inputs.plate)
             .or(optional_cause(&self.inputs.program))
             .or(optional_cause(&self.inputs.next))
-            .or(self.inputs.log.get_ref().get_ref().cause())
+            .or(self.inputs.log.get_ref().cause())
     }
 
     /// The files by their paths, with the bytes that were read of them.

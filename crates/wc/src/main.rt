@@ -8,8 +8,8 @@ ghost use Rattle.wc_words.specs.Asked.{asked, explain as explain_asked, form_ask
 mod commands;
 mod desk;
 mod explaining;
+mod file_source;
 mod files;
-mod opening;
 mod output;
 mod telling;
 
@@ -22,7 +22,8 @@ use commands::{
 use desk::Desk;
 use explaining::explain;
 use files::RunPaths;
-use output::shared_output;
+use output::{Gathered, shared_output};
+use std::cell::RefCell;
 use std::fs::File;
 use std::io::Write;
 use std::process::ExitCode;
@@ -30,7 +31,7 @@ use std::{env, io};
 use telling::{tell_write_fault, without_memory};
 use wc_controller::RefusedRow;
 use wc_messages::shown;
-use wc_words::{AskedCommand, Wanted, read_words};
+use wc_words::{Wanted, read_words};
 
 /// The exit status where the words are wrong.
 const WRONG_WORDS: u8 = 2;
@@ -157,9 +158,9 @@ fn show_page(rt: &HostRuntime, _words: &[String], number: u16) -> u8
     }
 }
 
-/// Does what the words ask for that may read and write: the exit status. The words stand here for the proof: nothing is done that
-/// they do not ask for.
-fn execute_at(desk: Desk<'_>, words: &[String], row: &mut RefusedRow, wanted: Wanted<'_>) -> u8
+/// Does what the words ask for: the exit status. The words are a parameter for the proof alone: nothing is done that they do not
+/// ask for.
+fn execute(desk: Desk<'_>, words: &[String], row: &mut RefusedRow, wanted: Wanted<'_>) -> u8
     requires asked { asked (texts_of words.now) ≡ view wanted }
     requires form { form_asked (texts_of words.now) ≡ Some desk.form }
 {
@@ -212,40 +213,32 @@ fn execute_at(desk: Desk<'_>, words: &[String], row: &mut RefusedRow, wanted: Wa
     }
 }
 
-/// Does what the words ask for, with room for what is gathered for the output: the exit status.
-fn execute(rt: &HostRuntime, words: &[String], request: AskedCommand<'_>) -> u8
-    requires asked { asked (texts_of words.now) ≡ view request.wanted }
-    requires form { form_asked (texts_of words.now) ≡ Some request.form }
-{
-    let gathered = match shared_output(rt) {
-        Ok(gathered) => gathered,
-        Err(_) => return without_memory(rt),
-    };
-    let desk = Desk {
-        rt,
-        form: request.form,
-        gathered: &gathered,
-    };
-    execute_at(
-        desk,
-        words,
-        &mut RefusedRow::new(rt.alloc()),
-        request.wanted,
-    )
-}
-
-/// Does what the words ask for: the exit status, 0 where it succeeded, 1 where something was refused, 2 where the words are
-/// wrong, 3 where a device failed, 4 for want of memory.
-fn answer(rt: &HostRuntime) -> u8 {
-    match words_given(rt) {
-        Ok(words) => match read_words(rt.alloc(), words.as_slice()) {
-            Ok(request) => execute(rt, words.as_slice(), request),
-            Err(error) => show(rt, &error, words.as_slice()),
-        },
-        Err(error) => end_without_words(rt, &error),
+/// Does what these words ask for, or says what is wrong with them: the exit status.
+fn answer(rt: &HostRuntime, words: &[String], gathered: &RefCell<Gathered>) -> u8 {
+    match read_words(rt.alloc(), words) {
+        Ok(request) => {
+            let form = request.form;
+            let desk = Desk { rt, form, gathered };
+            execute(
+                desk,
+                words,
+                &mut RefusedRow::new(rt.alloc()),
+                request.wanted,
+            )
+        }
+        Err(error) => show(rt, &error, words),
     }
 }
 
+/// The exit status is 0 where all succeeded, 1 where something was refused, 2 where the words are wrong, 3 where a device
+/// failed, 4 if out of memory.
 fn main(rt: HostRuntime) -> ExitCode {
-    ExitCode::from(answer(&rt))
+    let words = match words_given(&rt) {
+        Ok(words) => words,
+        Err(error) => return ExitCode::from(end_without_words(&rt, &error)),
+    };
+    match shared_output(&rt) {
+        Ok(gathered) => ExitCode::from(answer(&rt, words.as_slice(), &gathered)),
+        Err(_) => ExitCode::from(without_memory(&rt)),
+    }
 }

@@ -62,7 +62,7 @@ impl<'a, D> Emptying<'a, D> {
 }
 
 /// Writes what is gathered.
-fn empty_first(gathered: &RefCell<Gathered>) -> io::Result<()> {
+pub(crate) fn empty_first(gathered: &RefCell<Gathered>) -> io::Result<()> {
     let mut gathered = gathered.try_borrow_mut()?;
     gathered.empty()
 }
@@ -71,9 +71,7 @@ impl<D: Read> Read for Emptying<'_, D> {
     ghost remaining = { λ e. D.remaining e.inner };
 
     fn read(&mut self, buffer: &mut [u8]) -> io::Result<usize> {
-        match empty_first(self.gathered) {
-            Ok(()) => self.inner.read(buffer),
-            Err(error) => Err(error),
-        }
+        empty_first(self.gathered)?;
+        self.inner.read(buffer)
     }
 }

@@ -17,7 +17,7 @@ use wc_model::{Decl, Fault, Value, put_bytes};
 use wc_names::DeclaredType;
 use wc_verify::Checked;
 
-/// Whose variables are told.
+/// Whose variables are listed.
 #[derive(Clone, Copy)]
 pub(crate) enum Pass {
     /// Those of the new text: each keeps its value or begins with its first one.
@@ -29,11 +29,22 @@ pub(crate) enum Pass {
 /// Two texts that are gone through side by side.
 #[derive(Clone, Copy)]
 pub(crate) struct Texts<'a, 'b, 'c, 'd> {
+    /// Where the lines take their memory.
+    pub alloc: Global,
     pub pass: Pass,
-    /// The text whose variables are told.
+    /// The text whose variables are listed.
     pub own: &'a Checked<'b>,
     /// The text beside it.
     pub other: &'c Checked<'d>,
+}
+
+/// The units of two texts to which the same names lead, by their numbers.
+#[derive(Clone, Copy)]
+pub(crate) struct UnitPair {
+    /// In the text whose variables are listed.
+    pub unit: usize,
+    /// In the text beside it, if there is one.
+    pub other: Option<usize>,
 }
 
 /// Puts one more name and a dot behind the names that have led so far.
@@ -48,16 +59,15 @@ fn go_into(names: &mut Vec<u8>, name: &[u8]) -> Result<(), Fault>
 
 /// Puts the line of a variable of the new text: that it keeps its value, or begins with its first one and why.
 fn describe_new(
-    alloc: Global,
     out: &mut Vec<u8>,
+    texts: Texts<'_, '_, '_, '_>,
     prefix: &[u8],
     name: &[u8],
     form: Form,
-    old: &Checked<'_>,
     was: Option<DeclaredType>,
 ) -> Result<(), Fault>
     ensures line { OnOk result ((unit : Option ℕ) (side : Option Scope)
-        → IsSide (text_view old.now.source) unit side
+        → IsSide (text_view texts.entry.other.now.source) unit side
         → was ≡ numbered_side side (name_of name.now)
         → out.new.items ≡ out.old.items
         ++ line_text (has_form was (form_view form)) (prefix.now ++ name.now) (form_view form)
@@ -67,7 +77,14 @@ fn describe_new(
     if is_kept(form, was) {
         return put_kept(out, prefix, name);
     }
-    put_first(alloc, out, prefix, name, form, type_text(old, was))
+    put_first(
+        texts.alloc,
+        out,
+        prefix,
+        name,
+        form,
+        type_text(texts.other, was),
+    )
 }
 
 /// Puts the line of a variable of the old text, where it is lost.
@@ -91,7 +108,6 @@ fn describe_old(
 
 /// Puts the line of a variable of one place, or of a standard block's instance.
 fn describe_form(
-    alloc: Global,
     out: &mut Vec<u8>,
     texts: Texts<'_, '_, '_, '_>,
     prefix: &[u8],
@@ -108,7 +124,7 @@ fn describe_form(
     ensures memory { IsOkUnless result Fault.Memory }
 {
     match texts.pass {
-        Pass::New => describe_new(alloc, out, prefix, name, form, texts.other, there),
+        Pass::New => describe_new(out, texts, prefix, name, form, there),
         Pass::Old => describe_old(out, prefix, name, form, there),
     }
 }
@@ -117,53 +133,48 @@ fn describe_form(
 /// are lent for those that lead further, and stand as before.
 #[cycle(describing)]
 fn describe_variable(
-    alloc: Global,
     out: &mut Vec<u8>,
     texts: Texts<'_, '_, '_, '_>,
     names: &mut Vec<u8>,
-    other_unit: Option<usize>,
-    unit: usize,
+    units: UnitPair,
     name: &[u8],
     literal: Option<Value>,
 ) -> Result<(), Fault>
     ensures lines { OnOk result ((side : Option Scope) (before : List CodeUnit) (u : CodeUnit)
         (initial : Option Initial)
-        → IsSide (text_view texts.entry.other.now.source) other_unit side
-        → IsAt texts.entry.own.now.source unit before u
+        → IsSide (text_view texts.entry.other.now.source) units.other side
+        → IsAt texts.entry.own.now.source units.unit before u
         → literal ≡ option_map (λ i. i.value) initial
         → out.new.items ≡ out.old.items ++ variable_lines texts.entry.pass side before u names.old.items
         (record { name = name.now; initial = initial })) }
     ensures names { OnOk result (names.new.items ≡ names.old.items) }
     ensures memory { IsOkUnless result Fault.Memory }
 {
-    let Some(located) = texts.own.tables().variable(unit, name) else {
+    let Some(located) = texts.own.tables().variable(units.unit, name) else {
         return Ok(());
     };
-    let there = other_type(texts.other, other_unit, name);
+    let there = other_type(texts.other, units.other, name);
     match located.declared {
         DeclaredType::Elementary(kind) => {
             let form = Form::Plain(kind, first_value(kind, literal));
-            describe_form(alloc, out, texts, names.as_slice(), name, form, there)
+            describe_form(out, texts, names.as_slice(), name, form, there)
         }
         DeclaredType::Standard(block) => {
-            describe_form(
-                alloc,
-                out,
-                texts,
-                names.as_slice(),
-                name,
-                Form::Instance(block),
-                there,
-            )
+            let form = Form::Instance(block);
+            describe_form(out, texts, names.as_slice(), name, form, there)
         }
         DeclaredType::Block(block) => {
             // A block stands before the unit that has its instance, so only what has no place is passed over.
-            if unit <= block || texts.own.tables().size(block) == 0 {
+            if units.unit <= block || texts.own.tables().size(block) == 0 {
                 return Ok(());
             }
             let length = names.len();
             go_into(names, name)?;
-            describe_unit(alloc, out, texts, names, unit_of(there), block)?;
+            let inner = UnitPair {
+                unit: block,
+                other: unit_of(there),
+            };
+            describe_unit(out, texts, names, inner)?;
             names.truncate(length);
             Ok(())
         }
@@ -173,17 +184,15 @@ fn describe_variable(
 /// Puts the lines of what a declaration of a unit of a text adds.
 #[cycle(describing)]
 fn describe_declaration(
-    alloc: Global,
     out: &mut Vec<u8>,
     texts: Texts<'_, '_, '_, '_>,
     names: &mut Vec<u8>,
-    other_unit: Option<usize>,
-    unit: usize,
+    units: UnitPair,
     declaration: &Decl<'_>,
 ) -> Result<(), Fault>
     ensures lines { OnOk result ((side : Option Scope) (before : List CodeUnit) (u : CodeUnit)
-        → IsSide (text_view texts.entry.other.now.source) other_unit side
-        → IsAt texts.entry.own.now.source unit before u
+        → IsSide (text_view texts.entry.other.now.source) units.other side
+        → IsAt texts.entry.own.now.source units.unit before u
         → out.new.items ≡ out.old.items
         ++ declaration_lines texts.entry.pass side before u names.old.items declaration.now) }
     ensures names { OnOk result (names.new.items ≡ names.old.items) }
@@ -194,9 +203,7 @@ fn describe_declaration(
         None => None,
     };
     for word in &declaration.names {
-        describe_variable(
-            alloc, out, texts, names, other_unit, unit, word.text, literal,
-        )?;
+        describe_variable(out, texts, names, units, word.text, literal)?;
     }
     Ok(())
 }
@@ -204,26 +211,24 @@ fn describe_declaration(
 /// Puts the lines of the variables of a unit of a text, beside the unit of the other text to which the same names lead.
 #[cycle(describing)]
 pub(crate) fn describe_unit(
-    alloc: Global,
     out: &mut Vec<u8>,
     texts: Texts<'_, '_, '_, '_>,
     names: &mut Vec<u8>,
-    other_unit: Option<usize>,
-    unit: usize,
+    units: UnitPair,
 ) -> Result<(), Fault>
     ensures lines { OnOk result ((side : Option Scope) (before : List CodeUnit) (u : CodeUnit)
-        → IsSide (text_view texts.entry.other.now.source) other_unit side
-        → IsAt texts.entry.own.now.source unit before u
+        → IsSide (text_view texts.entry.other.now.source) units.other side
+        → IsAt texts.entry.own.now.source units.unit before u
         → out.new.items ≡ out.old.items
         ++ lines_between texts.entry.pass side before u names.old.items (declared_of u)) }
     ensures names { OnOk result (names.new.items ≡ names.old.items) }
     ensures memory { IsOkUnless result Fault.Memory }
 {
-    let Some(u) = texts.own.source().units.get(unit) else {
+    let Some(u) = texts.own.source().units.get(units.unit) else {
         return Ok(());
     };
     for declaration in &u.declarations {
-        describe_declaration(alloc, out, texts, names, other_unit, unit, declaration)?;
+        describe_declaration(out, texts, names, units, declaration)?;
     }
     Ok(())
 }

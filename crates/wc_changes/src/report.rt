@@ -3,29 +3,25 @@ ghost use Rattle.wc_model.specs.Language.Views.{text_view};
 ghost use Rattle.wc_changes.specs.ChangeReport.{change_report};
 ghost use Rattle.wc_changes.specs.Sides.{lines_beside};
 
-use crate::describing::{Pass, Texts, describe_unit};
+use crate::describing::{Pass, Texts, UnitPair, describe_unit};
 use std::alloc::Global;
 use wc_cost::Loaded;
 use wc_model::Fault;
 
 /// Puts the lines of the variables of a text's program, beside the program of the other text.
-fn describe_program(
-    alloc: Global,
-    out: &mut Vec<u8>,
-    texts: Texts<'_, '_, '_, '_>,
-) -> Result<(), Fault>
+fn describe_program(out: &mut Vec<u8>, texts: Texts<'_, '_, '_, '_>) -> Result<(), Fault>
     ensures lines { OnOk result
         (out.new.items ≡ out.old.items
         ++ lines_beside texts.entry.pass (text_view texts.entry.other.now.source)
         texts.entry.own.now.source) }
     ensures memory { IsOkUnless result Fault.Memory }
 {
-    let Some(program) = texts.own.source().units.len().checked_sub(1) else {
+    let Some(unit) = texts.own.source().units.len().checked_sub(1) else {
         return Ok(());
     };
-    let other_program = texts.other.source().units.len().checked_sub(1);
-    let mut names = Vec::new(alloc);
-    describe_unit(alloc, out, texts, &mut names, other_program, program)
+    let other = texts.other.source().units.len().checked_sub(1);
+    let mut names = Vec::new(texts.alloc);
+    describe_unit(out, texts, &mut names, UnitPair { unit, other })
 }
 
 /// What a change from a program to another would keep, with no change made: a line for each variable of the new program,
@@ -43,16 +39,18 @@ pub fn changes(alloc: Global, old: &Loaded<'_>, new: &Loaded<'_>) -> Result<Vec<
     let new = new.checked();
     let mut lines = Vec::new(alloc);
     let kept = Texts {
+        alloc,
         pass: Pass::New,
         own: new,
         other: old,
     };
-    describe_program(alloc, &mut lines, kept)?;
+    describe_program(&mut lines, kept)?;
     let lost = Texts {
+        alloc,
         pass: Pass::Old,
         own: old,
         other: new,
     };
-    describe_program(alloc, &mut lines, lost)?;
+    describe_program(&mut lines, lost)?;
     Ok(lines)
 }

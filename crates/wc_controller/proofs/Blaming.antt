@@ -3,7 +3,7 @@ use Rattle.std.proofs.Common.{◌≡◌, ℕ, ◌≤◌, List, length, Result, O
 use Rattle.std.specs.Prelude.{Option, Some, None, IfErr, IfSome, IsSome, is_some}
 use Rattle.wc_controller.proofs.Allowing.{of_known, on_known}
 use Rattle.wc_controller.specs.Blames.{Blames, IsNextUnloaded, IsUnloaded, RefusesLog, RefusesProgram, RefusesText, StopsFor}
-use Rattle.wc_controller.specs.Endings.{EndsBehind, EndsBehindFault, EndsRefused, TellsMemory, of_refused_log, of_unread_log, run_fault_of}
+use Rattle.wc_controller.specs.Endings.{EndsBehind, EndsBehindFault, EndsRefused, TellsMemory, of_refused_log, of_unread_log}
 use Rattle.wc_controller.specs.Loads.{IsRefusedLoad}
 use Rattle.wc_model.specs.declared.fault.Fault.{Fault}
 use Rattle.wc_model.specs.declared.fault.Fault.TheVariants as fault
@@ -24,6 +24,7 @@ use Rattle.wc_model.specs.Say.LogFor.{log_for}
 use Rattle.wc_model.specs.Say.ProgramReport.{Logic, first_logic}
 use Rattle.wc_record.specs.Reading.{records_of}
 use Rattle.wc_record.specs.Told.{records_read}
+use Rattle.wc_run.specs.Faults.{from_fault}
 use Rattle.wc_run.specs.Logics.{text_of_next}
 use Rattle.wc_run.specs.Doing.{WritesBy}
 use Rattle.wc_run.specs.Observing.{Plan}
@@ -84,12 +85,12 @@ same_next (Some reader) None is = absurd is
 same_next (Some reader) (Some bytes) is = refl
 
 -- why a text is not loaded, as the fault of a command
-pub not_loaded_why : (bytes : List ℕ) (why : Fault) → IsRefusedLoad bytes why → IsUnloaded bytes (run_fault_of why)
+pub not_loaded_why : (bytes : List ℕ) (why : Fault) → IsRefusedLoad bytes why → IsUnloaded bytes (from_fault why)
 not_loaded_why bytes (fault.Refused number place) h = h
 not_loaded_why bytes fault.Memory h = tt
 
 -- a text that is not loaded is refused so
-pub load_refused : (bytes : List ℕ) (why : Fault) → IsRefusedLoad bytes why → RefusesText bytes (run_fault_of why)
+pub load_refused : (bytes : List ℕ) (why : Fault) → IsRefusedLoad bytes why → RefusesText bytes (from_fault why)
 load_refused bytes (fault.Refused number place) h = h
 load_refused bytes fault.Memory h = tt
 

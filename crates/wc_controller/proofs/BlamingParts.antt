@@ -2,7 +2,7 @@
 use Rattle.std.proofs.Common.{◌≡◌, ℕ, List, Result, Ok, Err, refl, sym, subst}
 use Rattle.std.specs.Prelude.{Option, Some, None, is_some}
 use Rattle.wc_controller.specs.Blames.{BlamesPart, IsNextUnloaded, IsUnloaded, RefusesLog, RefusesPart, StopsAsPart, StopsForPart}
-use Rattle.wc_controller.specs.Endings.{EndsBehind, EndsBehindFault, EndsRefused, fault_in_memory, run_fault_of}
+use Rattle.wc_controller.specs.Endings.{EndsBehind, EndsBehindFault, EndsRefused, fault_in_memory}
 use Rattle.wc_controller.specs.TakenLogs.{log_beside}
 use Rattle.wc_controller.specs.declared.ending.Ending.{Ending}
 use Rattle.wc_controller.specs.declared.ending.Ending.TheVariants as ended
@@ -17,12 +17,13 @@ use Rattle.wc_model.specs.declared.fault.Fault.{Fault}
 use Rattle.wc_model.specs.declared.fault.Fault.TheVariants as fault
 use Rattle.wc_plate.specs.TomlTable.{table_read}
 use Rattle.wc_plate.specs.Verdict.{AgreesWith}
+use Rattle.wc_run.specs.Faults.{from_fault}
 use Rattle.wc_run.specs.declared.fault.RunFault.{RunFault}
 use Rattle.wc_run.specs.declared.fault.RunFault.TheVariants.{Refused, Memory}
 
 -- a plate that is refused
 pub plate_part : (told : Record) (sections : Sections) (why : Fault) → AgreesWith (plate_of (table_read sections.plate)) (Err why)
-    → StopsAsPart told (Ok sections) input.Plate (run_fault_of why)
+    → StopsAsPart told (Ok sections) input.Plate (from_fault why)
 plate_part told sections (fault.Refused number place) h = (h.1, h.0)
 plate_part told sections fault.Memory h = tt
 

@@ -5,7 +5,7 @@ use Rattle.std.specs.Prelude.{Bool, true, false, Option, Some, None}
 use Rattle.std.specs.Io.KnownBytes.{Appends, Keeps}
 use Rattle.wc_controller.specs.Blames.{IsNextUnloaded, IsUnloaded}
 use Rattle.wc_controller.specs.Checking.{Checks}
-use Rattle.wc_controller.specs.Endings.{IsAt, IsReadFaultAt, EndsAs, EndsBehind, EndsBehindFault, EndsRefused, WritesFront, WritesUpTo, answered, failed, fault_in_memory, fault_met, met, run_fault_of, status_of}
+use Rattle.wc_controller.specs.Endings.{IsAt, IsReadFaultAt, EndsAs, EndsBehind, EndsBehindFault, EndsRefused, WritesFront, WritesUpTo, answered, failed, fault_in_memory, fault_met, met, status_of}
 use Rattle.wc_controller.specs.Files.{AnswersCheck, AnswersLog, AnswersPrinting, IsAnswer, Observed, answer_written, refuses_text, reports_units}
 use Rattle.wc_controller.specs.Jobs as jobs
 use Rattle.wc_controller.specs.Jobs.{Gives}
@@ -28,6 +28,7 @@ use Rattle.wc_model.specs.declared.fault.Fault.TheVariants as fault
 use Rattle.wc_run.proofs.Fronts.{front_behind, front_of_more}
 use Rattle.wc_run.proofs.Lines.{whole_written}
 use Rattle.wc_run.proofs.Texts.{lines_first}
+use Rattle.wc_run.specs.Faults.{from_fault}
 use Rattle.wc_run.specs.Reports.{report_plan}
 use Rattle.wc_run.specs.Logics.{text_of_next}
 use Rattle.wc_run.specs.Doing.{WritesBy}
@@ -106,7 +107,7 @@ not_begun o plate logic log Memory old h = inl (Keeps-refl old)
 
 -- a program that is not loaded
 pub not_loaded : (bytes : List ℕ) (rest : Text → JobAnswer → Type 0) (why : Fault) (old : Option (List ℕ))
-    → IsRefusedLoad bytes why → WritesUpTo (AnswersProgram bytes rest) (Some (run_fault_of why)) old old
+    → IsRefusedLoad bytes why → WritesUpTo (AnswersProgram bytes rest) (Some (from_fault why)) old old
 not_loaded bytes rest (fault.Refused number place) old h = only_refused (AnswersProgram bytes rest) number place old (refuses_program number place h refl)
 not_loaded bytes rest fault.Memory old h = inl (Keeps-refl old)
 

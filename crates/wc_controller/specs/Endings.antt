@@ -9,8 +9,6 @@ use Rattle.wc_controller.specs.declared.input.Stopped.{Stopped}
 use Rattle.wc_job.specs.Reads.{TakesAtMost}
 use Rattle.wc_job.specs.declared.reading.ReadFault.{ReadFault}
 use Rattle.wc_job.specs.declared.reading.ReadFault.TheVariants as unread
-use Rattle.wc_model.specs.declared.fault.Fault.{Fault}
-use Rattle.wc_model.specs.declared.fault.Fault.TheVariants as fault
 use Rattle.wc_model.specs.Instrument.PlateTable.{plate_of}
 use Rattle.wc_model.specs.Instrument.Plates.{PlateData}
 use Rattle.wc_model.specs.Run.JobSections.{longest_job}
@@ -68,11 +66,6 @@ TakesInput old new = TakesAtMost (longest_job + 1) old new
 abbrev pub ReadsPlate : List ℕ → Result PlateData Stopped → Type 0
 ReadsPlate bytes (Ok plate) = (length bytes ≤ longest_job) × (plate_of (table_read bytes) ≡ Ok plate)
 ReadsPlate bytes (Err stopped) = RefusesPlate bytes stopped.fault
-
--- a fault of reading or loading, as the fault of a command
-abbrev pub run_fault_of : Fault → RunFault
-run_fault_of (fault.Refused number place) = Refused number place
-run_fault_of fault.Memory = Memory
 
 -- the fault of an input that was not read whole
 abbrev pub whole_fault : ReadFault → RunFault

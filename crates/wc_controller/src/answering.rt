@@ -16,7 +16,7 @@ ghost use Rattle.wc_record.specs.Told.{fields_told};
 use crate::ending::{Ending, end};
 use crate::input::{Input, Stopped};
 use crate::loaded::{RunPrograms, load_input, run_loaded};
-use crate::reading::{read_input, run_fault_of};
+use crate::reading::read_input;
 use std::alloc::Global;
 use wc_job::{Sections, sections};
 use wc_model::{ByteIn, ByteOut, Device};
@@ -85,13 +85,10 @@ fn answer_sections<W: ByteOut>(
         Ok(plate) => plate,
         Err(fault) => return Err(Stopped {
             input: Input::Plate,
-            fault: run_fault_of(fault),
+            fault: fault.into(),
         }),
     };
-    let loaded = match load_input(alloc, Input::Program, sections.program) {
-        Ok(loaded) => loaded,
-        Err(stopped) => return Err(stopped),
-    };
+    let loaded = load_input(alloc, Input::Program, sections.program)?;
     let programs = RunPrograms {
         plate,
         text: sections.program,
@@ -146,10 +143,8 @@ fn answer_input<R: ByteIn, W: ByteOut>(
         (W.failure_count writer.new) }
     ensures taken { TakesInput (R.bytes_left reader.old) (R.bytes_left reader.new) }
 {
-    match read_input(alloc, Input::Job, reader) {
-        Ok(bytes) => answer_bytes(alloc, &bytes, writer, told),
-        Err(stopped) => Err(stopped),
-    }
+    let bytes = read_input(alloc, Input::Job, reader)?;
+    answer_bytes(alloc, &bytes, writer, told)
 }
 
 /// Reads a job, of at most 1048576 bytes, and answers it: its plate, its program, its next program,

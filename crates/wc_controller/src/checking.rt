@@ -12,7 +12,7 @@ use crate::reading::read_input;
 use crate::unit_lines::text_of_units;
 use std::alloc::Global;
 use wc_cost::Loaded;
-use wc_model::{ByteIn, ByteOut, Fault, write_whole};
+use wc_model::{ByteIn, ByteOut, write_whole};
 use wc_run::RunFault;
 
 /// Writes the report of the units.
@@ -27,14 +27,9 @@ fn write_report<W: ByteOut>(
     ensures failures { TellsWrites result (W.failure_count writer.old)
         (W.failure_count writer.new) }
 {
-    let lines = match text_of_units(alloc, loaded, paths) {
-        Ok(lines) => lines,
-        Err(_) => return Err(RunFault::Memory),
-    };
-    match write_whole(writer, &lines) {
-        Ok(()) => Ok(()),
-        Err(_) => Err(RunFault::Write),
-    }
+    let lines = text_of_units(alloc, loaded, paths)?;
+    write_whole(writer, &lines)?;
+    Ok(())
 }
 
 /// Checks a program text, and writes for each unit, in the text's order, a line with its name and
@@ -53,13 +48,8 @@ pub fn check<W: ByteOut>(
     ensures failures { TellsWrites result (W.failure_count writer.old)
         (W.failure_count writer.new) }
 {
-    match load(alloc, text) {
-        Ok(loaded) => write_report(alloc, &loaded, paths, writer),
-        Err(fault) => match fault {
-            Fault::Refused { number, place } => Err(RunFault::Refused { number, place }),
-            Fault::Memory => Err(RunFault::Memory),
-        },
-    }
+    let loaded = load(alloc, text)?;
+    write_report(alloc, &loaded, paths, writer)
 }
 
 /// Reads and checks a program, up to its refusal.
@@ -79,15 +69,13 @@ fn check_input<T: ByteIn, W: ByteOut>(
         (W.failure_count writer.new) }
     ensures taken { TakesInput (T.bytes_left program.old) (T.bytes_left program.new) }
 {
-    match read_input(alloc, Input::Program, program) {
-        Ok(text) => match check(alloc, &text, paths, writer) {
-            Ok(()) => Ok(()),
-            Err(fault) => Err(Stopped {
-                input: Input::Program,
-                fault,
-            }),
-        },
-        Err(stopped) => Err(stopped),
+    let text = read_input(alloc, Input::Program, program)?;
+    match check(alloc, &text, paths, writer) {
+        Ok(()) => Ok(()),
+        Err(fault) => Err(Stopped {
+            input: Input::Program,
+            fault,
+        }),
     }
 }
 

@@ -23,7 +23,7 @@ pub use input::{Input, Stopped};
 pub use inputs::RunInputs;
 pub use loading::load;
 pub use log_runs::{run, run_last};
-pub use reading::{read_input, run_fault_of};
+pub use reading::read_input;
 pub use running::{last_files, report_files, run_files};
 pub use unit_lines::text_of_units;
 pub use wc_run::{RefusedRow, RunFault};

@@ -19,7 +19,6 @@ ghost use Rattle.wc_run.specs.Standing.{IsNotBehind, Stands};
 
 use crate::input::{Input, Stopped};
 use crate::loading::load;
-use crate::reading::run_fault_of;
 use std::alloc::Global;
 use wc_cost::Loaded;
 use wc_machine::Machine;
@@ -55,7 +54,7 @@ pub(crate) fn load_input<'a>(
         Ok(loaded) => Ok(loaded),
         Err(fault) => Err(Stopped {
             input,
-            fault: run_fault_of(fault),
+            fault: fault.into(),
         }),
     }
 }
@@ -71,10 +70,7 @@ fn load_next<'a>(alloc: Global, text: Option<&'a [u8]>) -> Result<Option<Loaded<
     ensures silent { (count : ℕ) → TellsWriteFaults (met result) count count }
 {
     match text {
-        Some(text) => match load_input(alloc, Input::Next, text) {
-            Ok(next) => Ok(Some(next)),
-            Err(stopped) => Err(stopped),
-        },
+        Some(text) => Ok(Some(load_input(alloc, Input::Next, text)?)),
         None => Ok(None),
     }
 }
@@ -141,10 +137,8 @@ fn scale_of<'a>(
     ensures first { IfOk result (λ scale. IsNotBehind scale 0) }
     ensures memory { IsOkUnless result RunFault.Memory }
 {
-    match Machine::new(alloc, loaded) {
-        Ok(machine) => Scale::new(alloc, plate, Some(machine), next),
-        Err(_) => Err(RunFault::Memory),
-    }
+    let machine = Machine::new(alloc, loaded)?;
+    Scale::new(alloc, plate, Some(machine), next)
 }
 
 /// Runs a log on a scale to which no row has come.
@@ -222,9 +216,7 @@ pub(crate) fn run_alone<W: ByteOut, O: Observer<SlotStore, W>, L: ByteIn>(
     ensures failures { TellsWriteFaults (met result) (W.failure_count writer.old)
         (W.failure_count writer.new) }
 {
-    if let Err(stopped) = begin(observer, None, None) {
-        return Err(stopped);
-    }
+    begin(observer, None, None)?;
     match Scale::new(alloc, plate, None, None) {
         Ok(mut scale) => run_scale(alloc, observer, &mut scale, log, writer, told),
         Err(fault) => Err(Stopped {
@@ -284,17 +276,12 @@ pub(crate) fn run_loaded<W: ByteOut, O: Observer<SlotStore, W>, L: ByteIn>(
         loaded,
         next: other,
     } = programs;
-    let next = match load_next(alloc, other) {
-        Ok(next) => next,
-        Err(stopped) => return Err(stopped),
-    };
+    let next = load_next(alloc, other)?;
     let first = Program {
         text,
         loaded: &loaded,
     };
-    if let Err(stopped) = begin(observer, Some(first), next_program(other, &next)) {
-        return Err(stopped);
-    }
+    begin(observer, Some(first), next_program(other, &next))?;
     match scale_of(alloc, &plate, loaded, next) {
         Ok(mut scale) => run_scale(alloc, observer, &mut scale, log, writer, told),
         Err(fault) => Err(Stopped {

@@ -25,16 +25,8 @@ pub fn load<'a>(alloc: Global, text: &'a [u8]) -> Result<Loaded<'a>, Fault>
     ensures accepted { IfOk result (λ loaded. IsNeverRefused text.now) }
     ensures only { IfErr result (λ fault. IsTheOnlyRefusal text.now fault) }
 {
-    let source = match read(alloc, text) {
-        Ok(source) => source,
-        Err(fault) => return Err(fault),
-    };
-    let tables = match tables(alloc, &source) {
-        Ok(tables) => tables,
-        Err(fault) => return Err(fault),
-    };
-    match verify(alloc, source, tables) {
-        Ok(checked) => cost(alloc, checked),
-        Err(fault) => Err(fault),
-    }
+    let source = read(alloc, text)?;
+    let tables = tables(alloc, &source)?;
+    let checked = verify(alloc, source, tables)?;
+    cost(alloc, checked)
 }

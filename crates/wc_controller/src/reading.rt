@@ -8,19 +8,9 @@ ghost use Rattle.wc_job.specs.Reads.{IsWhole};
 use crate::input::{Input, Stopped};
 use std::alloc::Global;
 use wc_job::{ReadFault, read_whole};
-use wc_model::{ByteIn, Fault};
+use wc_model::ByteIn;
 use wc_plate::{Plate, plate};
 use wc_run::RunFault;
-
-/// A fault of loading, as the fault of a command.
-pub fn run_fault_of(fault: Fault) -> RunFault
-    ensures { result ≡ endings.run_fault_of fault }
-{
-    match fault {
-        Fault::Refused { number, place } => RunFault::Refused { number, place },
-        Fault::Memory => RunFault::Memory,
-    }
-}
 
 /// The fault of an input that was not read whole: one that is too long is refused as a job is.
 fn whole_fault(fault: ReadFault) -> RunFault
@@ -83,10 +73,7 @@ pub(crate) fn read_optional<R: ByteIn>(
         (known_of (optional_of R.bytes_left R.failure_count R.spent_count reader.new)) }
 {
     match reader {
-        Some(reader) => match read_input(alloc, input, reader) {
-            Ok(text) => Ok(Some(text)),
-            Err(stopped) => Err(stopped),
-        },
+        Some(reader) => Ok(Some(read_input(alloc, input, reader)?)),
         None => Ok(None),
     }
 }
@@ -110,15 +97,12 @@ pub(crate) fn read_plate<R: ByteIn>(alloc: Global, reader: &mut R) -> Result<Pla
         (R.failure_count reader.new) }
     ensures taken { TakesInput (R.bytes_left reader.old) (R.bytes_left reader.new) }
 {
-    let bytes = match read_input(alloc, Input::Plate, reader) {
-        Ok(bytes) => bytes,
-        Err(stopped) => return Err(stopped),
-    };
+    let bytes = read_input(alloc, Input::Plate, reader)?;
     match plate(alloc, &bytes) {
         Ok(plate) => Ok(plate),
         Err(fault) => Err(Stopped {
             input: Input::Plate,
-            fault: run_fault_of(fault),
+            fault: fault.into(),
         }),
     }
 }

@@ -23,14 +23,9 @@ fn path_at(
     if !paths {
         return Ok(Vec::new(alloc));
     }
-    let lines = match loaded.worst_path(alloc, unit) {
-        Ok(lines) => lines,
-        Err(_) => return Err(RunFault::Memory),
-    };
-    match path_line(alloc, &lines) {
-        Ok(line) => Ok(line),
-        Err(_) => Err(RunFault::Memory),
-    }
+    let lines = loaded.worst_path(alloc, unit)?;
+    let line = path_line(alloc, &lines)?;
+    Ok(line)
 }
 
 /// The lines of a unit by its place.
@@ -45,18 +40,10 @@ fn lines_at(
         (λ lines. AreLinesAt paths (text_view loaded.now.source) unit lines.items) }
     ensures memory { IsOkUnless result RunFault.Memory }
 {
-    let mut lines = match unit_line(alloc, loaded.name(unit).as_bytes(), loaded.bound(unit)) {
-        Ok(line) => line,
-        Err(_) => return Err(RunFault::Memory),
-    };
-    let path = match path_at(alloc, loaded, paths, unit) {
-        Ok(path) => path,
-        Err(fault) => return Err(fault),
-    };
-    match lines.extend_from_slice(&path) {
-        Ok(()) => Ok(lines),
-        Err(_) => Err(RunFault::Memory),
-    }
+    let mut lines = unit_line(alloc, loaded.name(unit).as_bytes(), loaded.bound(unit))?;
+    let path = path_at(alloc, loaded, paths, unit)?;
+    lines.extend_from_slice(&path)?;
+    Ok(lines)
 }
 
 /// The lines of all units, in the text's order. `Memory` is the only fault.
@@ -67,14 +54,8 @@ pub fn text_of_units(alloc: Global, loaded: &Loaded<'_>, paths: bool) -> Result<
 {
     let mut report = Vec::new(alloc);
     for unit in 0..loaded.units() {
-        let lines = match lines_at(alloc, loaded, paths, unit) {
-            Ok(lines) => lines,
-            Err(fault) => return Err(fault),
-        };
-        match report.extend_from_slice(&lines) {
-            Ok(()) => {}
-            Err(_) => return Err(RunFault::Memory),
-        }
+        let lines = lines_at(alloc, loaded, paths, unit)?;
+        report.extend_from_slice(&lines)?;
     }
     Ok(report)
 }

@@ -12,3 +12,4 @@ mod trying;
 pub use gathered::Gathering;
 pub use keeping::Keeping;
 pub use noting::Noting;
+pub use trying::{open_again, read_again};

@@ -4,12 +4,13 @@ ghost use Rattle.std.specs.Io.KnownBytes.{Keeps, ReadConsumes, WriteAppends};
 ghost use Rattle.std.specs.IoError.{error_kind};
 
 use crate::attempts::Attempts;
+use std::fs::File;
 use std::io;
 use std::io::{ErrorKind, Read, Write};
 
 /// Reads, again after an interruption, which is never the answer. How often `reader` is called is not in the contract, since
 /// the library's `Read::read` does not say when it fails; `Attempts::again` says when there is one more call.
-pub(crate) fn read_again<D: Read>(reader: &mut D, buffer: &mut [u8]) -> io::Result<usize>
+pub fn read_again<D: Read>(reader: &mut D, buffer: &mut [u8]) -> io::Result<usize>
     ensures bound { ReadsAtMost result buffer.new }
     ensures bytes { ReadConsumes (D.remaining reader.old) (D.remaining reader.new)
         result buffer.new }
@@ -19,6 +20,19 @@ pub(crate) fn read_again<D: Read>(reader: &mut D, buffer: &mut [u8]) -> io::Resu
     'tries: loop {
         match reader.read(buffer) {
             Ok(count) => return Ok(count),
+            Err(error) => attempts.again(error)?,
+        }
+    }
+}
+
+/// Opens a file for reading, again after an interruption, likewise.
+pub fn open_again(rt: &HostRuntime, path: &str) -> io::Result<File>
+    ensures retried { IfErr result (λ error. error_kind error ≢ ErrorKind.Interrupted) }
+{
+    let mut attempts = Attempts::new();
+    'tries: loop {
+        match File::open(rt, path) {
+            Ok(file) => return Ok(file),
             Err(error) => attempts.again(error)?,
         }
     }

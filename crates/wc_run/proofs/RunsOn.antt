@@ -12,7 +12,8 @@ use Rattle.wc_record.specs.declared.row_kind.LogFault.{LogFault}
 use Rattle.wc_record.specs.declared.row_kind.LogFault.TheVariants as fault
 use Rattle.wc_record.specs.declared.row_head.RowHead.{RowHead}
 use Rattle.wc_run.proofs.Fronts.{front_behind, front_of_more}
-use Rattle.wc_run.specs.Doing.{Does, HasSeenAll, RunsRows, Seeing, Writes, answer_to}
+use Rattle.wc_run.specs.Faults.{from_log_fault}
+use Rattle.wc_run.specs.Doing.{Does, HasSeenAll, RunsRows, Seeing, Writes}
 use Rattle.wc_model.specs.Say.LogFor.{log_for}
 use Rattle.wc_model.specs.Say.ProgramReport.{Logic}
 use Rattle.wc_run.specs.Logics.{IsTaken, logic_after}
@@ -164,7 +165,7 @@ module _ {R S O : Type 0} (bytes_left : R → Option (List ℕ)) (rows : Rows R)
 
   -- the log gives no further row
   pub at_fault : (rows' : Rows R) (met : LogFault) → Takes (head_view (row_bytes rows')) bytes_left r.left (Err met) rows'
-      → RunsRows has_seen plan plate logic log observer (Err (answer_to met)) old mid
+      → RunsRows has_seen plan plate logic log observer (Err (from_log_fault met)) old mid
   at_fault rows' (fault.Refused code place) takes =
       at_refusal observer mid code place
       (ap (λ l. log_for (logic_after plate logic r.past) l) takes.0 ∙ refusal_taken (logic_after plate logic r.past) code place) r.seen (Keeps-refl mid)

@@ -9,7 +9,8 @@ use Rattle.wc_record.specs.declared.log.LogEnd.TheVariants.{Met}
 use Rattle.wc_record.specs.declared.log.Rows.{Rows}
 use Rattle.wc_record.specs.declared.row_kind.LogFault.{LogFault}
 use Rattle.wc_record.specs.declared.row_kind.LogFault.TheVariants as fault
-use Rattle.wc_run.specs.Doing.{IsJudged, answer_to}
+use Rattle.wc_run.specs.Faults.{from_log_fault}
+use Rattle.wc_run.specs.Doing.{IsJudged}
 use Rattle.wc_run.specs.Runs.{IsFaultAt, IsNoRefusal, TellsFault}
 use Rattle.wc_run.specs.declared.fault.RunFault.{RunFault}
 use Rattle.wc_run.specs.declared.fault.RunFault.TheVariants.{Refused, Read, Memory}
@@ -31,7 +32,7 @@ told_at_row bytes_left rows records n open_still counted some reads met at = tt
 
 -- a row that is refused by the log is the one at hand
 pub told_at_end : {R : Type 0} (bytes_left : R → Option (List ℕ)) (rows : Rows R) (records : List Record) (met : LogFault) → ended rows ≡ Some (Met met)
-    → Reads bytes_left rows records → TellsFault records (at_hand rows) (answer_to met)
+    → Reads bytes_left rows records → TellsFault records (at_hand rows) (from_log_fault met)
 told_at_end bytes_left rows records (fault.Refused number place) e reads = rw e at reads
 told_at_end bytes_left rows records met e reads = tt
 

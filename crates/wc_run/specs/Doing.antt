@@ -4,8 +4,6 @@ use Rattle.std.specs.Io.KnownBytes.{Appends, Keeps}
 use Rattle.wc_model.specs.Instrument.Plates.{PlateData}
 use Rattle.wc_model.specs.Run.Log.{LogOf}
 use Rattle.wc_model.specs.Run.Rows.{LogRow, Past}
-use Rattle.wc_record.specs.declared.row_kind.LogFault.{LogFault}
-use Rattle.wc_record.specs.declared.row_kind.LogFault.TheVariants as log
 use Rattle.wc_model.specs.Say.ProgramReport.{Logic}
 use Rattle.wc_run.specs.Logics.{IsRefusedRow, IsTaken, logic_after}
 use Rattle.wc_run.specs.Observing.{Plan, onto, text_coming, text_in_all}
@@ -76,12 +74,6 @@ refused_in (Err fault) = None
 -- A run writes by a plan: of each row as it comes, and behind the last one, or the last before a refused one, the rest.
 abbrev pub WritesBy : Plan → PlateData → Option Logic → LogOf → Result ℕ RunFault → Option (List ℕ) → Option (List ℕ) → Type 0
 WritesBy plan plate logic log answer old new = ReportsBy (text_in_all plan plate logic log.refusal) (text_coming plan plate logic []) log answer old new
-
--- what a run answers where the log gives no further row
-abbrev pub answer_to : LogFault → RunFault
-answer_to (log.Refused number place) = Refused number place
-answer_to log.Read = Read
-answer_to log.Memory = Memory
 
 -- a refusal and a write fault stay as they are; what else kept the log from being run is judged by
 -- its cause

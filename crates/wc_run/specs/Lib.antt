@@ -1,3 +1,4 @@
+pub mod Faults
 pub mod Logics
 pub mod Outputs
 pub mod Observing

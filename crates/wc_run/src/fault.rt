@@ -1,4 +1,7 @@
+use std::alloc::AllocError;
 use thiserror::Error;
+use wc_model::{Fault, WriteFault};
+use wc_record::LogFault;
 
 /// Why a run or a check did not end well.
 #[derive(Clone, Copy, PartialEq, Eq, Debug, Error)]
@@ -20,4 +23,55 @@ pub enum RunFault {
     /// Memory was refused.
     #[error("want of memory")]
     Memory,
+}
+
+impl From<Fault> for RunFault {
+    ghost use Rattle.std.specs.Prelude.{◌≡◌};
+    ghost use Rattle.wc_run.specs.Faults.{from_fault};
+
+    ghost from_gives = { λ fault given. given ≡ from_fault fault };
+
+    fn from(fault: Fault) -> RunFault {
+        match fault {
+            Fault::Refused { number, place } => RunFault::Refused { number, place },
+            Fault::Memory => RunFault::Memory,
+        }
+    }
+}
+
+impl From<LogFault> for RunFault {
+    ghost use Rattle.std.specs.Prelude.{◌≡◌};
+    ghost use Rattle.wc_run.specs.Faults.{from_log_fault};
+
+    ghost from_gives = { λ fault given. given ≡ from_log_fault fault };
+
+    fn from(fault: LogFault) -> RunFault {
+        match fault {
+            LogFault::Refused { number, place } => RunFault::Refused { number, place },
+            LogFault::Read => RunFault::Read,
+            LogFault::Memory => RunFault::Memory,
+        }
+    }
+}
+
+impl From<WriteFault> for RunFault {
+    ghost use Rattle.std.specs.Prelude.{◌≡◌};
+    ghost use Rattle.wc_run.specs.declared.fault.RunFault.TheVariants.{Write};
+
+    ghost from_gives = { λ fault given. given ≡ Write };
+
+    fn from(_fault: WriteFault) -> RunFault {
+        RunFault::Write
+    }
+}
+
+impl From<AllocError> for RunFault {
+    ghost use Rattle.std.specs.Prelude.{◌≡◌};
+    ghost use Rattle.wc_run.specs.declared.fault.RunFault.TheVariants.{Memory};
+
+    ghost from_gives = { λ error given. given ≡ Memory };
+
+    fn from(_error: AllocError) -> RunFault {
+        RunFault::Memory
+    }
 }

@@ -32,15 +32,13 @@ impl LastScans {
         ensures holds { IfOk result (λ scans. HoldsScans scans.recorder number []) }
         ensures memory { IsOkUnless result RunFault.Memory }
     {
-        match Recorder::new(alloc, number) {
-            Ok(recorder) => Ok(LastScans {
-                alloc,
-                text: Vec::new(alloc),
-                number,
-                recorder,
-            }),
-            Err(_) => Err(RunFault::Memory),
-        }
+        let recorder = Recorder::new(alloc, number)?;
+        Ok(LastScans {
+            alloc,
+            text: Vec::new(alloc),
+            number,
+            recorder,
+        })
     }
 }
 
@@ -87,16 +85,12 @@ impl<S: Store, W: ByteOut> Observer<S, W> for LastScans {
     ) -> Result<(), RunFault> {
         keep_scan(&mut self.recorder, &seen.scan);
         self.text.clear();
-        match put_answer(&mut self.text, seen) {
-            Ok(()) => write_text(&self.text, writer),
-            Err(fault) => Err(fault),
-        }
+        put_answer(&mut self.text, seen)?;
+        write_text(&self.text, writer)
     }
 
     fn end(&mut self, _refused: Option<(u16, u32)>, writer: &mut W) -> Result<(), RunFault> {
-        match last_text(self.alloc, &self.recorder) {
-            Ok(text) => write_text(&text, writer),
-            Err(fault) => Err(fault),
-        }
+        let text = last_text(self.alloc, &self.recorder)?;
+        write_text(&text, writer)
     }
 }

@@ -7,7 +7,6 @@ ghost use Rattle.wc_record.specs.Reading.{records_of};
 ghost use Rattle.wc_record.specs.Told.{Reads, at_hand, fields_told};
 ghost use Rattle.wc_record.specs.Views.{IsDataInRange, head_data_view, head_view};
 ghost use Rattle.wc_run.specs.Doing.{Does, RunsRows};
-ghost use Rattle.wc_run.specs.Doing as doing;
 ghost use Rattle.wc_run.specs.Observing.{said};
 ghost use Rattle.wc_model.specs.Say.LogFor.{log_for};
 ghost use Rattle.wc_model.specs.Say.ProgramReport.{Logic};
@@ -21,7 +20,7 @@ use crate::row_seen::RowSeen;
 use crate::scale::Scale;
 use std::alloc::Global;
 use wc_model::{ByteIn, ByteOut};
-use wc_record::{LogFault, RefusedRow, RowHead, Rows};
+use wc_record::{RefusedRow, RowHead, Rows};
 use wc_store::Store;
 
 /// Does a row, with the bytes that are lent with it, and shows it to the observer.
@@ -50,29 +49,14 @@ fn run_row<S: Store, W: ByteOut, O: Observer<S, W>>(
         (W.failure_count writer.new) }
 {
     let looks = observer.looks_at(row.ms);
-    match scale.take(answers, looks, row, bytes) {
-        Ok(scan) => {
-            let seen = RowSeen {
-                row,
-                bytes,
-                answer: &answers.bytes,
-                scan,
-            };
-            observer.see(&seen, scale, writer)
-        }
-        Err(fault) => Err(fault),
-    }
-}
-
-/// What the run answers where the log gives no further row.
-fn answer_to(fault: LogFault) -> RunFault
-    ensures { result ≡ doing.answer_to fault }
-{
-    match fault {
-        LogFault::Refused { number, place } => RunFault::Refused { number, place },
-        LogFault::Read => RunFault::Read,
-        LogFault::Memory => RunFault::Memory,
-    }
+    let scan = scale.take(answers, looks, row, bytes)?;
+    let seen = RowSeen {
+        row,
+        bytes,
+        answer: &answers.bytes,
+        scan,
+    };
+    observer.see(&seen, scale, writer)
 }
 
 /// Runs the rows that are left: how many there were.
@@ -99,16 +83,11 @@ fn run_rows<S: Store, W: ByteOut, O: Observer<S, W>, R: ByteIn>(
 {
     let mut count = 0;
     loop {
-        match rows.next_head() {
-            Ok(given) => match given {
-                Some(row) => match run_row(observer, scale, answers, row, rows.bytes(), writer) {
-                    Ok(()) => count += 1,
-                    Err(fault) => return Err(fault),
-                },
-                None => return Ok(count),
-            },
-            Err(fault) => return Err(answer_to(fault)),
-        }
+        let Some(row) = rows.next_head()? else {
+            return Ok(count);
+        };
+        run_row(observer, scale, answers, row, rows.bytes(), writer)?;
+        count += 1;
     }
 }
 

@@ -23,10 +23,8 @@ pub fn put_answer(text: &mut Vec<u8>, seen: &RowSeen<'_>) -> Result<(), RunFault
     if seen.answer.is_empty() {
         return Ok(());
     }
-    match put_answer_line(text, seen.row.ms, seen.answer) {
-        Ok(()) => Ok(()),
-        Err(_) => Err(RunFault::Memory),
-    }
+    put_answer_line(text, seen.row.ms, seen.answer)?;
+    Ok(())
 }
 
 /// Puts the line of a scan, if there is one, behind a text.
@@ -49,10 +47,8 @@ pub(crate) fn put_lines(text: &mut Vec<u8>, seen: &RowSeen<'_>) -> Result<(), Ru
         (text.new.items ≡ text.old.items ++ report_text (lines_of_seen seen.now)) }
     ensures memory { IsOkUnless result RunFault.Memory }
 {
-    match put_answer(text, seen) {
-        Ok(()) => put_scan(text, &seen.scan),
-        Err(fault) => Err(fault),
-    }
+    put_answer(text, seen)?;
+    put_scan(text, &seen.scan)
 }
 
 /// Writes the report of a run, each line as its row comes.
@@ -99,10 +95,8 @@ impl<S: Store, W: ByteOut> Observer<S, W> for Report {
         writer: &mut W,
     ) -> Result<(), RunFault> {
         self.text.clear();
-        match put_lines(&mut self.text, seen) {
-            Ok(()) => write_text(&self.text, writer),
-            Err(fault) => Err(fault),
-        }
+        put_lines(&mut self.text, seen)?;
+        write_text(&self.text, writer)
     }
 
     fn end(&mut self, _refused: Option<(u16, u32)>, _writer: &mut W) -> Result<(), RunFault> {

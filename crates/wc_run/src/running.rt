@@ -78,9 +78,7 @@ fn run_to_end<S: Store, W: ByteOut, O: Observer<S, W>, R: ByteIn>(
     if reader.failures() > before {
         return Err(RunFault::Read);
     }
-    if let Err(fault) = observer.end(refused_in(&answer), writer) {
-        return Err(fault);
-    }
+    observer.end(refused_in(&answer), writer)?;
     answer
 }
 

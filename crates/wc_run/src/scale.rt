@@ -45,14 +45,12 @@ impl<'a, S: Store> Scale<'a, S> {
         ensures machine { IfOk result (λ scale. scale.opened.machine ≡ machine.entry) }
         ensures memory { IsOkUnless result RunFault.Memory }
     {
-        match OpenScale::new(alloc, plate, machine) {
-            Ok(opened) => Ok(Scale {
-                alloc,
-                opened,
-                next,
-            }),
-            Err(_) => Err(RunFault::Memory),
-        }
+        let opened = OpenScale::new(alloc, plate, machine)?;
+        Ok(Scale {
+            alloc,
+            opened,
+            next,
+        })
     }
 
     /// The indicator.
@@ -108,19 +106,19 @@ impl<'a, S: Store> Scale<'a, S> {
                 self.take_sample(counts);
                 Ok(None)
             }
-            HeadKind::Bytes => match self.take_bytes(answers, bytes) {
-                Ok(()) => Ok(None),
-                Err(fault) => Err(fault),
-            },
+            HeadKind::Bytes => {
+                self.take_bytes(answers, bytes)?;
+                Ok(None)
+            }
             HeadKind::Inputs(inputs) => {
                 self.take_inputs(inputs);
                 Ok(None)
             }
             HeadKind::Scan => self.take_scan(looks, row.ms),
-            HeadKind::Change => match self.take_change(row.number) {
-                Ok(()) => Ok(None),
-                Err(fault) => Err(fault),
-            },
+            HeadKind::Change => {
+                self.take_change(row.number)?;
+                Ok(None)
+            }
         }
     }
 
@@ -195,13 +193,10 @@ impl<'a, S: Store> Scale<'a, S> {
         ensures memory { IsOkUnless result RunFault.Memory }
     {
         match self.opened.trace(self.alloc, ms) {
-            Some((record, seen)) => match seen {
-                Ok(lines) => Ok(Some(ScanSeen {
-                    record,
-                    lines: Some(lines),
-                })),
-                Err(_) => Err(RunFault::Memory),
-            },
+            Some((record, seen)) => Ok(Some(ScanSeen {
+                record,
+                lines: Some(seen?),
+            })),
             None => Ok(None),
         }
     }

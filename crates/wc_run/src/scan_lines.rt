@@ -17,10 +17,8 @@ pub fn put_record(text: &mut Vec<u8>, scan: &Record) -> Result<(), RunFault>
         (text.new.items ≡ text.old.items ++ line_text (line_of_record scan.now)) }
     ensures memory { IsOkUnless result RunFault.Memory }
 {
-    match put_scan_line(text, scan.ms, Steps(scan.steps), &scan.outputs) {
-        Ok(()) => Ok(()),
-        Err(_) => Err(RunFault::Memory),
-    }
+    put_scan_line(text, scan.ms, Steps(scan.steps), &scan.outputs)?;
+    Ok(())
 }
 
 /// The lines of the scans whose records are kept, in their order.
@@ -34,10 +32,7 @@ pub(crate) fn last_text(alloc: Global, recorder: &Recorder) -> Result<Vec<u8>, R
         let Some(scan) = recorder.get(index) else {
             continue;
         };
-        match put_record(&mut lines, scan) {
-            Ok(()) => {}
-            Err(fault) => return Err(fault),
-        }
+        put_record(&mut lines, scan)?;
     }
     Ok(lines)
 }
@@ -50,8 +45,6 @@ pub fn write_text<W: ByteOut>(text: &[u8], writer: &mut W) -> Result<(), RunFaul
     ensures failures { TellsWrites result (W.failure_count writer.old)
         (W.failure_count writer.new) }
 {
-    match write_whole(writer, text) {
-        Ok(()) => Ok(()),
-        Err(_) => Err(RunFault::Write),
-    }
+    write_whole(writer, text)?;
+    Ok(())
 }

@@ -14,15 +14,15 @@ returns-clause-lines c =
     let source = c.args.texts.own.now.source in
     let v : vec_len c.source.result.now.units ≡ length c.source.result.now.units.items = search rules in
     let w : vec_len c.source-2.result.now.units ≡ length c.source-2.result.now.units.items = search rules in
-    let counted : length source.units.items ≡ suc c.in-Some.program =
+    let counted : length source.units.items ≡ suc c.in-Some.unit =
     ap (λ (s : Source). length s.units.items) (sym c.source.ensures.source) ∙ (let a = c.in-Some.ensures.0 in let b = c.in-Some.ensures.1 in let l = c.len.ensures in omega (arith, a, b, l, v))
     in
     let other_counted : length (text_view other) ≡ c.len-2.result =
     length-map other.units.items unit_view ∙ ap (λ (s : Source). length s.units.items) (sym c.source-2.ensures.source) ∙ sym w ∙ sym c.len-2.ensures
     in
     on_ok c.describe_unit.result _ _
-    (λ said. told c.args.texts.pass (text_view other) source c.in-Some.program c.checked_sub-other_program.result c.args.out.now.items c.describe_unit.new.out.items counted
-    (other_side (text_view other) c.len-2.result c.checked_sub-other_program.result other_counted c.checked_sub-other_program.ensures)
+    (λ said. told c.args.texts.pass (text_view other) source c.in-Some.unit c.checked_sub-other.result c.args.out.now.items c.describe_unit.new.out.items counted
+    (other_side (text_view other) c.len-2.result c.checked_sub-other.result other_counted c.checked_sub-other.ensures)
     (λ side before u h at. said side before u h at ∙ ap (λ p. c.args.out.now.items ++ lines_between c.args.texts.pass side before u p (declared_of u)) c.new-names.ensures.items))
     c.describe_unit.ensures.lines
 
