@@ -199,16 +199,12 @@ impl<W: ByteOut> Observer<SlotStore, W> for Picture {
         scale: &Scale<'_, SlotStore>,
         _writer: &mut W,
     ) -> Result<(), RunFault> {
-        match self.follow(seen, scale) {
-            Ok(()) => Ok(()),
-            Err(_) => Err(RunFault::Memory),
-        }
+        self.follow(seen, scale)?;
+        Ok(())
     }
 
     fn end(&mut self, refused: Option<(u16, u32)>, writer: &mut W) -> Result<(), RunFault> {
-        match self.draw(refused) {
-            Ok(text) => write_text(text.as_bytes(), writer),
-            Err(_) => Err(RunFault::Memory),
-        }
+        let text = self.draw(refused)?;
+        write_text(text.as_bytes(), writer)
     }
 }

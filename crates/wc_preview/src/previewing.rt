@@ -7,9 +7,7 @@ ghost use Rattle.wc_preview.specs.Previews.{AnswersNew, AnswersPreview, IsOfWrit
 
 use std::alloc::Global;
 use wc_changes::changes;
-use wc_controller::{
-    Ending, Input, RunFault, Stopped, end, load, read_input, run_fault_of, text_of_units,
-};
+use wc_controller::{Ending, Input, RunFault, Stopped, end, load, read_input, text_of_units};
 use wc_cost::Loaded;
 use wc_model::{ByteIn, ByteOut, write_whole};
 
@@ -26,18 +24,10 @@ fn preview_text(
         (record { output = text.items; status = 0 })) }
     ensures memory { IsOkUnless result RunFault.Memory }
 {
-    let mut text = match text_of_units(alloc, new, paths) {
-        Ok(text) => text,
-        Err(fault) => return Err(fault),
-    };
-    let lines = match changes(alloc, old, new) {
-        Ok(lines) => lines,
-        Err(_) => return Err(RunFault::Memory),
-    };
-    match text.extend_from_slice(&lines) {
-        Ok(()) => Ok(text),
-        Err(_) => Err(RunFault::Memory),
-    }
+    let mut text = text_of_units(alloc, new, paths)?;
+    let lines = changes(alloc, old, new)?;
+    text.extend_from_slice(&lines)?;
+    Ok(text)
 }
 
 /// Writes what is told of two programs.
@@ -95,7 +85,7 @@ fn preview_next<W: ByteOut>(
         Ok(new) => write_preview(alloc, paths, old, &new, writer),
         Err(fault) => Err(Stopped {
             input: Input::Next,
-            fault: run_fault_of(fault),
+            fault: fault.into(),
         }),
     }
 }
@@ -130,23 +120,18 @@ fn preview_inputs<T: ByteIn, N: ByteIn, W: ByteOut>(
     ensures taken_next { TakesAtMost (longest_job + 1) (N.bytes_left next.old)
         (N.bytes_left next.new) }
 {
-    let text = match read_input(alloc, Input::Program, program) {
-        Ok(text) => text,
-        Err(stopped) => return Err(stopped),
-    };
+    let text = read_input(alloc, Input::Program, program)?;
     let loaded = match load(alloc, &text) {
         Ok(loaded) => loaded,
         Err(fault) => {
             return Err(Stopped {
                 input: Input::Program,
-                fault: run_fault_of(fault),
+                fault: fault.into(),
             });
         }
     };
-    match read_input(alloc, Input::Next, next) {
-        Ok(other) => preview_next(alloc, paths, &loaded, &other, writer),
-        Err(stopped) => Err(stopped),
-    }
+    let other = read_input(alloc, Input::Next, next)?;
+    preview_next(alloc, paths, &loaded, &other, writer)
 }
 
 /// Looks at a change of the program before it is made: the old program is read and judged first, then the new one; then the

@@ -1,3 +1,4 @@
+pub mod HandedOn
 pub mod Fronts
 pub mod Texts
 pub mod Lines

@@ -193,10 +193,13 @@ impl<'a, S: Store> Scale<'a, S> {
         ensures memory { IsOkUnless result RunFault.Memory }
     {
         match self.opened.trace(self.alloc, ms) {
-            Some((record, seen)) => Ok(Some(ScanSeen {
-                record,
-                lines: Some(seen?),
-            })),
+            Some((record, seen)) => {
+                let lines = seen?;
+                Ok(Some(ScanSeen {
+                    record,
+                    lines: Some(lines),
+                }))
+            }
             None => Ok(None),
         }
     }

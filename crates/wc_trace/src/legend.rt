@@ -1,3 +1,5 @@
+ghost use Rattle.std.specs.Prelude.{IsOkUnless};
+
 use crate::notes::{Note, Notes, note_units};
 use std::alloc::Global;
 use wc_cost::Loaded;
@@ -13,7 +15,9 @@ pub(crate) struct Legend {
 }
 
 /// Puts where a line starts.
-fn put_start(starts: &mut Vec<usize>, start: usize) -> Result<(), Fault> {
+fn put_start(starts: &mut Vec<usize>, start: usize) -> Result<(), Fault>
+    ensures memory { IsOkUnless result Fault.Memory }
+{
     match starts.push(start) {
         Ok(()) => Ok(()),
         Err(_) => Err(Fault::Memory),
@@ -21,7 +25,9 @@ fn put_start(starts: &mut Vec<usize>, start: usize) -> Result<(), Fault> {
 }
 
 /// Puts where the lines of a text start, and the end of the last.
-fn put_starts(starts: &mut Vec<usize>, text: &[u8]) -> Result<(), Fault> {
+fn put_starts(starts: &mut Vec<usize>, text: &[u8]) -> Result<(), Fault>
+    ensures memory { IsOkUnless result Fault.Memory }
+{
     let mut next = 0_usize;
     for line in text.split(|byte| *byte == b'\n') {
         put_start(starts, next)?;
@@ -32,7 +38,9 @@ fn put_starts(starts: &mut Vec<usize>, text: &[u8]) -> Result<(), Fault> {
 
 impl Legend {
     /// The legend of a text that is loaded. `Memory` is the only fault.
-    pub(crate) fn new(alloc: Global, text: &[u8], loaded: &Loaded<'_>) -> Result<Legend, Fault> {
+    pub(crate) fn new(alloc: Global, text: &[u8], loaded: &Loaded<'_>) -> Result<Legend, Fault>
+        ensures memory { IsOkUnless result Fault.Memory }
+    {
         let mut legend = Legend {
             text: Vec::new(alloc),
             starts: Vec::new(alloc),
@@ -44,7 +52,9 @@ impl Legend {
     }
 
     /// Takes over what is told from a text and its program, since both are lent for the time of a call.
-    fn copy(&mut self, text: &[u8], loaded: &Loaded<'_>) -> Result<(), Fault> {
+    fn copy(&mut self, text: &[u8], loaded: &Loaded<'_>) -> Result<(), Fault>
+        ensures memory { IsOkUnless result Fault.Memory }
+    {
         put_bytes(&mut self.text, text)?;
         put_starts(&mut self.starts, text)?;
         note_units(&mut self.notes, loaded.checked().source())?;

@@ -1,4 +1,4 @@
-ghost use Rattle.std.specs.Prelude.{◌<◌, OnOk, length};
+ghost use Rattle.std.specs.Prelude.{◌<◌, OnOk, length, IsOkUnless};
 
 use crate::kinds::{kind_behind, literal_kind};
 use crate::legend::Legend;
@@ -42,7 +42,9 @@ impl BodyLevel {
     }
 
     /// Puts the kind of the result by.
-    fn put_by(&mut self) -> Result<(), Fault> {
+    fn put_by(&mut self) -> Result<(), Fault>
+        ensures memory { IsOkUnless result Fault.Memory }
+    {
         match self.put_by.push(self.kind) {
             Ok(()) => Ok(()),
             Err(_) => Err(Fault::Memory),
@@ -58,7 +60,9 @@ impl BodyLevel {
     }
 
     /// Passes a line: the kind of the result is the one behind it then.
-    fn pass(&mut self, legend: &Legend, seen: &SeenLine) -> Result<(), Fault> {
+    fn pass(&mut self, legend: &Legend, seen: &SeenLine) -> Result<(), Fault>
+        ensures memory { IsOkUnless result Fault.Memory }
+    {
         match seen.line {
             Code::LoadNumber { .. } => self.kind = literal_kind(legend, seen.source),
             Code::LoadPlace { place, .. } => self.kind = legend.kind(seen.base, place),
@@ -119,6 +123,7 @@ impl Levels {
     /// Goes to the body that is so many calls deep, where one that is deeper is left and one that is new begins.
     fn go_to(&mut self, alloc: Global, depth: u32) -> Result<(), Fault>
         ensures there { OnOk result (depth < length self.new.levels.items) }
+        ensures memory { IsOkUnless result Fault.Memory }
     {
         let count = depth as usize + 1;
         self.levels.truncate(count);
@@ -136,7 +141,9 @@ impl Levels {
         alloc: Global,
         legend: &Legend,
         seen: &SeenLine,
-    ) -> Result<Said, Fault> {
+    ) -> Result<Said, Fault>
+        ensures memory { IsOkUnless result Fault.Memory }
+    {
         self.go_to(alloc, seen.depth)?;
         let level = &mut self.levels[seen.depth as usize];
         level.pass(legend, seen)?;

@@ -1,3 +1,5 @@
+ghost use Rattle.std.specs.Prelude.{IsOkUnless};
+
 use std::alloc::Global;
 use wc_model::{Argument, Direction, Fault, Instr, Kind, Line, Operand, Source, Value, put_bytes};
 
@@ -32,13 +34,9 @@ impl Notes {
     }
 
     /// Adds a note of a name, with a field of it where that is not empty. `Memory` is the only fault.
-    fn add(
-        &mut self,
-        line: u32,
-        kind: Option<Kind>,
-        name: &[u8],
-        field: &[u8],
-    ) -> Result<(), Fault> {
+    fn add(&mut self, line: u32, kind: Option<Kind>, name: &[u8], field: &[u8]) -> Result<(), Fault>
+        ensures memory { IsOkUnless result Fault.Memory }
+    {
         let start = self.names.len();
         put_bytes(&mut self.names, name)?;
         if !field.is_empty() {
@@ -68,7 +66,9 @@ fn kind_of(value: Value) -> Kind {
 }
 
 /// Notes what an operand names.
-fn note_operand(notes: &mut Notes, line: u32, operand: &Operand<'_>) -> Result<(), Fault> {
+fn note_operand(notes: &mut Notes, line: u32, operand: &Operand<'_>) -> Result<(), Fault>
+    ensures memory { IsOkUnless result Fault.Memory }
+{
     match *operand {
         Operand::Literal(value) => notes.add(line, Some(kind_of(value)), b"", b""),
         Operand::Address(word) => notes.add(line, None, word.text, b""),
@@ -84,7 +84,9 @@ fn note_items(
     instance: &[u8],
     direction: Direction,
     arguments: &[Argument<'_>],
-) -> Result<(), Fault> {
+) -> Result<(), Fault>
+    ensures memory { IsOkUnless result Fault.Memory }
+{
     for argument in arguments {
         if argument.direction != direction {
             continue;
@@ -103,7 +105,9 @@ fn note_call(
     line: u32,
     instance: &[u8],
     arguments: &[Argument<'_>],
-) -> Result<(), Fault> {
+) -> Result<(), Fault>
+    ensures memory { IsOkUnless result Fault.Memory }
+{
     notes.add(line, None, instance, b"")?;
     note_items(notes, line, instance, Direction::Into, arguments)?;
     note_items(notes, line, instance, Direction::OutOf, arguments)
@@ -111,7 +115,9 @@ fn note_call(
 
 /// Notes an instruction, and those in its parenthesis.
 #[cycle(noting)]
-fn note_instruction(notes: &mut Notes, instr: &Instr<'_>) -> Result<(), Fault> {
+fn note_instruction(notes: &mut Notes, instr: &Instr<'_>) -> Result<(), Fault>
+    ensures memory { IsOkUnless result Fault.Memory }
+{
     match instr {
         Instr::Load { operand, line, .. } => note_operand(notes, *line, operand),
         Instr::Store { target, line, .. } => note_operand(notes, *line, target),
@@ -138,7 +144,9 @@ fn note_instruction(notes: &mut Notes, instr: &Instr<'_>) -> Result<(), Fault> {
 
 /// Notes lines in text order.
 #[cycle(noting)]
-fn note_lines(notes: &mut Notes, lines: &[Line<'_>]) -> Result<(), Fault> {
+fn note_lines(notes: &mut Notes, lines: &[Line<'_>]) -> Result<(), Fault>
+    ensures memory { IsOkUnless result Fault.Memory }
+{
     for line in lines {
         if let Some(instr) = &line.instr {
             note_instruction(notes, instr)?;
@@ -148,7 +156,9 @@ fn note_lines(notes: &mut Notes, lines: &[Line<'_>]) -> Result<(), Fault> {
 }
 
 /// Notes all units of a text. `Memory` is the only fault.
-pub(crate) fn note_units(notes: &mut Notes, source: &Source<'_>) -> Result<(), Fault> {
+pub(crate) fn note_units(notes: &mut Notes, source: &Source<'_>) -> Result<(), Fault>
+    ensures memory { IsOkUnless result Fault.Memory }
+{
     for unit in &source.units {
         note_lines(notes, &unit.body)?;
     }

@@ -1,3 +1,5 @@
+ghost use Rattle.std.specs.Prelude.{IsOkUnless};
+
 use crate::legend::Legend;
 use crate::levels::{Levels, Said};
 use crate::values::value_of;
@@ -16,7 +18,9 @@ const WRITTEN: usize = 58;
 const LONGEST: usize = 72;
 
 /// Puts so many spaces.
-fn put_spaces(text: &mut Vec<u8>, count: usize) -> Result<(), Fault> {
+fn put_spaces(text: &mut Vec<u8>, count: usize) -> Result<(), Fault>
+    ensures memory { IsOkUnless result Fault.Memory }
+{
     for _space in 0..count {
         put_bytes(text, b" ")?;
     }
@@ -24,7 +28,9 @@ fn put_spaces(text: &mut Vec<u8>, count: usize) -> Result<(), Fault> {
 }
 
 /// Puts spaces up to a column of the row that starts there, and two at least.
-fn put_gap(text: &mut Vec<u8>, start: usize, column: usize) -> Result<(), Fault> {
+fn put_gap(text: &mut Vec<u8>, start: usize, column: usize) -> Result<(), Fault>
+    ensures memory { IsOkUnless result Fault.Memory }
+{
     let there = text.len().saturating_sub(start);
     put_spaces(text, column.saturating_sub(there).max(2))
 }
@@ -39,7 +45,9 @@ fn printable(byte: u8) -> u8 {
 }
 
 /// Puts bytes as they are shown.
-fn put_shown(text: &mut Vec<u8>, bytes: &[u8]) -> Result<(), Fault> {
+fn put_shown(text: &mut Vec<u8>, bytes: &[u8]) -> Result<(), Fault>
+    ensures memory { IsOkUnless result Fault.Memory }
+{
     for byte in bytes {
         put_bytes(text, &[printable(*byte)])?;
     }
@@ -47,7 +55,9 @@ fn put_shown(text: &mut Vec<u8>, bytes: &[u8]) -> Result<(), Fault> {
 }
 
 /// Puts a line of the text without the blanks at its ends, or the first part of one that is long.
-fn put_line(text: &mut Vec<u8>, line: &[u8]) -> Result<(), Fault> {
+fn put_line(text: &mut Vec<u8>, line: &[u8]) -> Result<(), Fault>
+    ensures memory { IsOkUnless result Fault.Memory }
+{
     let line = line.trim_ascii();
     match line.get(..LONGEST) {
         Some(first) if first.len() < line.len() => {
@@ -71,7 +81,9 @@ fn spaces_before(number: u32) -> usize {
 }
 
 /// Puts a number, with spaces before it up to six columns.
-fn put_aligned(text: &mut Vec<u8>, number: u32) -> Result<(), Fault> {
+fn put_aligned(text: &mut Vec<u8>, number: u32) -> Result<(), Fault>
+    ensures memory { IsOkUnless result Fault.Memory }
+{
     put_spaces(text, spaces_before(number))?;
     put_number(text, u64::from(number))
 }
@@ -86,7 +98,9 @@ fn is_body_line(line: &Code) -> bool {
 }
 
 /// Puts the number of the line and its text, or room for the number beside a part of a call; deeper calls stand further right.
-fn put_place(text: &mut Vec<u8>, legend: &Legend, seen: &SeenLine) -> Result<(), Fault> {
+fn put_place(text: &mut Vec<u8>, legend: &Legend, seen: &SeenLine) -> Result<(), Fault>
+    ensures memory { IsOkUnless result Fault.Memory }
+{
     let indent = 2 + 2 * seen.depth.min(8) as usize;
     if !is_body_line(&seen.line) {
         return put_spaces(text, 6 + indent);
@@ -102,7 +116,9 @@ fn put_literal(
     text: &mut Vec<u8>,
     kind: Option<Kind>,
     number: i32,
-) -> Result<(), Fault> {
+) -> Result<(), Fault>
+    ensures memory { IsOkUnless result Fault.Memory }
+{
     let kind = match kind {
         Some(kind) => kind,
         None => Kind::Dint,
@@ -117,7 +133,9 @@ fn put_written(
     legend: &Legend,
     seen: &SeenLine,
     said: &Said,
-) -> Result<(), Fault> {
+) -> Result<(), Fault>
+    ensures memory { IsOkUnless result Fault.Memory }
+{
     if let Some(note) = &said.note {
         put_bytes(text, legend.name(note))?;
     }
@@ -145,7 +163,9 @@ fn put_row(
     legend: &Legend,
     seen: &SeenLine,
     said: &Said,
-) -> Result<(), Fault> {
+) -> Result<(), Fault>
+    ensures memory { IsOkUnless result Fault.Memory }
+{
     let start = text.len();
     put_place(text, legend, seen)?;
     if let (Some(number), true) = (seen.result, is_body_line(&seen.line)) {
@@ -169,14 +189,18 @@ pub(crate) struct Heading {
 }
 
 /// Puts a number between two texts.
-fn put_between(text: &mut Vec<u8>, before: &[u8], number: u64, behind: &[u8]) -> Result<(), Fault> {
+fn put_between(text: &mut Vec<u8>, before: &[u8], number: u64, behind: &[u8]) -> Result<(), Fault>
+    ensures memory { IsOkUnless result Fault.Memory }
+{
     put_bytes(text, before)?;
     put_number(text, number)?;
     put_bytes(text, behind)
 }
 
 /// Puts the heading of a scan.
-fn put_heading(text: &mut Vec<u8>, heading: Heading) -> Result<(), Fault> {
+fn put_heading(text: &mut Vec<u8>, heading: Heading) -> Result<(), Fault>
+    ensures memory { IsOkUnless result Fault.Memory }
+{
     let end: &[u8] = if heading.is_changed {
         b" ms, next program\n"
     } else {
@@ -187,7 +211,9 @@ fn put_heading(text: &mut Vec<u8>, heading: Heading) -> Result<(), Fault> {
 }
 
 /// Puts that none of so many scans was chosen.
-pub(crate) fn put_none_chosen(text: &mut Vec<u8>, scans: u32) -> Result<(), Fault> {
+pub(crate) fn put_none_chosen(text: &mut Vec<u8>, scans: u32) -> Result<(), Fault>
+    ensures memory { IsOkUnless result Fault.Memory }
+{
     if scans == 0 {
         return put_bytes(text, b"the log has no scan\n");
     }
@@ -195,7 +221,9 @@ pub(crate) fn put_none_chosen(text: &mut Vec<u8>, scans: u32) -> Result<(), Faul
 }
 
 /// Puts how many steps a scan took, and how many one takes at most.
-fn put_steps(text: &mut Vec<u8>, steps: usize, bound: u32) -> Result<(), Fault> {
+fn put_steps(text: &mut Vec<u8>, steps: usize, bound: u32) -> Result<(), Fault>
+    ensures memory { IsOkUnless result Fault.Memory }
+{
     put_between(text, b"steps ", steps as u64, b" of at most ")?;
     put_between(text, b"", u64::from(bound), b"\n")
 }
@@ -209,7 +237,9 @@ pub(crate) fn put_scan(
     heading: Heading,
     bound: u32,
     lines: &[SeenLine],
-) -> Result<(), Fault> {
+) -> Result<(), Fault>
+    ensures memory { IsOkUnless result Fault.Memory }
+{
     put_heading(text, heading)?;
     let mut levels = Levels::new(alloc);
     for seen in lines {

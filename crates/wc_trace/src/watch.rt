@@ -5,7 +5,7 @@ use crate::legend::Legend;
 use crate::rows::{Heading, put_none_chosen, put_scan};
 use std::alloc::Global;
 use wc_machine::SeenLine;
-use wc_model::{ByteOut, Fault};
+use wc_model::ByteOut;
 use wc_record::HeadKind;
 use wc_run::{Observer, Program, RowSeen, RunFault, Scale, write_text};
 use wc_store::SlotStore;
@@ -23,22 +23,12 @@ pub(crate) struct Watch {
     text: Vec<u8>,
 }
 
-/// What a run ends with for a fault of what is shown.
-fn run_fault(_fault: Fault) -> RunFault
-    ensures { result ≡ RunFault.Memory }
-{
-    RunFault::Memory
-}
-
 /// The legend of a program, if there is one.
 fn legend_of(alloc: Global, program: Option<Program<'_, '_>>) -> Result<Option<Legend>, RunFault>
     ensures { IsOkUnless result RunFault.Memory }
 {
     match program {
-        Some(program) => match Legend::new(alloc, program.text, program.loaded) {
-            Ok(legend) => Ok(Some(legend)),
-            Err(fault) => Err(run_fault(fault)),
-        },
+        Some(program) => Ok(Some(Legend::new(alloc, program.text, program.loaded)?)),
         None => Ok(None),
     }
 }
@@ -84,17 +74,10 @@ impl Watch {
             is_changed: self.is_changed,
         };
         match &self.legend {
-            Some(legend) => match put_scan(
-                self.alloc,
-                &mut self.text,
-                legend,
-                heading,
-                bound,
-                lines,
-            ) {
-                Ok(()) => Ok(()),
-                Err(fault) => Err(run_fault(fault)),
-            },
+            Some(legend) => {
+                put_scan(self.alloc, &mut self.text, legend, heading, bound, lines)?;
+                Ok(())
+            }
             None => Ok(()),
         }
     }
@@ -124,10 +107,8 @@ impl Watch {
         if self.shown > 0 {
             return Ok(());
         }
-        match put_none_chosen(&mut self.text, self.scans) {
-            Ok(()) => Ok(()),
-            Err(fault) => Err(run_fault(fault)),
-        }
+        put_none_chosen(&mut self.text, self.scans)?;
+        Ok(())
     }
 }
 
@@ -146,14 +127,8 @@ impl<W: ByteOut> Observer<SlotStore, W> for Watch {
         first: Option<Program<'_, '_>>,
         next: Option<Program<'_, '_>>,
     ) -> Result<(), RunFault> {
-        match legend_of(self.alloc, first) {
-            Ok(legend) => self.legend = legend,
-            Err(fault) => return Err(fault),
-        }
-        match legend_of(self.alloc, next) {
-            Ok(legend) => self.next = legend,
-            Err(fault) => return Err(fault),
-        }
+        self.legend = legend_of(self.alloc, first)?;
+        self.next = legend_of(self.alloc, next)?;
         Ok(())
     }
 
@@ -170,19 +145,15 @@ impl<W: ByteOut> Observer<SlotStore, W> for Watch {
         if let HeadKind::Change = seen.row.kind {
             self.change();
         }
-        match self.follow(seen, bound_in(scale)) {
-            Ok(()) => write_text(&self.text, writer),
-            Err(fault) => Err(fault),
-        }
+        self.follow(seen, bound_in(scale))?;
+        write_text(&self.text, writer)
     }
 
     fn end(&mut self, refused: Option<(u16, u32)>, writer: &mut W) -> Result<(), RunFault> {
         if refused.is_some() {
             return Ok(());
         }
-        match self.make_end() {
-            Ok(()) => write_text(&self.text, writer),
-            Err(fault) => Err(fault),
-        }
+        self.make_end()?;
+        write_text(&self.text, writer)
     }
 }

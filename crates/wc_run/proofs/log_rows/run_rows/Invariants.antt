@@ -12,8 +12,8 @@ use Rattle.wc_run.proofs.RunsOn.{Running}
 use Rattle.wc_run.proofs.log_rows.run_rows.Given as goal
 
 -- so many rows are done, and no scan was behind the last of them
-abbrev pub invariant-loop-given : goal.invariant-loop-given
-invariant-loop-given g l = record {
+abbrev pub invariant-loop-row : goal.invariant-loop-row
+invariant-loop-row g l = record {
   running : (log : LogOf) → HasLeft g.R.ByteIn.bytes_left l.initial.rows log → (plate : PlateData) (logic : Option Logic)
       → Stands l.initial.scale plate logic [] → g.O.Observer.has_seen l.initial.observer plate logic []
       → Running g.R.ByteIn.bytes_left l.rows l.scale g.O.Observer.has_seen l.observer (g.O.Observer.plan l.initial.observer) plate logic (log_for logic log) l.count
@@ -26,5 +26,5 @@ invariant-loop-given g l = record {
   steady : g.W.ByteOut.failure_count l.writer ≡ g.W.ByteOut.failure_count l.initial.writer;
 }
 
-abbrev pub decreases-loop-given : goal.decreases-loop-given
-decreases-loop-given g l = 1000000 - rows_read l.rows
+abbrev pub decreases-loop-row : goal.decreases-loop-row
+decreases-loop-row g l = 1000000 - rows_read l.rows

@@ -4,13 +4,14 @@ use Rattle.wc_model.specs.Run.Log.{LogOf, log_of}
 use Rattle.wc_model.specs.Say.LogFor.{log_for}
 use Rattle.wc_record.specs.Reading.{records_of}
 use Rattle.wc_record.specs.Told.{fields_told}
+use Rattle.wc_run.proofs.HandedOn.{handed_on}
 use Rattle.wc_run.proofs.ReaderFailures.{short_says_nothing, whole_writes}
 use Rattle.wc_run.proofs.RunEnds.{all_done, cut_at_end, ends_plan, ends_short, ends_whole}
 use Rattle.wc_run.proofs.ToldRows.{none_told}
 use Rattle.wc_run.proofs.running.run_to_end.Goals as goal
-use Rattle.wc_run.specs.Doing.{Writes, is_cut_short, refused_in}
+use Rattle.wc_run.specs.Doing.{Writes, WritesBy, is_cut_short, refused_in}
 use Rattle.wc_run.specs.Observing.{said_by, onto, refusal_of}
-use Rattle.wc_run.specs.Runs.{TellsWrite, TellsWrites}
+use Rattle.wc_run.specs.Runs.{TellsRefused, TellsWrite, TellsWrites}
 
 pub returns-then-is_cut_short-clause-writes : goal.returns-then-is_cut_short-clause-writes
 returns-then-is_cut_short-clause-writes g c =
@@ -44,8 +45,8 @@ returns-then-failures-before-clause-failures g c =
     whole_writes c.run_log-answer.result (g.W.ByteOut.failure_count c.args.writer.now) (g.W.ByteOut.failure_count c.run_log-answer.new.writer)
     (sym c.is_cut_short.ensures ∙ c.if-is_cut_short.false) c.run_log-answer.ensures.failures
 
-pub returns-in-Err-clause-writes : goal.returns-in-Err-clause-writes
-returns-in-Err-clause-writes g c =
+pub returns-in_err-end-clause-writes : goal.returns-in_err-end-clause-writes
+returns-in_err-end-clause-writes g c =
     let o = g.O.Observer in
     let taken = said_by g.O.Observer.speaks g.W.ByteOut.bytes_taken in
     let plan = o.plan c.args.observer.now in
@@ -53,25 +54,33 @@ returns-in-Err-clause-writes g c =
     let old = taken c.args.writer.now in
     let mid = taken c.run_log-answer.new.writer in
     let new = taken c.end.new.writer in
+    let fault = c.in_err-end.field-0.0 in
     IfSome_then (g.R.ByteIn.bytes_left c.args.reader.now) c.run_log-answer.ensures.runs
     (λ bytes says plate logic stands seen.
     let log : LogOf = log_for logic (log_of (records_of bytes)) in
     let done = all_done o.has_seen plan plate logic log old mid new c.run_log-answer.new.observer c.run_log-answer.result whole (says plate logic stands seen) in
-    cut_at_end o.has_seen plan plate logic log old mid new c.in-Err.fault done.written
-    (ends_plan o.has_seen plan plate logic log old mid new {X = Unit {0}} c.run_log-answer.new.observer c.run_log-answer.result (Err c.in-Err.fault) done
-    (λ past has. subst (λ p. Writes {X = Unit {0}} (p.at_end plate logic (onto past []) (refusal_of (refused_in c.run_log-answer.result))) (Err c.in-Err.fault) mid new) c.run_log-answer.ensures.plan
-    (subst (λ refused. Writes {X = Unit {0}} ((o.plan c.run_log-answer.new.observer).at_end plate logic (onto past []) (refusal_of refused)) (Err c.in-Err.fault) mid new) c.refused_in.ensures
-    (c.in-Err.ensures.writes plate logic past has)))))
+    handed_on (λ result. WritesBy plan plate logic log result old new) fault c.from_residual.result c.from_residual.ensures
+    (cut_at_end o.has_seen plan plate logic log old mid new fault done.written
+    (ends_plan o.has_seen plan plate logic log old mid new {X = Unit {0}} c.run_log-answer.new.observer c.run_log-answer.result (Err fault) done
+    (λ past has. subst (λ p. Writes {X = Unit {0}} (p.at_end plate logic (onto past []) (refusal_of (refused_in c.run_log-answer.result))) (Err fault) mid new) c.run_log-answer.ensures.plan
+    (subst (λ refused. Writes {X = Unit {0}} ((o.plan c.run_log-answer.new.observer).at_end plate logic (onto past []) (refusal_of refused)) (Err fault) mid new) c.refused_in.ensures
+    (c.in_err-end.ensures.writes plate logic past has))))))
 
-pub returns-in-Err-clause-failures : goal.returns-in-Err-clause-failures
-returns-in-Err-clause-failures g c =
+pub returns-in_err-end-clause-failures : goal.returns-in_err-end-clause-failures
+returns-in_err-end-clause-failures g c =
     let failures = g.W.ByteOut.failure_count in
-    subst (λ before. TellsWrite c.in-Err.fault before (failures c.end.new.writer))
+    let fault = c.in_err-end.field-0.0 in
+    handed_on (λ result. TellsWrites result (failures c.args.writer.now) (failures c.end.new.writer)) fault c.from_residual.result c.from_residual.ensures
+    (subst (λ before. TellsWrite fault before (failures c.end.new.writer))
     (whole_writes c.run_log-answer.result (failures c.args.writer.now) (failures c.run_log-answer.new.writer) (sym c.is_cut_short.ensures ∙ c.if-is_cut_short.false) c.run_log-answer.ensures.failures)
-    c.in-Err.ensures.failures
+    c.in_err-end.ensures.failures)
 
-pub returns-in-Err-clause-told : goal.returns-in-Err-clause-told
-returns-in-Err-clause-told g c = none_told (g.R.ByteIn.bytes_left c.args.reader.now) (fields_told c.run_log-answer.new.told) c.in-Err.fault c.in-Err.ensures.held
+pub returns-in_err-end-clause-told : goal.returns-in_err-end-clause-told
+returns-in_err-end-clause-told g c =
+    let told = fields_told c.run_log-answer.new.told in
+    let fault = c.in_err-end.field-0.0 in
+    handed_on (TellsRefused (g.R.ByteIn.bytes_left c.args.reader.now) told) fault c.from_residual.result c.from_residual.ensures
+    (none_told (g.R.ByteIn.bytes_left c.args.reader.now) told fault c.in_err-end.ensures.held)
 
 pub returns-clause-writes : goal.returns-clause-writes
 returns-clause-writes g c =
@@ -91,9 +100,9 @@ returns-clause-writes g c =
     (ends_plan o.has_seen plan plate logic log old mid new {X = Unit {0}} c.run_log-answer.new.observer c.run_log-answer.result (Ok tt) done
     (λ past has. subst (λ p. Writes {X = Unit {0}} (p.at_end plate logic (onto past []) (refusal_of (refused_in c.run_log-answer.result))) (Ok tt) mid new) c.run_log-answer.ensures.plan
     (subst (λ refused. Writes {X = Unit {0}} ((o.plan c.run_log-answer.new.observer).at_end plate logic (onto past []) (refusal_of refused)) (Ok tt) mid new) c.refused_in.ensures
-    (c.in_default.ensures.writes plate logic past has)))))
+    (c.in_ok-end.ensures.writes plate logic past has)))))
 
 pub returns-clause-failures : goal.returns-clause-failures
 returns-clause-failures g c =
     let failures = g.W.ByteOut.failure_count in
-    subst (λ after. TellsWrites c.run_log-answer.result (failures c.args.writer.now) after) (sym c.in_default.ensures.failures) c.run_log-answer.ensures.failures
+    subst (λ after. TellsWrites c.run_log-answer.result (failures c.args.writer.now) after) (sym c.in_ok-end.ensures.failures) c.run_log-answer.ensures.failures

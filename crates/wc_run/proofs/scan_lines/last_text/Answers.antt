@@ -9,7 +9,7 @@ use Rattle.wc_run.proofs.scan_lines.last_text.Goals as goal
 
 pub loop-index-preserved : goal.loop-index-preserved
 loop-index-preserved c =
-    c.in-Ok.ensures.text
+    c.in_ok-put_record.ensures.text
     ∙ one_record_more c.args.recorder.now.records c.loop-index.index c.in-Some.scan.now c.loop-index.lines.items (line_text (line_of_record c.in-Some.scan.now))
     (sym c.in-Some.ensures) c.loop-index.invariant refl
 

@@ -3,22 +3,22 @@ use Rattle.wc_open_scale.specs.Scanning.{Sees}
 use Rattle.wc_run.proofs.ScaleRows.{gives_items, gives_no_items, gives_no_scan, gives_scan, passes_scan, takes_scan}
 use Rattle.wc_run.proofs.scale.Scale.look_at.Goals as goal
 
-pub returns-in-Ok-clause-stands : goal.returns-in-Ok-clause-stands
-returns-in-Ok-clause-stands g c =
+pub returns-in_ok-lines-in-Some-clause-stands : goal.returns-in_ok-lines-in-Some-clause-stands
+returns-in_ok-lines-in-Some-clause-stands g c =
     takes_scan c.args.self.now c.trace.new.self c.args.ms c.in-Some.record (sym c.in-Some.ensures.there) c.in-Some.ensures.scans
 
-pub returns-in-Ok-clause-lines : goal.returns-in-Ok-clause-lines
-returns-in-Ok-clause-lines g c =
-    gives_scan c.args.self.now c.trace.new.self c.args.ms (record { «record» = c.in-Some.record; lines = Some c.in-Ok.lines }) (sym c.in-Some.ensures.there)
+pub returns-in_ok-lines-in-Some-clause-lines : goal.returns-in_ok-lines-in-Some-clause-lines
+returns-in_ok-lines-in-Some-clause-lines g c =
+    gives_scan c.args.self.now c.trace.new.self c.args.ms (record { «record» = c.in-Some.record; lines = Some c.in_ok-lines-in-Some.lines }) (sym c.in-Some.ensures.there)
     c.in-Some.ensures.scans
 
-pub returns-in-Ok-clause-items : goal.returns-in-Ok-clause-items
-returns-in-Ok-clause-items g c =
-    gives_items c.args.self.now c.args.ms c.in-Some.record c.in-Ok.lines (sym c.in-Some.ensures.there)
-    (subst (λ lines. Sees c.args.self.now.opened c.args.ms lines) c.in-Ok.is c.in-Some.ensures.seen)
+pub returns-in_ok-lines-in-Some-clause-items : goal.returns-in_ok-lines-in-Some-clause-items
+returns-in_ok-lines-in-Some-clause-items g c =
+    gives_items c.args.self.now c.args.ms c.in-Some.record c.in_ok-lines-in-Some.lines (sym c.in-Some.ensures.there)
+    (subst (λ lines. Sees c.args.self.now.opened c.args.ms lines) c.in_ok-lines-in-Some.was c.in-Some.ensures.seen)
 
-pub returns-in-Err-clause-stands : goal.returns-in-Err-clause-stands
-returns-in-Err-clause-stands g c =
+pub returns-in_err-lines-in-Some-clause-stands : goal.returns-in_err-lines-in-Some-clause-stands
+returns-in_err-lines-in-Some-clause-stands g c =
     takes_scan c.args.self.now c.trace.new.self c.args.ms c.in-Some.record (sym c.in-Some.ensures.there) c.in-Some.ensures.scans
 
 pub returns-in-None-clause-stands : goal.returns-in-None-clause-stands

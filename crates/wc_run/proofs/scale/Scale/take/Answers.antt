@@ -1,8 +1,9 @@
-use Rattle.std.proofs.Common.{◌≡◌, ap, subst, to_z, of_z, w32, arith}
+use Rattle.std.proofs.Common.{◌≡◌, ap, subst, to_z, of_z, w32, arith, IfErr}
 use Rattle.std.proofs.lemmas.Int.{ints}
 use Rattle.wc_model.specs.Run.Rows.{Bytes, Change, Counts, Inputs, Scan}
 use Rattle.wc_record.specs.Views.{head_data_view, head_view, IsDataInRange}
-use Rattle.wc_run.specs.Taking.{TakesRow}
+use Rattle.wc_run.specs.Taking.{StopsAtRow, TakesRow}
+use Rattle.wc_run.proofs.HandedOn.{handed_on}
 use Rattle.wc_run.proofs.ScaleRows.{items_at, on_ok, runs_row, runs_this, stops_at, stops_for_memory, takes_row}
 use Rattle.wc_run.proofs.scale.Scale.take.Goals as goal
 
@@ -13,10 +14,10 @@ returns-in-Counts-clause-stands g c =
     takes_row c.args.self.now c.take_sample.new.self c.args.bytes.now c.args.row (Counts c.in-Counts.counts) (ap (head_data_view c.args.bytes.now) c.in-Counts.is)
     (subst (λ counts. TakesRow c.args.self.now c.take_sample.new.self c.args.row.ms (Counts counts)) raw (c.take_sample.ensures.stands c.args.row.ms))
 
-pub returns-in-Ok-clause-stands : goal.returns-in-Ok-clause-stands
-returns-in-Ok-clause-stands g c =
+pub returns-in_ok-take_bytes-in-Bytes-clause-stands : goal.returns-in_ok-take_bytes-in-Bytes-clause-stands
+returns-in_ok-take_bytes-in-Bytes-clause-stands g c =
     takes_row c.args.self.now c.take_bytes.new.self c.args.bytes.now c.args.row (Bytes c.args.bytes.now) (ap (head_data_view c.args.bytes.now) c.in-Bytes.is)
-    (c.in-Ok.ensures.stands c.args.row.ms)
+    (c.in_ok-take_bytes-in-Bytes.ensures.stands c.args.row.ms)
 
 pub returns-in-Inputs-clause-stands : goal.returns-in-Inputs-clause-stands
 returns-in-Inputs-clause-stands g c =
@@ -28,10 +29,10 @@ returns-in-Scan-clause-stands g c =
     on_ok _ c.take_scan.result
     (takes_row c.args.self.now c.take_scan.new.self c.args.bytes.now c.args.row Scan (ap (head_data_view c.args.bytes.now) c.in-Scan.is) c.take_scan.ensures.stands)
 
-pub returns-in-Ok-take_change-clause-stands : goal.returns-in-Ok-take_change-clause-stands
-returns-in-Ok-take_change-clause-stands g c =
+pub returns-in_ok-take_change-in-Change-clause-stands : goal.returns-in_ok-take_change-in-Change-clause-stands
+returns-in_ok-take_change-in-Change-clause-stands g c =
     takes_row c.args.self.now c.take_change.new.self c.args.bytes.now c.args.row Change (ap (head_data_view c.args.bytes.now) c.in-Change.is)
-    (c.in-Ok-take_change.ensures.stands c.args.row.ms)
+    (c.in_ok-take_change-in-Change.ensures.stands c.args.row.ms)
 
 pub returns-in-Scan-clause-items : goal.returns-in-Scan-clause-items
 returns-in-Scan-clause-items g c =
@@ -40,8 +41,8 @@ returns-in-Scan-clause-items g c =
 pub returns-in-Counts-clause-runs : goal.returns-in-Counts-clause-runs
 returns-in-Counts-clause-runs g c = runs_row c.args.self.now c.args.bytes.now c.args.row (Counts c.in-Counts.counts) (ap (head_data_view c.args.bytes.now) c.in-Counts.is) tt
 
-pub returns-in-Ok-clause-runs : goal.returns-in-Ok-clause-runs
-returns-in-Ok-clause-runs g c = runs_row c.args.self.now c.args.bytes.now c.args.row (Bytes c.args.bytes.now) (ap (head_data_view c.args.bytes.now) c.in-Bytes.is) tt
+pub returns-in_ok-take_bytes-in-Bytes-clause-runs : goal.returns-in_ok-take_bytes-in-Bytes-clause-runs
+returns-in_ok-take_bytes-in-Bytes-clause-runs g c = runs_row c.args.self.now c.args.bytes.now c.args.row (Bytes c.args.bytes.now) (ap (head_data_view c.args.bytes.now) c.in-Bytes.is) tt
 
 pub returns-in-Inputs-clause-runs : goal.returns-in-Inputs-clause-runs
 returns-in-Inputs-clause-runs g c = runs_row c.args.self.now c.args.bytes.now c.args.row (Inputs c.in-Inputs.inputs) (ap (head_data_view c.args.bytes.now) c.in-Inputs.is) tt
@@ -50,14 +51,16 @@ pub returns-in-Scan-clause-runs : goal.returns-in-Scan-clause-runs
 returns-in-Scan-clause-runs g c =
     on_ok _ c.take_scan.result (runs_row c.args.self.now c.args.bytes.now c.args.row Scan (ap (head_data_view c.args.bytes.now) c.in-Scan.is) tt)
 
-pub returns-in-Ok-take_change-clause-runs : goal.returns-in-Ok-take_change-clause-runs
-returns-in-Ok-take_change-clause-runs g c =
-    runs_this c.args.self.now c.args.bytes.now c.args.row Change (ap (head_data_view c.args.bytes.now) c.in-Change.is) (c.in-Ok-take_change.ensures.runs c.args.row.ms)
+pub returns-in_ok-take_change-in-Change-clause-runs : goal.returns-in_ok-take_change-in-Change-clause-runs
+returns-in_ok-take_change-in-Change-clause-runs g c =
+    runs_this c.args.self.now c.args.bytes.now c.args.row Change (ap (head_data_view c.args.bytes.now) c.in-Change.is) (c.in_ok-take_change-in-Change.ensures.runs c.args.row.ms)
 
 pub returns-in-Scan-clause-stops : goal.returns-in-Scan-clause-stops
 returns-in-Scan-clause-stops g c = stops_for_memory c.args.self.now (head_view c.args.bytes.now c.args.row) c.take_scan.result c.take_scan.ensures.memory
 
-pub returns-in-Err-take_change-clause-stops : goal.returns-in-Err-take_change-clause-stops
-returns-in-Err-take_change-clause-stops g c =
-    stops_at c.args.self.now c.args.bytes.now c.args.row Change c.in-Err-take_change.fault (ap (head_data_view c.args.bytes.now) c.in-Change.is)
-    (c.in-Err-take_change.ensures.stops c.args.row.ms)
+pub returns-in_err-take_change-in-Change-clause-stops : goal.returns-in_err-take_change-in-Change-clause-stops
+returns-in_err-take_change-in-Change-clause-stops g c =
+    let fault = c.in_err-take_change-in-Change.field-0.0 in
+    handed_on (λ result. IfErr result (λ why. StopsAtRow c.args.self.now (head_view c.args.bytes.now c.args.row) why)) fault c.from_residual-in_err-take_change-in-Change.result c.from_residual-in_err-take_change-in-Change.ensures
+    (stops_at c.args.self.now c.args.bytes.now c.args.row Change fault (ap (head_data_view c.args.bytes.now) c.in-Change.is)
+    (c.in_err-take_change-in-Change.ensures.stops c.args.row.ms))
