@@ -3,7 +3,9 @@ use Rattle.std.proofs.Common.{◌≡◌, ℕ, List, None, Result, Ok, Err, sym, 
 use Rattle.wc_controller.specs.Loads.{IsRefusedLoad}
 use Rattle.wc_model.specs.Language.Faults.{body_fault, declaration_fault}
 use Rattle.wc_model.specs.Language.Judging.{Judges}
-use Rattle.std.specs.Prelude.{IfErr, IfOk}
+use Rattle.std.proofs.KnownBytes.{Keeps-refl}
+use Rattle.std.specs.Prelude.{Bool, IfErr, IfOk, Option}
+use Rattle.wc_controller.specs.Checking.{Checks}
 use Rattle.wc_controller.specs.Headline.{HasTheHeadline, IsTheHeadline}
 use Rattle.wc_cost.specs.Costs.{IsCosted}
 use Rattle.wc_cost.specs.LoadedTexts.{LoadedText}
@@ -16,6 +18,7 @@ use Rattle.wc_model.specs.Language.Tree.{Text}
 use Rattle.wc_model.specs.Text.Reading.{IsRead}
 use Rattle.wc_model.specs.declared.fault.Fault.{Fault}
 use Rattle.wc_model.specs.declared.fault.Fault.TheVariants.{Memory, Refused}
+use Rattle.wc_run.specs.Faults.{from_fault}
 use Rattle.wc_reader.specs.ReadTexts.{IsFirstOf, IsRefusedAs}
 
 -- a text that is not read
@@ -55,3 +58,8 @@ pub with_headline : (bytes : List ℕ) (result : Result LoadedText Fault) → If
     IfOk result (λ loaded. (plate : PlateData) → HasTheHeadline plate (text_view loaded.source))
 with_headline bytes (Ok loaded) h law = λ plate. law plate bytes (text_view loaded.source) h
 with_headline bytes (Err fault) h law = tt
+
+-- a text that is not loaded is not checked either
+pub checks_refused : (paths : Bool) (bytes : List ℕ) (why : Fault) (old : Option (List ℕ)) → IsRefusedLoad bytes why → Checks {X = Unit {0}} paths bytes (Err (from_fault why)) old old
+checks_refused paths bytes (Refused number place) old h = (h, Keeps-refl old)
+checks_refused paths bytes Memory old h = Keeps-refl old

@@ -85,10 +85,13 @@ fn answer_sections<W: ByteOut>(
         Ok(plate) => plate,
         Err(fault) => return Err(Stopped {
             input: Input::Plate,
-            fault: fault.into(),
+            fault: RunFault::from(fault),
         }),
     };
-    let loaded = load_input(alloc, Input::Program, sections.program)?;
+    let loaded = match load_input(alloc, Input::Program, sections.program) {
+        Ok(loaded) => loaded,
+        Err(stopped) => return Err(stopped),
+    };
     let programs = RunPrograms {
         plate,
         text: sections.program,
@@ -143,8 +146,10 @@ fn answer_input<R: ByteIn, W: ByteOut>(
         (W.failure_count writer.new) }
     ensures taken { TakesInput (R.bytes_left reader.old) (R.bytes_left reader.new) }
 {
-    let bytes = read_input(alloc, Input::Job, reader)?;
-    answer_bytes(alloc, &bytes, writer, told)
+    match read_input(alloc, Input::Job, reader) {
+        Ok(bytes) => answer_bytes(alloc, &bytes, writer, told),
+        Err(stopped) => Err(stopped),
+    }
 }
 
 /// Reads a job, of at most 1048576 bytes, and answers it: its plate, its program, its next program,

@@ -54,7 +54,7 @@ pub(crate) fn load_input<'a>(
         Ok(loaded) => Ok(loaded),
         Err(fault) => Err(Stopped {
             input,
-            fault: fault.into(),
+            fault: RunFault::from(fault),
         }),
     }
 }
@@ -216,7 +216,9 @@ pub(crate) fn run_alone<W: ByteOut, O: Observer<SlotStore, W>, L: ByteIn>(
     ensures failures { TellsWriteFaults (met result) (W.failure_count writer.old)
         (W.failure_count writer.new) }
 {
-    begin(observer, None, None)?;
+    if let Err(stopped) = begin(observer, None, None) {
+        return Err(stopped);
+    }
     match Scale::new(alloc, plate, None, None) {
         Ok(mut scale) => run_scale(alloc, observer, &mut scale, log, writer, told),
         Err(fault) => Err(Stopped {
@@ -276,12 +278,17 @@ pub(crate) fn run_loaded<W: ByteOut, O: Observer<SlotStore, W>, L: ByteIn>(
         loaded,
         next: other,
     } = programs;
-    let next = load_next(alloc, other)?;
+    let next = match load_next(alloc, other) {
+        Ok(next) => next,
+        Err(stopped) => return Err(stopped),
+    };
     let first = Program {
         text,
         loaded: &loaded,
     };
-    begin(observer, Some(first), next_program(other, &next))?;
+    if let Err(stopped) = begin(observer, Some(first), next_program(other, &next)) {
+        return Err(stopped);
+    }
     match scale_of(alloc, &plate, loaded, next) {
         Ok(mut scale) => run_scale(alloc, observer, &mut scale, log, writer, told),
         Err(fault) => Err(Stopped {

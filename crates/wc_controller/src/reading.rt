@@ -73,7 +73,10 @@ pub(crate) fn read_optional<R: ByteIn>(
         (known_of (optional_of R.bytes_left R.failure_count R.spent_count reader.new)) }
 {
     match reader {
-        Some(reader) => Ok(Some(read_input(alloc, input, reader)?)),
+        Some(reader) => match read_input(alloc, input, reader) {
+            Ok(text) => Ok(Some(text)),
+            Err(stopped) => Err(stopped),
+        },
         None => Ok(None),
     }
 }
@@ -97,12 +100,15 @@ pub(crate) fn read_plate<R: ByteIn>(alloc: Global, reader: &mut R) -> Result<Pla
         (R.failure_count reader.new) }
     ensures taken { TakesInput (R.bytes_left reader.old) (R.bytes_left reader.new) }
 {
-    let bytes = read_input(alloc, Input::Plate, reader)?;
+    let bytes = match read_input(alloc, Input::Plate, reader) {
+        Ok(bytes) => bytes,
+        Err(stopped) => return Err(stopped),
+    };
     match plate(alloc, &bytes) {
         Ok(plate) => Ok(plate),
         Err(fault) => Err(Stopped {
             input: Input::Plate,
-            fault: fault.into(),
+            fault: RunFault::from(fault),
         }),
     }
 }

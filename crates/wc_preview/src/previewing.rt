@@ -85,7 +85,7 @@ fn preview_next<W: ByteOut>(
         Ok(new) => write_preview(alloc, paths, old, &new, writer),
         Err(fault) => Err(Stopped {
             input: Input::Next,
-            fault: fault.into(),
+            fault: RunFault::from(fault),
         }),
     }
 }
@@ -126,7 +126,7 @@ fn preview_inputs<T: ByteIn, N: ByteIn, W: ByteOut>(
         Err(fault) => {
             return Err(Stopped {
                 input: Input::Program,
-                fault: fault.into(),
+                fault: RunFault::from(fault),
             });
         }
     };

@@ -52,7 +52,7 @@ returns-in-Err-answer_log-clause-writes g c =
 
 pub returns-in-Err-clause-blames : goal.returns-in-Err-clause-blames
 returns-in-Err-clause-blames g c =
-    subst (λ why. StopsAsPart (fields_told c.args.told.now) (Ok (sections_view c.args.sections)) input.Plate why) (sym c.run_fault_of.ensures)
+    subst (λ why. StopsAsPart (fields_told c.args.told.now) (Ok (sections_view c.args.sections)) input.Plate why) (sym c.from.ensures)
     (plate_part (fields_told c.args.told.now) (sections_view c.args.sections) c.in-Err.fault c.in-Err.ensures.verdict)
 
 pub returns-in-Err-load_input-clause-blames : goal.returns-in-Err-load_input-clause-blames

@@ -1,8 +1,14 @@
-use Rattle.std.proofs.Common.{subst}
+use Rattle.std.proofs.Common.{Err}
 use Rattle.std.proofs.KnownBytes.{Keeps-refl}
+use Rattle.wc_controller.proofs.Refusals.{checks_refused}
 use Rattle.wc_controller.proofs.checking.check.Goals as goal
-use Rattle.wc_controller.specs.Loads.{IsRefusedLoad}
+use Rattle.wc_controller.specs.Checking.{Checks}
+use Rattle.wc_run.proofs.HandedOn.{handed_on}
+use Rattle.wc_run.specs.Faults.{from_fault}
 
-pub returns-in-Refused-clause-checks : goal.returns-in-Refused-clause-checks
-returns-in-Refused-clause-checks g c =
-    (subst (λ fault. IsRefusedLoad c.args.text.now fault) c.in-Refused.is c.in-Err.ensures.refused, Keeps-refl (g.W.ByteOut.bytes_taken c.args.writer.now))
+pub returns-in_err-loaded-clause-checks : goal.returns-in_err-loaded-clause-checks
+returns-in_err-loaded-clause-checks g c =
+    let taken = g.W.ByteOut.bytes_taken c.args.writer.now in
+    let met = c.in_err-loaded.field-0.0 in
+    handed_on (λ r. Checks {X = Unit {0}} c.args.paths c.args.text.now r taken taken) (from_fault met) c.from_residual.result c.from_residual.ensures
+    (checks_refused c.args.paths c.args.text.now met taken c.in_err-loaded.ensures.refused)

@@ -7,8 +7,8 @@ pub loop-unit-preserved : goal.loop-unit-preserved
 loop-unit-preserved c =
     let text = text_view c.args.loaded.now.source in
     let report : List ℕ = c.loop-unit.report.items in
-    subst (λ written. Begins c.args.paths text (c.loop-unit.unit + 1) written) (sym (c.in-Ok-extend_from_slice.ensures.items ∙ ap (λ more. report ++ more) c.deref.ensures.value))
-    (begins_on c.args.paths text c.loop-unit.unit report c.in-Ok.lines.items c.loop-unit.invariant c.in-Ok.ensures.lines)
+    subst (λ written. Begins c.args.paths text (c.loop-unit.unit + 1) written) (sym (c.in_ok-extend_from_slice.ensures.items ∙ ap (λ more. report ++ more) c.deref.ensures.value))
+    (begins_on c.args.paths text c.loop-unit.unit report c.in_ok-lines.lines.items c.loop-unit.invariant c.in_ok-lines.ensures.lines)
 
 pub returns-clause-report : goal.returns-clause-report
 returns-clause-report c =

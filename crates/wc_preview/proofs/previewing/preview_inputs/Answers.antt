@@ -5,7 +5,7 @@ use Rattle.wc_controller.proofs.Allowing.{file_not_read, file_read, of_known, on
 use Rattle.wc_controller.proofs.Blaming.{load_refused, program_read}
 use Rattle.wc_controller.proofs.Givings.{not_loaded, upto_more}
 use Rattle.wc_controller.specs.Blames.{RefusesText}
-use Rattle.wc_controller.specs.Endings.{WritesUpTo, met, run_fault_of}
+use Rattle.wc_controller.specs.Endings.{WritesUpTo, met}
 use Rattle.wc_controller.specs.Files.{AnswersFile}
 use Rattle.wc_controller.specs.Loads.{IsRefusedLoad}
 use Rattle.wc_controller.specs.declared.input.Input.TheVariants as input
@@ -13,6 +13,7 @@ use Rattle.wc_model.specs.Language.Loading.{IsLoaded}
 use Rattle.wc_model.specs.Language.Tree.{Text}
 use Rattle.wc_model.specs.Language.Views.{text_view}
 use Rattle.wc_model.specs.Say.Job.{AnswersProgram, JobAnswer, loads_program}
+use Rattle.wc_run.specs.Faults.{from_fault}
 use Rattle.wc_preview.specs.Previews.{AnswersNew, AnswersPreview, AnswersTree}
 use Rattle.wc_preview.proofs.previewing.preview_inputs.Goals as goal
 
@@ -31,17 +32,17 @@ returns-in-Err-load-clause-writes g c =
     let behind = g.N.ByteIn.bytes_left c.args.next.now in
     let items = c.in-Ok.text.items in
     let why = c.in-Err-load.fault in
-    subst (λ one. IfSome (g.T.ByteIn.bytes_left c.args.program.now) (λ text. IfSome behind (λ other. WritesUpTo (AnswersPreview c.args.paths text other) (Some one) old old))) (sym c.run_fault_of.ensures)
-    (of_known (g.T.ByteIn.bytes_left c.args.program.now) items (λ text. IfSome behind (λ other. WritesUpTo (AnswersPreview c.args.paths text other) (Some (run_fault_of why)) old old)) c.in-Ok.ensures.whole.1
+    subst (λ one. IfSome (g.T.ByteIn.bytes_left c.args.program.now) (λ text. IfSome behind (λ other. WritesUpTo (AnswersPreview c.args.paths text other) (Some one) old old))) (sym c.from.ensures)
+    (of_known (g.T.ByteIn.bytes_left c.args.program.now) items (λ text. IfSome behind (λ other. WritesUpTo (AnswersPreview c.args.paths text other) (Some (from_fault why)) old old)) c.in-Ok.ensures.whole.1
     (on_each behind _
     (λ other. let rest : Text → JobAnswer → Type 0 = AnswersTree (λ source. AnswersFile other (AnswersNew c.args.paths source other)) in
-    file_read items (AnswersProgram items rest) (Some (run_fault_of why)) old old c.in-Ok.ensures.whole.0
+    file_read items (AnswersProgram items rest) (Some (from_fault why)) old old c.in-Ok.ensures.whole.0
     (not_loaded items rest why old (subst (λ text. IsRefusedLoad text why) c.deref.ensures.value c.in-Err-load.ensures.refused)))))
 
 pub returns-in-Err-load-clause-blames_program : goal.returns-in-Err-load-clause-blames_program
 returns-in-Err-load-clause-blames_program g c =
-    program_read {X = Unit {0}} input.Program (Err (record { input = input.Program; fault = c.run_fault_of.result })) (g.T.ByteIn.bytes_left c.args.program.now) c.in-Ok.text.items c.in-Ok.ensures.whole
-    (λ e. subst (λ one. RefusesText c.in-Ok.text.items one) (sym c.run_fault_of.ensures)
+    program_read {X = Unit {0}} input.Program (Err (record { input = input.Program; fault = c.from.result })) (g.T.ByteIn.bytes_left c.args.program.now) c.in-Ok.text.items c.in-Ok.ensures.whole
+    (λ e. subst (λ one. RefusesText c.in-Ok.text.items one) (sym c.from.ensures)
     (load_refused c.in-Ok.text.items c.in-Err-load.fault (subst (λ text. IsRefusedLoad text c.in-Err-load.fault) c.deref.ensures.value c.in-Err-load.ensures.refused)))
 
 -- of a new program that is not read nothing is taken

@@ -18,5 +18,5 @@ pub returns-in-Err-clause-writes : goal.returns-in-Err-clause-writes
 returns-in-Err-clause-writes g c =
     let taken = g.W.ByteOut.bytes_taken c.args.writer.now in
     let old = c.args.old.now.source in
-    subst (λ why. WritesUpTo (AnswersNew c.args.paths old c.args.text.now) (Some why) taken taken) (sym c.run_fault_of.ensures)
+    subst (λ why. WritesUpTo (AnswersNew c.args.paths old c.args.text.now) (Some why) taken taken) (sym c.from.ensures)
     (not_loaded c.args.text.now (AnswersTree (IsPreview c.args.paths old)) c.in-Err.fault taken c.in-Err.ensures.refused)
