@@ -78,7 +78,7 @@ static uint8_t *end_of(hole *block)
     return (uint8_t *)block + block->size;
 }
 
-/* Cuts a hole down to a size, and gives the hole that is left behind it, or the next one. */
+/* Cuts a hole down to a size, and gives the hole that is left after it, or the next one. */
 static hole *cut(hole *found, size_t size)
 {
     hole *rest = (hole *)(void *)((uint8_t *)found + size);

@@ -1,12 +1,12 @@
-//! The constants that identify this version, each once. `tools/legal_digest --write` writes the toolchain and the digests.
+//! The constants that identify this version, each once: `tools/legal_digest --write` writes them.
 
-/// Calls a macro with the version, the toolchain, the digest of the legal part and that of the data path.
+/// Calls a macro with the version, the toolchain, and the digests of legal part and data path.
 macro_rules! with_constants {
     ($macro:ident) => {
         $macro!(
             "0.1.0",
             "rattle-kit-13 logic dac8208d650f15bf",
-            "26c97ed763b5f3d1e114f4776667d830bd566c2cdd8ca5eb6924361de8b7e747",
+            "087613ac477c8b88ca0f6716c05be58ec188e5ba21a02872838f0064433a3224",
             "d8a6be83e7957702123d2e4fc16b791e4d01ae1dec87cea16b7e9f8b99ee3122"
         )
     };
@@ -59,7 +59,7 @@ pub const TOOLCHAIN: &str = with_constants!(toolchain);
 /// SHA-256 over the legally relevant sources, in hexadecimal.
 pub const LEGAL_PART: &str = with_constants!(legal_part);
 
-/// SHA-256 over the sources that pass samples, line bytes and answers on between the caller and the legal part.
+/// SHA-256 over the sources that pass samples, line bytes and answers on, in hexadecimal.
 pub const DATA_PATH: &str = with_constants!(data_path);
 
 /// The constants in one text, for the command line.

@@ -1,4 +1,4 @@
-//! What identifies this version of the product: its number, its toolchain and the digests of its sources.
+//! What identifies this version: its number, its toolchain and the digests of its sources.
 #![tactic(auto)]
 
 mod constants;
