@@ -105,6 +105,17 @@ typedef struct narbeddo_reading {
 #define NARBEDDO_TARE_ACTIVE 16
 #define NARBEDDO_VALID 32
 
+/* What identifies the library: texts, each ended by a zero. docs/ASSESSMENT.md says how they are compared with sources. */
+typedef struct narbeddo_identity {
+    char version[16];    /* of the product */
+    char toolchain[48];  /* the toolchain that the sources are for: its kit, and the sum of its logic */
+    char legal_part[65]; /* SHA-256 over the legally relevant sources, in hexadecimal */
+    char data_path[65];  /* SHA-256 over the sources that pass samples, line bytes and answers on, this header among them */
+} narbeddo_identity;
+
+/* What identifies the library, for a display: it needs no scale, and always answers. */
+narbeddo_identity narbeddo_identify(void);
+
 /* Makes a closed scale of the room, whatever it holds: so never of a scale that is open. */
 void narbeddo_make(narbeddo_scale *scale);
 

@@ -3,12 +3,14 @@
 #![tactic(auto)]
 
 mod changes;
+mod identifying;
 mod making;
 mod programs;
 mod readings;
 mod rows;
 
 pub use changes::{narbeddo_change, narbeddo_close, narbeddo_load, narbeddo_open};
+pub use identifying::narbeddo_identify;
 pub use making::{narbeddo_make, narbeddo_size};
 pub use programs::{narbeddo_about, narbeddo_path};
 pub use readings::{narbeddo_plate, narbeddo_read};

@@ -60,9 +60,12 @@ impl Field {
         requires { length self.old + count ≤ 10 }
         ensures { self.new ≡ last_digits count number ++ self.old }
     {
-        if count > 0 {
-            self.put(b'0' + (number % 10) as u8);
-            self.put_last_digits(count - 1, number / 10);
+        let mut left = count;
+        let mut rest = number;
+        while left > 0 {
+            self.put(b'0' + (rest % 10) as u8);
+            rest /= 10;
+            left -= 1;
         }
     }
 
@@ -71,10 +74,12 @@ impl Field {
         requires { length (decimal number) + length self.old ≤ 10 }
         ensures { self.new ≡ decimal number ++ self.old }
     {
-        self.put(b'0' + (number % 10) as u8);
-        if number >= 10 {
-            self.put_decimal(number / 10);
+        let mut rest = number;
+        while rest >= 10 {
+            self.put(b'0' + (rest % 10) as u8);
+            rest /= 10;
         }
+        self.put(b'0' + rest as u8);
     }
 
     /// Puts a point and so many digits before the text, or nothing for none.

@@ -11,13 +11,8 @@ use crate::table::{MESSAGE, WORDS, with_options, with_words};
 use clap::error::ErrorKind;
 use clap::{ArgMatches, Command, Error};
 use std::alloc::{AllocError, Global};
+use wc_identity::VERSION_TEXT;
 use wc_refusals::Form;
-
-/// The product's version, the toolchain that its sources are for, and the digest of the legally relevant sources, which
-/// tools/legal_digest computes. Whether a build was proved is not known to the program.
-const VERSION: &str = "0.1.0 (Narbeddo)
-toolchain rattle-kit-13 logic dac8208d650f15bf
-legal part sha256 26c97ed763b5f3d1e114f4776667d830bd566c2cdd8ca5eb6924361de8b7e747";
 
 /// What the program does, with an example of each word.
 const ABOUT: &str =
@@ -117,7 +112,7 @@ const NO_PROGRAM: &str = "'--next' is given, and no '--program' whose place it c
 fn command<'a>(alloc: Global) -> Result<Command<'a>, AllocError>
     ensures { IfOk result (λ c. app_of c ≡ command_line) }
 {
-    let line = Command::new(alloc, "wc").version(VERSION).about(ABOUT);
+    let line = Command::new(alloc, "wc").version(VERSION_TEXT).about(ABOUT);
     let line = with_options(alloc, line, &[MESSAGE])?;
     with_words(alloc, line, &WORDS)
 }

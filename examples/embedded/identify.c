@@ -1,0 +1,14 @@
+/* Prints what identifies the library, as `wc --version` does of the program. A device shows it on its display. */
+#include "narbeddo.h"
+
+#include <stdio.h>
+
+int main(void)
+{
+    narbeddo_identity identity = narbeddo_identify();
+    printf("narbeddo %s (Narbeddo)\n", identity.version);
+    printf("toolchain %s\n", identity.toolchain);
+    printf("legal part sha256 %s\n", identity.legal_part);
+    printf("data path sha256 %s\n", identity.data_path);
+    return 0;
+}
