@@ -6,8 +6,7 @@ use crate::finding::Finding;
 use crate::lines::{column_at, piece};
 use std::alloc::{AllocError, Global};
 use wc_model::{Fault, Kind};
-use wc_spots::{LaterSpot, Meant, spot_in};
-use wc_stops::read_by_places;
+use wc_refusal_places::{LaterSpot, Meant, read_by_places, spot_in};
 
 /// A kind that no operator, input or output takes there.
 fn says_untaken(kind: Kind) -> &'static str {

@@ -8,7 +8,7 @@ use crate::pieces::tell_piece;
 use std::alloc::{AllocError, Global};
 use wc_built_in::{Keyword, keyword_named};
 use wc_model::Fault;
-use wc_stops::{Awaits, ReadingStop, stop_of};
+use wc_refusal_places::{Awaits, ReadingStop, stop_of};
 
 /// What could stand where a token is unexpected; nothing where it is said otherwise.
 fn words_of(awaits: Awaits) -> &'static str {
