@@ -8,7 +8,7 @@ use Rattle.wc_findings.specs.declared.refusal.Part.TheVariants.{Job, Plate, Prog
 use Rattle.wc_model.specs.declared.fault.Fault.TheVariants.{Refused}
 use Rattle.wc_refusal_places.specs.LaterSpots.{IsLaterSpot}
 use Rattle.wc_refusal_places.specs.ReadingSpots.{StopsReading}
-use Rattle.wc_refusal_places.specs.declared.awaits.Awaits.{Awaits}
+use Rattle.wc_refusals.specs.declared.awaits.Awaits.{Awaits}
 
 -- this piece stands in the text, from that place on
 abbrev pub StandsAt : List ℕ → ℕ → List ℕ → Type 0

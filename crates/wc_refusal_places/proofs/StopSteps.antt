@@ -10,7 +10,7 @@ use Rattle.wc_short_lines.specs.Walks.{Stopping, walk}
 use Rattle.wc_refusal_places.specs.Awaited.{awaited}
 use Rattle.wc_refusal_places.specs.ReadingSpots.{state_at_stop}
 use Rattle.wc_refusal_places.specs.Stopping.{TellsMet}
-use Rattle.wc_refusal_places.specs.declared.awaits.Awaits.{Awaits}
+use Rattle.wc_refusals.specs.declared.awaits.Awaits.{Awaits}
 
 -- the state behind a step
 state_behind : (state : State) (mark : Mark) (behind : List Mark) (last : ℕ) (judgement : Option Met) (moved : Option State)

@@ -23,9 +23,9 @@ use Rattle.wc_refusal_places.proofs.StopSteps.{walk_stops}
 use Rattle.wc_refusal_places.specs.Awaited.{awaited, awaited_with}
 use Rattle.wc_refusal_places.specs.ReadingSpots.{AreReadByPlaces, IsReadByPlaces, StopsReading, place_mark, place_marks}
 use Rattle.wc_refusal_places.specs.Stopping.{IsAwaitedAs, IsMetWith, IsPieceAt, IsStopAt, ReadsText, TellsMet}
-use Rattle.wc_refusal_places.specs.declared.awaits.Awaits.{Awaits}
-use Rattle.wc_refusal_places.specs.declared.awaits.Awaits.TheVariants.{Nothing as nothing}
-use Rattle.wc_refusal_places.specs.declared.stops.ReadingStop.{ReadingStop}
+use Rattle.wc_refusals.specs.declared.awaits.Awaits.{Awaits}
+use Rattle.wc_refusals.specs.declared.awaits.Awaits.TheVariants.{Nothing as nothing}
+use Rattle.wc_refusal_places.specs.declared.span.RefusalSpan.{RefusalSpan}
 
 -- some tokens are as many with their places for their lines
 placed_some : (placed tokens : List Token) → marks_of placed ≡ place_marks tokens → 0 < length placed → 0 < length tokens
@@ -33,7 +33,7 @@ placed_some placed tokens m some =
     omega (arith, ap length m, length-map (map token_view placed) mark_of_token, length-map placed token_view, length-map tokens place_mark, some)
 
 -- what the walk meets by places
-spot : (bytes : List ℕ) (tokens : List Token) (number place : ℕ) (there : Awaits) (stop : ReadingStop) → length bytes ≤ most_bytes → IsCut bytes (map token_view tokens)
+spot : (bytes : List ℕ) (tokens : List Token) (number place : ℕ) (there : Awaits) (stop : RefusalSpan) → length bytes ≤ most_bytes → IsCut bytes (map token_view tokens)
     → IsMetWith (walk at_first (place_marks tokens) (length bytes)) number place there → IsPieceAt bytes tokens number place there stop
     → StopsReading bytes stop.fault stop.start stop.length stop.awaits
 spot bytes tokens number place there stop short cut m p =
@@ -54,7 +54,7 @@ spot bytes tokens number place there stop short cut m p =
     }))
 
 -- what the walk meets, or want of memory
-met_by_places : (bytes : List ℕ) (tokens : List Token) (fault : Fault) (there : Awaits) (stop : ReadingStop) → length bytes ≤ most_bytes → IsCut bytes (map token_view tokens)
+met_by_places : (bytes : List ℕ) (tokens : List Token) (fault : Fault) (there : Awaits) (stop : RefusalSpan) → length bytes ≤ most_bytes → IsCut bytes (map token_view tokens)
     → TellsMet (walk at_first (place_marks tokens) (length bytes)) fault there → (fault ≡ Memory → 0 < length tokens) → IsStopAt bytes tokens fault there stop
     → StopsReading bytes stop.fault stop.start stop.length stop.awaits
 met_by_places bytes tokens Memory there stop short cut m some is =
@@ -63,7 +63,7 @@ met_by_places bytes tokens Memory there stop short cut m some is =
 met_by_places bytes tokens (Refused number place) there stop short cut m some is = spot bytes tokens number place there stop short cut m is
 
 -- what is met in tokens with their places for their lines, told of the tokens
-pub stops_met : (bytes : List ℕ) (tokens placed after : List Token) (fault : Fault) (there : Awaits) (stop : ReadingStop) → length bytes ≤ most_bytes → IsCut bytes (map token_view tokens)
+pub stops_met : (bytes : List ℕ) (tokens placed after : List Token) (fault : Fault) (there : Awaits) (stop : RefusalSpan) → length bytes ≤ most_bytes → IsCut bytes (map token_view tokens)
     → marks_of placed ≡ place_marks tokens → after ≡ tokens → TellsMet (walk at_first (marks_of placed) (length bytes)) fault there → (fault ≡ Memory → 0 < length placed)
     → IsStopAt bytes after fault there stop → StopsReading bytes stop.fault stop.start stop.length stop.awaits
 stops_met bytes tokens placed after fault there stop short cut m e t some is =
@@ -103,7 +103,7 @@ nothing_told Memory awaits e = e
 nothing_told (Refused number place) awaits e = rw e (elim (number == 201) as (λ is. nothing ≡ (if is then nothing else nothing)) [ true ↦ refl | false ↦ refl ])
 
 -- what is told at a stop
-pub stop_awaits : (bytes : List ℕ) (tokens : List Token) (fault : Fault) (there : Awaits) (stop : ReadingStop) → IsStopAt bytes tokens fault there stop → IsAwaitedAs stop.fault stop.awaits
+pub stop_awaits : (bytes : List ℕ) (tokens : List Token) (fault : Fault) (there : Awaits) (stop : RefusalSpan) → IsStopAt bytes tokens fault there stop → IsAwaitedAs stop.fault stop.awaits
 stop_awaits bytes tokens Memory there stop is = nothing_told stop.fault stop.awaits is.1
 stop_awaits bytes tokens (Refused number place) there stop is =
     subst (λ fault. IsAwaitedAs fault stop.awaits) (sym is.fault_is) (rw is.awaits_is (told_again number there))

@@ -5,8 +5,8 @@ use Rattle.wc_grammar_laws.specs.LineMoves.{OperandOf, OfStep, OfOpening, OfArgu
 use Rattle.wc_grammar_laws.specs.Moves.{InDeclaration, Undeclared, BehindNames, BehindComma, BehindColon, BehindType, BehindAssign, BehindValue, State, Outside, Unnamed, Declaring, AtLine, OnLine, Closed, has_program}
 use Rattle.wc_grammar_laws.specs.Words.{Operating, Loads, Stores, Applies}
 use Rattle.wc_model.specs.Text.Positions.{Opening}
-use Rattle.wc_refusal_places.specs.declared.awaits.Awaits.{Awaits}
-use Rattle.wc_refusal_places.specs.declared.awaits.Awaits.TheVariants as awaits
+use Rattle.wc_refusals.specs.declared.awaits.Awaits.{Awaits}
+use Rattle.wc_refusals.specs.declared.awaits.Awaits.TheVariants as awaits
 
 -- in a section of declarations
 abbrev pub awaited_in_declaration : InDeclaration → Awaits

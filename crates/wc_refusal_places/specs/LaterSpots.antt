@@ -4,10 +4,12 @@ use Rattle.wc_lexer.specs.declared.shape.Token.{Token}
 use Rattle.wc_model.specs.Language.Checks.{Refusal}
 use Rattle.wc_model.specs.Language.Faults.{IsCostFault, body_fault, declaration_fault}
 use Rattle.wc_model.specs.Language.Tree.{Text}
+use Rattle.wc_model.specs.Language.Views.{text_view}
 use Rattle.wc_model.specs.declared.fault.Fault.{Fault}
 use Rattle.wc_model.specs.declared.fault.Fault.TheVariants.{Memory, Refused}
 use Rattle.wc_refusal_places.specs.Pieces.{IsPieceOf, length_of_piece, line_at, on_line, operator_of, start_of_piece, tokens_from}
 use Rattle.wc_refusal_places.specs.ReadingSpots.{AreReadByPlaces}
+use Rattle.wc_refusal_places.specs.declared.placed.Placed.{Placed}
 
 -- the refusal of that number, asked at that place
 abbrev pub refusal_at : ℕ → ℕ → Refusal
@@ -58,3 +60,7 @@ pub record IsLaterSpot (bytes : List ℕ) (number line start count : ℕ) : Type
 abbrev pub RefusesLater : List ℕ → Fault → (start count : ℕ) → Type 0
 RefusesLater bytes Memory start count = Unit {0}
 RefusesLater bytes (Refused number line) start count = IsLaterSpot bytes number line start count
+
+-- of whatever bytes these tokens and this tree were read by places, and of the tree
+abbrev pub OfRead : Placed → (List ℕ → Text → Type 0) → Type 0
+OfRead placed P = (bytes : List ℕ) → AreReadByPlaces bytes placed.tokens.items (text_view placed.source) → P bytes (text_view placed.source)

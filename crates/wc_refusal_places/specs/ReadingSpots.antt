@@ -17,8 +17,8 @@ use Rattle.wc_model.specs.Language.Tree.{Text}
 use Rattle.wc_model.specs.declared.fault.Fault.{Fault}
 use Rattle.wc_model.specs.declared.fault.Fault.TheVariants.{Memory, Refused}
 use Rattle.wc_refusal_places.specs.Awaited.{awaited, awaited_with}
-use Rattle.wc_refusal_places.specs.declared.awaits.Awaits.{Awaits}
-use Rattle.wc_refusal_places.specs.declared.awaits.Awaits.TheVariants.{LabelColon}
+use Rattle.wc_refusals.specs.declared.awaits.Awaits.{Awaits}
+use Rattle.wc_refusals.specs.declared.awaits.Awaits.TheVariants.{LabelColon}
 
 -- A token as the grammar sees it, with its place for its line: a fault of the grammar then tells the
 -- place of the token whose line it tells.

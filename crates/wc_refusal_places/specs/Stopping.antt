@@ -10,9 +10,9 @@ use Rattle.wc_model.specs.declared.fault.Fault.TheVariants.{Memory, Refused}
 use Rattle.wc_short_lines.specs.Walks.{Stopping}
 use Rattle.wc_refusal_places.specs.Awaited.{awaited, awaited_with}
 use Rattle.wc_refusal_places.specs.ReadingSpots.{length_of, line_of, meant_at, start_of, token_at}
-use Rattle.wc_refusal_places.specs.declared.awaits.Awaits.{Awaits}
-use Rattle.wc_refusal_places.specs.declared.awaits.Awaits.TheVariants.{Nothing as nothing}
-use Rattle.wc_refusal_places.specs.declared.stops.ReadingStop.{ReadingStop}
+use Rattle.wc_refusals.specs.declared.awaits.Awaits.{Awaits}
+use Rattle.wc_refusals.specs.declared.awaits.Awaits.TheVariants.{Nothing as nothing}
+use Rattle.wc_refusal_places.specs.declared.span.RefusalSpan.{RefusalSpan}
 
 -- a token with its place for its line, and its line for its place
 abbrev pub exchanged : Token → Token
@@ -37,14 +37,14 @@ pub record ReadsText (stopping : Stopping) : Type 0 where
   pub told_is : stopping.told ≡ Ok text
 
 -- The fault of that number that is met at that byte, with its line and its piece.
-pub record IsPieceAt (bytes : List ℕ) (tokens : List Token) (number place : ℕ) (there : Awaits) (stop : ReadingStop) : Type 0 where
+pub record IsPieceAt (bytes : List ℕ) (tokens : List Token) (number place : ℕ) (there : Awaits) (stop : RefusalSpan) : Type 0 where
   pub fault_is : stop.fault ≡ Refused number (line_of (token_at tokens place) (last_line bytes))
   pub start_is : stop.start ≡ start_of (meant_at tokens place stop.awaits) (length bytes)
   pub length_is : stop.length ≡ length_of (meant_at tokens place stop.awaits)
   pub awaits_is : stop.awaits ≡ awaited_with number there
 
 -- what is met in tokens, with its line and its piece
-abbrev pub IsStopAt : List ℕ → List Token → Fault → Awaits → ReadingStop → Type 0
+abbrev pub IsStopAt : List ℕ → List Token → Fault → Awaits → RefusalSpan → Type 0
 IsStopAt bytes tokens Memory there stop = (stop.fault ≡ Memory) × (stop.awaits ≡ nothing)
 IsStopAt bytes tokens (Refused number place) there stop = IsPieceAt bytes tokens number place there stop
 

@@ -1,77 +1,16 @@
 ghost use Rattle.std.specs.Prelude.{◌≡◌, List};
 ghost use Rattle.wc_bodies.specs.BodyViews.{position_view};
 ghost use Rattle.wc_grammar_laws.specs.LineMoves as lines;
-ghost use Rattle.wc_lines.specs.LineViews.{in_line_view, item_view, line_state_view, owner_view};
-ghost use Rattle.wc_lines.specs.Words.{operating_view};
+ghost use Rattle.wc_lines.specs.LineViews.{in_line_view, item_view, line_state_view};
 ghost use Rattle.wc_model.specs.Language.Tree.{ProgramUnit};
-ghost use Rattle.wc_refusal_places.specs.Awaited.{awaited, awaited_at_line, awaited_behind_name, awaited_behind_operator, awaited_in_declaration, awaited_in_list, awaited_on_line};
+ghost use Rattle.wc_refusal_places.specs.Awaited.{awaited, awaited_at_line, awaited_in_declaration, awaited_in_list, awaited_on_line};
 ghost use Rattle.wc_bodies.specs.SectionViews.{declaring_view};
 ghost use Rattle.wc_reader.specs.TextViews.{line_place_view, reading_view};
 
 use wc_bodies::{Body, DeclarationState};
 use wc_lines::{InLine, InList, LineForm, LineState, OperandOf, Operating};
 use wc_reader::{LinePlace, Reading, TextState, has_program};
-
-/// What could stand where a token is refused.
-#[derive(Clone, Copy, PartialEq, Eq)]
-pub enum Awaits {
-    /// Nothing, or that is not what is wrong.
-    Nothing,
-    /// PROGRAM or FUNCTION_BLOCK.
-    UnitWord,
-    /// The name of a unit.
-    UnitName,
-    /// A name, or END_VAR.
-    NameOrEndVar,
-    /// A comma or a colon.
-    CommaOrColon,
-    /// A name.
-    Name,
-    /// A type.
-    TypeName,
-    /// `:=` or `;`.
-    AssignOrSemicolon,
-    /// A literal.
-    Literal,
-    /// `;`.
-    Semicolon,
-    /// An instruction.
-    Instruction,
-    /// An instruction or `)`.
-    InstructionOrClosing,
-    /// An instruction or the end of the line.
-    InstructionOrLineEnd,
-    /// The colon of a label.
-    LabelColon,
-    /// An operand.
-    Operand,
-    /// An operand or `(`.
-    OperandOrOpening,
-    /// An operand or the end of the line.
-    OperandOrLineEnd,
-    /// A label.
-    Label,
-    /// The name of an instance.
-    Instance,
-    /// The end of the line.
-    LineEnd,
-    /// `(` or the end of the line.
-    OpeningOrLineEnd,
-    /// A point or the end of the line.
-    PointOrLineEnd,
-    /// The name of a field.
-    Field,
-    /// The name of an input or output, or `)`.
-    FormalOrClosing,
-    /// The name of an input or output.
-    Formal,
-    /// `:=` or `=>`.
-    AssignOrArrow,
-    /// A comma or `)`.
-    CommaOrClosing,
-    /// A comma, a point or `)`.
-    CommaPointOrClosing,
-}
+use wc_refusals::Awaits;
 
 /// In a section of declarations.
 fn in_declaration(state: &DeclarationState) -> Awaits
@@ -101,26 +40,6 @@ fn in_list(item: &InList) -> Awaits
     }
 }
 
-/// Behind an operator that takes an operand.
-fn behind_operator(operating: &Operating) -> Awaits
-    ensures { result ≡ awaited_behind_operator (operating_view operating.now) }
-{
-    match operating {
-        Operating::Applies(_) => Awaits::OperandOrOpening,
-        Operating::Loads(_) | Operating::Stores(_) => Awaits::Operand,
-    }
-}
-
-/// Behind a name where an operand stands.
-fn behind_name(owner: &OperandOf) -> Awaits
-    ensures { result ≡ awaited_behind_name (owner_view owner.now) }
-{
-    match owner {
-        OperandOf::OfArgument(..) => Awaits::CommaPointOrClosing,
-        OperandOf::OfStep(_) | OperandOf::OfOpening(_) => Awaits::PointOrLineEnd,
-    }
-}
-
 /// Behind what may be a whole line.
 fn behind_form(form: &LineForm, ended: bool) -> Awaits
     ensures { (begun : lines.Begun)
@@ -137,12 +56,14 @@ fn in_instruction(state: &InLine) -> Awaits
     ensures { (begun : lines.Begun) → result ≡ awaited_on_line (in_line_view begun state.now) }
 {
     match state {
-        InLine::Operated(operating) => behind_operator(operating),
+        InLine::Operated(Operating::Applies(_)) => Awaits::OperandOrOpening,
+        InLine::Operated(Operating::Loads(_) | Operating::Stores(_)) => Awaits::Operand,
         InLine::Jumped(_) => Awaits::Label,
         InLine::Called(_) => Awaits::Instance,
         InLine::Instanced(..) => Awaits::OpeningOrLineEnd,
         InLine::Listing(_, item) => in_list(item),
-        InLine::Named(owner, _, false) => behind_name(owner),
+        InLine::Named(OperandOf::OfArgument(..), _, false) => Awaits::CommaPointOrClosing,
+        InLine::Named(_, _, false) => Awaits::PointOrLineEnd,
         InLine::Named(_, _, true) => Awaits::Field,
         InLine::Formed(form, ended) => behind_form(form, *ended),
     }

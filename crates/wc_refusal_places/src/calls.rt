@@ -1,75 +1,67 @@
 ghost use Rattle.std.specs.Prelude.{◌≡◌, ◌⊎◌};
 ghost use Rattle.wc_refusal_places.specs.Pieces.{IsOfCall, operator_of};
 
-use crate::kinds::{is_bit, is_instance, operand_in};
-use crate::meant::Meant;
-use crate::pieces::{list_end, operator_of, tokens_at};
+use crate::kinds::{entity_in, is_bit, is_instance};
+use crate::pieces::{case_of_operand, line_at, list_end, operator_of, tokens_at};
 use std::alloc::Global;
 use wc_lexer::{Shape, Token};
 use wc_model::{Direction, Fault, Kind};
-use wc_names::{DeclaredType, Entity, Names, Tables};
+use wc_names::{DeclaredType, Names, Tables};
+use wc_refusals::Case;
 
-/// Which tokens of a call are meant, and what is known of them.
+/// Which tokens of a call are meant, and in which way its rule is broken.
 #[derive(Clone, Copy)]
 pub(crate) struct InCall {
     from: usize,
     count: usize,
-    pub(crate) meant: Meant,
+    pub(crate) case: Case,
     /// The line of the first of two that have one name; 0: there are no two.
     pub(crate) first: u32,
 }
 
-/// One of a call's list: where its name and its value stand, and where the next one begins.
+/// One of a call's list: where its name and its value stand, and the comma or `)` after it.
 #[derive(Clone, Copy)]
 struct Item {
     name: usize,
     value: usize,
     count: usize,
     direction: Direction,
-    next: usize,
+    end: usize,
 }
 
 /// One token of a call.
-fn at_index(from: usize, meant: Meant) -> InCall {
+fn at_index(from: usize, case: Case) -> InCall {
     InCall {
         from,
         count: 1,
-        meant,
+        case,
         first: 0,
     }
 }
 
-/// The first index from one on whose token ends no line.
-fn next_mark(tokens: &[Token<'_>], from: usize) -> usize {
-    for index in from..tokens.len() {
-        if tokens[index].shape != Shape::LineEnd {
-            return index;
+/// The first index after one whose token ends no line.
+fn mark_after(tokens: &[Token<'_>], index: usize) -> usize {
+    for next in index.saturating_add(1)..tokens.len() {
+        if tokens[next].shape != Shape::LineEnd {
+            return next;
         }
     }
     tokens.len()
 }
 
-/// The first index behind one whose token ends no line.
-fn mark_behind(tokens: &[Token<'_>], index: usize) -> usize {
-    next_mark(tokens, index.saturating_add(1))
-}
-
 /// Whether the token at an index is of a shape.
 fn is_at(tokens: &[Token<'_>], index: usize, shape: Shape) -> bool {
-    match tokens.get(index) {
-        Some(token) => token.shape == shape,
-        None => false,
-    }
+    matches!(tokens.get(index), Some(token) if token.shape == shape)
 }
 
-/// One of a call's list, from an index on.
-fn item_at(tokens: &[Token<'_>], from: usize) -> Item {
-    let name = next_mark(tokens, from);
-    let sign = mark_behind(tokens, name);
-    let value = mark_behind(tokens, sign);
-    let behind = mark_behind(tokens, value);
-    let last = if is_at(tokens, behind, Shape::Point) {
-        mark_behind(tokens, behind)
+/// One of a call's list, after the `(` or the comma at an index.
+fn item_after(tokens: &[Token<'_>], index: usize) -> Item {
+    let name = mark_after(tokens, index);
+    let sign = mark_after(tokens, name);
+    let value = mark_after(tokens, sign);
+    let point = mark_after(tokens, value);
+    let last = if is_at(tokens, point, Shape::Point) {
+        mark_after(tokens, point)
     } else {
         value
     };
@@ -82,7 +74,7 @@ fn item_at(tokens: &[Token<'_>], from: usize) -> Item {
         } else {
             Direction::Into
         },
-        next: mark_behind(tokens, last).saturating_add(1),
+        end: mark_after(tokens, last),
     }
 }
 
@@ -94,42 +86,12 @@ fn text_at<'a>(tokens: &[Token<'a>], index: usize) -> &'a [u8] {
     }
 }
 
-/// What does not fit where a value of some kind is passed to or from one of another.
-fn unfit_value(
-    direction: Direction,
-    formal: Kind,
-    kind: Option<Kind>,
-    is_bit: bool,
-) -> Option<Meant> {
+/// What does not fit where a value of some kind is passed to or from one of another; a bit is passed to a BOOL.
+fn unfit_value(kind: Option<Kind>, formal: Kind, is_bit: bool) -> Option<Case> {
     match kind {
-        None => Some(Meant::Instance),
-        Some(kind) if kind == formal => None,
-        Some(_) if direction == Direction::Into && formal == Kind::Bool && is_bit => None,
-        Some(kind) => Some(Meant::Unpassed(kind, formal)),
-    }
-}
-
-/// What is wrong by a rule with what is passed.
-fn wrong_value(
-    number: u16,
-    direction: Direction,
-    formal: Option<Kind>,
-    entity: Option<Entity>,
-    piece: &[Token<'_>],
-) -> Option<Meant> {
-    match (number, entity, formal) {
-        (401, None, _) if piece.len() > 1 => Some(Meant::Field),
-        (401, None, _) => Some(Meant::Plain),
-        (404, Some(entity), _) if direction == Direction::OutOf && !entity.writable => {
-            Some(Meant::Plain)
-        }
-        (405, Some(entity), _) if direction == Direction::Into && !entity.readable => {
-            Some(Meant::Plain)
-        }
-        (402, Some(entity), Some(formal)) => {
-            unfit_value(direction, formal, entity.kind, is_bit(piece))
-        }
-        _ => None,
+        None => Some(Case::Instance),
+        Some(kind) if kind == formal || is_bit && formal == Kind::Bool => None,
+        Some(kind) => Some(Case::Unpassed(kind, formal)),
     }
 }
 
@@ -143,27 +105,24 @@ fn meant_in_item<'a>(
     item: Item,
 ) -> Option<InCall> {
     let formal = tables.formal(declared, item.direction, text_at(tokens, item.name));
-    let kind = match formal {
-        Some(formal) => Some(formal.kind),
-        None => None,
-    };
-    if number == 409 && kind.is_none() {
-        return Some(at_index(item.name, Meant::Plain));
+    if number == 409 && formal.is_none() {
+        return Some(at_index(item.name, Case::Plain));
     }
     let piece = tokens_at(tokens, item.value, item.count);
-    let entity = match operand_in(piece) {
-        Some(operand) => tables.entity(unit, &operand),
-        None => None,
+    let into = item.direction == Direction::Into;
+    let case = match (number, entity_in(tables, unit, piece), formal) {
+        (401, None, _) => case_of_operand(piece),
+        (402, Some(entity), Some(formal)) => {
+            unfit_value(entity.kind, formal.kind, into && is_bit(piece))?
+        }
+        (404, Some(entity), _) if !into && !entity.writable => Case::Plain,
+        (405, Some(entity), _) if into && !entity.readable => Case::Plain,
+        _ => return None,
     };
-    match wrong_value(number, item.direction, kind, entity, piece) {
-        Some(meant) => Some(InCall {
-            from: item.value,
-            count: item.count,
-            meant,
-            first: 0,
-        }),
-        None => None,
-    }
+    Some(InCall {
+        count: item.count,
+        ..at_index(item.value, case)
+    })
 }
 
 /// What is meant in a call whose list, which ends there, breaks the rule; else the operator.
@@ -175,29 +134,27 @@ fn meant_in_list<'a>(
     number: u16,
     end: usize,
 ) -> InCall {
-    let mut from = 3;
+    let mut item = item_after(tokens, 2);
     for _item in 0..end {
-        if from >= end {
-            return at_index(0, Meant::Result);
+        if item.name >= end {
+            return at_index(0, Case::Result);
         }
-        let item = item_at(tokens, from);
         if let Some(found) = meant_in_item(tables, unit, declared, tokens, number, item) {
             return found;
         }
-        from = item.next;
+        item = item_after(tokens, item.end);
     }
-    at_index(0, Meant::Result)
+    at_index(0, Case::Result)
 }
 
 /// The line of the first name of a list that is this one.
 fn first_line_of(tokens: &[Token<'_>], name: &[u8], end: usize) -> u32 {
-    let mut from = 3;
+    let mut item = item_after(tokens, 2);
     for _item in 0..end {
-        let item = item_at(tokens, from);
-        match tokens.get(item.name) {
-            Some(token) if token.text.eq_ignore_ascii_case(name) => return token.line,
-            _ => from = item.next,
+        if text_at(tokens, item.name).eq_ignore_ascii_case(name) {
+            return line_at(tokens.get(item.name));
         }
+        item = item_after(tokens, item.end);
     }
     0
 }
@@ -205,24 +162,18 @@ fn first_line_of(tokens: &[Token<'_>], name: &[u8], end: usize) -> u32 {
 /// The first name of a list that stands in it before, with the line of the one before it.
 fn named_twice(alloc: Global, tokens: &[Token<'_>], end: usize) -> Result<InCall, Fault> {
     let mut names = Names::new(alloc);
-    let mut from = 3;
+    let mut item = item_after(tokens, 2);
     for _item in 0..end {
-        let item = item_at(tokens, from);
         let name = text_at(tokens, item.name);
-        match names.add(name) {
-            Ok(true) => from = item.next,
-            Ok(false) => {
-                return Ok(InCall {
-                    from: item.name,
-                    count: 1,
-                    meant: Meant::Plain,
-                    first: first_line_of(tokens, name, end),
-                });
-            }
-            Err(fault) => return Err(fault),
+        if !names.add(name)? {
+            return Ok(InCall {
+                first: first_line_of(tokens, name, end),
+                ..at_index(item.name, Case::Plain)
+            });
         }
+        item = item_after(tokens, item.end);
     }
-    Ok(at_index(0, Meant::Plain))
+    Ok(at_index(0, Case::Plain))
 }
 
 /// What a refusal of that number means in a call with a list.
@@ -234,17 +185,15 @@ pub(crate) fn meant_in_call<'a>(
     number: u16,
 ) -> Result<InCall, Fault> {
     let name = text_at(tokens, 1);
+    let end = list_end(tokens);
     match tables.variable(unit, name) {
-        None if number == 401 => Ok(at_index(1, Meant::Plain)),
-        _ if number == 402 && !is_instance(tables, unit, name) => {
-            Ok(at_index(1, Meant::NoInstance))
-        }
-        _ if number == 410 => named_twice(alloc, tokens, list_end(tokens)),
+        None if number == 401 => Ok(at_index(1, Case::Plain)),
+        _ if number == 402 && !is_instance(tables, unit, name) => Ok(at_index(1, Case::NoInstance)),
+        _ if number == 410 => named_twice(alloc, tokens, end),
         Some(found) if number != 403 => {
-            let end = list_end(tokens);
             Ok(meant_in_list(tables, unit, found.declared, tokens, number, end))
         }
-        _ => Ok(at_index(0, Meant::Plain)),
+        _ => Ok(at_index(0, Case::Plain)),
     }
 }
 
@@ -253,10 +202,7 @@ pub(crate) fn piece_of_call<'a, 't>(tokens: &'t [Token<'a>], call: InCall) -> &'
     ensures { (result.now ≡ operator_of tokens.now) ⊎ IsOfCall tokens.now result.now }
 {
     let end = list_end(tokens);
-    if call.from > end {
-        return operator_of(tokens);
-    }
-    if call.count > end - call.from {
+    if call.from > end || call.count > end - call.from {
         return operator_of(tokens);
     }
     tokens_at(tokens, call.from, call.count)

@@ -5,16 +5,15 @@
 mod awaits;
 mod calls;
 mod kinds;
-mod meant;
 mod pieces;
 mod placed;
 mod places;
+mod span;
 mod spots;
 mod stops;
 mod twice;
 
-pub use awaits::Awaits;
-pub use meant::Meant;
 pub use placed::{Placed, read_by_places};
-pub use spots::{LaterSpot, spot_in};
-pub use stops::{ReadingStop, stop_of};
+pub use span::RefusalSpan;
+pub use spots::spot_in;
+pub use stops::stop_of;

@@ -1,44 +1,30 @@
 ghost use Rattle.std.specs.Prelude.{◌≡◌, ◌==◌, ◌+◌, ◌≤◌, length};
 ghost use Rattle.std.specs.List.{position_or_len};
 ghost use Rattle.std.specs.Option.{option_copied};
-ghost use Rattle.wc_refusal_places.specs.Pieces.{end_at, is_closing_shape, is_listed, is_opening, is_point, length_of_piece, line_at, list_end, on_line, operand_count, operand_index, operand_of, operator_of, opens, start_at, start_of_piece, tokens_at, tokens_from};
+ghost use Rattle.wc_refusal_places.specs.Pieces.{is_closing_shape, is_listed, is_opening, is_point, length_of_piece, line_at, list_end, operand_count, operand_index, operand_of, operator_of, opens, start_of_piece, tokens_at, tokens_from};
 
 use wc_lexer::{Shape, Token};
+use wc_refusals::Case;
 
 /// A token is an opening parenthesis.
 fn is_opening(token: Option<&Token<'_>>) -> bool
     ensures { result ≡ is_opening (option_copied token.entry) }
 {
-    match token {
-        Some(token) => match token.shape {
-            Shape::Opening => true,
-            _ => false,
-        },
-        None => false,
-    }
+    matches!(token, Some(token) if matches!(token.shape, Shape::Opening))
 }
 
 /// A token is a point.
 fn is_point(token: Option<&Token<'_>>) -> bool
     ensures { result ≡ is_point (option_copied token.entry) }
 {
-    match token {
-        Some(token) => match token.shape {
-            Shape::Point => true,
-            _ => false,
-        },
-        None => false,
-    }
+    matches!(token, Some(token) if matches!(token.shape, Shape::Point))
 }
 
 /// A token closes a list.
 pub(crate) fn is_closing(token: &Token<'_>) -> bool
     ensures { result ≡ is_closing_shape token.now.shape }
 {
-    match token.shape {
-        Shape::Closing => true,
-        _ => false,
-    }
+    matches!(token.shape, Shape::Closing)
 }
 
 /// How many tokens stand before the one that starts at a byte.
@@ -114,6 +100,15 @@ pub(crate) fn operand_of<'a, 't>(tokens: &'t [Token<'a>]) -> &'t [Token<'a>]
     tokens_at(tokens, index, operand_count(tokens, index))
 }
 
+/// In which way an operand is nothing that may stand there: as a field of an instance, or not.
+pub(crate) fn case_of_operand(operand: &[Token<'_>]) -> Case {
+    if operand.len() > 1 {
+        Case::Field
+    } else {
+        Case::Plain
+    }
+}
+
 /// Whether an instruction has a list: it is a call, then.
 pub(crate) fn is_listed(tokens: &[Token<'_>]) -> bool
     ensures { result ≡ is_listed tokens.now }
@@ -138,47 +133,19 @@ pub(crate) fn line_at(token: Option<&Token<'_>>) -> u32
     }
 }
 
-/// A piece, where it begins on the line of its instruction; else the operator.
-pub(crate) fn on_line<'a, 't>(tokens: &'t [Token<'a>], piece: &'t [Token<'a>]) -> &'t [Token<'a>]
-    ensures { result.now ≡ on_line tokens.now piece.now }
+/// Where a piece starts, and how many bytes it has.
+pub(crate) fn span_of(piece: &[Token<'_>]) -> (usize, usize)
+    ensures start { result.0 ≡ start_of_piece piece.now }
+    ensures length { result.1 ≡ length_of_piece piece.now }
 {
-    if line_at(piece.first()) == line_at(tokens.first()) {
-        piece
-    } else {
-        operator_of(tokens)
+    match (piece.first(), piece.last()) {
+        (Some(first), Some(last)) => {
+            let start = first.start as usize;
+            (
+                start,
+                (last.start as usize + last.text.len()).saturating_sub(start),
+            )
+        }
+        _ => (0, 0),
     }
-}
-
-/// Where a token starts; 0 where there is none.
-fn start_at(token: Option<&Token<'_>>) -> usize
-    ensures { result ≡ start_at (option_copied token.entry) }
-{
-    match token {
-        Some(token) => token.start as usize,
-        None => 0,
-    }
-}
-
-/// Where a token ends; 0 where there is none.
-fn end_at(token: Option<&Token<'_>>) -> usize
-    ensures { result ≡ end_at (option_copied token.entry) }
-{
-    match token {
-        Some(token) => token.start as usize + token.text.len(),
-        None => 0,
-    }
-}
-
-/// Where a piece starts.
-pub(crate) fn start_of_piece(piece: &[Token<'_>]) -> usize
-    ensures { result ≡ start_of_piece piece.now }
-{
-    start_at(piece.get(0))
-}
-
-/// How many bytes a piece has.
-pub(crate) fn length_of_piece(piece: &[Token<'_>]) -> usize
-    ensures { result ≡ length_of_piece piece.now }
-{
-    end_at(piece.get(piece.len().saturating_sub(1))).saturating_sub(start_of_piece(piece))
 }

@@ -12,42 +12,20 @@ ghost use Rattle.wc_refusal_places.specs.Awaited.{awaited_with};
 ghost use Rattle.wc_refusal_places.specs.ReadingSpots.{IsReadByPlaces, StopsReading, length_of, line_of, meant_at, start_of, token_at, token_before, word_or_token};
 ghost use Rattle.wc_refusal_places.specs.Stopping.{IsAwaitedAs, IsPieceAt, IsStopAt, ReadsText, TellsMet};
 
-use crate::awaits::{Awaits, awaits_at};
+use crate::awaits::awaits_at;
 use crate::places::exchange;
+use crate::span::RefusalSpan;
 use std::alloc::Global;
 use wc_lexer::{Token, tokens_or_stop};
 use wc_model::Fault;
 use wc_reader::{Reading, at_text_end, last_line, read_at, reading_start, take_lines};
-
-/// Why the reading of a text stopped, the piece of the text at which it did, and what could stand
-/// there.
-#[derive(Clone, Copy)]
-pub struct ReadingStop {
-    /// The number and the line of the fault, or want of memory.
-    pub fault: Fault,
-    /// Where the piece starts.
-    pub start: usize,
-    /// How many bytes it has; 0 where there is none.
-    pub length: usize,
-    /// What could stand there, where a token is unexpected.
-    pub awaits: Awaits,
-}
+use wc_refusals::Awaits;
 
 /// A fault that is met, and what could stand there.
 #[derive(Clone, Copy)]
 struct MetFault {
     fault: Fault,
     awaits: Awaits,
-}
-
-/// Want of memory, of which nothing stands there.
-fn met_memory() -> MetFault
-    ensures { result.fault ≡ Fault.Memory }
-{
-    MetFault {
-        fault: Fault::Memory,
-        awaits: Awaits::Nothing,
-    }
 }
 
 /// What is met at the end of the tokens; nothing where the text is read.
@@ -91,7 +69,12 @@ fn met_on<'a>(
         }
         place = match take_lines(alloc, reading, tokens, place + 1) {
             Ok(next) => next,
-            Err(_) => return Some(met_memory()),
+            Err(_) => {
+                return Some(MetFault {
+                    fault: Fault::Memory,
+                    awaits,
+                });
+            }
         };
     }
     met_at_end(alloc, reading, last)
@@ -113,23 +96,6 @@ fn token_at<'a, 't>(tokens: &'t [Token<'a>], start: u32) -> Option<&'t Token<'a>
     ensures { option_copied result ≡ token_at tokens.now start }
 {
     tokens.iter().find(|token| token.start == start)
-}
-
-/// Want of memory, which no piece is the cause of.
-fn stop_for_memory() -> ReadingStop
-    ensures { result ≡ record {
-      fault = Fault.Memory;
-      start = 0;
-      length = 0;
-      awaits = Awaits.Nothing;
-    } }
-{
-    ReadingStop {
-        fault: Fault::Memory,
-        start: 0,
-        length: 0,
-        awaits: Awaits::Nothing,
-    }
 }
 
 /// What could stand there is told where a token is unexpected.
@@ -212,36 +178,32 @@ fn stop_at(
     number: u16,
     place: u32,
     awaits: Awaits,
-) -> ReadingStop
+) -> RefusalSpan
     requires { length text.now ≤ most_bytes }
     ensures { IsPieceAt text.now tokens.now number place awaits result }
 {
     let awaits = told_awaits(number, awaits);
     let (start, length) = piece_of(text, meant_at(tokens, place, awaits));
-    ReadingStop {
-        fault: Fault::Refused {
-            number,
-            place: line_at(text, tokens, place),
-        },
-        start,
-        length,
+    let place = line_at(text, tokens, place);
+    RefusalSpan {
         awaits,
+        ..RefusalSpan::new(Fault::Refused { number, place }, start, length)
     }
 }
 
 /// What is met in these tokens, with its line and its piece.
-fn stop_met(text: &[u8], tokens: &[Token<'_>], met: MetFault) -> ReadingStop
+fn stop_met(text: &[u8], tokens: &[Token<'_>], met: MetFault) -> RefusalSpan
     requires { length text.now ≤ most_bytes }
     ensures { IsStopAt text.now tokens.now met.fault met.awaits result }
 {
     match met.fault {
         Fault::Refused { number, place } => stop_at(text, tokens, number, place, met.awaits),
-        Fault::Memory => stop_for_memory(),
+        Fault::Memory => RefusalSpan::new(Fault::Memory, 0, 0),
     }
 }
 
 /// Where the reading of a text with these tokens stops; nothing where it is read.
-fn stop_in(alloc: Global, text: &[u8], tokens: &mut [Token<'_>]) -> Option<ReadingStop>
+fn stop_in(alloc: Global, text: &[u8], tokens: &mut [Token<'_>]) -> Option<RefusalSpan>
     requires short { length text.now ≤ most_bytes }
     requires cut { IsCut text.now (map token_view tokens.old) }
     ensures stopped { IfSome result
@@ -260,7 +222,7 @@ fn stop_in(alloc: Global, text: &[u8], tokens: &mut [Token<'_>]) -> Option<Readi
 
 /// Where the reading of a text stops, and what could stand there; nothing where it is read. It is the
 /// same pass as that of `read`, over tokens that have their places for their lines.
-pub fn stop_of(alloc: Global, text: &[u8]) -> Option<ReadingStop>
+pub fn stop_of(alloc: Global, text: &[u8]) -> Option<RefusalSpan>
     ensures stopped { IfSome result
         (λ stop. StopsReading text.now stop.fault stop.start stop.length stop.awaits) }
     ensures awaited { IfSome result (λ stop. IsAwaitedAs stop.fault stop.awaits) }
@@ -271,11 +233,6 @@ pub fn stop_of(alloc: Global, text: &[u8]) -> Option<ReadingStop>
             let mut tokens = tokens;
             stop_in(alloc, text, &mut tokens)
         }
-        Err(stop) => Some(ReadingStop {
-            fault: stop.fault,
-            start: stop.start as usize,
-            length: stop.length as usize,
-            awaits: Awaits::Nothing,
-        }),
+        Err(stop) => Some(RefusalSpan::new(stop.fault, stop.start as usize, stop.length as usize)),
     }
 }
