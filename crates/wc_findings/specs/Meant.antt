@@ -6,9 +6,9 @@ use Rattle.wc_findings.specs.declared.finding.Spot.{Spot}
 use Rattle.wc_findings.specs.declared.refusal.Part.{Part}
 use Rattle.wc_findings.specs.declared.refusal.Part.TheVariants.{Job, Plate, Program, Next, Log}
 use Rattle.wc_model.specs.declared.fault.Fault.TheVariants.{Refused}
-use Rattle.wc_spots.specs.LaterSpots.{IsLaterSpot}
-use Rattle.wc_stops.specs.ReadingSpots.{StopsReading}
-use Rattle.wc_stops.specs.declared.awaits.Awaits.{Awaits}
+use Rattle.wc_refusal_places.specs.LaterSpots.{IsLaterSpot}
+use Rattle.wc_refusal_places.specs.ReadingSpots.{StopsReading}
+use Rattle.wc_refusals.specs.declared.awaits.Awaits.{Awaits}
 
 -- this piece stands in the text, from that place on
 abbrev pub StandsAt : List ℕ → ℕ → List ℕ → Type 0

@@ -1,6 +1,7 @@
 ghost use Rattle.std.specs.Prelude.{◌≡◌, None, OnOk, Some, []};
 
 use std::alloc::{AllocError, Global};
+use wc_refusals::{Awaits, Case};
 
 /// Bytes of a line that are meant.
 #[derive(Clone, Copy, PartialEq, Eq)]
@@ -22,15 +23,15 @@ pub struct Finding {
     pub spot: Option<Spot>,
     /// The piece of the text with which the headline begins; empty: none.
     pub subject: Vec<u8>,
-    /// The headline; nothing where the number's own sentence says all.
-    pub says: Option<&'static str>,
+    /// What is said of it, by the number: the headline.
+    pub case: Case,
     /// What stands behind the headline; empty: nothing.
     pub detail: String,
-    /// What could stand at the spot; empty: that is not known.
-    pub expected: &'static str,
-    /// What to write instead; nothing where the number's own hint says all.
-    pub help: Option<&'static str>,
-    /// What to write instead, with the values that are at hand; empty: nothing beyond the help.
+    /// What could stand at the spot.
+    pub awaits: Awaits,
+    /// What to write instead, by the number.
+    pub hint: Case,
+    /// What to write instead, with the values that are at hand; empty: nothing beyond the hint.
     pub advice: String,
 }
 
@@ -45,10 +46,10 @@ impl Finding {
             shown: Vec::new(alloc),
             spot: None,
             subject: Vec::new(alloc),
-            says: None,
+            case: Case::Unknown,
             detail: String::new(alloc),
-            expected: "",
-            help: None,
+            awaits: Awaits::Nothing,
+            hint: Case::Unknown,
             advice: String::new(alloc),
         }
     }
@@ -63,23 +64,15 @@ impl Finding {
         self.spot = Some(Spot { start, length });
     }
 
-    /// Quotes nothing.
-    pub(crate) fn quote_nothing(&mut self)
-        ensures spot { self.new.spot ≡ self.old.spot }
-        ensures line { self.new.line ≡ self.old.line }
-        ensures subject { self.new.subject.items ≡ [] }
-    {
-        self.subject.clear();
-    }
-
-    /// Says this of a piece of the text.
-    pub(crate) fn tell(&mut self, subject: &[u8], says: &'static str) -> Result<(), AllocError>
+    /// Says of a piece of the text what is said in that case.
+    pub(crate) fn tell(&mut self, subject: &[u8], case: Case) -> Result<(), AllocError>
         ensures spot { self.new.spot ≡ self.old.spot }
         ensures line { self.new.line ≡ self.old.line }
         ensures subject { OnOk result (self.new.subject.items ≡ subject.now) }
     {
         self.subject.clear();
-        self.says = Some(says);
+        self.case = case;
+        self.hint = case;
         self.subject.extend_from_slice(subject)?;
         Ok(())
     }

@@ -4,14 +4,13 @@
 #![tactic(auto)]
 
 mod finding;
-mod later;
 mod lines;
 mod pieces;
 mod plates;
+mod programs;
 mod refusal;
 mod rows;
 mod searching;
-mod stops;
 
 pub use finding::{Finding, Spot};
 pub use refusal::{Evidence, Part, Refusal};

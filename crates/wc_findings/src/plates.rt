@@ -4,24 +4,18 @@ use memchr::{memchr, memmem};
 use std::alloc::{AllocError, Global};
 use toml::de::Error;
 use wc_plate::{BrokenRule, allows_interval, plate_of};
+use wc_refusals::{Case, Values, text_with};
 
 /// The scale intervals that some plate may have.
 const INTERVALS: [i64; 6] = [1, 2, 5, 10, 20, 50];
 
-/// The line of a text that gives a value to a key, counted from 0, and where the key and its value start in it.
+/// The line of a text that gives a value to a key, counted from 1, and where the key and its value start in it.
 #[derive(Clone, Copy)]
 struct KeyLine {
-    number: usize,
+    line: u32,
     key: usize,
     value: usize,
     length: usize,
-}
-
-impl KeyLine {
-    /// The line, counted from 1.
-    fn line(&self) -> u32 {
-        self.number.saturating_add(1).min(u32::MAX as usize) as u32
-    }
 }
 
 /// How many spaces and tabs stand in front.
@@ -43,8 +37,8 @@ fn feeds(text: &[u8]) -> usize {
     text.iter().take_while(|byte| **byte == b'\n').count()
 }
 
-/// Where that key is given its value, if the first line, which has that number, does so.
-fn key_on(line: &[u8], number: usize, name: &str) -> Option<KeyLine> {
+/// Where that key is given its value, if the first line does so, above which stand so many.
+fn key_on(line: &[u8], above: usize, name: &str) -> Option<KeyLine> {
     let key = blanks(line);
     if !behind(line, key).starts_with(name.as_bytes()) {
         return None;
@@ -57,7 +51,7 @@ fn key_on(line: &[u8], number: usize, name: &str) -> Option<KeyLine> {
     let value = sign.saturating_add(1);
     let value = value.saturating_add(blanks(behind(line, value)));
     Some(KeyLine {
-        number,
+        line: above.saturating_add(1).min(u32::MAX as usize) as u32,
         key,
         value,
         length: value_length(behind(line, value)).max(1),
@@ -95,19 +89,16 @@ fn search_key(text: &[u8], name: &str) -> Option<KeyLine> {
     found
 }
 
-/// Points to the value of a key, where one line gives it.
-fn point_to_value(finding: &mut Finding, text: &[u8], name: &str) {
-    if let Some(found) = search_key(text, name) {
-        finding.line = found.line();
-        finding.point(found.value, found.length);
-    }
-}
-
-/// Points to a key itself.
-fn point_to_key(finding: &mut Finding, text: &[u8], name: &str) {
-    if let Some(found) = search_key(text, name) {
-        finding.line = found.line();
+/// Points to a key or to its value, where one line gives it.
+fn point_to(finding: &mut Finding, text: &[u8], name: &str, is_key: bool) {
+    let Some(found) = search_key(text, name) else {
+        return;
+    };
+    finding.line = found.line;
+    if is_key {
         finding.point(found.key, name.len());
+    } else {
+        finding.point(found.value, found.length);
     }
 }
 
@@ -135,89 +126,29 @@ fn allowed_intervals(alloc: Global, unit: [u8; 3], decimals: u32) -> Result<Stri
     Ok(found)
 }
 
-/// Says which scale intervals are allowed.
-fn advise_interval(
-    alloc: Global,
-    finding: &mut Finding,
-    unit: [u8; 3],
-    decimals: u32,
-) -> Result<(), AllocError> {
-    let allowed = allowed_intervals(alloc, unit, decimals)?;
-    let unit = unit_word(unit);
-    finding.advice = if allowed.is_empty() {
-        format!(in alloc;
-            "no e is allowed with unit = \"{unit}\" and decimals = {decimals}; write fewer decimals"
-        )?
-    } else {
-        format!(in alloc;
-            "with unit = \"{unit}\" and decimals = {decimals}, e is one of {allowed}"
-        )?
-    };
-    Ok(())
-}
-
-/// Says which greatest loads are allowed.
-fn advise_load(alloc: Global, finding: &mut Finding, e: u32) -> Result<(), AllocError> {
-    let (least, most) = (e as u64 * 500, e as u64 * 10000);
-    finding.advice = format!(in alloc;
-        "with e = {e}, max is a multiple of {e} from {least} to {most}"
-    )?;
-    Ok(())
-}
-
-/// Says which counts to the greatest load are allowed.
-fn advise_span(alloc: Global, finding: &mut Finding, n: u32) -> Result<(), AllocError> {
-    let least = n as u64 * 4;
-    finding.says = Some("span_counts is out of range");
-    finding.advice = format!(in alloc; "with max / e = {n}, span_counts is {least} to 8000000")?;
-    Ok(())
-}
-
-/// Says which key is none of a plate, and which is missing.
-fn tell_unknown(
-    alloc: Global,
-    finding: &mut Finding,
-    key: &str,
-    missing: Option<&'static str>,
-) -> Result<(), AllocError> {
-    if let Some(missing) = missing {
-        finding.advice = format!(in alloc; "{missing} is missing")?;
-    }
-    finding.tell(key.as_bytes(), "is no key of a plate")
-}
-
-/// Says what must stand behind a key whose value is not of its kind.
-fn kind_of(key: &str) -> &'static str {
-    match key {
-        "unit" => "must be a text",
-        _ => "must be a whole number",
-    }
-}
-
-/// The key whose value a rule on values means.
-fn key_of(rule: BrokenRule<'_>) -> &'static str {
+/// The key whose value a rule on values means, and what is said of it where the rule's number does not say it.
+fn key_of(rule: BrokenRule<'_>) -> (&'static str, Case) {
     match rule {
-        BrokenRule::Unit => "unit",
-        BrokenRule::Decimals => "decimals",
-        BrokenRule::Interval { .. } => "e",
-        BrokenRule::Load { .. } => "max",
-        BrokenRule::ZeroCounts => "zero_counts",
-        BrokenRule::SpanCounts { .. } => "span_counts",
-        _ => "window",
+        BrokenRule::Unit => ("unit", Case::Unknown),
+        BrokenRule::Decimals => ("decimals", Case::Unknown),
+        BrokenRule::Interval { .. } => ("e", Case::Unknown),
+        BrokenRule::Load { .. } => ("max", Case::Unknown),
+        BrokenRule::ZeroCounts => ("zero_counts", Case::ZeroCounts),
+        BrokenRule::SpanCounts { .. } => ("span_counts", Case::SpanCounts),
+        _ => ("window", Case::Unknown),
     }
 }
 
-/// Says which values a rule on values allows, where its number does not.
-fn advise(alloc: Global, finding: &mut Finding, rule: BrokenRule<'_>) -> Result<(), AllocError> {
+/// Which values a rule on values allows, where its number does not say it.
+fn advice_of(alloc: Global, rule: BrokenRule<'_>) -> Result<String, AllocError> {
     match rule {
-        BrokenRule::Interval { unit, decimals } => advise_interval(alloc, finding, unit, decimals),
-        BrokenRule::Load { e } => advise_load(alloc, finding, e),
-        BrokenRule::SpanCounts { n } => advise_span(alloc, finding, n),
-        BrokenRule::ZeroCounts => {
-            finding.says = Some("zero_counts must be -8388608 to 8388607");
-            Ok(())
+        BrokenRule::Interval { unit, decimals } => {
+            let allowed = allowed_intervals(alloc, unit, decimals)?;
+            text_with(alloc, Values::Interval(unit_word(unit), decimals, &allowed))
         }
-        _ => Ok(()),
+        BrokenRule::Load { e } => text_with(alloc, Values::Load(e)),
+        BrokenRule::SpanCounts { n } => text_with(alloc, Values::Span(n)),
+        _ => Ok(String::new(alloc)),
     }
 }
 
@@ -230,17 +161,27 @@ fn tell_rule(
 ) -> Result<(), AllocError> {
     match rule {
         BrokenRule::UnknownKey { key, missing } => {
-            point_to_key(finding, text, key);
-            tell_unknown(alloc, finding, key, missing)
+            point_to(finding, text, key, true);
+            if let Some(missing) = missing {
+                finding.advice = text_with(alloc, Values::MissingKey(missing))?;
+            }
+            finding.tell(key.as_bytes(), Case::UnknownKey)
         }
-        BrokenRule::MissingKey { key } => finding.tell(key.as_bytes(), "is missing"),
+        BrokenRule::MissingKey { key } => finding.tell(key.as_bytes(), Case::MissingKey),
         BrokenRule::WrongKind { key } => {
-            point_to_value(finding, text, key);
-            finding.tell(key.as_bytes(), kind_of(key))
+            point_to(finding, text, key, false);
+            let case = match key {
+                "unit" => Case::NoText,
+                _ => Case::NoWholeNumber,
+            };
+            finding.tell(key.as_bytes(), case)
         }
         rule => {
-            point_to_value(finding, text, key_of(rule));
-            advise(alloc, finding, rule)
+            let (key, case) = key_of(rule);
+            point_to(finding, text, key, false);
+            finding.case = case;
+            finding.advice = advice_of(alloc, rule)?;
+            Ok(())
         }
     }
 }

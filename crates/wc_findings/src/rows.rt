@@ -7,6 +7,7 @@ use crate::finding::Finding;
 use crate::lines::{front, piece};
 use std::alloc::{AllocError, Global};
 use wc_record::RefusedRow;
+use wc_refusals::Case;
 
 /// How many bytes of a field are shown at most.
 const LONGEST_FIELD: usize = 16384;
@@ -66,58 +67,46 @@ fn has_semicolons(row: &RefusedRow) -> bool {
 }
 
 /// What is wrong with the first row.
-fn heading_fault(row: &RefusedRow) -> &'static str {
+fn case_of_heading(row: &RefusedRow) -> Case {
     if row.len() == 0 {
-        "the log is empty: its first row ms,kind,data is missing"
+        Case::EmptyLog
     } else if has_semicolons(row) {
-        "the first row is not ms,kind,data: fields end with a comma, not with a semicolon"
+        Case::SemicolonHeading
     } else {
-        "the first row is not ms,kind,data"
+        Case::Heading
     }
 }
 
 /// Says how many fields a row has.
 fn tell_fields(finding: &mut Finding, row: &RefusedRow, place: u32) {
     if place == 1 {
-        finding.says = Some(heading_fault(row));
+        finding.case = case_of_heading(row);
     } else if row.len() > 3 {
-        finding.says = Some("the row has more than three fields");
+        finding.case = Case::MoreFields;
         finding.point(field_start(row, 2) + shown_field(row, 2).len(), 1);
     } else if has_semicolons(row) {
-        finding.says = Some("the row has semicolons where commas should stand");
+        finding.case = Case::Semicolons;
     } else {
-        finding.says = Some("the row has fewer than three fields");
+        finding.case = Case::Plain;
     }
 }
 
-/// All bytes are decimal digits.
-fn is_digits(text: &[u8]) -> bool {
-    text.iter().all(|byte| byte.is_ascii_digit())
-}
-
-/// What is wrong with a moment.
-fn moment_fault(text: &[u8]) -> &'static str {
-    if !is_digits(text) {
-        "is no whole number of milliseconds"
-    } else if text.len() > 13 {
-        "has more than 13 digits"
+/// What is wrong with a number of at most so many digits.
+fn case_of_number(digits: &[u8], most: usize) -> Case {
+    if digits.is_empty() || digits.iter().any(|byte| !byte.is_ascii_digit()) {
+        Case::NoNumber
+    } else if digits.len() > most {
+        Case::TooLong
     } else {
-        "is above 1099511627775, the last moment"
+        Case::Plain
     }
 }
 
 /// What is wrong with counts.
-fn counts_fault(text: &[u8]) -> &'static str {
-    let digits = match text.split_first() {
-        Some((b'-', digits)) => digits,
-        _ => text,
-    };
-    if digits.is_empty() || !is_digits(digits) {
-        "is no whole number"
-    } else if digits.len() > 10 {
-        "has more than 10 digits"
-    } else {
-        "is not from -8388608 to 8388607"
+fn case_of_counts(text: &[u8]) -> Case {
+    match text.split_first() {
+        Some((b'-', digits)) => case_of_number(digits, 10),
+        _ => case_of_number(text, 10),
     }
 }
 
@@ -131,13 +120,13 @@ fn hexadecimal_length(text: &[u8]) -> usize
 }
 
 /// What is wrong with the number of hexadecimal digits.
-fn length_fault(kind: &[u8], digits: usize) -> &'static str {
+fn case_of_length(kind: &[u8], digits: usize) -> Case {
     if kind.first() == Some(&b'I') {
-        "the inputs are not four hexadecimal digits"
+        Case::Inputs
     } else if digits % 2 == 1 {
-        "the number of hexadecimal digits is odd"
+        Case::OddDigits
     } else {
-        "the data is longer than 4096 bytes"
+        Case::Plain
     }
 }
 
@@ -150,47 +139,22 @@ fn tell_hexadecimal(finding: &mut Finding, row: &RefusedRow) -> Result<(), Alloc
     let digits = hexadecimal_length(data);
     if digits < data.len() {
         finding.point(start + digits, 1);
-        return finding.tell(piece(data, digits, 1), "is no hexadecimal digit");
+        return finding.tell(piece(data, digits, 1), Case::NoDigit);
     }
     finding.point(start, digits.max(1));
-    finding.says = Some(length_fault(shown_field(row, 1), digits));
+    finding.case = case_of_length(shown_field(row, 1), digits);
     Ok(())
 }
 
-/// What is wrong with a kind.
-fn kind_fault(text: &[u8]) -> &'static str {
-    match text {
-        [b'c' | b'l' | b'i' | b's' | b'p'] => "is no kind: kinds are capital letters",
-        _ => "is no kind",
-    }
-}
-
-/// What is wrong with data where none may stand.
-fn data_fault(kind: &[u8]) -> &'static str {
-    match kind {
-        [b'P'] => "stands behind a change, which has no data",
-        _ => "stands behind a scan, which has no data",
-    }
-}
-
-/// What is said of a field that is empty.
-fn says_of_nothing(number: u16) -> &'static str {
-    match number {
-        602 | 603 => "the moment is missing",
-        604 => "the kind is missing",
-        605 => "the counts are missing",
-        _ => "a scan and a change have no data",
-    }
-}
-
-/// What is wrong with the field that is meant.
-fn says_of(number: u16, row: &RefusedRow) -> &'static str {
-    match number {
-        602 => moment_fault(shown_field(row, 0)),
-        603 => "is before the moment of the row above",
-        604 => kind_fault(shown_field(row, 1)),
-        605 => counts_fault(shown_field(row, 2)),
-        _ => data_fault(shown_field(row, 1)),
+/// What is wrong with the field that is meant, which is not empty.
+fn case_of_field(number: u16, row: &RefusedRow) -> Case {
+    let kind = shown_field(row, 1);
+    match (number, kind) {
+        (602, _) => case_of_number(shown_field(row, 0), 13),
+        (604, [b'c' | b'l' | b'i' | b's' | b'p']) => Case::SmallLetter,
+        (605, _) => case_of_counts(shown_field(row, 2)),
+        (608, [b'P']) => Case::Change,
+        _ => Case::Plain,
     }
 }
 
@@ -206,10 +170,10 @@ fn tell_field(
     let field = shown_field(row, place);
     finding.point(field_start(row, place), field.len().max(1));
     if field.is_empty() {
-        finding.says = Some(says_of_nothing(number));
+        finding.case = Case::Missing;
         return Ok(());
     }
-    finding.tell(field, says_of(number, row))
+    finding.tell(field, case_of_field(number, row))
 }
 
 /// Says which rule of its number a row breaks, and points to the field that is meant.

@@ -5,46 +5,14 @@ ghost use Rattle.wc_record.specs.Told.{fields_told};
 ghost use Rattle.wc_findings.specs.Showing.{ShowsLine, known_line, line_of_part, read_as};
 
 use crate::finding::Finding;
-use crate::later::find_later;
-use crate::lines::line_at;
+use crate::lines::{line_at, piece};
 use crate::plates::find_plate_fault;
+use crate::programs::find_program_fault;
 use crate::refusal::{Evidence, Part, Refusal};
 use crate::rows::{shown_row, tell_row};
-use crate::stops::find_stop;
 use std::alloc::{AllocError, Global};
 use wc_record::RefusedRow;
-
-/// Finds the fault of a program's text on its line.
-fn find_program_fault(
-    alloc: Global,
-    finding: &mut Finding,
-    text: &[u8],
-    number: u16,
-) -> Result<(), AllocError>
-    requires { finding.old.spot ≡ None }
-    ensures stopped { number < 300
-        → IfOk result (λ _. HasStop text.now number finding.old.line finding.new) }
-    ensures meant { 300 ≤ number
-        → IfOk result (λ _. HasLaterSpot text.now number finding.old.line finding.new) }
-{
-    if finding.line == 0 {
-        return Ok(());
-    }
-    if number < 300 {
-        return find_stop(alloc, finding, text, number);
-    }
-    find_later(alloc, finding, text, number)
-}
-
-/// What a part is read as: the next program is a program.
-fn read_as(part: Part) -> Part
-    ensures { result ≡ read_as part }
-{
-    match part {
-        Part::Next => Part::Program,
-        part => part,
-    }
-}
+use wc_refusals::Case;
 
 /// Finds the fault of a text in its part.
 fn find_in(
@@ -61,10 +29,10 @@ fn find_in(
         → IfOk result
         (λ _. HasLaterSpot text.now refusal.now.number finding.old.line finding.new) }
 {
-    match read_as(refusal.part) {
-        Part::Program => find_program_fault(alloc, finding, text, refusal.number),
+    match refusal.part {
+        Part::Program | Part::Next => find_program_fault(alloc, finding, text, refusal.number),
         Part::Plate => find_plate_fault(alloc, finding, text, refusal.number),
-        Part::Job | Part::Next | Part::Log => Ok(()),
+        Part::Job | Part::Log => Ok(()),
     }
 }
 
@@ -155,26 +123,17 @@ fn find_text(alloc: Global, refusal: &Refusal<'_>, text: &[u8]) -> Result<Findin
     Ok(finding)
 }
 
-/// Says of the name at the front of a list that no program has it; nothing of one that is empty.
-fn tell_name(finding: &mut Finding, list: &[u8], length: usize) -> Result<(), AllocError> {
-    match list.split_at_checked(length) {
-        Some((name, _)) if !name.is_empty() => finding.tell(name, "is no variable of the program"),
-        _ => Ok(()),
-    }
-}
-
 /// What is wrong with a list of names: no program has the one that stands there.
 fn find_name(alloc: Global, list: &[u8], start: usize, length: usize) -> Result<Finding, AllocError>
     ensures found { IfOk result (FindsName list.now) }
     ensures within { IfOk result (λ finding. IsWithin finding) }
 {
     let mut finding = Finding::new(alloc, 1);
-    if let Some((_, rest)) = list.split_at_checked(start) {
-        tell_name(&mut finding, rest, length)?;
+    let name = piece(list, start, length);
+    if !name.is_empty() {
+        finding.tell(name, Case::Watched)?;
     }
-    finding.help = Some(
-        "name a variable, or a field behind its instance, as `t.ET`, with commas and no spaces between",
-    );
+    finding.hint = Case::Watched;
     finding.point(start, length);
     finding.line = 1;
     finding.shown.clear();

@@ -3,7 +3,7 @@
 use Rattle.std.specs.Prelude.{ℕ, ◌-◌, max, nat_lt, List, [], ◌∷◌, ◌++◌, Option, Some, None, codes, drop, length, replicate, take, if◌then◌else◌}
 use Rattle.wc_findings.specs.declared.finding.Spot.{Spot}
 use Rattle.wc_messages.specs.Locations.{margin_text, number_text}
-use Rattle.wc_messages.specs.Plain.{shown_text}
+use Rattle.wc_messages.specs.Plain.{shown_text, words_after}
 
 -- how many columns bytes take on screen
 abbrev pub columns : List ℕ → ℕ
@@ -30,8 +30,7 @@ marks shown start long =
 
 -- what could stand at the spot, where something is known
 abbrev pub expected_text : List ℕ → List ℕ
-expected_text [] = []
-expected_text (byte ∷ rest) = shown_text (codes " expected ") ++ (byte ∷ rest)
+expected_text words = words_after (shown_text (codes " expected ")) words
 
 -- the marks under the part that is shown, and what could stand there, where something is meant
 abbrev pub marked_text : List ℕ → Option Spot → List ℕ → List ℕ

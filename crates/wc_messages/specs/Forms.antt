@@ -12,7 +12,7 @@ use Rattle.wc_findings.specs.declared.finding.Spot.{Spot}
 use Rattle.wc_findings.specs.declared.refusal.Refusal.{Refusal}
 use Rattle.wc_messages.specs.Explanations.{Explains, Knows, line_text, named_line}
 use Rattle.wc_messages.specs.Locations.{column_text, number_text, place_text}
-use Rattle.wc_messages.specs.Plain.{IsShown, is_plain, shown_text}
+use Rattle.wc_messages.specs.Plain.{IsShown, is_plain, shown_text, words_after}
 use Rattle.wc_refusals.specs.declared.form.Form.{Form}
 use Rattle.wc_refusals.specs.declared.form.Form.TheVariants.{Long, Short, Json}
 
@@ -29,8 +29,7 @@ pub record IsOneLine (bytes : List ℕ) : Type 0 where
 
 -- words behind a colon; nothing where there are none
 abbrev pub behind_colon : List ℕ → List ℕ
-behind_colon [] = []
-behind_colon (byte ∷ rest) = shown_text (codes ":") ++ (byte ∷ rest)
+behind_colon words = words_after (shown_text (codes ":")) words
 
 -- the line and the column, where the line is known; else the place by which the refusal is counted
 abbrev pub position_text : Refusal → ℕ → Option Spot → List ℕ

@@ -1,5 +1,5 @@
 -- what a message may hold: bytes that a terminal only shows
-use Rattle.std.specs.Prelude.{◌≡◌, ℕ, ◌+◌, ◌/◌, ◌%◌, Bool, ◌==◌, ◌||◌, ◌&&◌, nat_le, nat_lt, if◌then◌else◌, List, [], ◌∷◌}
+use Rattle.std.specs.Prelude.{◌≡◌, ℕ, ◌+◌, ◌/◌, ◌%◌, Bool, ◌==◌, ◌||◌, ◌&&◌, nat_le, nat_lt, if◌then◌else◌, List, [], ◌∷◌, ◌++◌}
 use Rattle.std.specs.List.{flat_map}
 
 -- a line feed, or a printable byte of ASCII
@@ -23,3 +23,8 @@ shown_text bytes = flat_map shown_byte bytes
 -- these are bytes as they are shown on one line
 abbrev pub IsShown : List ℕ → Type 0
 IsShown bytes = (text : List ℕ) × (bytes ≡ shown_text text)
+
+-- words after a mark; nothing where there are none
+abbrev pub words_after : List ℕ → List ℕ → List ℕ
+words_after mark [] = []
+words_after mark (byte ∷ rest) = mark ++ (byte ∷ rest)

@@ -1,5 +1,5 @@
 ghost use Rattle.std.specs.Prelude.{◌≡◌, ◌-◌, ◌++◌, IfOk, OnOk, drop, take};
-ghost use Rattle.wc_messages.specs.Excerpts.{bar_line, excerpt_text, expected_text, first_shown, marked_text, marks, quoted_line, shown_part, spot_start};
+ghost use Rattle.wc_messages.specs.Excerpts.{bar_line, excerpt_text, first_shown, marked_text, marks, quoted_line, shown_part, spot_start};
 
 use crate::message::{Message, shown};
 use crate::placing::margin;
@@ -63,18 +63,6 @@ fn write_marks(
     message.repeat(b'^', meant.as_bytes().len().max(1))
 }
 
-/// Writes what could stand there, if something is known.
-fn write_expected(message: &mut Message, words: &Message) -> Result<(), AllocError>
-    ensures { OnOk result (message.new.bytes.items
-        ≡ message.old.bytes.items ++ expected_text words.now.bytes.items) }
-{
-    if words.is_empty() {
-        return Ok(());
-    }
-    message.say(" expected ")?;
-    message.append(words)
-}
-
 /// The marks under what is meant in a line, and what could stand there.
 fn marks_under(
     alloc: Global,
@@ -98,7 +86,7 @@ fn marks_under(
         start,
         meant.length,
     )?;
-    write_expected(&mut message, words)?;
+    message.say_before(" expected ", words)?;
     Ok(message)
 }
 

@@ -1,7 +1,7 @@
 ghost use Rattle.std.specs.Prelude.{◌≡◌, ◌<◌, ◌/◌, ◌%◌, ◌∷◌, ◌++◌, ◌↔◌, [], IfOk, IsTrue, OnOk, codes, replicate, true};
 ghost use Rattle.std.specs.Fmt.{decimal};
 ghost use Rattle.std.specs.List.{list_all};
-ghost use Rattle.wc_messages.specs.Plain.{IsShown, hex_digit, is_plain, shown_byte, shown_text};
+ghost use Rattle.wc_messages.specs.Plain.{IsShown, hex_digit, is_plain, shown_byte, shown_text, words_after};
 
 use std::alloc::{AllocError, Global};
 
@@ -163,6 +163,18 @@ impl Message {
             ≡ self.old.bytes.items ++ other.now.bytes.items) }
     {
         self.bytes.extend_from_slice(&other.bytes)
+    }
+
+    /// Adds words after a mark; nothing where there are none.
+    pub(crate) fn say_before(&mut self, mark: &str, words: &Message) -> Result<(), AllocError>
+        ensures { OnOk result (self.new.bytes.items
+            ≡ self.old.bytes.items ++ words_after (shown_text mark.now) words.now.bytes.items) }
+    {
+        if words.is_empty() {
+            return Ok(());
+        }
+        self.say(mark)?;
+        self.append(words)
     }
 
     /// Ends the line.

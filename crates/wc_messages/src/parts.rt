@@ -4,11 +4,11 @@ ghost use Rattle.wc_messages.specs.Known.{IsKnown};
 ghost use Rattle.wc_messages.specs.Plain.{IsShown, shown_text};
 
 use crate::excerpts::{WIDEST, piece};
-use crate::message::Message;
+use crate::message::{Message, shown};
 use crate::placing::named_line;
 use std::alloc::{AllocError, Global};
 use wc_findings::{Finding, Refusal, find};
-use wc_refusals::entry_of;
+use wc_refusals::{entry_of, hint_of, sentence_of, words_of};
 
 /// What is said of a refusal, in whatever form.
 #[derive(Drop)]
@@ -25,19 +25,24 @@ pub(crate) struct Parts {
     pub(crate) advice: Message,
 }
 
-/// What a number says, in one sentence.
-fn sentence(number: u16) -> &'static str {
-    match entry_of(number) {
-        Some(entry) => entry.sentence,
-        None => "a rule is broken",
+/// What is said of what is quoted.
+fn sentence(number: u16, finding: &Finding) -> &'static str {
+    match (sentence_of(number, finding.case), entry_of(number)) {
+        (Some(sentence), _) => sentence,
+        (None, Some(entry)) => entry.sentence,
+        (None, None) => "a rule is broken",
     }
 }
 
 /// What to write in place of what is refused; nothing where that is not known.
-fn hint(number: u16) -> &'static str {
-    match entry_of(number) {
-        Some(entry) => entry.hint,
-        None => "",
+fn hint<'a>(number: u16, finding: &'a Finding) -> &'a str {
+    if !finding.advice.is_empty() {
+        return &finding.advice;
+    }
+    match (hint_of(number, finding.hint), entry_of(number)) {
+        (Some(hint), _) => hint,
+        (None, Some(entry)) => entry.hint,
+        (None, None) => "",
     }
 }
 
@@ -83,37 +88,9 @@ fn statement_of(alloc: Global, number: u16, finding: &Finding) -> Result<Message
     ensures { IfOk result (λ message. IsShown message.bytes.items) }
 {
     let mut message = Message::new(alloc);
-    message.say(finding.says.unwrap_or(sentence(number)))?;
+    message.say(sentence(number, finding))?;
     write_detail(&mut message, &finding.detail)?;
     Ok(message)
-}
-
-/// What is wrong: what is quoted, and what is said of it.
-fn what_is_wrong(alloc: Global, finding: &Finding, said: &Message) -> Result<Message, AllocError>
-    ensures { IfOk result (λ message. message.bytes.items
-        ≡ quoted_text finding.now.subject.items ++ said.now.bytes.items) }
-{
-    let mut message = Message::new(alloc);
-    write_subject(&mut message, &finding.subject)?;
-    message.append(said)?;
-    Ok(message)
-}
-
-/// Words on a line.
-fn words(alloc: Global, words: &str) -> Result<Message, AllocError>
-    ensures { IfOk result (λ message. IsShown message.bytes.items) }
-{
-    let mut message = Message::new(alloc);
-    message.say(words)?;
-    Ok(message)
-}
-
-/// What to write instead, as a text.
-fn advice_of<'a>(number: u16, finding: &'a Finding) -> &'a str {
-    if finding.advice.is_empty() {
-        return finding.help.unwrap_or(hint(number));
-    }
-    &finding.advice
 }
 
 /// What is wrong, in words.
@@ -122,11 +99,14 @@ fn told_of(alloc: Global, number: u16, finding: &Finding) -> Result<Message, All
         ≡ quoted_text finding.now.subject.items ++ shown_text said)) }
 {
     let said = statement_of(alloc, number, finding)?;
-    what_is_wrong(alloc, finding, &said)
+    let mut message = Message::new(alloc);
+    write_subject(&mut message, &finding.subject)?;
+    message.append(&said)?;
+    Ok(message)
 }
 
 /// What is wrong, what could stand there, and what to write instead.
-fn words_of(
+fn said_of(
     alloc: Global,
     number: u16,
     finding: &Finding,
@@ -137,8 +117,8 @@ fn words_of(
     ensures advice { IfOk result (λ words. IsShown words.2.bytes.items) }
 {
     let told = told_of(alloc, number, finding)?;
-    let expected = words(alloc, finding.expected)?;
-    let advice = words(alloc, advice_of(number, finding))?;
+    let expected = shown(alloc, words_of(finding.awaits).as_bytes())?;
+    let advice = shown(alloc, hint(number, finding).as_bytes())?;
     Ok((told, expected, advice))
 }
 
@@ -147,7 +127,7 @@ pub(crate) fn parts_of(alloc: Global, refusal: &Refusal<'_>) -> Result<Parts, Al
     ensures { IfOk result (λ parts. IsKnown refusal.now parts) }
 {
     let finding = find(alloc, refusal)?;
-    let (told, expected, advice) = words_of(alloc, refusal.number, &finding)?;
+    let (told, expected, advice) = said_of(alloc, refusal.number, &finding)?;
     Ok(Parts {
         line: named_line(refusal, finding.line),
         told,

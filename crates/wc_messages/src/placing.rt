@@ -10,10 +10,7 @@ use wc_findings::{Finding, Part, Refusal, Spot};
 fn is_program(part: Part) -> bool
     ensures { result ≡ is_program part }
 {
-    match part {
-        Part::Program | Part::Next => true,
-        _ => false,
-    }
+    matches!(part, Part::Program | Part::Next)
 }
 
 /// The line so many lines below others.

@@ -1,39 +1,12 @@
 ghost use Rattle.std.specs.Prelude.{◌≡◌, ◌≤◌, [], ◌++◌, IfOk, IfSome, OnOk, length};
-ghost use Rattle.wc_messages.specs.Forms.{TellsShortly, behind_colon, position_text};
+ghost use Rattle.wc_messages.specs.Forms.{TellsShortly, position_text};
 ghost use Rattle.wc_messages.specs.Known.{IsKnown};
-ghost use Rattle.wc_messages.specs.Locations.{place_text};
 
 use crate::message::Message;
 use crate::parts::Parts;
 use crate::placing::{place_words, write_column, write_line};
 use std::alloc::{AllocError, Global};
 use wc_findings::Refusal;
-
-/// Writes words behind a colon, if there are any.
-fn write_behind_colon(message: &mut Message, words: &Message) -> Result<(), AllocError>
-    ensures { OnOk result (message.new.bytes.items
-        ≡ message.old.bytes.items ++ behind_colon words.now.bytes.items) }
-{
-    if words.is_empty() {
-        return Ok(());
-    }
-    message.say(":")?;
-    message.append(words)
-}
-
-/// Writes the place by which the refusal is counted, behind a colon.
-fn write_counted_place(
-    alloc: Global,
-    message: &mut Message,
-    refusal: &Refusal<'_>,
-) -> Result<(), AllocError>
-    ensures { OnOk result (message.new.bytes.items
-        ≡ message.old.bytes.items
-        ++ behind_colon (place_text refusal.now.in_job refusal.now.part refusal.now.place)) }
-{
-    let place = place_words(alloc, refusal)?;
-    write_behind_colon(message, &place)
-}
 
 /// Writes the line and the column, where the line is known, else the place by which the refusal is counted.
 fn write_position(
@@ -49,7 +22,8 @@ fn write_position(
         ++ position_text refusal.now parts.now.line parts.now.finding.spot) }
 {
     if parts.line == 0 {
-        return write_counted_place(alloc, message, refusal);
+        let place = place_words(alloc, refusal)?;
+        return message.say_before(":", &place);
     }
     write_line(message, parts.line)?;
     write_column(message, &parts.finding)

@@ -1,8 +1,17 @@
-//! The catalogue of the refusals: what is said of each by its number alone, and the forms in which one is told.
+//! The sentences of the refusals: what is said of each by its number (`entry_of`), by the case in which its rule is broken
+//! (`sentence_of`, `hint_of`), of what could stand there (`words_of`) and with values (`text_with`); and the forms of a message.
 #![tactic(auto)]
 
+mod awaits;
+mod case;
 mod catalogue;
 mod form;
+mod sentences;
+mod values;
 
+pub use awaits::{Awaits, words_of};
+pub use case::Case;
 pub use catalogue::{Entry, entry_of};
 pub use form::Form;
+pub use sentences::{hint_of, sentence_of};
+pub use values::{Values, text_with};

@@ -1,0 +1,4 @@
+mod Exchanges
+pub mod Placing
+pub mod StopSteps
+pub mod Stopped

@@ -1,0 +1,6 @@
+pub mod Awaited
+pub mod LaterSpots
+pub mod Pieces
+pub mod ReadingSpots
+pub mod Spotting
+pub mod Stopping

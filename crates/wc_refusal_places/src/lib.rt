@@ -1,0 +1,19 @@
+//! Where a program text in Instruction List is refused: where its reading stops and what could stand there, and which piece of
+//! an instruction a later pass means. Each is the pass itself once more, over places for lines.
+#![tactic(auto)]
+
+mod awaits;
+mod calls;
+mod kinds;
+mod pieces;
+mod placed;
+mod places;
+mod span;
+mod spots;
+mod stops;
+mod twice;
+
+pub use placed::{Placed, read_by_places};
+pub use span::RefusalSpan;
+pub use spots::spot_in;
+pub use stops::stop_of;

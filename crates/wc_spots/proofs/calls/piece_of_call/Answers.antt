@@ -1,5 +1,0 @@
-use Rattle.std.proofs.Common.{arith, inr}
-use Rattle.wc_spots.proofs.calls.piece_of_call.Goals as goal
-
-pub returns : goal.returns
-returns c = inr (record { from = c.args.call.from; count = c.args.call.count; within = omega arith; is = c.tokens_at.ensures })

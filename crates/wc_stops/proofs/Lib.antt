@@ -1,3 +1,0 @@
-mod Exchanges
-pub mod StopSteps
-pub mod Stopped

@@ -1,3 +1,0 @@
-pub mod Awaited
-pub mod ReadingSpots
-pub mod Stopping
