@@ -32,11 +32,6 @@ fn value_length(text: &[u8]) -> usize {
         .count()
 }
 
-/// How many line feeds stand in front.
-fn feeds(text: &[u8]) -> usize {
-    text.iter().take_while(|byte| **byte == b'\n').count()
-}
-
 /// Where that key is given its value, if the first line does so, above which stand so many.
 fn key_on(line: &[u8], above: usize, name: &str) -> Option<KeyLine> {
     let key = blanks(line);
@@ -58,21 +53,18 @@ fn key_on(line: &[u8], above: usize, name: &str) -> Option<KeyLine> {
     })
 }
 
-/// Whether a text in the plate could run over lines: three quotes of a kind stand in a row.
-fn has_long_texts(text: &[u8]) -> bool {
-    memmem::find(text, b"\"\"\"").is_some() || memmem::find(text, b"'''").is_some()
-}
-
 /// Searches the text for the one line that gives a value to that key: once through it, line by line. Nothing is found where
 /// two do so, or where a text could run over lines.
 fn search_key(text: &[u8], name: &str) -> Option<KeyLine> {
-    if has_long_texts(text) {
+    // Three quotes of a kind in a row could begin a text that runs over lines.
+    if memmem::find(text, b"\"\"\"").is_some() || memmem::find(text, b"'''").is_some() {
         return None;
     }
     let mut found = None;
     let (mut start, mut number) = (0_usize, 0_usize);
     for _line in 0..text.len() {
-        let above = feeds(behind(text, start));
+        let rest = behind(text, start).iter();
+        let above = rest.take_while(|byte| **byte == b'\n').count();
         start = start.saturating_add(above);
         number = number.saturating_add(above);
         if let Some(here) = key_on(behind(text, start), number, name) {

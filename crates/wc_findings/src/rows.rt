@@ -102,14 +102,6 @@ fn case_of_number(digits: &[u8], most: usize) -> Case {
     }
 }
 
-/// What is wrong with counts.
-fn case_of_counts(text: &[u8]) -> Case {
-    match text.split_first() {
-        Some((b'-', digits)) => case_of_number(digits, 10),
-        _ => case_of_number(text, 10),
-    }
-}
-
 /// How many hexadecimal digits stand in front.
 fn hexadecimal_length(text: &[u8]) -> usize
     ensures { result ≤ length text.now }
@@ -148,11 +140,11 @@ fn tell_hexadecimal(finding: &mut Finding, row: &RefusedRow) -> Result<(), Alloc
 
 /// What is wrong with the field that is meant, which is not empty.
 fn case_of_field(number: u16, row: &RefusedRow) -> Case {
-    let kind = shown_field(row, 1);
+    let (kind, data) = (shown_field(row, 1), shown_field(row, 2));
     match (number, kind) {
         (602, _) => case_of_number(shown_field(row, 0), 13),
         (604, [b'c' | b'l' | b'i' | b's' | b'p']) => Case::SmallLetter,
-        (605, _) => case_of_counts(shown_field(row, 2)),
+        (605, _) => case_of_number(data.strip_prefix(b"-").unwrap_or(data), 10),
         (608, [b'P']) => Case::Change,
         _ => Case::Plain,
     }

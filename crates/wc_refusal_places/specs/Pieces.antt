@@ -1,9 +1,9 @@
 -- Which tokens of an instruction a refusal of pass 4 means. (The profile's own.)
-use Rattle.std.specs.Prelude.{◌≡◌, ◌==◌, ℕ, ◌+◌, ◌-◌, ◌≤◌, Bool, true, false, List, drop, length, Option, slice_get, take, if◌then◌else◌, ◌⊎◌}
+use Rattle.std.specs.Prelude.{◌≡◌, ◌==◌, ◌||◌, ℕ, ◌+◌, ◌-◌, ◌≤◌, Bool, true, false, List, drop, length, Option, slice_get, take, if◌then◌else◌, ◌⊎◌}
 use Rattle.std.specs.List.{position_or_len}
 use Rattle.std.specs.Option.{option_map_or}
 use Rattle.wc_lexer.specs.declared.shape.Shape.{Shape}
-use Rattle.wc_lexer.specs.declared.shape.Shape.TheVariants.{Closing, Opening, Point}
+use Rattle.wc_lexer.specs.declared.shape.Shape.TheVariants.{Arrow, Assign, Closing, Comma, LineEnd, Opening, Point}
 use Rattle.wc_lexer.specs.declared.shape.Token.{Token}
 
 -- a token is an opening parenthesis, a closing one, a point
@@ -60,11 +60,25 @@ is_listed tokens = is_opening (slice_get tokens 2)
 abbrev pub list_end : List Token → ℕ
 list_end tokens = position_or_len (λ token. is_closing_shape token.shape) tokens
 
--- some tokens of a call, before the end of its list
+-- a name or a value of a call's list stands after such a token: `(`, a comma, `:=`, `=>`, or the end of a line after one of these
+abbrev pub starts_item_shape : Shape → Bool
+starts_item_shape Opening = true
+starts_item_shape Comma = true
+starts_item_shape Assign = true
+starts_item_shape Arrow = true
+starts_item_shape LineEnd = true
+starts_item_shape shape = false
+
+-- the instance of a call, or a name or a value of its list, may begin at that index
+abbrev pub begins_item : List Token → ℕ → Bool
+begins_item tokens index = (index == 1) || option_map_or (λ token. starts_item_shape token.shape) (slice_get tokens (index - 1)) false
+
+-- some tokens of a call, before the end of its list: its instance, or from the start of a name or a value of its list on
 pub record IsOfCall (tokens piece : List Token) : Type 0 where
   pub from : ℕ
   pub count : ℕ
   pub within : from + count ≤ list_end tokens
+  pub begins : begins_item tokens from ≡ true
   pub is : piece ≡ tokens_at tokens from count
 
 -- the kinds do not fit: the operator or the operand

@@ -1,5 +1,5 @@
 ghost use Rattle.std.specs.Prelude.{◌≡◌, ◌⊎◌};
-ghost use Rattle.wc_refusal_places.specs.Pieces.{IsOfCall, operator_of};
+ghost use Rattle.wc_refusal_places.specs.Pieces.{IsOfCall, begins_item, operator_of};
 
 use crate::kinds::{entity_in, is_bit, is_instance};
 use crate::pieces::{case_of_operand, line_at, list_end, operator_of, tokens_at};
@@ -197,12 +197,28 @@ pub(crate) fn meant_in_call<'a>(
     }
 }
 
+/// Whether the instance of a call, or a name or a value of its list, may begin at an index.
+fn begins_item(tokens: &[Token<'_>], index: usize) -> bool
+    ensures { result ≡ begins_item tokens.now index }
+{
+    if index == 1 {
+        return true;
+    }
+    match tokens.get(index.saturating_sub(1)) {
+        Some(token) => match token.shape {
+            Shape::Opening | Shape::Comma | Shape::Assign | Shape::Arrow | Shape::LineEnd => true,
+            _ => false,
+        },
+        None => false,
+    }
+}
+
 /// The tokens that are meant, where they stand in the call; else the operator.
 pub(crate) fn piece_of_call<'a, 't>(tokens: &'t [Token<'a>], call: InCall) -> &'t [Token<'a>]
     ensures { (result.now ≡ operator_of tokens.now) ⊎ IsOfCall tokens.now result.now }
 {
     let end = list_end(tokens);
-    if call.from > end || call.count > end - call.from {
+    if call.from > end || call.count > end - call.from || !begins_item(tokens, call.from) {
         return operator_of(tokens);
     }
     tokens_at(tokens, call.from, call.count)
