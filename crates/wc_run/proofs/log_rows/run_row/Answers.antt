@@ -15,10 +15,11 @@ returns-in-Ok-clause-does g c = λ plate logic past stands seen.
     let lines = subst (λ answer. lines_of_row plate logic past row ≡ answer_line c.args.row.ms answer ++ lines_of_scan c.in-Ok.scan) (sym c.deref.ensures.value)
     (c.in-Ok.ensures.lines plate logic past stands) in
     let items = c.in-Ok.ensures.items plate logic past stands in
+    let stood = c.in-Ok.ensures.stands plate logic past stands in
     does_row c.see.result o.has_seen (o.plan c.args.observer.now) plate logic past row c.take.new.self c.see.new.self (taken c.args.writer.now) (taken c.see.new.writer)
-    (c.in-Ok.ensures.runs plate logic past stands) (c.in-Ok.ensures.stands plate logic past stands)
-    (on_ok_of _ _ c.see.result (λ says. says plate logic past (record { lines = lines; items = items }) seen) c.see.ensures.seen)
-    (c.see.ensures.writes plate logic past (record { lines = lines; items = items }) seen)
+    (c.in-Ok.ensures.runs plate logic past stands) stood
+    (on_ok_of _ _ c.see.result (λ says. says plate logic past (record { lines = lines; items = items }) stood seen) c.see.ensures.seen)
+    (c.see.ensures.writes plate logic past (record { lines = lines; items = items }) stood seen)
 
 pub returns-in-Err-clause-does : goal.returns-in-Err-clause-does
 returns-in-Err-clause-does g c = λ plate logic past stands seen.
