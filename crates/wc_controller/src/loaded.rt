@@ -120,7 +120,8 @@ fn begin<W: ByteOut, O: Observer<SlotStore, W>>(
         (O.begins observer.old (logic_of (loaded_of first.entry) (loaded_of next.entry)) ≡ true) }
     ensures refused { IfErr result (λ stopped. RefusesToBegin
         (O.begins observer.old (logic_of (loaded_of first.entry) (loaded_of next.entry)))
-        (O.has_refused observer.new (logic_of (loaded_of first.entry) (loaded_of next.entry)))
+        (O.has_refused observer.old observer.new
+        (logic_of (loaded_of first.entry) (loaded_of next.entry)))
         stopped.fault) }
     ensures input { IfErr result (λ stopped. stopped.input ≡ begun_input stopped.fault) }
 {
@@ -214,7 +215,7 @@ pub(crate) fn run_alone<W: ByteOut, O: Observer<SlotStore, W>, L: ByteIn>(
         → reader_of L.bytes_left L.failure_count L.spent_count log.new
         ≡ reader_of L.bytes_left L.failure_count L.spent_count log.old }
     ensures refused { StopsAt Input.Names result
-        → (O.begins observer.old None ≡ false) × O.has_refused observer.new None }
+        → (O.begins observer.old None ≡ false) × O.has_refused observer.old observer.new None }
     ensures blames { StopsFor Input.Log (RefusesLog log_alone (fields_told told.new))
         (L.bytes_left log.old) result }
     ensures read { IsReadFaultAt Input.Log result
@@ -271,7 +272,8 @@ pub(crate) fn run_loaded<W: ByteOut, O: Observer<SlotStore, W>, L: ByteIn>(
         ≡ reader_of L.bytes_left L.failure_count L.spent_count log.old }
     ensures refused { StopsAt Input.Names result → OfLogic
         (text_view programs.entry.loaded.source) (option_map (λ text. text.now) programs.entry.next)
-        (λ logic. (O.begins observer.old logic ≡ false) × O.has_refused observer.new logic) }
+        (λ logic. (O.begins observer.old logic ≡ false)
+        × O.has_refused observer.old observer.new logic) }
     ensures later { IsLater result }
     ensures held { ¬ IsReadFaultAt Input.Next result }
     ensures read { IsReadFaultAt Input.Log result

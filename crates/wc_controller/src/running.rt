@@ -29,7 +29,8 @@ fn run_inputs<P: ByteIn, T: ByteIn, N: ByteIn, L: ByteIn, W: ByteOut, O: Observe
 ) -> Result<(), Stopped>
     requires new { O.is_new observer.old }
     ensures refused { StopsAt Input.Names result → OfPrograms inputs.old.program inputs.old.next
-        (λ logic. (O.begins observer.old logic ≡ false) × O.has_refused observer.new logic) }
+        (λ logic. (O.begins observer.old logic ≡ false)
+        × O.has_refused observer.old observer.new logic) }
     ensures runs { RunsUpTo (observed_by O.plan O.begins observer.old) inputs.old inputs.new
         (fields_told told.new) result
         (writer_of (said_by O.speaks W.bytes_taken) W.failure_count writer.old)
@@ -86,7 +87,8 @@ pub fn run_files<P: ByteIn, T: ByteIn, N: ByteIn, L: ByteIn, W: ByteOut, O: Obse
     requires new { O.is_new observer.old }
     // The names are refused only of programs with which the observer does not begin.
     ensures refused { IsAt Input.Names result → OfPrograms inputs.old.program inputs.old.next
-        (λ logic. (O.begins observer.old logic ≡ false) × O.has_refused observer.new logic) }
+        (λ logic. (O.begins observer.old logic ≡ false)
+        × O.has_refused observer.old observer.new logic) }
     ensures runs { RunsAs (observed_by O.plan O.begins observer.old) inputs.old inputs.new
         (fields_told told.new) result
         (writer_of (said_by O.speaks W.bytes_taken) W.failure_count writer.old)

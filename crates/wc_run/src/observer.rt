@@ -26,8 +26,8 @@ pub trait Observer<S: Store, W: ByteOut> {
     /// Whether it begins a run with this logic. If not, it refuses to.
     ghost begins: { Self → Option Logic → Bool } = { λ _ _. true };
 
-    /// What it holds after it has refused to begin a run with this logic.
-    ghost has_refused: { Self → Option Logic → Type 0 } = { λ _ _. ⊤ };
+    /// What it holds after it has refused to begin a run with this logic, by what it was before.
+    ghost has_refused: { Self → Self → Option Logic → Type 0 } = { λ _ _ _. ⊤ };
 
     /// That it has seen no row yet.
     ghost is_new: { Self → Type 0 } = { λ _. ⊤ };
@@ -50,7 +50,8 @@ pub trait Observer<S: Store, W: ByteOut> {
             (begins self.old (logic_of (loaded_of first.entry) (loaded_of next.entry)) ≡ true) }
         ensures refused { IfErr result (RefusesToBegin
             (begins self.old (logic_of (loaded_of first.entry) (loaded_of next.entry)))
-            (has_refused self.new (logic_of (loaded_of first.entry) (loaded_of next.entry)))) };
+            (has_refused self.old self.new
+            (logic_of (loaded_of first.entry) (loaded_of next.entry)))) };
 
     /// Whether it looks at the items that a scan at this moment executes.
     fn looks_at(&self, ms: u64) -> bool;

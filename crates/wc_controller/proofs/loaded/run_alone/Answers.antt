@@ -14,7 +14,7 @@ returns-in-Err-clause-writes g c =
     let o = g.O.Observer in
     let observed = observed_by o.plan o.begins c.args.observer.now in
     on_each (g.L.ByteIn.bytes_left c.args.log.now) _
-    (λ bytes. not_begun observed c.args.plate.now None (log_of (records_of bytes)) (o.has_refused c.begin.new.observer None) c.in-Err.stopped.fault (said_by o.speaks g.W.ByteOut.bytes_taken c.args.writer.now)
+    (λ bytes. not_begun observed c.args.plate.now None (log_of (records_of bytes)) (o.has_refused c.args.observer.now c.begin.new.observer None) c.in-Err.stopped.fault (said_by o.speaks g.W.ByteOut.bytes_taken c.args.writer.now)
     c.in-Err.ensures.refused)
 
 pub returns-in-Ok-clause-writes : goal.returns-in-Ok-clause-writes
@@ -33,4 +33,4 @@ returns-in-Ok-clause-blames g c =
 pub returns-in-Err-clause-refused : goal.returns-in-Err-clause-refused
 returns-in-Err-clause-refused g c = λ at.
     let o = g.O.Observer in
-    refused_at_names (o.begins c.args.observer.now None) (o.has_refused c.begin.new.observer None) c.in-Err.stopped.fault (sym c.in-Err.ensures.input ∙ at) c.in-Err.ensures.refused
+    refused_at_names (o.begins c.args.observer.now None) (o.has_refused c.args.observer.now c.begin.new.observer None) c.in-Err.stopped.fault (sym c.in-Err.ensures.input ∙ at) c.in-Err.ensures.refused

@@ -35,11 +35,11 @@ returns-in-Err-begin-clause-writes g c =
     let old = said_by o.speaks g.W.ByteOut.bytes_taken c.args.writer.now in
     let why = c.in-Err-begin.stopped.fault in
     let logic = Some (first_logic first (text_of_next c.in-Ok.next)) in
-    let refused = subst (λ next. RefusesToBegin (o.begins c.args.observer.now (logic_of (Some c.args.programs.loaded) next)) (o.has_refused c.begin.new.observer (logic_of (Some c.args.programs.loaded) next)) why)
+    let refused = subst (λ next. RefusesToBegin (o.begins c.args.observer.now (logic_of (Some c.args.programs.loaded) next)) (o.has_refused c.args.observer.now c.begin.new.observer (logic_of (Some c.args.programs.loaded) next)) why)
     c.next_program.ensures c.in-Err-begin.ensures.refused in
     on_each (g.L.ByteIn.bytes_left c.args.log.now) _
     (λ bytes. next_loaded held c.in-Ok.next (AnswersPrinting observed c.args.programs.plate (log_of (records_of bytes)) first) (Some why) old old c.in-Ok.ensures.loaded
-    (not_begun observed c.args.programs.plate logic (log_of (records_of bytes)) (o.has_refused c.begin.new.observer logic) why old refused))
+    (not_begun observed c.args.programs.plate logic (log_of (records_of bytes)) (o.has_refused c.args.observer.now c.begin.new.observer logic) why old refused))
 
 pub returns-in-Ok-scale_of-clause-writes : goal.returns-in-Ok-scale_of-clause-writes
 returns-in-Ok-scale_of-clause-writes g c =
@@ -77,6 +77,6 @@ returns-in-Err-begin-clause-refused g c = λ at.
     let first = text_view c.args.programs.loaded.source in
     let held = option_map (λ text. text.now) c.args.programs.next in
     let why = c.in-Err-begin.stopped.fault in
-    let refused = subst (λ next. RefusesToBegin (o.begins c.args.observer.now (logic_of (Some c.args.programs.loaded) next)) (o.has_refused c.begin.new.observer (logic_of (Some c.args.programs.loaded) next)) why)
+    let refused = subst (λ next. RefusesToBegin (o.begins c.args.observer.now (logic_of (Some c.args.programs.loaded) next)) (o.has_refused c.args.observer.now c.begin.new.observer (logic_of (Some c.args.programs.loaded) next)) why)
     c.next_program.ensures c.in-Err-begin.ensures.refused in
-    next_refused first held c.in-Ok.next (o.begins c.args.observer.now) (o.has_refused c.begin.new.observer) why c.in-Ok.ensures.loaded (sym c.in-Err-begin.ensures.input ∙ at) refused
+    next_refused first held c.in-Ok.next (o.begins c.args.observer.now) (o.has_refused c.args.observer.now c.begin.new.observer) why c.in-Ok.ensures.loaded (sym c.in-Err-begin.ensures.input ∙ at) refused

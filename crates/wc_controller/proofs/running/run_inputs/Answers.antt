@@ -142,7 +142,7 @@ pub returns-in-None-clause-refused : goal.returns-in-None-clause-refused
 returns-in-None-clause-refused g c = λ at.
     let program = optional_of g.T.ByteIn.bytes_left g.T.ByteIn.failure_count g.T.ByteIn.spent_count in
     let next = optional_of g.N.ByteIn.bytes_left g.N.ByteIn.failure_count g.N.ByteIn.spent_count in
-    let holds = λ (logic : Option Logic). (g.O.Observer.begins c.args.observer.now logic ≡ false) × g.O.Observer.has_refused c.run_alone.new.observer logic in
+    let holds = λ (logic : Option Logic). (g.O.Observer.begins c.args.observer.now logic ≡ false) × g.O.Observer.has_refused c.args.observer.now c.run_alone.new.observer logic in
     subst (λ (before : InputStates). OfPrograms before.program before.next holds) c.inputs.view_is
     (alone_read (program c.inputs.inside.program) (next c.inputs.inside.next) holds
     (subst (λ (text : Option _). AreReadOf (program c.inputs.inside.program) (option_map (λ held. held.items) text)) c.in-None.is c.in-Ok-read_optional.ensures.whole)
@@ -152,7 +152,7 @@ pub returns-clause-refused : goal.returns-clause-refused
 returns-clause-refused g c = λ at.
     let program = optional_of g.T.ByteIn.bytes_left g.T.ByteIn.failure_count g.T.ByteIn.spent_count in
     let next = optional_of g.N.ByteIn.bytes_left g.N.ByteIn.failure_count g.N.ByteIn.spent_count in
-    let holds = λ (logic : Option Logic). (g.O.Observer.begins c.args.observer.now logic ≡ false) × g.O.Observer.has_refused c.run_loaded.new.observer logic in
+    let holds = λ (logic : Option Logic). (g.O.Observer.begins c.args.observer.now logic ≡ false) × g.O.Observer.has_refused c.args.observer.now c.run_loaded.new.observer logic in
     let held = option_map (λ held. held.items) c.in-Ok-read_optional-2.other in
     let first = text_view c.in-Ok-load_input.loaded.source in
     subst (λ (before : InputStates). OfPrograms before.program before.next holds) c.inputs.view_is
