@@ -1,8 +1,7 @@
 -- What an observer that refused to begin holds of the programs with which it did.
-use Rattle.std.proofs.Common.{◌≡◌, ℕ, List, Bool, true, false, Option, Some, None, Result, Ok, Err, sym, subst, ◌∙◌}
+use Rattle.std.proofs.Common.{◌≡◌, ℕ, List, Bool, false, Option, Some, None, Result, Ok, Err, sym, subst, ◌∙◌}
 use Rattle.std.specs.Prelude.{IfSome}
-use Rattle.wc_controller.proofs.Allowing.{on_each}
-use Rattle.wc_controller.specs.Endings.{EndsBehind, EndsBehindFault, EndsRefused, IsAt, StopsAt, begun_input, ending_of, fault_ending}
+use Rattle.wc_controller.specs.Endings.{EndsBehind, EndsBehindFault, IsAt, StopsAt, begun_input}
 use Rattle.wc_controller.specs.InputStates.{Reader}
 use Rattle.wc_controller.specs.TakenLogs.{AreReadOf, IfKnown, IsNextLoadedOf, OfLogic, OfPrograms}
 use Rattle.wc_controller.specs.declared.ending.Ending.{Ending}

@@ -1,9 +1,9 @@
 -- The names of a list by their numbers, and where each is.
-use Rattle.std.proofs.Common.{◌≡◌, ℕ, zero, suc, ◌+◌, ◌<◌, ◌≤◌, List, [], ◌∷◌, ◌++◌, Bool, Bor, true, false, cond, length, map, take, drop, Option, Some, None, refl, sym, ap, ◌∙◌, arith, append-nil, length-append, Vec, Global}
+use Rattle.std.proofs.Common.{◌≡◌, ℕ, suc, ◌+◌, ◌≤◌, List, [], ◌∷◌, ◌++◌, Bool, Bor, true, false, cond, length, map, take, drop, Option, Some, None, refl, sym, ap, ◌∙◌, arith, append-nil, length-append, Vec, Global}
 use Rattle.std.proofs.lemmas.Grind.{flat_map-append}
 use Rattle.std.proofs.lemmas.List.{append_assoc, take-append-drop, take_all, take_more}
 use Rattle.std.proofs.lemmas.Option.{get_or_from_slice_get, slice_get-map, slice_get_within}
-use Rattle.std.specs.List.{flat_map, onto_first, position_from, slice_split}
+use Rattle.std.specs.List.{flat_map, onto_first, position_from}
 use Rattle.std.specs.Prelude.{◌==◌, ◌||◌, is_some, not, option_and_then, option_map, slice_get}
 use Rattle.wc_model.specs.Language.Tree.{Text}
 use Rattle.wc_names.proofs.Lists.{from_index}
@@ -74,9 +74,9 @@ pub start_within : (list : List ℕ) (index : ℕ) → length (with_commas (take
 start_within list index =
     let names : List (List ℕ) = names_in list in
     let cut : length (with_commas (take index names)) + length (with_commas (drop index names)) ≡ length (with_commas names) =
-        sym (length-append (with_commas (take index names)) (with_commas (drop index names)))
-        ∙ ap length (sym (flat_map-append (λ (name : List ℕ). name ++ 44 ∷ []) (take index names) (drop index names)))
-        ∙ ap (λ all. length (with_commas all)) (take-append-drop index names) in
+    sym (length-append (with_commas (take index names)) (with_commas (drop index names)))
+    ∙ ap length (sym (flat_map-append (λ (name : List ℕ). name ++ 44 ∷ []) (take index names) (drop index names)))
+    ∙ ap (λ all. length (with_commas all)) (take-append-drop index names) in
     omega (arith, cut, whole_length list)
 
 -- a name more, with its comma
@@ -85,7 +85,7 @@ pub start_more : (list : List ℕ) (index : ℕ) (name : List ℕ) → slice_get
 start_more list index name there =
     let names : List (List ℕ) = names_in list in
     let whole : with_commas (take (index + 1) names) ≡ with_commas (take index names) ++ ((name ++ 44 ∷ []) ++ []) =
-        ap with_commas (next_name names index name there) ∙ flat_map-append (λ (one : List ℕ). one ++ 44 ∷ []) (take index names) (name ∷ []) in
+    ap with_commas (next_name names index name there) ∙ flat_map-append (λ (one : List ℕ). one ++ 44 ∷ []) (take index names) (name ∷ []) in
     let one : length (with_commas (take (index + 1) names)) ≡ length (with_commas (take index names)) + length ((name ++ 44 ∷ []) ++ []) = ap length whole ∙ length-append (with_commas (take index names)) ((name ++ 44 ∷ []) ++ []) in
     let two : length ((name ++ 44 ∷ []) ++ []) ≡ length name + 1 = ap length (append-nil (name ++ 44 ∷ [])) ∙ length-append name (44 ∷ []) in
     omega (arith, one, two)
@@ -94,7 +94,7 @@ start_more list index name there =
 pub is_known_at : (names : WatchedNames) (list : List ℕ) (text : Text) (next : Option Text) (index : ℕ) (name : List ℕ) → AreLookedUp names list text next
     → slice_get (names_in list) index ≡ Some name
     → not (is_some (option_and_then (λ found. found) (slice_get names.watched.items index))
-      || is_some (option_and_then (λ all. option_and_then (λ found. found) (slice_get all.items index)) names.next)) ≡ is_unknown text next name
+    || is_some (option_and_then (λ all. option_and_then (λ found. found) (slice_get all.items index)) names.next)) ≡ is_unknown text next name
 is_known_at names list text next index name looked there =
     (λ i. not (here i || ahead names.next next looked.ahead i))
   where

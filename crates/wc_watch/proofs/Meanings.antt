@@ -11,7 +11,6 @@ use Rattle.wc_model.specs.Language.DirectVariables.{DirectVariable, variable_at}
 use Rattle.wc_model.specs.Language.Frames.{place_number, slot_kind_of, slot_kinds}
 use Rattle.wc_model.specs.Language.Names.{name_of}
 use Rattle.wc_model.specs.Language.Scans.{initial_of}
-use Rattle.wc_model.specs.Language.Scopes.{kind_of}
 use Rattle.wc_model.specs.Language.Store.{Location, Direct, Path, Content, Plain, Moment, Phase}
 use Rattle.wc_model.specs.Language.Tree.{Text}
 use Rattle.wc_model.specs.declared.kind.Kind.{Kind}

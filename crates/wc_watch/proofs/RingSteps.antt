@@ -1,11 +1,10 @@
 -- The last n texts, one more at a time.
-use Rattle.std.proofs.Common.{◌≡◌, ◌<◌, ◌≤◌, ℕ, zero, suc, ◌+◌, ◌-◌, List, [], ◌∷◌, ◌++◌, drop, length, map, take, refl, sym, ap, ◌∙◌, subst, arith, append-nil, length-append, set, length-set, inl, inr, min, ◌⊎◌}
+use Rattle.std.proofs.Common.{◌≡◌, ◌<◌, ◌≤◌, ℕ, zero, suc, ◌+◌, ◌-◌, List, [], ◌∷◌, ◌++◌, drop, length, map, take, refl, sym, ap, ◌∙◌, arith, append-nil, length-append, set, length-set, inl, inr, min, ◌⊎◌}
 use Rattle.std.proofs.lemmas.Grind.{flat_map-append}
 use Rattle.std.proofs.lemmas.List.{append_assoc, drop-append-le, drop-map, drop-set-lt, drop_all, length-map, take-map, take_all, take_more_set}
-use Rattle.std.specs.List.{flat_map}
 use Rattle.wc_model.specs.Instrument.WeighingHistories.{last_items}
 use Rattle.wc_names.proofs.Lists.{from_index_or}
-use Rattle.wc_watch.specs.Ring.{HoldsLast, RingState, blank, in_order, joined, ring_of}
+use Rattle.wc_watch.specs.Ring.{HoldsLast, blank, in_order, joined, ring_of}
 
 -- one empty text more
 pub blank_more : (n : ℕ) → blank n ++ [] ∷ [] ≡ blank (n + 1)
@@ -15,16 +14,6 @@ blank_more (suc n) = ap (λ texts. [] ∷ texts) (blank_more n) ∙ ap blank (le
 length-blank : (n : ℕ) → length (blank n) ≡ n
 length-blank zero = refl
 length-blank (suc n) = ap suc (length-blank n)
-
--- they are nothing
-joined-blank : (n : ℕ) → joined (blank n) ≡ []
-joined-blank zero = refl
-joined-blank (suc n) = joined-blank n
-
-drop-blank : (k n : ℕ) → joined (drop k (blank n)) ≡ []
-drop-blank zero n = joined-blank n
-drop-blank (suc k) zero = refl
-drop-blank (suc k) (suc n) = drop-blank k n
 
 -- with all texts before the first one the ring begins anew
 wrapped : (texts : List (List ℕ)) (first : ℕ) → length texts ≤ first → in_order (ring_of texts first) ≡ in_order (ring_of texts 0)
@@ -94,8 +83,8 @@ pub all_joined : (texts : List (List ℕ)) (first n : ℕ) (all : List (List ℕ
 all_joined texts first n all holds =
     sym (flat_map-append (λ text. text) (drop first texts) (take first texts)) ∙ ap joined holds.held
     ∙ ap (λ k. joined (drop k (blank n ++ all)))
-      (let counted : length (blank n ++ all) ≡ n + length all = length-append (blank n) all ∙ ap (λ k. k + length all) (length-blank n) in
-      let left : length (blank n ++ all) - n ≡ length all = omega (arith, counted) in left)
+    (let counted : length (blank n ++ all) ≡ n + length all = length-append (blank n) all ∙ ap (λ k. k + length all) (length-blank n) in
+    let left : length (blank n ++ all) - n ≡ length all = omega (arith, counted) in left)
     ∙ behind_blank (length all) n all
 
 -- the texts from the oldest on and those before it, where the oldest may be said to come after all
@@ -125,5 +114,5 @@ both_put items old middle new kept behind front first at n all least one rest tw
     ∙ (λ i. one i ++ joined (map items (start i)))
     ∙ append_assoc old (joined (map items behind)) (joined (map items (take at kept)))
     ∙ ap (λ texts. old ++ texts)
-      ((λ i. joined ((ap (map items) rest ∙ sym (drop-map items at kept)) i) ++ joined (sym (take-map items at kept) i))
-      ∙ both_parts texts first at (least ∙ ap (min first) (sym counted)) ∙ all_joined texts first n all holds)
+    ((λ i. joined ((ap (map items) rest ∙ sym (drop-map items at kept)) i) ++ joined (sym (take-map items at kept) i))
+    ∙ both_parts texts first at (least ∙ ap (min first) (sym counted)) ∙ all_joined texts first n all holds)

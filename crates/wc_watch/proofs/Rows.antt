@@ -11,18 +11,18 @@ use Rattle.wc_model.specs.Language.Store.{Store}
 use Rattle.wc_model.specs.Language.Tree.{Text}
 use Rattle.wc_model.specs.Run.Rows.{Change, LogRow, Past, RowData}
 use Rattle.wc_model.specs.Say.ProgramReport.{Logic, change_to, logic_behind, programs}
-use Rattle.wc_model.specs.Say.Report.{AnswerLine, ReportLine, ScanLine, answer_line, is_answer_line, is_scan_line, line_text, report_text, state_with}
+use Rattle.wc_model.specs.Say.Report.{AnswerLine, answer_line, is_answer_line, is_scan_line, line_text, report_text, state_with}
 use Rattle.wc_record.specs.declared.last_scans.Record.{Record}
 use Rattle.wc_run.proofs.Lines.{answer_dropped, answer_kept}
 use Rattle.wc_run.specs.Logics.{lines_of_row, logic_after}
 use Rattle.wc_run.specs.Observing.{IsShown, lines_of_scan, onto, row_of}
 use Rattle.wc_run.specs.Outputs.{line_of_record}
 use Rattle.wc_run.specs.Standing.{Stands, program_of}
-use Rattle.wc_open_scale.specs.Standing.{IsRunning, Running}
+use Rattle.wc_open_scale.specs.Standing.{IsRunning}
 use Rattle.wc_run.specs.declared.row_seen.RowSeen.{RowSeen}
 use Rattle.wc_run.specs.declared.row_seen.ScanSeen.{ScanSeen}
 use Rattle.wc_run.specs.declared.scale.Scale.{Scale}
-use Rattle.wc_watch.specs.Plans.{line_with_values, row_text, scans_of_row, scans_so_far, values_behind}
+use Rattle.wc_watch.specs.Plans.{line_with_values, row_text, scans_so_far}
 use Rattle.wc_watch.specs.Ring.{RingState}
 use Rattle.wc_watch.specs.Values.{values_line}
 use Rattle.wc_watch.specs.Watching.{AreLookedUp, FitLogic, KeepsLast, RunsLogic, text_behind, written_now}

@@ -1,6 +1,6 @@
 -- Where the names of a path lead, unit by unit.
-use Rattle.std.proofs.Common.{◌≡◌, ℕ, Bool, true, false, List, [], ◌∷◌, Option, Some, None, refl, sym, ap, ◌∙◌, length}
-use Rattle.std.specs.Prelude.{option_and_then, option_map, reverse, slice_get}
+use Rattle.std.proofs.Common.{◌≡◌, ℕ, Bool, false, List, [], ◌∷◌, Option, Some, None, refl, sym, ap, ◌∙◌, length}
+use Rattle.std.specs.Prelude.{option_and_then, option_map, slice_get}
 use Rattle.wc_model.specs.Language.Frames.{scopes_of}
 use Rattle.wc_changes.proofs.Units.{block_unit}
 use Rattle.wc_cost.proofs.WholeTexts.{Last}

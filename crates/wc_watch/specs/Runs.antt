@@ -1,8 +1,6 @@
 -- A run whose variables are watched. (The profile's own.)
-use Rattle.std.specs.Prelude.{ℕ, Bool, List, Option}
-use Rattle.std.specs.Option.{is_none}
+use Rattle.std.specs.Prelude.{ℕ, List, Option}
 use Rattle.wc_controller.specs.Files.{Observed}
-use Rattle.wc_model.specs.Say.ProgramReport.{Logic}
 use Rattle.wc_run.specs.Observing.{text_in_all}
 use Rattle.wc_watch.specs.Plans.{watch_plan}
 use Rattle.wc_watch.specs.Unknown.{begins_with}

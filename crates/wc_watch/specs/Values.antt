@@ -1,5 +1,5 @@
 -- The line with the values that are watched. (The profile's own.)
-use Rattle.std.specs.Prelude.{ℕ, List, [], ◌∷◌, ◌++◌, Option, Some, None, codes, decimal}
+use Rattle.std.specs.Prelude.{ℕ, List, [], ◌∷◌, ◌++◌, Some, None, codes, decimal}
 use Rattle.std.specs.List.{flat_map}
 use Rattle.wc_changes.specs.ChangeReport.{content_text}
 use Rattle.wc_model.specs.Language.Store.{Location, Store}

@@ -1,5 +1,5 @@
 ghost use Rattle.std.specs.Prelude.{◌≡◌, IfOk, IsOkUnless, Option, drop, map, option_and_then, slice_get};
-ghost use Rattle.std.specs.Option.{is_none, option_map};
+ghost use Rattle.std.specs.Option.{is_none};
 ghost use Rattle.wc_built_in.specs.Fields.{is_named};
 ghost use Rattle.wc_model.specs.Language.Declarations.{member_named, standard_members};
 ghost use Rattle.wc_model.specs.Language.Frames.{location_of};

@@ -3,7 +3,7 @@ ghost use Rattle.wc_machine.specs.Machines.{StandsFor};
 ghost use Rattle.wc_model.specs.Language.Store.{Store as Contents};
 ghost use Rattle.wc_model.specs.Language.Tree.{Text};
 ghost use Rattle.wc_model.specs.Language.Views.{text_view};
-ghost use Rattle.wc_model.specs.Say.ProgramReport.{Logic, first_logic};
+ghost use Rattle.wc_model.specs.Say.ProgramReport.{first_logic};
 ghost use Rattle.wc_run.specs.Logics.{text_of_next};
 ghost use Rattle.wc_watch.specs.Meaning.{watched_by};
 ghost use Rattle.wc_watch.specs.Names.{names_in};
@@ -185,11 +185,7 @@ impl<'n> WatchedNames<'n> {
     }
 
     /// Puts the names that the program has, each with its value. `Memory` is the only fault.
-    fn put_values(
-        &self,
-        line: &mut Vec<u8>,
-        machine: &Machine<'_, SlotStore>,
-    ) -> Result<(), Fault>
+    fn put_values(&self, line: &mut Vec<u8>, machine: &Machine<'_, SlotStore>) -> Result<(), Fault>
         ensures puts { (list : List ℕ) (text : Text) (next : Option Text) (store : Contents)
             → AreLookedUp self.now list text next → StandsFor machine.now text store
             → OnOk result (line.new.items ≡ line.old.items

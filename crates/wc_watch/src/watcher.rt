@@ -3,8 +3,6 @@ ghost use Rattle.wc_model.specs.Instrument.Plates.{PlateData};
 ghost use Rattle.wc_model.specs.Language.Views.{text_view};
 ghost use Rattle.wc_model.specs.Run.Rows.{Past};
 ghost use Rattle.wc_model.specs.Say.ProgramReport.{Logic, first_logic};
-ghost use Rattle.wc_model.specs.Say.Report.{answer_line, report_text};
-ghost use Rattle.wc_record.specs.Views.{head_view};
 ghost use Rattle.wc_run.specs.Logics.{logic_after, text_of_next};
 ghost use Rattle.wc_run.specs.Observing.{IsShown, loaded_of, row_of};
 ghost use Rattle.wc_run.specs.Outputs.{line_of_record};
@@ -54,11 +52,7 @@ fn scan_length(list: &[u8]) -> usize {
 }
 
 /// Room for the last so many scans, if these are asked for.
-fn last_texts(
-    alloc: Global,
-    number: Option<u16>,
-    length: usize,
-) -> Result<Option<LastTexts>, Fault>
+fn last_texts(alloc: Global, number: Option<u16>, length: usize) -> Result<Option<LastTexts>, Fault>
     requires { IfSome number (λ n. (1 ≤ n) × (n ≤ 1000)) }
     ensures empty { IfOk result (λ last. KeepsLast last number []) }
     ensures memory { IsOkUnless result Fault.Memory }

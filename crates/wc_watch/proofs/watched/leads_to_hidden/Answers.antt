@@ -1,4 +1,4 @@
-use Rattle.std.proofs.Common.{◌≡◌, ◌+◌, ◌-◌, ◌∙◌, Bor, List, None, Some, ap, drop, map, refl, subst, sym}
+use Rattle.std.proofs.Common.{◌+◌, ◌-◌, ◌∙◌, Bor, List, Some, ap, drop, map, subst, sym}
 use Rattle.std.proofs.lemmas.List.{drop_all}
 use Rattle.wc_cost.proofs.WholeTexts.{last_unit}
 use Rattle.wc_model.specs.Language.Names.{Name, name_of}
@@ -33,9 +33,9 @@ returns-in-Standard c =
     let whole = is_hidden text (Path (map (λ name. name_of name.now) c.args.names.now)) in
     let left = map (λ name. name_of name.now) (drop (c.loop-index.index + 1) c.args.names.now) in
     let walks = subst (λ (left : List (Bor Name)). Walks text c.loop-index.unit (map (λ name. name_of name.now) left) whole)
-        (from_index c.args.names.now c.loop-index.index c.in-Some.name.now c.in-Some.ensures.lookup.3.0 c.in-Some.ensures.lookup.1) c.loop-index.invariant in
+    (from_index c.args.names.now c.loop-index.index c.in-Some.name.now c.in-Some.ensures.lookup.3.0 c.in-Some.ensures.lookup.1) c.loop-index.invariant in
     let tables = subst (λ t. AreTables t text) (sym c.tables-tables.ensures.tables)
-        (subst (λ (s : Source). AreTables c.checked.result.now.tables (text_view s)) c.checked.ensures c.tables-tables.ensures.stand) in
+    (subst (λ (s : Source). AreTables c.checked.result.now.tables (text_view s)) c.checked.ensures c.tables-tables.ensures.stand) in
     c.is_hidden_at.ensures
     ∙ at_standard text c.loop-index.unit (name_of c.in-Some.name.now.now) left whole walks c.in-Standard.block
     (sym (c.in-Some-declared_type.ensures text walks.scope tables walks.is) ∙ ap Some c.in-Standard.is)
@@ -46,9 +46,9 @@ returns-in_default-declared_type c =
     let whole = is_hidden text (Path (map (λ name. name_of name.now) c.args.names.now)) in
     let left = map (λ name. name_of name.now) (drop (c.loop-index.index + 1) c.args.names.now) in
     let walks = subst (λ (left : List (Bor Name)). Walks text c.loop-index.unit (map (λ name. name_of name.now) left) whole)
-        (from_index c.args.names.now c.loop-index.index c.in-Some.name.now c.in-Some.ensures.lookup.3.0 c.in-Some.ensures.lookup.1) c.loop-index.invariant in
+    (from_index c.args.names.now c.loop-index.index c.in-Some.name.now c.in-Some.ensures.lookup.3.0 c.in-Some.ensures.lookup.1) c.loop-index.invariant in
     let tables = subst (λ t. AreTables t text) (sym c.tables-tables.ensures.tables)
-        (subst (λ (s : Source). AreTables c.checked.result.now.tables (text_view s)) c.checked.ensures c.tables-tables.ensures.stand) in
+    (subst (λ (s : Source). AreTables c.checked.result.now.tables (text_view s)) c.checked.ensures c.tables-tables.ensures.stand) in
     at_nothing text c.loop-index.unit (name_of c.in-Some.name.now.now) left whole walks
     (sym (c.declared_type.ensures text walks.scope tables walks.is) ∙ c.in_default-declared_type.is)
 
@@ -58,9 +58,9 @@ returns-in-Elementary c =
     let whole = is_hidden text (Path (map (λ name. name_of name.now) c.args.names.now)) in
     let left = map (λ name. name_of name.now) (drop (c.loop-index.index + 1) c.args.names.now) in
     let walks = subst (λ (left : List (Bor Name)). Walks text c.loop-index.unit (map (λ name. name_of name.now) left) whole)
-        (from_index c.args.names.now c.loop-index.index c.in-Some.name.now c.in-Some.ensures.lookup.3.0 c.in-Some.ensures.lookup.1) c.loop-index.invariant in
+    (from_index c.args.names.now c.loop-index.index c.in-Some.name.now c.in-Some.ensures.lookup.3.0 c.in-Some.ensures.lookup.1) c.loop-index.invariant in
     let tables = subst (λ t. AreTables t text) (sym c.tables-tables.ensures.tables)
-        (subst (λ (s : Source). AreTables c.checked.result.now.tables (text_view s)) c.checked.ensures c.tables-tables.ensures.stand) in
+    (subst (λ (s : Source). AreTables c.checked.result.now.tables (text_view s)) c.checked.ensures c.tables-tables.ensures.stand) in
     at_plain text c.loop-index.unit (name_of c.in-Some.name.now.now) left whole walks c.in-Elementary.field-0
     (sym (c.in-Some-declared_type.ensures text walks.scope tables walks.is) ∙ ap Some c.in-Elementary.is)
 
@@ -70,8 +70,8 @@ loop-index-preserved c =
     let whole = is_hidden text (Path (map (λ name. name_of name.now) c.args.names.now)) in
     let left = map (λ name. name_of name.now) (drop (c.loop-index.index + 1) c.args.names.now) in
     let walks = subst (λ (left : List (Bor Name)). Walks text c.loop-index.unit (map (λ name. name_of name.now) left) whole)
-        (from_index c.args.names.now c.loop-index.index c.in-Some.name.now c.in-Some.ensures.lookup.3.0 c.in-Some.ensures.lookup.1) c.loop-index.invariant in
+    (from_index c.args.names.now c.loop-index.index c.in-Some.name.now c.in-Some.ensures.lookup.3.0 c.in-Some.ensures.lookup.1) c.loop-index.invariant in
     let tables = subst (λ t. AreTables t text) (sym c.tables-tables.ensures.tables)
-        (subst (λ (s : Source). AreTables c.checked.result.now.tables (text_view s)) c.checked.ensures c.tables-tables.ensures.stand) in
+    (subst (λ (s : Source). AreTables c.checked.result.now.tables (text_view s)) c.checked.ensures c.tables-tables.ensures.stand) in
     at_block text c.loop-index.unit (name_of c.in-Some.name.now.now) left whole walks c.in-Block.block
     (sym (c.in-Some-declared_type.ensures text walks.scope tables walks.is) ∙ ap Some c.in-Block.is)

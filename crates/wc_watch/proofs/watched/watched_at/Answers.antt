@@ -1,14 +1,11 @@
-use Rattle.std.proofs.Common.{◌≡◌, ℕ, Option, None, Some, ap, sym, refl, ◌∙◌, length, ◌-◌}
-use Rattle.std.specs.Option.{option_and_then, option_map}
-use Rattle.wc_cost.proofs.WholeTexts.{Last, last_unit}
-use Rattle.wc_model.specs.Language.CarriedPlaces.{frame_of_text}
-use Rattle.wc_model.specs.Language.Frames.{location_of, number_of_path, place_number}
+use Rattle.std.proofs.Common.{None, Some, ap, sym, refl, ◌∙◌, length, ◌-◌}
+use Rattle.std.specs.Option.{option_and_then}
+use Rattle.wc_cost.proofs.WholeTexts.{last_unit}
+use Rattle.wc_model.specs.Language.Frames.{location_of, place_number}
 use Rattle.wc_model.specs.Language.Views.{text_view}
-use Rattle.wc_model.specs.declared.place.Place.{Place}
-use Rattle.wc_watch.proofs.Meanings.{numbered, of_kind, unnumbered}
+use Rattle.wc_watch.proofs.Meanings.{numbered, unnumbered}
 use Rattle.wc_watch.specs.Meaning.{value_kind}
 use Rattle.std.specs.Prelude.{slice_get}
-use Rattle.wc_model.specs.Language.Frames.{slot_kinds}
 use Rattle.wc_watch.proofs.watched.watched_at.Goals as goal
 
 pub returns-in-None : goal.returns-in-None

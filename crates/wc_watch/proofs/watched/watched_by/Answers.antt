@@ -1,4 +1,4 @@
-use Rattle.std.proofs.Common.{◌≡◌, ◌∙◌, List, Bor, false, map, subst, sym, ap, true}
+use Rattle.std.proofs.Common.{◌∙◌, List, Bor, false, sym, ap, true}
 use Rattle.wc_model.specs.Language.Names.{Name}
 use Rattle.wc_model.specs.Language.Views.{text_view}
 use Rattle.wc_watch.proofs.Meanings.{by_address, by_hidden, by_open, path_of}

@@ -1,6 +1,5 @@
-use Rattle.std.proofs.Common.{◌≡◌, ◌∙◌, List, None, Some, ap, sym, ◌++◌, arith, to_z, of_z, w64}
+use Rattle.std.proofs.Common.{◌≡◌, ◌∙◌, None, Some, ap, sym, ◌++◌, arith, to_z, of_z, w64}
 use Rattle.std.proofs.lemmas.Int.{ints}
-use Rattle.std.specs.Prelude.{ℕ, ℤ}
 use Rattle.wc_changes.specs.ChangeReport.{content_text}
 use Rattle.wc_model.specs.Language.Frames.{content_number}
 use Rattle.wc_model.specs.Language.Store.{Plain}

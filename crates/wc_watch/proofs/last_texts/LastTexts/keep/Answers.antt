@@ -1,4 +1,4 @@
-use Rattle.std.proofs.Common.{◌≡◌, ◌+◌, ◌<◌, ◌≤◌, ◌⊎◌, ◌∙◌, ◌++◌, ◌∷◌, [], Global, List, Vec, ap, inl, inr, length, map, rules, set, subst, sym, arith}
+use Rattle.std.proofs.Common.{◌≡◌, ◌+◌, ◌<◌, ◌≤◌, ◌⊎◌, ◌∙◌, ◌++◌, ◌∷◌, [], Global, Vec, ap, inl, inr, length, map, rules, set, subst, sym, arith}
 use Rattle.std.proofs.lemmas.List.{length-map, map-set}
 use Rattle.std.specs.Prelude.{ℕ}
 use Rattle.wc_watch.proofs.RingSteps.{one_kept}
@@ -19,6 +19,6 @@ returns-clause-keeps c = λ number all holds.
       | else-self-len w ↦ inr (let past : length texts ≤ c.self.inside.first = omega (arith, w.if-self-len.false, counted, len) in past, w.at-is)
     ] in
     let same : map items (set c.self.inside.texts.items at c.put_bytes.new.text) ≡ set texts at c.args.text.now =
-        map-set items c.self.inside.texts.items at c.put_bytes.new.text ∙ ap (set texts at) (c.in_ok-put_bytes.ensures.bytes ∙ ap (λ kept. kept ++ c.args.text.now) c.clear.ensures.items) in
+    map-set items c.self.inside.texts.items at c.put_bytes.new.text ∙ ap (set texts at) (c.in_ok-put_bytes.ensures.bytes ∙ ap (λ kept. kept ++ c.args.text.now) c.clear.ensures.items) in
     subst (λ kept. HoldsLast (ring_of kept (at + 1)) number (all ++ c.args.text.now ∷ [])) (sym same)
     (one_kept texts c.self.inside.first at c.args.text.now number all where_at held)

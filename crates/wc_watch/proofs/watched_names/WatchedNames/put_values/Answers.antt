@@ -1,4 +1,4 @@
-use Rattle.std.proofs.Common.{◌≡◌, ◌≤◌, ◌∙◌, Bor, List, Option, Some, ap, arith, length, map, rules, subst, sym}
+use Rattle.std.proofs.Common.{◌≡◌, ◌≤◌, ◌∙◌, Bor, List, Option, Some, ap, arith, length, rules, sym}
 use Rattle.std.proofs.lemmas.List.{length-map}
 use Rattle.std.specs.Prelude.{ℕ, slice_get}
 use Rattle.wc_names.proofs.Lists.{got_some}
@@ -14,11 +14,11 @@ loop-index-preserved c = λ list text next store looked stands.
     let names = c.args.self.now in
     let index = c.loop-index.index in
     let name_there : slice_get names.names.items index ≡ Some c.in-Some.name.now =
-        ap (λ (xs : List (Bor (List ℕ))). slice_get xs index) (sym c.deref.ensures.value)
-        ∙ got_some c.deref.result.now index c.in-Some.name.now c.in-Some.ensures.lookup.3.0 c.in-Some.ensures.lookup.1 in
+    ap (λ (xs : List (Bor (List ℕ))). slice_get xs index) (sym c.deref.ensures.value)
+    ∙ got_some c.deref.result.now index c.in-Some.name.now c.in-Some.ensures.lookup.3.0 c.in-Some.ensures.lookup.1 in
     let found_there : slice_get names.watched.items index ≡ Some c.in-Some-get.watched.now =
-        ap (λ (xs : List (Option Watched)). slice_get xs index) (sym c.deref-in-loop-index.ensures.value)
-        ∙ got_some c.deref-in-loop-index.result.now index c.in-Some-get.watched.now c.in-Some-get.ensures.lookup.3.0 c.in-Some-get.ensures.lookup.1 in
+    ap (λ (xs : List (Option Watched)). slice_get xs index) (sym c.deref-in-loop-index.ensures.value)
+    ∙ got_some c.deref-in-loop-index.result.now index c.in-Some-get.watched.now c.in-Some-get.ensures.lookup.3.0 c.in-Some-get.ensures.lookup.1 in
     let there = name_at names.names.items list index c.in-Some.name.now looked.listed name_there in
     one_name_more (value_text text store) (names_in list) index c.in-Some.name.now.now c.args.line.now.items c.loop-index.line.items c.put_if_watched.new.line.items there
     (c.loop-index.invariant list text next store looked stands)

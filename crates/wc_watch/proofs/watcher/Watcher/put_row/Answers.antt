@@ -1,12 +1,11 @@
-use Rattle.std.proofs.Common.{◌≡◌, ◌∷◌, ◌++◌, Option, subst, sym}
+use Rattle.std.proofs.Common.{◌∷◌, Option, subst, sym}
 use Rattle.wc_machine.specs.Machines.{MachineState}
 use Rattle.wc_names.proofs.HandedOn.{on_ok}
 use Rattle.wc_run.specs.Logics.{logic_after}
 use Rattle.wc_run.specs.Observing.{row_of}
-use Rattle.wc_run.specs.Outputs.{line_of_record}
 use Rattle.wc_watch.proofs.Rows.{kept_with_scan, kept_without_scan, row_with_scan, row_without_scan, runs_logic}
 use Rattle.wc_watch.proofs.watcher.Watcher.put_row.Goals as goal
-use Rattle.wc_watch.specs.Plans.{line_with_values, scans_so_far}
+use Rattle.wc_watch.specs.Plans.{scans_so_far}
 use Rattle.wc_watch.specs.Watching.{RunsLogic}
 
 pub returns-in_default-clause-text : goal.returns-in_default-clause-text
