@@ -1,7 +1,7 @@
 -- How far an answer was written, step by step of a command.
 use Rattle.std.proofs.Common.{◌≡◌, ℕ, List, [], ◌++◌, Result, Ok, Err, refl, ap, sym, ◌∙◌, subst, append-nil, inl, inr}
 use Rattle.std.proofs.KnownBytes.{Appends-nil, Appends-trans, Appends-kept, Keeps-refl, Keeps-trans}
-use Rattle.std.specs.Prelude.{Bool, true, false, Option, Some, None}
+use Rattle.std.specs.Prelude.{Bool, true, false, Option, Some, None, if◌then◌else◌}
 use Rattle.std.specs.Io.KnownBytes.{Appends, Keeps}
 use Rattle.wc_controller.specs.Blames.{IsNextUnloaded, IsUnloaded}
 use Rattle.wc_controller.specs.Checking.{Checks}
@@ -20,7 +20,7 @@ use Rattle.wc_controller.specs.declared.input.Stopped.{Stopped}
 use Rattle.wc_model.specs.Instrument.Plates.{PlateData}
 use Rattle.wc_model.specs.Run.Log.{LogOf, LogRefusal}
 use Rattle.wc_model.specs.Language.Tree.{Text}
-use Rattle.wc_model.specs.Say.Job.{AnswersNext, AnswersProgram, JobAnswer, behind_report, loads_program, refused_text, refuses_program, run_answer}
+use Rattle.wc_model.specs.Say.Job.{AnswersNext, AnswersProgram, JobAnswer, behind_report, loads_program, refused_text, refuses_program, refusing, run_answer}
 use Rattle.wc_model.specs.Say.LogFor.{log_for}
 use Rattle.wc_model.specs.Say.ProgramReport.{Logic, first_logic}
 use Rattle.wc_model.specs.declared.fault.Fault.{Fault}
@@ -93,17 +93,21 @@ module _ (plan : Plan) (plate : PlateData) (logic : Option Logic) (log : LogOf) 
 
 -- so it is answered
 pub answered_so : (o : Observed) (plate : PlateData) (logic : Option Logic) (log : LogOf) (answer : Option RunFault) (old new : Option (List ℕ))
-    → WritesUpTo (λ one. one ≡ answer_written o.written plate logic log) answer old new → WritesUpTo (IsAnswer o plate logic log) answer old new
-answered_so o plate logic log answer old new h = upto_more (λ one. one ≡ answer_written o.written plate logic log) (IsAnswer o plate logic log) answer old new (λ one is. inl is) h
+    → o.begins logic ≡ true → WritesUpTo (λ one. one ≡ answer_written o.written plate logic log) answer old new → WritesUpTo (IsAnswer o plate logic log) answer old new
+answered_so o plate logic log answer old new begins h =
+    upto_more (λ one. one ≡ answer_written o.written plate logic log) (IsAnswer o plate logic log) answer old new
+    (λ one is. subst (λ begun. one ≡ (if begun then answer_written o.written plate logic log else refusing 401 0)) (sym begins) is) h
 
 -- or it is refused to begin
-pub not_begun : (o : Observed) (plate : PlateData) (logic : Option Logic) (log : LogOf) (why : RunFault) (old : Option (List ℕ))
-    → RefusesToBegin o.may_refuse why → WritesUpTo (IsAnswer o plate logic log) (Some why) old old
-not_begun o plate logic log (Refused number place) old (may, is, at) =
-    only_refused (IsAnswer o plate logic log) number place old (inr (may, λ i. record { output = refused_text (is i) (at i); status = 1 }))
-not_begun o plate logic log Read old h = absurd h
-not_begun o plate logic log Write old h = absurd h
-not_begun o plate logic log Memory old h = inl (Keeps-refl old)
+pub not_begun : (o : Observed) (plate : PlateData) (logic : Option Logic) (log : LogOf) (held : Type 0) (why : RunFault) (old : Option (List ℕ))
+    → RefusesToBegin (o.begins logic) held why → WritesUpTo (IsAnswer o plate logic log) (Some why) old old
+not_begun o plate logic log held (Refused number place) old (begins, holds, is, at) =
+    only_refused (IsAnswer o plate logic log) number place old
+    (subst (λ begun. refusing number place ≡ (if begun then answer_written o.written plate logic log else refusing 401 0)) (sym begins)
+    (λ i. record { output = refused_text (is i) (at i); status = 1 }))
+not_begun o plate logic log held Read old h = absurd h
+not_begun o plate logic log held Write old h = absurd h
+not_begun o plate logic log held Memory old h = inl (Keeps-refl old)
 
 -- a program that is not loaded
 pub not_loaded : (bytes : List ℕ) (rest : Text → JobAnswer → Type 0) (why : Fault) (old : Option (List ℕ))
@@ -240,12 +244,11 @@ ends_said false (Ok done) ending old new h = (h.0, tt)
 ends_said false (Err stopped) ending old new h = ends_fault_said false stopped.input stopped.fault ending old new h
 
 -- what the observer of a report answers is what a job answers
-is_report : (plate : PlateData) (logic : Logic) (log : LogOf) (one : JobAnswer) → IsAnswer (record { written = text_in_all report_plan; may_refuse = ⊥ }) plate (Some logic) log one
+is_report : (plate : PlateData) (logic : Logic) (log : LogOf) (one : JobAnswer) → IsAnswer (record { written = text_in_all report_plan; begins = λ logic. true }) plate (Some logic) log one
     → one ≡ run_answer plate logic log
-is_report plate logic log one (inl is) =
+is_report plate logic log one is =
     let taken : LogOf = log_for (Some logic) log in
     is ∙ ap (λ (written : Written). behind_report (written plate (Some logic) taken.refusal taken.rows) taken.refusal) (whole_written None)
-is_report plate logic log one (inr refused) = absurd refused.0
 
 -- more may be answered with the next program
 next_more : (next : Option (List ℕ)) (P Q : Option Text → JobAnswer → Type 0) → ((text : Option Text) (one : JobAnswer) → P text one → Q text one)
@@ -256,9 +259,9 @@ next_more (Some bytes) P Q f one (loads_program text loaded h) = loads_program t
 
 -- so with whatever next program
 pub logged : (next : Option (List ℕ)) (plate : PlateData) (log : LogOf) (text : Text) (answer : Option RunFault) (old new : Option (List ℕ))
-    → WritesUpTo (AnswersNext next (AnswersPrinting (record { written = text_in_all report_plan; may_refuse = ⊥ }) plate log text)) answer old new
+    → WritesUpTo (AnswersNext next (AnswersPrinting (record { written = text_in_all report_plan; begins = λ logic. true }) plate log text)) answer old new
     → WritesUpTo (AnswersNext next (AnswersLog plate log text)) answer old new
 logged next plate log text answer old new h =
-    upto_more (AnswersNext next (AnswersPrinting (record { written = text_in_all report_plan; may_refuse = ⊥ }) plate log text)) (AnswersNext next (AnswersLog plate log text)) answer old new
-    (λ one is. next_more next (AnswersPrinting (record { written = text_in_all report_plan; may_refuse = ⊥ }) plate log text) (AnswersLog plate log text)
+    upto_more (AnswersNext next (AnswersPrinting (record { written = text_in_all report_plan; begins = λ logic. true }) plate log text)) (AnswersNext next (AnswersLog plate log text)) answer old new
+    (λ one is. next_more next (AnswersPrinting (record { written = text_in_all report_plan; begins = λ logic. true }) plate log text) (AnswersLog plate log text)
     (λ other this says. is_report plate (first_logic text other) log this says) one is) h

@@ -12,3 +12,4 @@ pub mod StoppedInputs
 pub mod RunSteps
 pub mod ShownEndings
 pub mod EndedRuns
+pub mod RefusedNames

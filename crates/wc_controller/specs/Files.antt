@@ -1,6 +1,6 @@
 -- What a command answers for the files that it names: its output and its exit status. A plate or a
 -- program is read whole and judged before the next file is read. (The profile's own.)
-use Rattle.std.specs.Prelude.{◌≡◌, ◌⊎◌, ℕ, ◌<◌, ◌≤◌, Bool, List, length, Option, Some, None, Result, Ok, Err}
+use Rattle.std.specs.Prelude.{◌≡◌, ℕ, ◌<◌, ◌≤◌, Bool, true, List, length, Option, Some, None, Result, Ok, Err, if◌then◌else◌}
 use Rattle.wc_model.specs.Instrument.PlateTable.{plate_of}
 use Rattle.wc_model.specs.Instrument.Plates.{PlateData}
 use Rattle.wc_model.specs.Language.Loading.{IsLoaded, IsRefused}
@@ -30,14 +30,14 @@ AnswersPlateFile (Ok plate) rest answer = rest plate answer
 abbrev pub AnswersWithPlate : List ℕ → (PlateData → JobAnswer → Type 0) → JobAnswer → Type 0
 AnswersWithPlate bytes rest answer = AnswersFile bytes (AnswersPlateFile (plate_of (table_read bytes)) rest) answer
 
--- what is written of a run by whoever observes it, and that it may refuse to begin
-pub record Observed : Type 1 where
+-- what is written of a run by whoever observes it, and with which logic it begins
+pub record Observed : Type 0 where
   pub written : Written
-  pub may_refuse : Type 0
+  pub begins : Option Logic → Bool
 
--- the report with every scan, or with the last so many alone, which is never refused
+-- the report with every scan, or with the last so many alone: whatever the logic, a run begins
 abbrev pub report_observed : Option ℕ → Observed
-report_observed last = record { written = report_written last; may_refuse = ⊥ }
+report_observed last = record { written = report_written last; begins = λ logic. true }
 
 -- what is answered that is written of a run with this logic or with none
 abbrev pub answer_written : Written → PlateData → Option Logic → LogOf → JobAnswer
@@ -45,9 +45,9 @@ answer_written written plate logic log =
     let taken = log_for logic log in
     behind_report (written plate logic taken.refusal taken.rows) taken.refusal
 
--- this is answered of a run, or it is refused to begin with it
+-- this is answered of a run that begins; any other is refused
 abbrev pub IsAnswer : Observed → PlateData → Option Logic → LogOf → JobAnswer → Type 0
-IsAnswer o plate logic log answer = (answer ≡ answer_written o.written plate logic log) ⊎ (o.may_refuse × (answer ≡ refusing 401 0))
+IsAnswer o plate logic log answer = answer ≡ (if o.begins logic then answer_written o.written plate logic log else refusing 401 0)
 
 -- the answer of a run that begins with a text, and has a next one or none
 abbrev pub AnswersPrinting : Observed → PlateData → LogOf → Text → Option Text → JobAnswer → Type 0

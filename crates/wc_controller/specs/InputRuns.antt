@@ -1,5 +1,5 @@
 -- What a run does with its inputs, and how it ends. (The profile's own.)
-use Rattle.std.specs.Prelude.{◌≡◌, ℕ, Option, Some, None, IfSome, IsSome, Result, false, is_some}
+use Rattle.std.specs.Prelude.{◌≡◌, ℕ, Option, Some, None, IfSome, IsSome, Result, true, false, is_some}
 use Rattle.wc_controller.specs.Blames.{Blames, RefusesLog, RefusesProgram}
 use Rattle.wc_controller.specs.Endings.{EndsAs, HasNotFailedIn, IsAt, RefusesPlate, TakesInput, TellsFailures, TellsMemory, TellsReadEndings, TellsWriteFaults, WritesUpTo, ending_of, met}
 use Rattle.wc_controller.specs.Files.{AnswersLine, AnswersRun, Observed}
@@ -90,9 +90,8 @@ pub record RunsUpTo (o : Observed) (before after : InputStates) (told : Record) 
       → TellsMemory (log_taken before) before.log.bytes before.log.failures after.log.failures before.log.spent after.log.spent
   pub failures : TellsWriteFaults (met answer) old.failures new.failures
 
--- So with an observer of whose bytes nothing is said, and which may refuse to begin or may not; of its writer the calls that failed
--- are counted.
-abbrev pub RunsUnsaid : Type 0 → InputStates → InputStates → Record → Ending → ℕ → ℕ → Type 0
-RunsUnsaid may_refuse before after told ending failed_before failed =
-    RunsAs (record { written = text_in_all silent_plan; may_refuse = may_refuse }) before after told ending (record { taken = None; failures = failed_before })
+-- So with an observer of whose bytes nothing is said, and which begins each run; of its writer the calls that failed are counted.
+abbrev pub RunsUnsaid : InputStates → InputStates → Record → Ending → ℕ → ℕ → Type 0
+RunsUnsaid before after told ending failed_before failed =
+    RunsAs (record { written = text_in_all silent_plan; begins = λ logic. true }) before after told ending (record { taken = None; failures = failed_before })
     (record { taken = None; failures = failed })

@@ -1,6 +1,7 @@
 -- What a contract says of the inputs of a run, and of the writer of its output. (The profile's own.)
-use Rattle.std.specs.Prelude.{ℕ, List, Option, Some, None}
+use Rattle.std.specs.Prelude.{ℕ, Bool, List, Option, Some, None}
 use Rattle.wc_controller.specs.Files.{Observed}
+use Rattle.wc_model.specs.Say.ProgramReport.{Logic}
 use Rattle.wc_run.specs.Observing.{Plan, text_in_all}
 
 -- a reader: the bytes that it is going to give, where they are known; its calls that failed; the bytes that it gave and its
@@ -29,9 +30,9 @@ pub record Writer : Type 0 where
 abbrev pub writer_of : {W : Type 0} → (W → Option (List ℕ)) → (W → ℕ) → W → Writer
 writer_of bytes_taken failure_count writer = record { taken = bytes_taken writer; failures = failure_count writer }
 
--- an observer, by what its type says of it: what it writes, and whether it may refuse to begin
-abbrev pub observed_by : {O : Type 0} → (O → Plan) → (O → Type 0) → O → Observed
-observed_by plan may_refuse observer = record { written = text_in_all (plan observer); may_refuse = may_refuse observer }
+-- an observer, by what its type says of it: what it writes, and with which logic it begins
+abbrev pub observed_by : {O : Type 0} → (O → Plan) → (O → Option Logic → Bool) → O → Observed
+observed_by plan begins observer = record { written = text_in_all (plan observer); begins = begins observer }
 
 -- the inputs of a run: with no program no program runs, and the next one is not read
 pub record InputStates : Type 0 where

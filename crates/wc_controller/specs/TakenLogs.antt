@@ -7,10 +7,11 @@ use Rattle.wc_controller.specs.declared.input.Stopped.{Stopped}
 use Rattle.wc_cost.specs.LoadedTexts.{LoadedText}
 use Rattle.wc_job.specs.Reads.{IsWhole}
 use Rattle.wc_model.specs.Language.Loading.{IsLoaded}
+use Rattle.wc_model.specs.Language.Tree.{Text}
 use Rattle.wc_model.specs.Language.Views.{text_view}
 use Rattle.wc_model.specs.Run.Log.{LogOf, log_of}
 use Rattle.wc_model.specs.Say.LogFor.{log_for, log_while}
-use Rattle.wc_model.specs.Say.ProgramReport.{Logic}
+use Rattle.wc_model.specs.Say.ProgramReport.{Logic, first_logic}
 use Rattle.wc_record.specs.Reading.{records_of}
 
 -- with no program: each row up to the first that breaks a rule
@@ -62,6 +63,17 @@ IsNextLoadedOf None None = ⊤
 IsNextLoadedOf None (Some loaded) = ⊥
 IsNextLoadedOf (Some bytes) None = ⊥
 IsNextLoadedOf (Some bytes) (Some loaded) = IsLoaded bytes (text_view loaded.source)
+
+-- this holds of the logic of a first text and the next one, which is loaded from these bytes, where there is one
+abbrev pub OfLogic : Text → Option (List ℕ) → (Option Logic → Type 0) → Type 0
+OfLogic first None said = said (Some (first_logic first None))
+OfLogic first (Some bytes) said = (next : Text) × IsLoaded bytes next × said (Some (first_logic first (Some next)))
+
+-- this holds of the logic of these programs, if their bytes are known
+abbrev pub OfPrograms : Option Reader → Option Reader → (Option Logic → Type 0) → Type 0
+OfPrograms None next said = said None
+OfPrograms (Some program) next said =
+    IfSome program.bytes (λ text. IfKnown next (λ known. (first : Text) × IsLoaded text first × OfLogic first known said))
 
 -- it stopped neither at a job nor at the plate nor at the program: these were read and judged before
 abbrev pub IsLater : {X : Type 0} → Result X Stopped → Type 0

@@ -1,9 +1,9 @@
-ghost use Rattle.std.specs.Prelude.{◌≡◌, [], ℕ, Some, None, Option, IfErr, IfOk, IfSome, IsOkUnless, OnOk, is_some, option_map};
+ghost use Rattle.std.specs.Prelude.{◌≡◌, [], ℕ, true, false, Some, None, Option, IfErr, IfOk, IfSome, IsOkUnless, OnOk, is_some, option_map};
 ghost use Rattle.wc_controller.specs.Blames.{IsNextUnloaded, IsUnloaded, RefusesLog, StopsFor};
 ghost use Rattle.wc_controller.specs.Endings.{HasNotFailedAt, IsReadFaultAt, StopsAt, TellsMemory, TellsWriteFaults, WritesUpTo, begun_input, met};
 ghost use Rattle.wc_controller.specs.Files.{AnswersPrinting, IsLineAnswer, answer_written};
 ghost use Rattle.wc_controller.specs.InputStates.{observed_by, reader_of};
-ghost use Rattle.wc_controller.specs.TakenLogs.{IsLater, IsNextLoadedOf, log_alone, log_beside, log_by};
+ghost use Rattle.wc_controller.specs.TakenLogs.{IsLater, IsNextLoadedOf, OfLogic, log_alone, log_beside, log_by};
 ghost use Rattle.wc_model.specs.Instrument.Plates.{PlateData};
 ghost use Rattle.wc_model.specs.Language.Loading.{IsLoaded};
 ghost use Rattle.wc_model.specs.Language.Views.{text_view};
@@ -112,8 +112,13 @@ fn begin<W: ByteOut, O: Observer<SlotStore, W>>(
     ensures plan { O.plan observer.new ≡ O.plan observer.old }
     ensures seen { OnOk result ((plate : PlateData)
         → O.has_seen observer.new plate (logic_of (loaded_of first.entry) (loaded_of next.entry)) []) }
-    ensures refused { IfErr result
-        (λ stopped. RefusesToBegin (O.may_refuse observer.old) stopped.fault) }
+    ensures begins { OnOk result
+        (O.begins observer.old (logic_of (loaded_of first.entry) (loaded_of next.entry)) ≡ true) }
+    ensures refused { IfErr result (λ stopped. RefusesToBegin
+        (O.begins observer.old (logic_of (loaded_of first.entry) (loaded_of next.entry)))
+        (O.has_refused observer.old observer.new
+        (logic_of (loaded_of first.entry) (loaded_of next.entry)))
+        stopped.fault) }
     ensures input { IfErr result (λ stopped. stopped.input ≡ begun_input stopped.fault) }
 {
     match observer.begin(first, next) {
@@ -194,7 +199,7 @@ pub(crate) fn run_alone<W: ByteOut, O: Observer<SlotStore, W>, L: ByteIn>(
 ) -> Result<(), Stopped>
     requires new { O.is_new observer.old }
     ensures writes { IfSome (L.bytes_left log.old)
-        (λ bytes. WritesUpTo (IsLineAnswer (observed_by O.plan O.may_refuse observer.old) plate.now
+        (λ bytes. WritesUpTo (IsLineAnswer (observed_by O.plan O.begins observer.old) plate.now
         (log_of (records_of bytes)))
         (met result) (said O.speaks (W.bytes_taken writer.old))
         (said O.speaks (W.bytes_taken writer.new))) }
@@ -203,6 +208,8 @@ pub(crate) fn run_alone<W: ByteOut, O: Observer<SlotStore, W>, L: ByteIn>(
     ensures names { StopsAt Input.Names result
         → reader_of L.bytes_left L.failure_count L.spent_count log.new
         ≡ reader_of L.bytes_left L.failure_count L.spent_count log.old }
+    ensures refused { StopsAt Input.Names result
+        → (O.begins observer.old None ≡ false) × O.has_refused observer.old observer.new None }
     ensures blames { StopsFor Input.Log (RefusesLog log_alone (fields_told told.new))
         (L.bytes_left log.old) result }
     ensures read { IsReadFaultAt Input.Log result
@@ -241,7 +248,7 @@ pub(crate) fn run_loaded<W: ByteOut, O: Observer<SlotStore, W>, L: ByteIn>(
     requires new { O.is_new observer.old }
     ensures writes { IfSome (L.bytes_left log.old)
         (λ bytes. WritesUpTo (AnswersNext (option_map (λ text. text.now) programs.entry.next)
-        (AnswersPrinting (observed_by O.plan O.may_refuse observer.old) programs.entry.plate
+        (AnswersPrinting (observed_by O.plan O.begins observer.old) programs.entry.plate
         (log_of (records_of bytes)) (text_view programs.entry.loaded.source)))
         (met result) (said O.speaks (W.bytes_taken writer.old))
         (said O.speaks (W.bytes_taken writer.new))) }
@@ -257,7 +264,10 @@ pub(crate) fn run_loaded<W: ByteOut, O: Observer<SlotStore, W>, L: ByteIn>(
     ensures names { StopsAt Input.Names result
         → reader_of L.bytes_left L.failure_count L.spent_count log.new
         ≡ reader_of L.bytes_left L.failure_count L.spent_count log.old }
-    ensures unnamed { StopsAt Input.Names result → O.may_refuse observer.old }
+    ensures refused { StopsAt Input.Names result → OfLogic
+        (text_view programs.entry.loaded.source) (option_map (λ text. text.now) programs.entry.next)
+        (λ logic. (O.begins observer.old logic ≡ false)
+        × O.has_refused observer.old observer.new logic) }
     ensures later { IsLater result }
     ensures held { ¬ IsReadFaultAt Input.Next result }
     ensures read { IsReadFaultAt Input.Log result

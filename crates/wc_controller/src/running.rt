@@ -1,7 +1,9 @@
-ghost use Rattle.std.specs.Prelude.{◌≤◌};
+ghost use Rattle.std.specs.Prelude.{◌≡◌, ◌≤◌, false};
+ghost use Rattle.wc_controller.specs.Endings.{IsAt, StopsAt};
 ghost use Rattle.wc_controller.specs.Files.{report_observed};
 ghost use Rattle.wc_controller.specs.InputRuns.{RunsAs, RunsUpTo};
 ghost use Rattle.wc_controller.specs.InputStates.{observed_by, writer_of};
+ghost use Rattle.wc_controller.specs.TakenLogs.{OfPrograms};
 ghost use Rattle.wc_record.specs.Told.{fields_told};
 ghost use Rattle.wc_run.specs.Observing.{said_by};
 
@@ -26,7 +28,10 @@ fn run_inputs<P: ByteIn, T: ByteIn, N: ByteIn, L: ByteIn, W: ByteOut, O: Observe
     told: &mut RefusedRow,
 ) -> Result<(), Stopped>
     requires new { O.is_new observer.old }
-    ensures { RunsUpTo (observed_by O.plan O.may_refuse observer.old) inputs.old inputs.new
+    ensures refused { StopsAt Input.Names result → OfPrograms inputs.old.program inputs.old.next
+        (λ logic. (O.begins observer.old logic ≡ false)
+        × O.has_refused observer.old observer.new logic) }
+    ensures runs { RunsUpTo (observed_by O.plan O.begins observer.old) inputs.old inputs.new
         (fields_told told.new) result
         (writer_of (said_by O.speaks W.bytes_taken) W.failure_count writer.old)
         (writer_of (said_by O.speaks W.bytes_taken) W.failure_count writer.new) }
@@ -80,7 +85,11 @@ pub fn run_files<P: ByteIn, T: ByteIn, N: ByteIn, L: ByteIn, W: ByteOut, O: Obse
     told: &mut RefusedRow,
 ) -> Ending
     requires new { O.is_new observer.old }
-    ensures { RunsAs (observed_by O.plan O.may_refuse observer.old) inputs.old inputs.new
+    // The names are refused only of programs with which the observer does not begin.
+    ensures refused { IsAt Input.Names result → OfPrograms inputs.old.program inputs.old.next
+        (λ logic. (O.begins observer.old logic ≡ false)
+        × O.has_refused observer.old observer.new logic) }
+    ensures runs { RunsAs (observed_by O.plan O.begins observer.old) inputs.old inputs.new
         (fields_told told.new) result
         (writer_of (said_by O.speaks W.bytes_taken) W.failure_count writer.old)
         (writer_of (said_by O.speaks W.bytes_taken) W.failure_count writer.new) }

@@ -89,12 +89,12 @@ logic_of first next = option_map (λ loaded. first_logic (text_view loaded.sourc
 abbrev pub loaded_of : Option Program → Option LoadedText
 loaded_of program = option_map (λ p. p.loaded.now) program
 
--- why an observer does not begin: for want of memory, or, where it may refuse to, because a name is unknown
-abbrev pub RefusesToBegin : Type 0 → RunFault → Type 0
-RefusesToBegin may_refuse (Refused number place) = may_refuse × (number ≡ 401) × (place ≡ 0)
-RefusesToBegin may_refuse Read = ⊥
-RefusesToBegin may_refuse Write = ⊥
-RefusesToBegin may_refuse Memory = ⊤
+-- why an observer does not begin: out of memory, or it refuses to, because a name is unknown, and holds what it says of that
+abbrev pub RefusesToBegin : Bool → Type 0 → RunFault → Type 0
+RefusesToBegin begins held (Refused number place) = (begins ≡ false) × held × (number ≡ 401) × (place ≡ 0)
+RefusesToBegin begins held Read = ⊥
+RefusesToBegin begins held Write = ⊥
+RefusesToBegin begins held Memory = ⊤
 
 -- the refusal of that number at that row
 abbrev pub refusal_of : Option (ℕ × ℕ) → Option LogRefusal

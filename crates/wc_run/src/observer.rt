@@ -5,6 +5,7 @@ ghost use Rattle.wc_model.specs.Say.ProgramReport.{Logic};
 ghost use Rattle.wc_run.specs.Doing.{Writes};
 ghost use Rattle.wc_run.specs.Observing.{IsShown, Plan, RefusesToBegin, loaded_of, logic_of, onto, refusal_of, row_of, said};
 ghost use Rattle.wc_run.specs.Runs.{IsNoRefusal, TellsWrites};
+ghost use Rattle.wc_run.specs.Standing.{Stands};
 
 use crate::fault::RunFault;
 use crate::program::Program;
@@ -22,8 +23,11 @@ pub trait Observer<S: Store, W: ByteOut> {
     /// Whether the plan says what the writer takes; else nothing is said of the bytes.
     ghost speaks: { Bool } = { true };
 
-    /// That it may refuse to begin.
-    ghost may_refuse: { Self → Type 0 } = { λ _. ⊥ };
+    /// Whether it begins a run with this logic. If not, it refuses to.
+    ghost begins: { Self → Option Logic → Bool } = { λ _ _. true };
+
+    /// What it holds after it has refused to begin a run with this logic, by what it was before.
+    ghost has_refused: { Self → Self → Option Logic → Type 0 } = { λ _ _ _. ⊤ };
 
     /// That it has seen no row yet.
     ghost is_new: { Self → Type 0 } = { λ _. ⊤ };
@@ -42,12 +46,17 @@ pub trait Observer<S: Store, W: ByteOut> {
         ensures plan { plan self.new ≡ plan self.old }
         ensures seen { OnOk result ((plate : PlateData)
             → has_seen self.new plate (logic_of (loaded_of first.entry) (loaded_of next.entry)) []) }
-        ensures refused { IfErr result (RefusesToBegin (may_refuse self.old)) };
+        ensures begins { OnOk result
+            (begins self.old (logic_of (loaded_of first.entry) (loaded_of next.entry)) ≡ true) }
+        ensures refused { IfErr result (RefusesToBegin
+            (begins self.old (logic_of (loaded_of first.entry) (loaded_of next.entry)))
+            (has_refused self.old self.new
+            (logic_of (loaded_of first.entry) (loaded_of next.entry)))) };
 
     /// Whether it looks at the items that a scan at this moment executes.
     fn looks_at(&self, ms: u64) -> bool;
 
-    /// Is shown a row that was done, and the scale behind it. It fails where the writer does, or for want of memory; the run ends
+    /// Is shown a row that was done, and the scale after it. It fails where the writer does, or for want of memory; the run ends
     /// there.
     fn see(
         &mut self,
@@ -57,11 +66,15 @@ pub trait Observer<S: Store, W: ByteOut> {
     ) -> Result<(), RunFault>
         ensures plan { plan self.new ≡ plan self.old }
         ensures writes { (plate : PlateData) (logic : Option Logic) (past : Past)
-            → IsShown seen.now plate logic past → has_seen self.old plate logic past
+            → IsShown seen.now plate logic past
+            → Stands scale.now plate logic (row_of seen.now ∷ past)
+            → has_seen self.old plate logic past
             → Writes ((plan self.old).at_row plate logic past (row_of seen.now)) result
             (said speaks (W.bytes_taken writer.old)) (said speaks (W.bytes_taken writer.new)) }
         ensures seen { OnOk result ((plate : PlateData) (logic : Option Logic) (past : Past)
-            → IsShown seen.now plate logic past → has_seen self.old plate logic past
+            → IsShown seen.now plate logic past
+            → Stands scale.now plate logic (row_of seen.now ∷ past)
+            → has_seen self.old plate logic past
             → has_seen self.new plate logic (row_of seen.now ∷ past)) }
         ensures held { IfErr result IsNoRefusal }
         ensures failures { TellsWrites result (W.failure_count writer.old)

@@ -18,7 +18,7 @@ pub fn trace_files<P: ByteIn, T: ByteIn, N: ByteIn, L: ByteIn, W: ByteOut>(
     writer: &mut W,
     told: &mut RefusedRow,
 ) -> Ending
-    ensures { RunsUnsaid ⊥ inputs.old inputs.new (fields_told told.new) result
+    ensures { RunsUnsaid inputs.old inputs.new (fields_told told.new) result
         (W.failure_count writer.old) (W.failure_count writer.new) }
 {
     run_files(alloc, &mut Watch::new(alloc, chosen), inputs, writer, told)

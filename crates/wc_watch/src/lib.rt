@@ -1,8 +1,7 @@
 //! A run whose variables are watched, for people: its report, and for each scan of it a line with the values of some variables.
 #![tactic(auto)]
 
-mod last_lines;
-mod lines;
+mod last_texts;
 mod names;
 mod values;
 mod watched;

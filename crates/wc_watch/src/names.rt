@@ -1,9 +1,10 @@
-ghost use Rattle.std.specs.Prelude.{◌+◌, ◌≤◌, length};
+ghost use Rattle.std.specs.Prelude.{◌≡◌, ◌+◌, ◌≤◌, IfOk, IsOkUnless, length, map};
+ghost use Rattle.wc_watch.specs.Names.{is_address, names_in, parts_in};
 
 use std::alloc::Global;
 use wc_model::Fault;
 
-/// A name of a list that no program has: where it stands there.
+/// A name of a list that no program has: where it is in the list.
 #[derive(Clone, Copy, PartialEq, Eq)]
 pub struct UnknownName {
     /// Its first byte, counted from 0.
@@ -12,33 +13,46 @@ pub struct UnknownName {
     pub length: usize,
 }
 
-/// The names of a list, which stand between its commas. `Memory` is the only fault.
-pub(crate) fn names_of<'n>(alloc: Global, list: &'n [u8]) -> Result<Vec<&'n [u8]>, Fault> {
-    let mut names = Vec::new(alloc);
-    for name in list.split(|byte| *byte == b',') {
-        if names.push(name).is_err() {
-            return Err(Fault::Memory);
-        }
+/// The names of a list, which are between its commas. `Memory` is the only fault.
+pub(crate) fn names_of<'n>(alloc: Global, list: &'n [u8]) -> Result<Vec<&'n [u8]>, Fault>
+    ensures names { IfOk result (λ names. map (λ name. name.now) names.items ≡ names_in list.now) }
+    ensures memory { IsOkUnless result Fault.Memory }
+{
+    match list.split(|byte| *byte == b',').collect(alloc) {
+        Ok(names) => Ok(names),
+        Err(_) => Err(Fault::Memory),
     }
-    Ok(names)
 }
 
-/// Where the name of that number, counted from 0, stands in a list.
-pub(crate) fn name_at(list: &[u8], index: usize) -> UnknownName
-    ensures { result.start + result.length ≤ length list.now }
+/// The parts of a name, which are between its dots. `Memory` is the only fault.
+pub(crate) fn parts_of<'n>(alloc: Global, name: &'n [u8]) -> Result<Vec<&'n [u8]>, Fault>
+    ensures parts { IfOk result (λ parts. map (λ part. part.now) parts.items ≡ parts_in name.now) }
+    ensures memory { IsOkUnless result Fault.Memory }
 {
-    let mut start = 0_usize;
-    let mut length = 0_usize;
-    for name in list
-        .split(|byte| *byte == b',')
-        .take(index.saturating_add(1))
-    {
-        start = start.saturating_add(length);
-        length = name.len().saturating_add(1);
+    match name.split(|byte| *byte == b'.').collect(alloc) {
+        Ok(parts) => Ok(parts),
+        Err(_) => Err(Fault::Memory),
     }
-    let start = start.min(list.len());
+}
+
+/// Whether a name is an address.
+pub(crate) fn is_address(name: &[u8]) -> bool
+    ensures { result ≡ is_address name.now }
+{
+    match name.first() {
+        Some(byte) => *byte == b'%',
+        None => false,
+    }
+}
+
+/// A name that is in a list, or the first bytes of the list that it has.
+pub(crate) fn within(name: UnknownName, list: &[u8]) -> UnknownName
+    ensures inside { result.start + result.length ≤ length list.now }
+    ensures same { name.start + name.length ≤ length list.now → result ≡ name }
+{
+    let start = name.start.min(list.len());
     UnknownName {
         start,
-        length: length.saturating_sub(1).min(list.len() - start),
+        length: name.length.min(list.len() - start),
     }
 }

@@ -1,9 +1,13 @@
-ghost use Rattle.std.specs.Prelude.{◌≡◌, ◌≤◌, ◌+◌, ⊤, true, false, length, IfErr, IfOk, IfSome};
+ghost use Rattle.std.specs.Prelude.{◌≡◌, ◌≤◌, ◌+◌, true, false, length, IfErr, IfOk, IfSome};
 ghost use Rattle.wc_controller.specs.Endings.{IsAt};
-ghost use Rattle.wc_controller.specs.InputRuns.{RunsUnsaid, TakesInputs};
+ghost use Rattle.wc_controller.specs.InputRuns.{RunsAs, TakesInputs};
+ghost use Rattle.wc_controller.specs.InputStates.{writer_of};
+ghost use Rattle.wc_controller.specs.TakenLogs.{OfPrograms};
 ghost use Rattle.wc_record.specs.Told.{fields_told};
+ghost use Rattle.wc_watch.specs.Runs.{watch_observed};
+ghost use Rattle.wc_watch.specs.Unknown.{IsFirstUnknown};
 
-use crate::names::{UnknownName, name_at};
+use crate::names::{UnknownName, within};
 use crate::watcher::Watcher;
 use std::alloc::Global;
 use wc_controller::{Ending, Input, RefusedRow, RunInputs, run_files};
@@ -22,15 +26,15 @@ fn is_at_names(ending: &Ending) -> bool
 }
 
 /// Runs a log with a program as `run_files` does, and watches variables: it writes the report, with every scan or the last `last`
-/// alone, 1 to 1000, and behind the line of each scan one with the values of the variables. It begins with `V` and the moment,
-/// and has each name with `=` and the value behind the scan, as the language writes it; the names are as they are spelled in the
-/// list, which has commas between them. A name is an address, or leads from the program through instances to a variable, with a
-/// dot behind each instance. Where a change of the program is possible a name may be that of a variable of the first or of the
-/// next program; a line has the names of the program that runs.
+/// alone, 1 to 1000, and behind the line of each scan one with the values of the variables. It begins with `V` and the
+/// milliseconds, and has each name with `=` and the value in the store that the scan left, as the language writes it; the names
+/// are as they are spelled in the list, which has commas between them. A name is an address, or leads from the program through
+/// instances to a variable or to an input or output of a standard block, with a dot behind each instance. Where a change of the
+/// program is possible a name may be that of a variable of the first or of the next program; a line has the names of the program
+/// that runs.
 ///
-/// A name that no program has is refused before the first row, and the line of the refusal is written. A write fault and out of
-/// memory end the run, as they end that of a report. No clause says what is written: `Machine::number` says which number stands
-/// at a place, and `Loaded::place` at which place a variable does.
+/// The first name of the list that no program has is refused before the first row, and the line of the refusal is written. A
+/// write fault and out of memory end the run, as they end that of a report.
 pub fn watch_files<P: ByteIn, T: ByteIn, N: ByteIn, L: ByteIn, W: ByteOut>(
     alloc: Global,
     names: &[u8],
@@ -40,12 +44,17 @@ pub fn watch_files<P: ByteIn, T: ByteIn, N: ByteIn, L: ByteIn, W: ByteOut>(
     told: &mut RefusedRow,
 ) -> Result<Ending, UnknownName>
     requires few { IfSome last (λ n. (1 ≤ n) × (n ≤ 1000)) }
-    // A name is refused before the log is read.
-    ensures unknown { IfErr result (λ name. (name.start + name.length ≤ length names.now)
-        × (inputs.new.log ≡ inputs.old.log)) }
-    ensures runs { IfOk result (λ ending.
-        RunsUnsaid ⊤ inputs.old inputs.new (fields_told told.new) ending
-        (W.failure_count writer.old) (W.failure_count writer.new)) }
+    // The name is the first one of the list that no program has.
+    ensures unknown { IfErr result (λ name. OfPrograms inputs.old.program inputs.old.next
+        (λ logic. IsFirstUnknown names.now logic name)) }
+    ensures inside { IfErr result (λ name. name.start + name.length ≤ length names.now) }
+    // It is refused before the log is read.
+    ensures unread { IfErr result (λ name. inputs.new.log ≡ inputs.old.log) }
+    // If a name is unknown, no run begins: `RunsAs` allows then the line of that refusal alone.
+    ensures runs { IfOk result (λ ending. RunsAs (watch_observed names.now last)
+        inputs.old inputs.new (fields_told told.new) ending
+        (writer_of W.bytes_taken W.failure_count writer.old)
+        (writer_of W.bytes_taken W.failure_count writer.new)) }
     // So no ending names them.
     ensures named { IfOk result (λ ending. ¬ (IsAt Input.Names ending)) }
     ensures taken { TakesInputs inputs.old inputs.new }
@@ -56,7 +65,7 @@ pub fn watch_files<P: ByteIn, T: ByteIn, N: ByteIn, L: ByteIn, W: ByteOut>(
     };
     let ending = run_files(alloc, &mut watcher, inputs, writer, told);
     if is_at_names(&ending) {
-        return Err(name_at(names, watcher.unknown()));
+        return Err(within(watcher.unknown(), names));
     }
     Ok(ending)
 }

@@ -1,4 +1,4 @@
-use Rattle.std.proofs.Common.{◌≡◌, ap, subst}
+use Rattle.std.proofs.Common.{◌≡◌, ap, subst, true}
 use Rattle.std.specs.Prelude.{IfErr, is_some, option_map}
 use Rattle.wc_controller.proofs.Blaming.{stops_known}
 use Rattle.wc_controller.proofs.Givings.{logged}
@@ -23,7 +23,7 @@ returns-clause-writes g c =
     let old = g.W.ByteOut.bytes_taken c.args.writer.now in
     let new = g.W.ByteOut.bytes_taken c.run_loaded.new.writer in
     logged held c.args.programs.plate (log_of (records_of c.args.log.now)) first (met c.run_loaded.result) old new
-    (subst (λ log. WritesUpTo (AnswersNext held (AnswersPrinting (record { written = text_in_all report_plan; may_refuse = ⊥ }) c.args.programs.plate (log_of (records_of log)) first))
+    (subst (λ log. WritesUpTo (AnswersNext held (AnswersPrinting (record { written = text_in_all report_plan; begins = λ logic. true }) c.args.programs.plate (log_of (records_of log)) first))
     (met c.run_loaded.result) old new) (ap (λ log. log.now) c.new-reader.ensures.inner) c.run_loaded.ensures.writes)
 
 pub returns-clause-blames_log : goal.returns-clause-blames_log

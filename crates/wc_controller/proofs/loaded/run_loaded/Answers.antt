@@ -1,8 +1,9 @@
-use Rattle.std.proofs.Common.{[], Some, subst}
+use Rattle.std.proofs.Common.{◌≡◌, ◌∙◌, [], Some, subst, sym, true}
 use Rattle.std.specs.Prelude.{option_map}
 use Rattle.wc_controller.proofs.Allowing.{on_each, on_known}
 use Rattle.wc_controller.proofs.Blaming.{taken_beside}
 use Rattle.wc_controller.proofs.Givings.{answered_so, next_loaded, next_unloaded, not_begun}
+use Rattle.wc_controller.proofs.RefusedNames.{next_refused}
 use Rattle.wc_controller.proofs.loaded.run_loaded.Goals as goal
 use Rattle.wc_controller.specs.Blames.{RefusesLog, StopsFor}
 use Rattle.wc_controller.specs.Endings.{met, of_no_cause}
@@ -15,41 +16,45 @@ use Rattle.wc_model.specs.Say.ProgramReport.{first_logic}
 use Rattle.wc_record.specs.Reading.{records_of}
 use Rattle.wc_record.specs.Told.{fields_told}
 use Rattle.wc_run.specs.Logics.{text_of_next}
-use Rattle.wc_run.specs.Observing.{logic_of, said_by}
+use Rattle.wc_run.specs.Observing.{RefusesToBegin, logic_of, said_by}
 
 pub returns-in-Err-clause-writes : goal.returns-in-Err-clause-writes
 returns-in-Err-clause-writes g c =
     let o = g.O.Observer in
     on_each (g.L.ByteIn.bytes_left c.args.log.now) _
     (λ bytes. next_unloaded (option_map (λ text. text.now) c.args.programs.next)
-    (AnswersPrinting (observed_by o.plan o.may_refuse c.args.observer.now) c.args.programs.plate (log_of (records_of bytes)) (text_view c.args.programs.loaded.source))
+    (AnswersPrinting (observed_by o.plan o.begins c.args.observer.now) c.args.programs.plate (log_of (records_of bytes)) (text_view c.args.programs.loaded.source))
     c.in-Err.stopped.fault (said_by o.speaks g.W.ByteOut.bytes_taken c.args.writer.now) c.in-Err.ensures.refused)
 
 pub returns-in-Err-begin-clause-writes : goal.returns-in-Err-begin-clause-writes
 returns-in-Err-begin-clause-writes g c =
     let o = g.O.Observer in
-    let observed = observed_by o.plan o.may_refuse c.args.observer.now in
+    let observed = observed_by o.plan o.begins c.args.observer.now in
     let first = text_view c.args.programs.loaded.source in
     let held = option_map (λ text. text.now) c.args.programs.next in
     let old = said_by o.speaks g.W.ByteOut.bytes_taken c.args.writer.now in
     let why = c.in-Err-begin.stopped.fault in
+    let logic = Some (first_logic first (text_of_next c.in-Ok.next)) in
+    let refused = subst (λ next. RefusesToBegin (o.begins c.args.observer.now (logic_of (Some c.args.programs.loaded) next)) (o.has_refused c.args.observer.now c.begin.new.observer (logic_of (Some c.args.programs.loaded) next)) why)
+    c.next_program.ensures c.in-Err-begin.ensures.refused in
     on_each (g.L.ByteIn.bytes_left c.args.log.now) _
     (λ bytes. next_loaded held c.in-Ok.next (AnswersPrinting observed c.args.programs.plate (log_of (records_of bytes)) first) (Some why) old old c.in-Ok.ensures.loaded
-    (not_begun observed c.args.programs.plate (Some (first_logic first (text_of_next c.in-Ok.next))) (log_of (records_of bytes)) why old c.in-Err-begin.ensures.refused))
+    (not_begun observed c.args.programs.plate logic (log_of (records_of bytes)) (o.has_refused c.args.observer.now c.begin.new.observer logic) why old refused))
 
 pub returns-in-Ok-scale_of-clause-writes : goal.returns-in-Ok-scale_of-clause-writes
 returns-in-Ok-scale_of-clause-writes g c =
     let o = g.O.Observer in
-    let observed = observed_by o.plan o.may_refuse c.args.observer.now in
+    let observed = observed_by o.plan o.begins c.args.observer.now in
     let first = text_view c.args.programs.loaded.source in
     let held = option_map (λ text. text.now) c.args.programs.next in
     let logic = first_logic first (text_of_next c.in-Ok.next) in
     let old = said_by o.speaks g.W.ByteOut.bytes_taken c.args.writer.now in
     let new = said_by o.speaks g.W.ByteOut.bytes_taken c.run_scale.new.writer in
     let seen = subst (λ next. o.has_seen c.begin.new.observer c.args.programs.plate (logic_of (Some c.args.programs.loaded) next) []) c.next_program.ensures (c.in_default.ensures.seen c.args.programs.plate) in
+    let begins = subst (λ next. o.begins c.args.observer.now (logic_of (Some c.args.programs.loaded) next) ≡ true) c.next_program.ensures c.in_default.ensures.begins in
     on_known (g.L.ByteIn.bytes_left c.args.log.now) _ _
     (λ bytes told. next_loaded held c.in-Ok.next (AnswersPrinting observed c.args.programs.plate (log_of (records_of bytes)) first) (met c.run_scale.result) old new c.in-Ok.ensures.loaded
-    (answered_so observed c.args.programs.plate (Some logic) (log_of (records_of bytes)) (met c.run_scale.result) old new (rw c.begin.ensures.plan at told)))
+    (answered_so observed c.args.programs.plate (Some logic) (log_of (records_of bytes)) (met c.run_scale.result) old new begins (rw c.begin.ensures.plan at told)))
     (c.run_scale.ensures.writes c.args.programs.plate (Some logic) c.in-Ok-scale_of.ensures.stands seen)
 
 pub returns-in-Ok-scale_of-clause-blames_log : goal.returns-in-Ok-scale_of-clause-blames_log
@@ -65,3 +70,13 @@ returns-in-Ok-scale_of-clause-blames_log g c =
 
 pub returns-in-Ok-scale_of-clause-memory : goal.returns-in-Ok-scale_of-clause-memory
 returns-in-Ok-scale_of-clause-memory g c = λ e. of_no_cause (c.run_scale.ensures.memory e)
+
+pub returns-in-Err-begin-clause-refused : goal.returns-in-Err-begin-clause-refused
+returns-in-Err-begin-clause-refused g c = λ at.
+    let o = g.O.Observer in
+    let first = text_view c.args.programs.loaded.source in
+    let held = option_map (λ text. text.now) c.args.programs.next in
+    let why = c.in-Err-begin.stopped.fault in
+    let refused = subst (λ next. RefusesToBegin (o.begins c.args.observer.now (logic_of (Some c.args.programs.loaded) next)) (o.has_refused c.args.observer.now c.begin.new.observer (logic_of (Some c.args.programs.loaded) next)) why)
+    c.next_program.ensures c.in-Err-begin.ensures.refused in
+    next_refused first held c.in-Ok.next (o.begins c.args.observer.now) (o.has_refused c.args.observer.now c.begin.new.observer) why c.in-Ok.ensures.loaded (sym c.in-Err-begin.ensures.input ∙ at) refused

@@ -1,19 +1,26 @@
 use Rattle.wc_controller.proofs.EndedRuns.{run_ended}
 use Rattle.wc_controller.proofs.Givings.{ends_said}
+use Rattle.wc_controller.proofs.RefusedNames.{stopped_at_names}
 use Rattle.wc_controller.proofs.running.run_files.Goals as goal
 use Rattle.wc_controller.specs.InputStates.{observed_by, writer_of}
 use Rattle.wc_record.specs.Told.{fields_told}
 use Rattle.wc_run.specs.Observing.{said_by}
 
-pub returns : goal.returns
-returns g c =
+pub returns-clause-runs : goal.returns-clause-runs
+returns-clause-runs g c =
     let speaks = g.O.Observer.speaks in
     let taken = g.W.ByteOut.bytes_taken in
     let failures = g.W.ByteOut.failure_count in
     let writer = writer_of (said_by speaks taken) failures in
-    let ran = c.run_inputs-answer.ensures in
-    run_ended (observed_by g.O.Observer.plan g.O.Observer.may_refuse c.args.observer.now) c.args.inputs.now c.run_inputs-answer.new.inputs (fields_told c.run_inputs-answer.new.told)
+    let ran = c.run_inputs-answer.ensures.runs in
+    run_ended (observed_by g.O.Observer.plan g.O.Observer.begins c.args.observer.now) c.args.inputs.now c.run_inputs-answer.new.inputs (fields_told c.run_inputs-answer.new.told)
     c.run_inputs-answer.result c.end.result
     (writer c.args.writer.now) (writer c.run_inputs-answer.new.writer) (writer c.end.new.writer)
     ran (ends_said speaks c.run_inputs-answer.result c.end.result (taken c.run_inputs-answer.new.writer) (taken c.end.new.writer) c.end.ensures.ends)
     (c.end.ensures.failures (failures c.args.writer.now) ran.failures)
+
+pub returns-clause-refused : goal.returns-clause-refused
+returns-clause-refused g c = λ at.
+    let taken = g.W.ByteOut.bytes_taken in
+    c.run_inputs-answer.ensures.refused
+    (stopped_at_names c.run_inputs-answer.result c.end.result (taken c.run_inputs-answer.new.writer) (taken c.end.new.writer) c.end.ensures.ends at)

@@ -1,58 +1,60 @@
-use Rattle.std.proofs.Common.{◌≡◌, List, ℕ, subst}
+use Rattle.std.proofs.Common.{◌≡◌, List, ℕ, false, subst}
 use Rattle.std.specs.Prelude.{IfErr, IfSome, Option, Some, Err, is_some, option_map}
+use Rattle.wc_controller.proofs.RefusedNames.{alone_read, programs_read}
 use Rattle.wc_controller.proofs.RunSteps.{at_line, at_log, at_next, at_plate, at_program, at_text}
 use Rattle.wc_controller.proofs.running.run_inputs.Goals as goal
 use Rattle.wc_controller.specs.Blames.{IsNextUnloaded, IsUnloaded, RefusesLog, StopsFor}
 use Rattle.wc_controller.specs.Endings.{TellsMemory, WritesUpTo, met}
 use Rattle.wc_controller.specs.Files.{AnswersPrinting}
 use Rattle.wc_controller.specs.InputRuns.{RunsUpTo}
-use Rattle.wc_controller.specs.InputStates.{inputs_of, observed_by, optional_of, reader_of, writer_of}
-use Rattle.wc_controller.specs.TakenLogs.{AreReadOf, log_beside}
+use Rattle.wc_controller.specs.InputStates.{InputStates, inputs_of, observed_by, optional_of, reader_of, writer_of}
+use Rattle.wc_controller.specs.TakenLogs.{AreReadOf, OfLogic, OfPrograms, log_beside}
 use Rattle.wc_controller.specs.declared.input.Input.TheVariants as input
 use Rattle.wc_model.specs.Language.Loading.{IsLoaded}
 use Rattle.wc_model.specs.Language.Views.{text_view}
 use Rattle.wc_model.specs.Run.Log.{log_of}
 use Rattle.wc_model.specs.Say.Job.{AnswersNext}
+use Rattle.wc_model.specs.Say.ProgramReport.{Logic}
 use Rattle.wc_record.specs.Reading.{records_of}
 use Rattle.wc_record.specs.Told.{fields_told}
 use Rattle.wc_run.specs.Observing.{said_by}
 use Rattle.wc_run.specs.declared.fault.RunFault.TheVariants as fault
 
-pub returns-in-Err : goal.returns-in-Err
-returns-in-Err g c =
+pub returns-in-Err-clause-runs : goal.returns-in-Err-clause-runs
+returns-in-Err-clause-runs g c =
     let plate = reader_of g.P.ByteIn.bytes_left g.P.ByteIn.failure_count g.P.ByteIn.spent_count in
     let program = optional_of g.T.ByteIn.bytes_left g.T.ByteIn.failure_count g.T.ByteIn.spent_count c.inputs.inside.program in
     let next = optional_of g.N.ByteIn.bytes_left g.N.ByteIn.failure_count g.N.ByteIn.spent_count c.inputs.inside.next in
     let log = reader_of g.L.ByteIn.bytes_left g.L.ByteIn.failure_count g.L.ByteIn.spent_count c.inputs.inside.log in
     let writer = writer_of (said_by g.O.Observer.speaks g.W.ByteOut.bytes_taken) g.W.ByteOut.failure_count c.args.writer.now in
-    let observed = observed_by g.O.Observer.plan g.O.Observer.may_refuse c.args.observer.now in
+    let observed = observed_by g.O.Observer.plan g.O.Observer.begins c.args.observer.now in
     let told = fields_told c.args.told.now in
     subst (λ before. RunsUpTo observed before (inputs_of (plate c.read_plate.new.reader) program next log) told (Err c.in-Err.stopped) writer writer) c.inputs.view_is
     (at_plate observed told (plate c.inputs.inside.plate) (plate c.read_plate.new.reader) program program next next log c.in-Err.stopped writer
     c.in-Err.ensures.input c.in-Err.ensures.plate c.in-Err.ensures.failures c.in-Err.ensures.taken (c.in-Err.ensures.silent (g.W.ByteOut.failure_count c.args.writer.now)))
 
-pub returns-in-Err-read_optional : goal.returns-in-Err-read_optional
-returns-in-Err-read_optional g c =
+pub returns-in-Err-read_optional-clause-runs : goal.returns-in-Err-read_optional-clause-runs
+returns-in-Err-read_optional-clause-runs g c =
     let plate = reader_of g.P.ByteIn.bytes_left g.P.ByteIn.failure_count g.P.ByteIn.spent_count in
     let program = optional_of g.T.ByteIn.bytes_left g.T.ByteIn.failure_count g.T.ByteIn.spent_count in
     let next = optional_of g.N.ByteIn.bytes_left g.N.ByteIn.failure_count g.N.ByteIn.spent_count c.inputs.inside.next in
     let log = reader_of g.L.ByteIn.bytes_left g.L.ByteIn.failure_count g.L.ByteIn.spent_count c.inputs.inside.log in
     let writer = writer_of (said_by g.O.Observer.speaks g.W.ByteOut.bytes_taken) g.W.ByteOut.failure_count c.args.writer.now in
-    let observed = observed_by g.O.Observer.plan g.O.Observer.may_refuse c.args.observer.now in
+    let observed = observed_by g.O.Observer.plan g.O.Observer.begins c.args.observer.now in
     let told = fields_told c.args.told.now in
     subst (λ before. RunsUpTo observed before (inputs_of (plate c.read_plate.new.reader) (program c.read_optional.new.reader) next log) told (Err c.in-Err-read_optional.stopped) writer writer) c.inputs.view_is
     (at_program observed told (plate c.inputs.inside.plate) (plate c.read_plate.new.reader) (program c.inputs.inside.program) (program c.read_optional.new.reader) next next log c.in-Err-read_optional.stopped writer
     c.in-Ok.plate c.in-Ok.ensures.plate (c.in-Ok.ensures.failures.1 (λ none. none)) c.in-Ok.ensures.taken
     c.in-Err-read_optional.ensures.input c.in-Err-read_optional.ensures.too_long c.in-Err-read_optional.ensures.there c.in-Err-read_optional.ensures.failures c.in-Err-read_optional.ensures.taken)
 
-pub returns-in-None : goal.returns-in-None
-returns-in-None g c =
+pub returns-in-None-clause-runs : goal.returns-in-None-clause-runs
+returns-in-None-clause-runs g c =
     let plate = reader_of g.P.ByteIn.bytes_left g.P.ByteIn.failure_count g.P.ByteIn.spent_count in
     let program = optional_of g.T.ByteIn.bytes_left g.T.ByteIn.failure_count g.T.ByteIn.spent_count in
     let next = optional_of g.N.ByteIn.bytes_left g.N.ByteIn.failure_count g.N.ByteIn.spent_count c.inputs.inside.next in
     let log = reader_of g.L.ByteIn.bytes_left g.L.ByteIn.failure_count g.L.ByteIn.spent_count in
     let writer = writer_of (said_by g.O.Observer.speaks g.W.ByteOut.bytes_taken) g.W.ByteOut.failure_count in
-    let observed = observed_by g.O.Observer.plan g.O.Observer.may_refuse c.args.observer.now in
+    let observed = observed_by g.O.Observer.plan g.O.Observer.begins c.args.observer.now in
     let told = fields_told c.run_alone.new.told in
     let after = inputs_of (plate c.read_plate.new.reader) (program c.read_optional.new.reader) next (log c.run_alone.new.log) in
     let read = c.in-Ok-read_optional.ensures in
@@ -64,14 +66,14 @@ returns-in-None g c =
     (subst (λ (text : Option _). AreReadOf (program c.inputs.inside.program) (option_map (λ held. held.items) text)) c.in-None.is read.whole)
     said.writes said.later said.no_next said.names said.blames said.read said.memory said.reader said.failures)
 
-pub returns-in-Err-load_input : goal.returns-in-Err-load_input
-returns-in-Err-load_input g c =
+pub returns-in-Err-load_input-clause-runs : goal.returns-in-Err-load_input-clause-runs
+returns-in-Err-load_input-clause-runs g c =
     let plate = reader_of g.P.ByteIn.bytes_left g.P.ByteIn.failure_count g.P.ByteIn.spent_count in
     let program = optional_of g.T.ByteIn.bytes_left g.T.ByteIn.failure_count g.T.ByteIn.spent_count in
     let next = optional_of g.N.ByteIn.bytes_left g.N.ByteIn.failure_count g.N.ByteIn.spent_count c.inputs.inside.next in
     let log = reader_of g.L.ByteIn.bytes_left g.L.ByteIn.failure_count g.L.ByteIn.spent_count c.inputs.inside.log in
     let writer = writer_of (said_by g.O.Observer.speaks g.W.ByteOut.bytes_taken) g.W.ByteOut.failure_count c.args.writer.now in
-    let observed = observed_by g.O.Observer.plan g.O.Observer.may_refuse c.args.observer.now in
+    let observed = observed_by g.O.Observer.plan g.O.Observer.begins c.args.observer.now in
     let told = fields_told c.args.told.now in
     let read = c.in-Ok-read_optional.ensures in
     let stopped = c.in-Err-load_input.stopped in
@@ -82,14 +84,14 @@ returns-in-Err-load_input g c =
     c.in-Err-load_input.ensures.input (subst (λ text. IsUnloaded text stopped.fault) c.deref.ensures.value c.in-Err-load_input.ensures.refused)
     (c.in-Err-load_input.ensures.silent (g.W.ByteOut.failure_count c.args.writer.now)))
 
-pub returns-in-Err-read_optional-2 : goal.returns-in-Err-read_optional-2
-returns-in-Err-read_optional-2 g c =
+pub returns-in-Err-read_optional-2-clause-runs : goal.returns-in-Err-read_optional-2-clause-runs
+returns-in-Err-read_optional-2-clause-runs g c =
     let plate = reader_of g.P.ByteIn.bytes_left g.P.ByteIn.failure_count g.P.ByteIn.spent_count in
     let program = optional_of g.T.ByteIn.bytes_left g.T.ByteIn.failure_count g.T.ByteIn.spent_count in
     let next = optional_of g.N.ByteIn.bytes_left g.N.ByteIn.failure_count g.N.ByteIn.spent_count in
     let log = reader_of g.L.ByteIn.bytes_left g.L.ByteIn.failure_count g.L.ByteIn.spent_count c.inputs.inside.log in
     let writer = writer_of (said_by g.O.Observer.speaks g.W.ByteOut.bytes_taken) g.W.ByteOut.failure_count c.args.writer.now in
-    let observed = observed_by g.O.Observer.plan g.O.Observer.may_refuse c.args.observer.now in
+    let observed = observed_by g.O.Observer.plan g.O.Observer.begins c.args.observer.now in
     let told = fields_told c.args.told.now in
     let read = c.in-Ok-read_optional.ensures in
     let said = c.in-Err-read_optional-2.ensures in
@@ -102,14 +104,14 @@ returns-in-Err-read_optional-2 g c =
     first (subst (λ text. IsLoaded text first) c.deref.ensures.value c.in-Ok-load_input.ensures.loaded)
     said.input said.too_long said.there said.failures said.taken)
 
-pub returns : goal.returns
-returns g c =
+pub returns-clause-runs : goal.returns-clause-runs
+returns-clause-runs g c =
     let plate = reader_of g.P.ByteIn.bytes_left g.P.ByteIn.failure_count g.P.ByteIn.spent_count in
     let program = optional_of g.T.ByteIn.bytes_left g.T.ByteIn.failure_count g.T.ByteIn.spent_count in
     let next = optional_of g.N.ByteIn.bytes_left g.N.ByteIn.failure_count g.N.ByteIn.spent_count in
     let log = reader_of g.L.ByteIn.bytes_left g.L.ByteIn.failure_count g.L.ByteIn.spent_count in
     let writer = writer_of (said_by g.O.Observer.speaks g.W.ByteOut.bytes_taken) g.W.ByteOut.failure_count in
-    let observed = observed_by g.O.Observer.plan g.O.Observer.may_refuse c.args.observer.now in
+    let observed = observed_by g.O.Observer.plan g.O.Observer.begins c.args.observer.now in
     let told = fields_told c.run_loaded.new.told in
     let after = inputs_of (plate c.read_plate.new.reader) (program c.read_optional.new.reader) (next c.read_optional-2.new.reader) (log c.run_loaded.new.log) in
     let read = c.in-Ok-read_optional.ensures in
@@ -135,3 +137,27 @@ returns g c =
     said.unread said.names said.later said.held said.read
     (subst (λ (known : Option (List ℕ)). met result ≡ Some fault.Memory → TellsMemory (log_beside (is_some known)) old.bytes old.failures new.failures old.spent new.spent) c.lent.ensures said.memory)
     said.reader said.failures)
+
+pub returns-in-None-clause-refused : goal.returns-in-None-clause-refused
+returns-in-None-clause-refused g c = λ at.
+    let program = optional_of g.T.ByteIn.bytes_left g.T.ByteIn.failure_count g.T.ByteIn.spent_count in
+    let next = optional_of g.N.ByteIn.bytes_left g.N.ByteIn.failure_count g.N.ByteIn.spent_count in
+    let holds = λ (logic : Option Logic). (g.O.Observer.begins c.args.observer.now logic ≡ false) × g.O.Observer.has_refused c.args.observer.now c.run_alone.new.observer logic in
+    subst (λ (before : InputStates). OfPrograms before.program before.next holds) c.inputs.view_is
+    (alone_read (program c.inputs.inside.program) (next c.inputs.inside.next) holds
+    (subst (λ (text : Option _). AreReadOf (program c.inputs.inside.program) (option_map (λ held. held.items) text)) c.in-None.is c.in-Ok-read_optional.ensures.whole)
+    (c.run_alone.ensures.refused at))
+
+pub returns-clause-refused : goal.returns-clause-refused
+returns-clause-refused g c = λ at.
+    let program = optional_of g.T.ByteIn.bytes_left g.T.ByteIn.failure_count g.T.ByteIn.spent_count in
+    let next = optional_of g.N.ByteIn.bytes_left g.N.ByteIn.failure_count g.N.ByteIn.spent_count in
+    let holds = λ (logic : Option Logic). (g.O.Observer.begins c.args.observer.now logic ≡ false) × g.O.Observer.has_refused c.args.observer.now c.run_loaded.new.observer logic in
+    let held = option_map (λ held. held.items) c.in-Ok-read_optional-2.other in
+    let first = text_view c.in-Ok-load_input.loaded.source in
+    subst (λ (before : InputStates). OfPrograms before.program before.next holds) c.inputs.view_is
+    (programs_read (program c.inputs.inside.program) (next c.inputs.inside.next) c.in-Some.text.items held first holds
+    (subst (λ (text : Option _). AreReadOf (program c.inputs.inside.program) (option_map (λ held. held.items) text)) c.in-Some.is c.in-Ok-read_optional.ensures.whole)
+    c.in-Ok-read_optional-2.ensures.whole
+    (subst (λ text. IsLoaded text first) c.deref.ensures.value c.in-Ok-load_input.ensures.loaded)
+    (subst (λ (known : Option (List ℕ)). OfLogic first known holds) c.lent.ensures (c.run_loaded.ensures.refused at)))

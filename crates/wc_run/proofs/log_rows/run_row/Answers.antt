@@ -17,10 +17,11 @@ returns-clause-does g c = λ plate logic past stands seen.
     let lines = subst (λ answer. lines_of_row plate logic past row ≡ answer_line c.args.row.ms answer ++ lines_of_scan c.in_ok-scan.scan) (sym c.deref.ensures.value)
     (c.in_ok-scan.ensures.lines plate logic past stands) in
     let items = c.in_ok-scan.ensures.items plate logic past stands in
+    let stood = c.in_ok-scan.ensures.stands plate logic past stands in
     does_row c.see.result o.has_seen (o.plan c.args.observer.now) plate logic past row c.take.new.self c.see.new.self (taken c.args.writer.now) (taken c.see.new.writer)
-    (c.in_ok-scan.ensures.runs plate logic past stands) (c.in_ok-scan.ensures.stands plate logic past stands)
-    (on_ok_of _ _ c.see.result (λ says. says plate logic past (record { lines = lines; items = items }) seen) c.see.ensures.seen)
-    (c.see.ensures.writes plate logic past (record { lines = lines; items = items }) seen)
+    (c.in_ok-scan.ensures.runs plate logic past stands) stood
+    (on_ok_of _ _ c.see.result (λ says. says plate logic past (record { lines = lines; items = items }) stood seen) c.see.ensures.seen)
+    (c.see.ensures.writes plate logic past (record { lines = lines; items = items }) stood seen)
 
 pub returns-in_err-scan-clause-does : goal.returns-in_err-scan-clause-does
 returns-in_err-scan-clause-does g c = λ plate logic past stands seen.

@@ -5,5 +5,5 @@ use Rattle.wc_run.proofs.last_scans.LastScansObserver.see.Goals as goal
 pub returns-clause-seen : goal.returns-clause-seen
 returns-clause-seen g c =
     on_ok _ c.write_text.result
-    (λ plate logic past shown holds.
+    (λ plate logic past shown stood holds.
     keeps_scan c.args.seen.now c.args.self.now.recorder c.keep_scan.new.recorder c.args.self.now.number plate logic past shown c.keep_scan.ensures holds)
