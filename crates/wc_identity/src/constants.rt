@@ -7,7 +7,7 @@ macro_rules! with_constants {
             "0.1.0",
             "rattle-kit-13 logic dac8208d650f15bf",
             "087613ac477c8b88ca0f6716c05be58ec188e5ba21a02872838f0064433a3224",
-            "d8a6be83e7957702123d2e4fc16b791e4d01ae1dec87cea16b7e9f8b99ee3122"
+            "f84d5b5413305f262b902d10db15fc34a3913bd529044b32af55a18c30b49842"
         )
     };
 }

@@ -1,5 +1,5 @@
 -- What a `?` returns: the fault that it met, as the fault of the caller.
-use Rattle.std.proofs.Common.{◌≡◌, Result, Ok, Err, ap, sym, subst}
+use Rattle.std.proofs.Common.{◌≡◌, Result, Ok, Err, sym, subst}
 use Rattle.std.specs.Result.{IsErr, IsErrAnd}
 
 -- what holds of a fault holds of what `?` returns of it

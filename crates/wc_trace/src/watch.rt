@@ -1,4 +1,4 @@
-ghost use Rattle.std.specs.Prelude.{◌≡◌, IsOkUnless};
+ghost use Rattle.std.specs.Prelude.{IsOkUnless};
 
 use crate::chosen::Chosen;
 use crate::legend::Legend;

@@ -1,5 +1,3 @@
-use Rattle.std.proofs.Common.{Err}
-use Rattle.std.proofs.KnownBytes.{Keeps-refl}
 use Rattle.wc_controller.proofs.Refusals.{checks_refused}
 use Rattle.wc_controller.proofs.checking.check.Goals as goal
 use Rattle.wc_controller.specs.Checking.{Checks}
