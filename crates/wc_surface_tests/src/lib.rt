@@ -10,6 +10,8 @@ mod changes;
 #[cfg(test)]
 mod feeds;
 #[cfg(test)]
+mod files;
+#[cfg(test)]
 mod instrument;
 #[cfg(test)]
 mod loaded;

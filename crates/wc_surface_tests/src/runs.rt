@@ -88,7 +88,11 @@ fn prints_bounds(alloc: Global) -> bool {
 }
 
 /// A log of three scans, of which the first and the last come after an edge.
-const LOG: &[u8] = b"ms,kind,data\n0,I,0001\n0,S,\n10,S,\n20,I,0002\n20,S,\n";
+pub(crate) const LOG: &[u8] = b"ms,kind,data\n0,I,0001\n0,S,\n10,S,\n20,I,0002\n20,S,\n";
+
+/// What is printed of its scans.
+pub(crate) const SCANS: &[u8] =
+    b"S 0 21 0000 1 0 0 0\nS 10 18 0000 1 0 0 0\nS 20 21 0000 1 1 0 0\n";
 
 /// Over a store all scans are printed.
 fn prints_all<S: Store>(alloc: Global, plate: &Plate) -> bool {
@@ -104,8 +108,7 @@ fn prints_all<S: Store>(alloc: Global, plate: &Plate) -> bool {
         &mut Device::new(LOG),
         &mut writer,
     );
-    let all = b"S 0 21 0000 1 0 0 0\nS 10 18 0000 1 0 0 0\nS 20 21 0000 1 1 0 0\n";
-    answer == Ok(5) && writer.get_ref().as_slice() == all.as_slice()
+    answer == Ok(5) && writer.get_ref().as_slice() == SCANS
 }
 
 /// Over a store the last scan is printed.
