@@ -2,7 +2,7 @@
 ghost use Rattle.std.specs.Prelude.{◌≡◌, IfOk};
 
 use std::alloc::Global;
-use wc_controller::{RunFault, load, run, run_fault_of};
+use wc_controller::{RunFault, load, run};
 use wc_cost::Loaded;
 use wc_job::Sections;
 use wc_machine::Machine;
@@ -38,21 +38,16 @@ fn run_over<'a, S: Store>(
     job: &Sections<'a>,
     writer: &mut Device<Vec<u8>>,
 ) -> Result<u32, RunFault> {
-    let machine = match machine_of::<S>(alloc, job.program) {
-        Ok(machine) => machine,
-        Err(fault) => return Err(run_fault_of(fault)),
-    };
-    match load_next(alloc, job.next) {
-        Ok(next) => run(
-            alloc,
-            plate,
-            Some(machine),
-            next,
-            &mut Device::new(job.log),
-            writer,
-        ),
-        Err(fault) => Err(run_fault_of(fault)),
-    }
+    let machine = machine_of::<S>(alloc, job.program)?;
+    let next = load_next(alloc, job.next)?;
+    run(
+        alloc,
+        plate,
+        Some(machine),
+        next,
+        &mut Device::new(job.log),
+        writer,
+    )
 }
 
 /// Whether a run ended by a fault that is no refusal. Its reader and writer are in memory, so memory is the cause.
@@ -73,7 +68,7 @@ pub(crate) fn report_of_both(
 ) -> Option<Result<u32, RunFault>> {
     let plate = match plate(alloc, job.plate) {
         Ok(plate) => plate,
-        Err(fault) => return Some(Err(run_fault_of(fault))),
+        Err(fault) => return Some(Err(RunFault::from(fault))),
     };
     let mut other = Device::new(Vec::new(alloc));
     let answer = run_over::<SlotStore>(alloc, &plate, job, report);

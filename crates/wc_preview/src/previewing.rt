@@ -120,7 +120,10 @@ fn preview_inputs<T: ByteIn, N: ByteIn, W: ByteOut>(
     ensures taken_next { TakesAtMost (longest_job + 1) (N.bytes_left next.old)
         (N.bytes_left next.new) }
 {
-    let text = read_input(alloc, Input::Program, program)?;
+    let text = match read_input(alloc, Input::Program, program) {
+        Ok(text) => text,
+        Err(stopped) => return Err(stopped),
+    };
     let loaded = match load(alloc, &text) {
         Ok(loaded) => loaded,
         Err(fault) => {
@@ -130,8 +133,10 @@ fn preview_inputs<T: ByteIn, N: ByteIn, W: ByteOut>(
             });
         }
     };
-    let other = read_input(alloc, Input::Next, next)?;
-    preview_next(alloc, paths, &loaded, &other, writer)
+    match read_input(alloc, Input::Next, next) {
+        Ok(other) => preview_next(alloc, paths, &loaded, &other, writer),
+        Err(stopped) => Err(stopped),
+    }
 }
 
 /// Looks at a change of the program before it is made: the old program is read and judged first, then the new one; then the
