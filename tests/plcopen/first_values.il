@@ -1,0 +1,10 @@
+(* d is %QX0.3 *)
+PROGRAM Values
+VAR
+    a : DINT := 16#FF;
+    b : BOOL := TRUE;
+    c : TIME := T#-1s;
+END_VAR
+LD b
+ST %QX0.3
+END_PROGRAM
