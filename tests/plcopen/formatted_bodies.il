@@ -1,5 +1,5 @@
 PROGRAM Lines
-LD %IX0.0
+LD %IX0.0 (* départ *)
   AND(
   LD %ID1
   GT 5
