@@ -1,0 +1,35 @@
+FUNCTION_BLOCK Middle
+VAR_INPUT
+    GO : BOOL;
+END_VAR
+VAR_OUTPUT
+    DONE : BOOL;
+END_VAR
+VAR
+    t : TON;
+    wait : TIME := T#1s500ms;
+END_VAR
+CAL t(IN := GO, PT := wait, Q => DONE)
+END_FUNCTION_BLOCK
+
+FUNCTION_BLOCK Top
+VAR_INPUT
+    GO : BOOL;
+END_VAR
+VAR_OUTPUT
+    DONE : BOOL;
+END_VAR
+VAR
+    m : Middle;
+END_VAR
+CAL m(GO := GO, DONE => DONE)
+END_FUNCTION_BLOCK
+
+(* go is %I0.3 *)
+(* done is %q0.1 *)
+PROGRAM Main
+VAR
+    top : Top;
+END_VAR
+CAL top(GO := %I0.3, DONE => %q0.1)
+END_PROGRAM
