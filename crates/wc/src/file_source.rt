@@ -1,3 +1,5 @@
+ghost use Rattle.std.specs.Io.{ReadsAtMost};
+
 use crate::desk::Desk;
 use crate::output::{Gathered, empty_first};
 use std::cell::RefCell;
@@ -35,7 +37,9 @@ impl<'a> FileSource<'a> {
     }
 
     /// Opens the file, unless it is open, and reads.
-    fn read_file(&mut self, buffer: &mut [u8]) -> io::Result<usize> {
+    fn read_file(&mut self, buffer: &mut [u8]) -> io::Result<usize>
+        ensures { ReadsAtMost result buffer.new }
+    {
         if self.file.is_none() {
             self.file = Some(open_again(self.rt, self.path)?);
         }
