@@ -13,7 +13,8 @@ use wc_devices::{Keeping, Noting};
 use wc_model::Device;
 use wc_picture::show_files;
 use wc_preview::preview_files;
-use wc_trace::{Chosen, trace_files};
+use wc_refusals::Form;
+use wc_trace::{Chosen, TraceForm, trace_files};
 use wc_watch::{UnknownName, watch_files};
 use wc_words::{ProgramFiles, ScanChoice};
 
@@ -223,7 +224,15 @@ fn scans_of(chosen: ScanChoice) -> Chosen {
     }
 }
 
-/// Runs the log in a file with a program, and where one is given the next one, and shows the scans that are chosen: the exit
+/// How scans are written: for programs if refusals are.
+fn trace_form(form: Form) -> TraceForm {
+    match form {
+        Form::Json => TraceForm::Json,
+        Form::Long | Form::Short => TraceForm::Text,
+    }
+}
+
+/// Runs the log in a file with a program, and the next one if it is given, and shows the scans that are chosen: the exit
 /// status.
 pub(crate) fn trace_words(
     desk: Desk<'_>,
@@ -242,6 +251,7 @@ pub(crate) fn trace_words(
     let ending = trace_files(
         desk.rt.alloc(),
         scans_of(chosen),
+        trace_form(desk.form),
         &mut opened.inputs,
         &mut Device::new(Sharing::new(desk.gathered)),
         row,

@@ -5,6 +5,8 @@
 
 mod finding;
 mod lines;
+mod mistakes;
+mod near;
 mod pieces;
 mod plates;
 mod programs;

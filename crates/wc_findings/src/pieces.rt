@@ -1,3 +1,4 @@
+use crate::mistakes::is_bare_duration;
 use wc_refusals::Case;
 
 /// Two underscores stand in a row.
@@ -40,6 +41,8 @@ fn is_decimal(text: &[u8]) -> bool {
 fn case_of_number(text: &[u8]) -> Case {
     if text.len() == 1 {
         Case::SignAlone
+    } else if is_bare_duration(text) {
+        Case::NoDuration
     } else if text.contains(&b'#') {
         Case::WithBase
     } else if text.contains(&b'.') {
@@ -58,6 +61,7 @@ pub(crate) const BYTE_ORDER_MARK: &[u8] = b"\xef\xbb\xbf";
 pub(crate) fn case_of_piece(number: u16, text: &[u8], piece: &[u8]) -> Case {
     match (number, piece.first()) {
         (101, _) if text.starts_with(BYTE_ORDER_MARK) => Case::ByteOrderMark,
+        (101, _) if text.starts_with(b"\xff\xfe") || text.starts_with(b"\xfe\xff") => Case::Utf16,
         (101, Some(byte)) => Case::Byte(*byte),
         (104, _) => case_of_word(piece),
         (105, _) => case_of_number(piece),

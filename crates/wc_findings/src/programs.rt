@@ -6,6 +6,8 @@ ghost use Rattle.wc_refusal_places.specs.ReadingSpots.{StopsReading};
 
 use crate::finding::Finding;
 use crate::lines::{behind, column_at, front, piece};
+use crate::mistakes::{mistake_at, names_type};
+use crate::near::{advice_for, operator_advice};
 use crate::pieces::{BYTE_ORDER_MARK, case_of_piece};
 use std::alloc::{AllocError, Global};
 use wc_built_in::{Keyword, keyword_named};
@@ -34,17 +36,6 @@ fn case_of_token(token: &[u8]) -> Case {
     }
 }
 
-/// What to write where a token can't stand, if there is more to say than what could stand there.
-fn hint_at(token: &[u8], awaits: Awaits) -> Case {
-    match (awaits, token.first()) {
-        (Awaits::Nothing, _) => Case::AfterProgram,
-        (Awaits::Field, Some(b'0'..=b'9')) => Case::NoAddress,
-        (Awaits::LineEnd, Some(b')')) => Case::Closing,
-        (Awaits::CommaPointOrClosing | Awaits::CommaOrClosing, Some(_)) => Case::NoVariable,
-        _ => Case::Unknown,
-    }
-}
-
 /// In which way a rule is broken at a piece of the text, which goes on like `text`.
 fn case_at(number: u16, text: &[u8], span: RefusalSpan) -> Case {
     let token = front(text, span.length);
@@ -52,6 +43,7 @@ fn case_at(number: u16, text: &[u8], span: RefusalSpan) -> Case {
         (101..=107, _) => case_of_piece(number, text, token),
         (201, Awaits::LabelColon) => case_of_word(token),
         (201..=208, _) => case_of_token(token),
+        (401, _) if names_type(token) => Case::BlockType,
         _ => span.case,
     }
 }
@@ -87,9 +79,13 @@ fn point_to_piece(
     let case = case_at(number, behind(text, span.start), span);
     let length = quoted_length(number, case, span.length);
     finding.tell(piece(text, span.start, length), case)?;
-    if number == 201 && !matches!(span.awaits, Awaits::LabelColon) {
-        finding.hint = hint_at(piece(text, span.start, span.length), span.awaits);
-    }
+    finding.hint = mistake_at(text, number, span, case);
+    let word = piece(text, span.start, span.length);
+    finding.advice = match (number, finding.hint) {
+        (201, Case::NoOperator) => operator_advice(alloc, word)?,
+        (401, Case::Plain) => advice_for(alloc, text, word, span.start)?,
+        _ => String::new(alloc),
+    };
     Ok(())
 }
 

@@ -95,6 +95,26 @@ fn unfit_value(kind: Option<Kind>, formal: Kind, is_bit: bool) -> Option<Case> {
     }
 }
 
+/// In which way a name of a call's list is none that the block has in that direction.
+fn unknown_formal(
+    tables: &Tables<'_>,
+    declared: DeclaredType,
+    direction: Direction,
+    name: &[u8],
+) -> Case {
+    let (other, mistaken) = match direction {
+        Direction::Into => (Direction::OutOf, Case::OutputAssigned),
+        Direction::OutOf => (Direction::Into, Case::InputArrow),
+    };
+    if tables.formal(declared, other, name).is_some() {
+        return mistaken;
+    }
+    match declared {
+        DeclaredType::Standard(block) => Case::NotOfBlock(block),
+        _ => Case::Plain,
+    }
+}
+
 /// What is meant in one of a call's list that breaks the rule, if it does.
 fn meant_in_item<'a>(
     tables: &Tables<'a>,
@@ -104,9 +124,11 @@ fn meant_in_item<'a>(
     number: u16,
     item: Item,
 ) -> Option<InCall> {
-    let formal = tables.formal(declared, item.direction, text_at(tokens, item.name));
+    let name = text_at(tokens, item.name);
+    let formal = tables.formal(declared, item.direction, name);
     if number == 409 && formal.is_none() {
-        return Some(at_index(item.name, Case::Plain));
+        let case = unknown_formal(tables, declared, item.direction, name);
+        return Some(at_index(item.name, case));
     }
     let piece = tokens_at(tokens, item.value, item.count);
     let into = item.direction == Direction::Into;

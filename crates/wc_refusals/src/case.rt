@@ -1,6 +1,6 @@
-use wc_model::Kind;
+use wc_model::{Kind, StandardBlock};
 
-/// In which way the rule of a refusal's number is broken. What each means says its sentence (`sentence_of`).
+/// In which way the rule of a refusal's number is broken. What each means says its sentence (`sentence_of`) or its hint (`hint_of`).
 #[derive(Clone, Copy)]
 pub enum Case {
     /// It is not known, or nothing is quoted.
@@ -36,10 +36,12 @@ pub enum Case {
     NoInstance,
     /// An operand of that kind, which its operator never takes.
     Untaken(Kind),
-    /// An operand of that kind, where the result is of another.
+    /// An operand of that kind after a result of another kind.
     Unlike(Kind),
-    /// A value or a target of the first kind, where the input or the output is of the second.
+    /// A value or a target of the first kind for an input or an output of the second.
     Unpassed(Kind, Kind),
+    /// A name in a call's list that this standard block does not have.
+    NotOfBlock(StandardBlock),
     /// An operator that does not take the result.
     Result,
     Deferred,
@@ -63,4 +65,42 @@ pub enum Case {
     Inputs,
     OddDigits,
     Change,
+    // Mistakes that have a hint of their own.
+    Utf16,
+    LineComment,
+    NotAscii,
+    Bracket,
+    Quote,
+    Brace,
+    DecimalComma,
+    NoDuration,
+    Semicolon,
+    SecondOperator,
+    NegatedOperand,
+    ConditionSpelling,
+    InputOperator,
+    InstanceCall,
+    StructuredText,
+    StatementList,
+    Assignment,
+    SectionQualifier,
+    OpenSection,
+    ListBelow,
+    MissingComma,
+    AtAddress,
+    SmallInteger,
+    RealNumber,
+    TextType,
+    FallingEdge,
+    DownCounter,
+    Marker,
+    NoSuchWord,
+    NoSuchBit,
+    BlockType,
+    InputArrow,
+    OutputAssigned,
+    InputAddress,
+    LiteralTarget,
+    OutputTarget,
+    AtLabel,
 }

@@ -6,6 +6,7 @@ mod awaits;
 mod case;
 mod catalogue;
 mod form;
+mod hints;
 mod sentences;
 mod values;
 
@@ -13,5 +14,6 @@ pub use awaits::{Awaits, words_of};
 pub use case::Case;
 pub use catalogue::{Entry, entry_of};
 pub use form::Form;
-pub use sentences::{hint_of, sentence_of};
+pub use hints::hint_of;
+pub use sentences::sentence_of;
 pub use values::{Values, text_with};

@@ -14,7 +14,9 @@ macro_rules! text_among {
     };
 }
 
-/// What is said of a refusal of that number in that case, mostly of the piece that is quoted before it; nothing where the
+pub(crate) use text_among;
+
+/// What is said of a refusal of that number in that case, mostly of the piece of the text that is quoted before it; nothing if the
 /// number's own sentence says all.
 pub fn sentence_of(number: u16, case: Case) -> Option<&'static str>
     ensures { IsSome result → is_refusal number ≡ true }
@@ -37,16 +39,17 @@ fn token_sentence(number: u16, case: Case) -> Option<&'static str> {
     text_among! {
         number, case;
         101, Case::ByteOrderMark => "is a byte order mark, and a program has none";
+        101, Case::Utf16 => "begins a text in UTF-16";
         101, _ => "is not allowed here";
         104, Case::DoubleUnderscore => "has two underscores in a row";
         104, Case::LastUnderscore => "has an underscore at its end";
         104, _ => "has more than 32 characters";
-        105, Case::SignAlone => "is a sign with no number behind it";
-        105, Case::WithBase => "is no literal of a type or a base, or is out of range";
-        105, Case::WithPoint => "has a point, and numbers are whole";
+        105, Case::SignAlone => "is a sign without a number";
+        105, Case::WithBase => "is not a valid literal, or is out of range";
+        105, Case::WithPoint => "has a point, but numbers are whole";
         105, Case::OutOfRange => "is out of range";
-        105, _ => "is no number";
-        106, _ => "is no duration, or is out of range";
+        105, _ => "is not a number";
+        106, _ => "is not a valid duration, or is out of range";
     }
 }
 
@@ -55,12 +58,12 @@ fn reading_sentence(number: u16, case: Case) -> Option<&'static str> {
     text_among! {
         number, case;
         201, Case::LeftOut => "is a word of the standard that this language leaves out";
-        201, Case::SectionWord => "begins no line of a body";
+        201, Case::SectionWord => "cannot begin a line of a body";
         201, Case::UnitEnd => "is not the end of this unit";
-        201, Case::NoOperator => "is no operator";
+        201, Case::NoOperator => "is not an operator";
         201, Case::LineEnd => "the line can't end here";
         201, _ => "can't stand here";
-        203, Case::UnitWord => "a unit stands behind the PROGRAM";
+        203, Case::UnitWord => "there is a unit after the PROGRAM";
         206, Case::Closing => "no parenthesis is open here";
         206, _ => "the parenthesis is not closed";
         208, Case::UnitWord => "there are more than 64 units";
@@ -73,14 +76,14 @@ fn declaration_sentence(number: u16, case: Case) -> Option<&'static str> {
     text_among! {
         number, case;
         301, _ => "is declared twice";
-        302, _ => "is no type that may stand here";
-        303, _ => "is no initial value of this type";
-        304, _ => "is no address of this machine";
-        305, _ => "may not stand in a function block";
+        302, _ => "is not a type that can be used here";
+        303, _ => "is not an initial value of this type";
+        304, _ => "is not an address of this machine";
+        305, _ => "cannot be used in a function block";
         306, Case::Variable => "is one variable more than the 256 that a unit may have";
         306, _ => "makes a frame of more than 4096 places";
         307, _ => "is a reserved word";
-        308, _ => "is a function block that is not closed above";
+        308, _ => "is a function block that is not complete above this line";
     }
 }
 
@@ -88,16 +91,17 @@ fn declaration_sentence(number: u16, case: Case) -> Option<&'static str> {
 fn piece_sentence(number: u16, case: Case) -> Option<&'static str> {
     text_among! {
         number, case;
-        401, Case::Field => "is no field of an instance";
-        401, Case::Watched => "is no variable of the program";
+        401, Case::Field => "is not a field of an instance";
+        401, Case::BlockType => "is the name of a type, not of an instance";
+        401, Case::Watched => "is not a variable of the program";
         401, _ => "is not declared in this unit";
-        404, _ => "may not be written";
-        405, _ => "may not be read";
-        406, _ => "is the label of no line below";
+        404, _ => "cannot be written";
+        405, _ => "cannot be read";
+        406, _ => "is not the label of a line below";
         407, _ => "labels two lines of this body";
-        408, Case::Deferred => "may not be deferred by a parenthesis";
-        408, _ => "is no divisor";
-        409, _ => "is no input or output of this block that may be named so";
+        408, Case::Deferred => "cannot be deferred by a parenthesis";
+        408, _ => "is not a valid divisor";
+        409, _ => "is not an input or output of this block that can be used so";
         410, _ => "is named twice in this call";
     }
 }
@@ -107,7 +111,7 @@ fn kind_sentence(number: u16, case: Case) -> Option<&'static str> {
     text_among! {
         number, case;
         402, Case::Instance => "is an instance, and has no value of its own";
-        402, Case::NoInstance => "is no instance of a function block";
+        402, Case::NoInstance => "is not an instance of a function block";
         402, Case::Untaken(Kind::Bool) => "is a BOOL, which this operator does not take";
         402, Case::Untaken(Kind::Dint) => "is a DINT, which this operator does not take";
         402, Case::Untaken(Kind::Time) => "is a TIME, which this operator does not take";
@@ -129,7 +133,7 @@ fn kind_sentence(number: u16, case: Case) -> Option<&'static str> {
 fn plate_sentence(number: u16, case: Case) -> Option<&'static str> {
     text_among! {
         number, case;
-        502, Case::UnknownKey => "is no key of a plate";
+        502, Case::UnknownKey => "is not a key of a plate";
         502, Case::MissingKey => "is missing";
         502, Case::NoText => "must be a text";
         502, Case::NoWholeNumber => "must be a whole number";
@@ -149,48 +153,22 @@ fn log_sentence(number: u16, case: Case) -> Option<&'static str> {
         601, Case::Semicolons => "the row has semicolons where commas should stand";
         601, _ => "the row has fewer than three fields";
         602 | 603, Case::Missing => "the moment is missing";
-        602, Case::NoNumber => "is no whole number of milliseconds";
+        602, Case::NoNumber => "is not a whole number of milliseconds";
         602, Case::TooLong => "has more than 13 digits";
         602, _ => "is above 1099511627775, the last moment";
         603, _ => "is before the moment of the row above";
         604, Case::Missing => "the kind is missing";
-        604, Case::SmallLetter => "is no kind: kinds are capital letters";
-        604, _ => "is no kind";
+        604, Case::SmallLetter => "is not a kind: kinds are capital letters";
+        604, _ => "is not a kind";
         605, Case::Missing => "the counts are missing";
-        605, Case::NoNumber => "is no whole number";
+        605, Case::NoNumber => "is not a whole number";
         605, Case::TooLong => "has more than 10 digits";
         605, _ => "is not from -8388608 to 8388607";
-        606, Case::NoDigit => "is no hexadecimal digit";
+        606, Case::NoDigit => "is not a hexadecimal digit";
         606, Case::Inputs => "the inputs are not four hexadecimal digits";
         606, Case::OddDigits => "the number of hexadecimal digits is odd";
         606, _ => "the data is longer than 4096 bytes";
-        608, Case::Change => "stands behind a change, which has no data";
-        608, Case::Plain => "stands behind a scan, which has no data";
-    }
-}
-
-/// What to write in place of what a refusal of that number refuses in that case; nothing where the number's own hint says all.
-pub fn hint_of(number: u16, case: Case) -> Option<&'static str>
-    ensures { IsSome result → is_refusal number ≡ true }
-{
-    text_among! {
-        number, case;
-        101, Case::ByteOrderMark => "save the text as ASCII, or as UTF-8 without a byte order mark";
-        101, Case::Byte(b'=') => "to store a result write ST, to compare write EQ, GE or LE; a declaration and a call have :=";
-        101, Case::Byte(b'>') => "to compare write GT or GE";
-        101, Case::Byte(b'<') => "to compare write LT, LE or NE";
-        101, Case::Byte(b'*') => "to multiply write MUL; a comment is (* .. *)";
-        101, Case::Byte(b'/') => "to divide write DIV; a comment is (* .. *)";
-        101, Case::Byte(b'#') => "a # belongs to a literal, as 16#FF or T#5s";
-        101, Case::Byte(b'\r') => "a line ends with LF or CR LF";
-        201, Case::SectionWord => "declarations stand before the first line of a body";
-        201, Case::UnitEnd => "a PROGRAM ends with END_PROGRAM, a FUNCTION_BLOCK with END_FUNCTION_BLOCK";
-        201, Case::NoOperator => "the operators are LD, ST, AND, OR and XOR, also with N, S, R, NOT, ADD, SUB, MUL, DIV, MOD, GT, GE, EQ, NE, LE, LT, and JMP, CAL and RET, also with C or CN; a block is called by CAL; a label has `:` behind it";
-        201, Case::AfterProgram => "nothing stands behind the END_PROGRAM of the program";
-        201, Case::NoAddress => "an address begins with `%`, as %IX0.0";
-        201, Case::Closing => "a `)` stands on a line of its own";
-        201, Case::NoVariable => "an input takes a variable, an address, a field or a literal: compute it on lines before, and store it";
-        401, Case::Field => "behind the point stands an input or an output of an instance, as t.Q";
-        401, Case::Watched => "name a variable, or a field behind its instance, as `t.ET`, with commas and no spaces between";
+        608, Case::Change => "follows a change, which has no data";
+        608, Case::Plain => "follows a scan, which has no data";
     }
 }

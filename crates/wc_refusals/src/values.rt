@@ -5,6 +5,8 @@ use std::alloc::{AllocError, Global};
 pub enum Values<'a> {
     /// The line of the first of two that have one name.
     FirstLine(u32),
+    /// A declared name that is spelled almost alike.
+    Near(&'a str),
     /// A key of a plate that is missing, where another is unknown.
     MissingKey(&'a str),
     /// A unit, decimals, and the scale intervals that are allowed with both, with commas between.
@@ -19,6 +21,7 @@ pub enum Values<'a> {
 pub fn text_with(alloc: Global, values: Values<'_>) -> Result<String, AllocError> {
     match values {
         Values::FirstLine(line) => format!(in alloc; "the first stands on line {line}"),
+        Values::Near(name) => format!(in alloc; "did you mean `{name}`?"),
         Values::MissingKey(key) => format!(in alloc; "{key} is missing"),
         Values::Interval(unit, decimals, allowed) if allowed.is_empty() => {
             format!(in alloc;

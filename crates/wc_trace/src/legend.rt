@@ -94,6 +94,11 @@ impl Legend {
         }
     }
 
+    /// How many places the program's frame has.
+    pub(crate) fn places(&self) -> usize {
+        self.kinds.len()
+    }
+
     /// The kind of a place of the instance that begins there.
     pub(crate) fn kind(&self, base: usize, place: Place) -> Option<Kind> {
         match self.kinds.get(base.saturating_add(usize::from(place.0))) {

@@ -101,7 +101,7 @@ impl BodyLevel {
                 legend.kind(seen.base, target),
                 legend.note(seen.source, self.items),
             ),
-            Code::Standard { .. } => (None, legend.note(seen.source, 0)),
+            Code::Call { .. } | Code::Standard { .. } => (None, legend.note(seen.source, 0)),
             _ => (None, None),
         };
         Said {

@@ -1,16 +1,23 @@
-//! A run whose scans are watched, for people: of each scan that is chosen a row for each item that it executes, with its line
-//! of the text, the result behind it and what it wrote.
+//! A run whose scans are shown item by item: for people as rows in columns, for programs as JSON. Of each item that a chosen
+//! scan executes it gives the line of the text, the result after it and what it wrote.
 #![tactic(auto)]
 
+mod block_calls;
 mod chosen;
+mod item;
+mod items;
 mod kinds;
 mod legend;
 mod levels;
 mod notes;
+mod objects;
 mod rows;
+mod shown_scan;
+mod trace_form;
+mod tracer;
 mod tracing;
 mod values;
-mod watch;
 
 pub use chosen::Chosen;
+pub use trace_form::TraceForm;
 pub use tracing::trace_files;

@@ -1,21 +1,26 @@
 ghost use Rattle.std.specs.Prelude.{IsOkUnless};
 
+use crate::block_calls::{block_of, number_in};
+use crate::item::Item;
+use crate::items::{Items, is_argument};
 use crate::legend::Legend;
-use crate::levels::{Levels, Said};
+use crate::shown_scan::ShownScan;
 use crate::values::value_of;
 use std::alloc::Global;
+use wc_built_in::standard_fields;
 use wc_changes::put_value;
-use wc_machine::SeenLine;
-use wc_model::{Code, Fault, Kind, put_bytes};
+use wc_machine::{Machine, SeenLine};
+use wc_model::{Code, Fault, Kind, Place, Section, put_bytes};
 use wc_report::put_number;
+use wc_store::SlotStore;
 
-/// The column at which the result of a row begins, and that of what it writes, each counted from its first.
+/// The column at which the result of a row starts, and that of what it writes, each counted from 0.
 const RESULT: usize = 44;
 
 const WRITTEN: usize = 58;
 
-/// How many bytes of a line are shown at most.
-const LONGEST: usize = 72;
+/// The number of columns of a line number.
+const NUMBER: usize = 6;
 
 /// Puts so many spaces.
 fn put_spaces(text: &mut Vec<u8>, count: usize) -> Result<(), Fault>
@@ -44,28 +49,33 @@ fn printable(byte: u8) -> u8 {
     }
 }
 
-/// Puts bytes as they are shown.
+/// Puts bytes as they are shown, and a single space for several.
 fn put_shown(text: &mut Vec<u8>, bytes: &[u8]) -> Result<(), Fault>
     ensures memory { IsOkUnless result Fault.Memory }
 {
+    let mut before = b' ';
     for byte in bytes {
-        put_bytes(text, &[printable(*byte)])?;
+        let shown = printable(*byte);
+        if shown != b' ' || before != b' ' {
+            put_bytes(text, &[shown])?;
+        }
+        before = shown;
     }
     Ok(())
 }
 
-/// Puts a line of the text without the blanks at its ends, or the first part of one that is long.
-fn put_line(text: &mut Vec<u8>, line: &[u8]) -> Result<(), Fault>
+/// Puts a line of the text without the blanks at its ends. If it does not fit into that many columns
+/// its first part is put, and two dots.
+fn put_line(text: &mut Vec<u8>, line: &[u8], columns: usize) -> Result<(), Fault>
     ensures memory { IsOkUnless result Fault.Memory }
 {
-    let line = line.trim_ascii();
-    match line.get(..LONGEST) {
-        Some(first) if first.len() < line.len() => {
-            put_shown(text, first)?;
-            put_bytes(text, b"..")
-        }
-        _ => put_shown(text, line),
+    let start = text.len();
+    put_shown(text, line.trim_ascii())?;
+    if text.len().saturating_sub(start) <= columns {
+        return Ok(());
     }
+    text.truncate(start.saturating_add(columns.saturating_sub(2)));
+    put_bytes(text, b"..")
 }
 
 /// How many spaces stand before a number in six columns.
@@ -88,29 +98,30 @@ fn put_aligned(text: &mut Vec<u8>, number: u32) -> Result<(), Fault>
     put_number(text, u64::from(number))
 }
 
-/// Whether a flat line is a line of the body itself, and no part of a call.
+/// Whether a flat line is a line of a body itself, and no part of a call.
 fn is_body_line(line: &Code) -> bool {
     match line {
-        Code::ArgumentNumber { .. } | Code::ArgumentPlace { .. } => false,
         Code::Standard { .. } | Code::Body { .. } => false,
-        _ => true,
+        _ => !is_argument(line),
     }
 }
 
-/// Puts the number of the line and its text, or room for the number beside a part of a call; deeper calls stand further right.
+/// Puts the number of the line and its text, or spaces for a part of a call. What a block of the
+/// text executes is two columns further right for each call.
 fn put_place(text: &mut Vec<u8>, legend: &Legend, seen: &SeenLine) -> Result<(), Fault>
     ensures memory { IsOkUnless result Fault.Memory }
 {
     let indent = 2 + 2 * seen.depth.min(8) as usize;
     if !is_body_line(&seen.line) {
-        return put_spaces(text, 6 + indent);
+        return put_spaces(text, NUMBER + indent);
     }
     put_aligned(text, seen.source)?;
     put_spaces(text, indent)?;
-    put_line(text, legend.line(seen.source))
+    let columns = RESULT.saturating_sub(NUMBER + indent + 2);
+    put_line(text, legend.line(seen.source), columns)
 }
 
-/// Puts a number as a literal of its kind, or in digits where none is known.
+/// Puts a number as a literal of its kind, or in digits if the kind is not known.
 fn put_literal(
     alloc: Global,
     text: &mut Vec<u8>,
@@ -126,29 +137,67 @@ fn put_literal(
     put_value(alloc, text, value_of(kind, number))
 }
 
-/// Puts what a row writes: a place and its value, or that a standard block is called.
+/// Puts the name of a field in capital letters, as the standard has it.
+pub(crate) fn put_field_name(text: &mut Vec<u8>, name: &[u8]) -> Result<(), Fault>
+    ensures memory { IsOkUnless result Fault.Memory }
+{
+    for letter in name {
+        put_bytes(text, &[letter.to_ascii_uppercase()])?;
+    }
+    Ok(())
+}
+
+/// Puts the outputs of the standard block that an item has called.
+fn put_outputs(
+    alloc: Global,
+    text: &mut Vec<u8>,
+    legend: &Legend,
+    machine: &Machine<'_, SlotStore>,
+    item: &Item,
+) -> Result<(), Fault>
+    ensures memory { IsOkUnless result Fault.Memory }
+{
+    let Some((block, first)) = block_of(&item.seen) else {
+        return Ok(());
+    };
+    for (number, field) in standard_fields(block).iter().enumerate() {
+        let place = first.saturating_add(number);
+        if let (Section::Output, Some(value)) = (field.section, number_in(machine, place)) {
+            put_bytes(text, b" ")?;
+            put_field_name(text, field.name)?;
+            put_bytes(text, b"=")?;
+            put_literal(alloc, text, legend.kind(place, Place(0)), value)?;
+        }
+    }
+    Ok(())
+}
+
+/// Puts what an item writes: a place and its value, or that a standard block is called, with the
+/// outputs after its last call in the scan.
 fn put_written(
     alloc: Global,
     text: &mut Vec<u8>,
     legend: &Legend,
-    seen: &SeenLine,
-    said: &Said,
+    machine: &Machine<'_, SlotStore>,
+    item: &Item,
 ) -> Result<(), Fault>
     ensures memory { IsOkUnless result Fault.Memory }
 {
-    if let Some(note) = &said.note {
+    if let Some(note) = &item.said.note {
         put_bytes(text, legend.name(note))?;
     }
-    match seen.written {
-        Some(number) => {
-            put_bytes(text, b" := ")?;
-            put_literal(alloc, text, said.written, number)
-        }
-        None => put_bytes(text, b"()"),
+    if let Some(number) = item.seen.written {
+        put_bytes(text, b" := ")?;
+        return put_literal(alloc, text, item.said.written, number);
     }
+    put_bytes(text, b"()")?;
+    if !item.is_last_call {
+        return Ok(());
+    }
+    put_outputs(alloc, text, legend, machine, item)
 }
 
-/// Whether a row says what it writes.
+/// Whether a row says what its item writes.
 fn has_written(seen: &SeenLine) -> bool {
     match seen.line {
         Code::Standard { .. } => true,
@@ -161,31 +210,22 @@ fn put_row(
     alloc: Global,
     text: &mut Vec<u8>,
     legend: &Legend,
-    seen: &SeenLine,
-    said: &Said,
+    machine: &Machine<'_, SlotStore>,
+    item: &Item,
 ) -> Result<(), Fault>
     ensures memory { IsOkUnless result Fault.Memory }
 {
     let start = text.len();
-    put_place(text, legend, seen)?;
-    if let (Some(number), true) = (seen.result, is_body_line(&seen.line)) {
+    put_place(text, legend, &item.seen)?;
+    if let (Some(number), true) = (item.seen.result, is_body_line(&item.seen.line)) {
         put_gap(text, start, RESULT)?;
-        put_literal(alloc, text, said.result, number)?;
+        put_literal(alloc, text, item.said.result, number)?;
     }
-    if has_written(seen) {
+    if has_written(&item.seen) {
         put_gap(text, start, WRITTEN)?;
-        put_written(alloc, text, legend, seen, said)?;
+        put_written(alloc, text, legend, machine, item)?;
     }
     put_bytes(text, b"\n")
-}
-
-/// What the heading of a scan says: its number among those of the run, its moment, and whether the next program has taken the
-/// place of the first.
-#[derive(Clone, Copy)]
-pub(crate) struct Heading {
-    pub(crate) number: u32,
-    pub(crate) ms: u64,
-    pub(crate) is_changed: bool,
 }
 
 /// Puts a number between two texts.
@@ -198,16 +238,16 @@ fn put_between(text: &mut Vec<u8>, before: &[u8], number: u64, behind: &[u8]) ->
 }
 
 /// Puts the heading of a scan.
-fn put_heading(text: &mut Vec<u8>, heading: Heading) -> Result<(), Fault>
+fn put_heading(text: &mut Vec<u8>, scan: &ShownScan<'_>) -> Result<(), Fault>
     ensures memory { IsOkUnless result Fault.Memory }
 {
-    let end: &[u8] = if heading.is_changed {
+    let end: &[u8] = if scan.is_changed {
         b" ms, next program\n"
     } else {
         b" ms\n"
     };
-    put_between(text, b"scan ", u64::from(heading.number), b" at ")?;
-    put_between(text, b"", heading.ms, end)
+    put_between(text, b"scan ", u64::from(scan.number), b" at ")?;
+    put_between(text, b"", scan.ms, end)
 }
 
 /// Puts that none of so many scans was chosen.
@@ -228,23 +268,23 @@ fn put_steps(text: &mut Vec<u8>, steps: usize, bound: u32) -> Result<(), Fault>
     put_between(text, b"", u64::from(bound), b"\n")
 }
 
-/// Puts the rows of a scan behind a text: a heading, a row for each item that was seen of it, in the order of execution, and
-/// how many there were. `Memory` is the only fault; a front of the rows may stand behind the text then.
+/// Puts the rows of a scan at the end of a text: a heading, a row for each item that it executed,
+/// in order, and how many there were. `Memory` is the only fault; some of the rows may then have
+/// been put.
 pub(crate) fn put_scan(
     alloc: Global,
     text: &mut Vec<u8>,
     legend: &Legend,
-    heading: Heading,
-    bound: u32,
-    lines: &[SeenLine],
+    machine: &Machine<'_, SlotStore>,
+    scan: &ShownScan<'_>,
 ) -> Result<(), Fault>
     ensures memory { IsOkUnless result Fault.Memory }
 {
-    put_heading(text, heading)?;
-    let mut levels = Levels::new(alloc);
-    for seen in lines {
-        let said = levels.follow(alloc, legend, seen)?;
-        put_row(alloc, text, legend, seen, &said)?;
+    put_heading(text, scan)?;
+    let mut items = Items::new(alloc, legend, scan.lines)?;
+    for (index, seen) in scan.lines.iter().enumerate() {
+        let item = items.next(alloc, legend, index, seen)?;
+        put_row(alloc, text, legend, machine, &item)?;
     }
-    put_steps(text, lines.len(), bound)
+    put_steps(text, scan.lines.len(), machine.bound())
 }

@@ -2,19 +2,23 @@ ghost use Rattle.std.specs.Prelude.{IsOkUnless};
 
 use crate::chosen::Chosen;
 use crate::legend::Legend;
-use crate::rows::{Heading, put_none_chosen, put_scan};
+use crate::objects::{put_end_object, put_object};
+use crate::rows::{put_none_chosen, put_scan};
+use crate::shown_scan::ShownScan;
+use crate::trace_form::TraceForm;
 use std::alloc::Global;
-use wc_machine::SeenLine;
+use wc_machine::{Machine, SeenLine};
 use wc_model::ByteOut;
 use wc_record::HeadKind;
-use wc_run::{Observer, Program, RowSeen, RunFault, Scale, write_text};
+use wc_run::{Observer, Program, RowSeen, RunFault, Scale, ScanSeen, write_text};
 use wc_store::SlotStore;
 
-/// Observes a run, and writes the rows of the scans that are chosen.
+/// Observes a run, and writes the items of the scans that are chosen.
 #[derive(Drop)]
-pub(crate) struct Watch {
+pub(crate) struct Tracer {
     alloc: Global,
     chosen: Chosen,
+    form: TraceForm,
     legend: Option<Legend>,
     next: Option<Legend>,
     scans: u32,
@@ -33,20 +37,13 @@ fn legend_of(alloc: Global, program: Option<Program<'_, '_>>) -> Result<Option<L
     }
 }
 
-/// The bound of the program that runs.
-fn bound_in(scale: &Scale<'_, SlotStore>) -> u32 {
-    match scale.machine() {
-        Some(machine) => machine.bound(),
-        None => 0,
-    }
-}
-
-impl Watch {
+impl Tracer {
     /// Before the first scan.
-    pub(crate) fn new(alloc: Global, chosen: Chosen) -> Watch {
-        Watch {
+    pub(crate) fn new(alloc: Global, chosen: Chosen, form: TraceForm) -> Tracer {
+        Tracer {
             alloc,
             chosen,
+            form,
             legend: None,
             next: None,
             scans: 0,
@@ -62,65 +59,76 @@ impl Watch {
         self.is_changed = true;
     }
 
-    /// Makes the rows of a scan.
-    fn make_rows(&mut self, ms: u64, bound: u32, lines: &[SeenLine]) -> Result<(), RunFault>
+    /// Writes a scan into the text.
+    fn put(
+        &mut self,
+        machine: &Machine<'_, SlotStore>,
+        scan: &ShownScan<'_>,
+    ) -> Result<(), RunFault>
         ensures { IsOkUnless result RunFault.Memory }
     {
-        self.text.clear();
         self.shown = self.shown.saturating_add(1);
-        let heading = Heading {
-            number: self.scans,
-            ms,
-            is_changed: self.is_changed,
-        };
-        match &self.legend {
-            Some(legend) => {
-                put_scan(self.alloc, &mut self.text, legend, heading, bound, lines)?;
-                Ok(())
-            }
-            None => Ok(()),
-        }
-    }
-
-    /// Counts a scan, and makes its rows where it is chosen.
-    fn follow(&mut self, seen: &RowSeen<'_>, bound: u32) -> Result<(), RunFault>
-        ensures { IsOkUnless result RunFault.Memory }
-    {
-        self.text.clear();
-        match &seen.scan {
-            Some(scan) => {
-                self.scans = self.scans.saturating_add(1);
-                match &scan.lines {
-                    Some(lines) => self.make_rows(seen.row.ms, bound, lines),
-                    None => Ok(()),
-                }
-            }
-            None => Ok(()),
-        }
-    }
-
-    /// Makes what is said at the end of a log none of whose scans was chosen.
-    fn make_end(&mut self) -> Result<(), RunFault>
-        ensures { IsOkUnless result RunFault.Memory }
-    {
-        self.text.clear();
-        if self.shown > 0 {
+        let Some(legend) = &self.legend else {
             return Ok(());
+        };
+        match self.form {
+            TraceForm::Text => put_scan(self.alloc, &mut self.text, legend, machine, scan)?,
+            TraceForm::Json => put_object(self.alloc, &mut self.text, legend, machine, scan)?,
         }
-        put_none_chosen(&mut self.text, self.scans)?;
+        Ok(())
+    }
+
+    /// Counts a scan, and writes it into the text if it is chosen.
+    fn count(&mut self, machine: &Machine<'_, SlotStore>, scan: &ScanSeen) -> Result<(), RunFault>
+        ensures { IsOkUnless result RunFault.Memory }
+    {
+        self.scans = self.scans.saturating_add(1);
+        let Some(lines) = &scan.lines else {
+            return Ok(());
+        };
+        let shown = ShownScan {
+            number: self.scans,
+            ms: scan.record.ms,
+            is_changed: self.is_changed,
+            outputs: scan.record.outputs,
+            lines,
+        };
+        self.put(machine, &shown)
+    }
+
+    /// Makes the text of a row: that of its scan, if it is chosen.
+    fn follow(&mut self, seen: &RowSeen<'_>, scale: &Scale<'_, SlotStore>) -> Result<(), RunFault>
+        ensures { IsOkUnless result RunFault.Memory }
+    {
+        self.text.clear();
+        match (&seen.scan, scale.machine()) {
+            (Some(scan), Some(machine)) => self.count(machine, scan),
+            _ => Ok(()),
+        }
+    }
+
+    /// Writes into the text what is said after the last row.
+    fn put_end(&mut self) -> Result<(), RunFault>
+        ensures { IsOkUnless result RunFault.Memory }
+    {
+        match self.form {
+            TraceForm::Json => put_end_object(self.alloc, &mut self.text, self.scans, self.shown)?,
+            TraceForm::Text if self.shown == 0 => put_none_chosen(&mut self.text, self.scans)?,
+            TraceForm::Text => {}
+        }
         Ok(())
     }
 }
 
-impl<W: ByteOut> Observer<SlotStore, W> for Watch {
+impl<W: ByteOut> Observer<SlotStore, W> for Tracer {
     ghost use Rattle.std.specs.Prelude.{⊤, false};
     ghost use Rattle.wc_run.specs.Reports.{silent_plan};
 
-    ghost plan = { λ watch. silent_plan };
+    ghost plan = { λ tracer. silent_plan };
 
     ghost speaks = { false };
 
-    ghost has_seen = { λ watch plate logic past. ⊤ };
+    ghost has_seen = { λ tracer plate logic past. ⊤ };
 
     fn begin(
         &mut self,
@@ -145,7 +153,7 @@ impl<W: ByteOut> Observer<SlotStore, W> for Watch {
         if let HeadKind::Change = seen.row.kind {
             self.change();
         }
-        self.follow(seen, bound_in(scale))?;
+        self.follow(seen, scale)?;
         write_text(&self.text, writer)
     }
 
@@ -153,7 +161,8 @@ impl<W: ByteOut> Observer<SlotStore, W> for Watch {
         if refused.is_some() {
             return Ok(());
         }
-        self.make_end()?;
+        self.text.clear();
+        self.put_end()?;
         write_text(&self.text, writer)
     }
 }
