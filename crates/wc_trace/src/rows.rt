@@ -36,26 +36,72 @@ fn put_spaces(text: &mut Vec<u8>, count: usize) -> Result<(), Fault>
 fn put_gap(text: &mut Vec<u8>, start: usize, column: usize) -> Result<(), Fault>
     ensures memory { IsOkUnless result Fault.Memory }
 {
-    let there = text.len().saturating_sub(start);
+    let there = columns_of(text.get(start..).unwrap_or(b""));
     put_spaces(text, column.saturating_sub(there).max(2))
 }
 
-/// A byte as it is shown: what a terminal would act on is not.
-fn printable(byte: u8) -> u8 {
+/// A byte as it is shown: a control character is not sent to a terminal, and of a text that is not
+/// UTF-8 no byte is that is not ASCII.
+fn printable(byte: u8, is_utf8: bool) -> u8 {
     match byte {
         b'\t' => b' ',
         0..32 | 127 => b'?',
+        128.. if !is_utf8 => b'?',
         _ => byte,
     }
+}
+
+/// The number of bytes of the character at the front of a UTF-8 text if a terminal would act on it: a
+/// control character above ASCII, or one that turns the direction of writing; else 0.
+fn hidden_length(text: &[u8]) -> usize {
+    match text {
+        [0xC2, 0x80..=0x9F, ..] => 2,
+        [0xE2, 0x80, 0x8E | 0x8F | 0xAA..=0xAE, ..] => 3,
+        [0xE2, 0x81, 0xA6..=0xA9, ..] => 3,
+        _ => 0,
+    }
+}
+
+/// The number of columns that a text takes: in UTF-8 the bytes that begin a character.
+fn columns_of(text: &[u8]) -> usize {
+    text.iter()
+        .filter(|byte| !matches!(byte, 0x80..=0xBF))
+        .count()
+}
+
+/// The number of bytes of a text that take so many columns.
+fn bytes_of(text: &[u8], columns: usize) -> usize {
+    let mut left = columns;
+    for (index, byte) in text.iter().enumerate() {
+        if matches!(byte, 0x80..=0xBF) {
+            continue;
+        }
+        if left == 0 {
+            return index;
+        }
+        left = left.saturating_sub(1);
+    }
+    text.len()
 }
 
 /// Puts bytes as they are shown, and a single space for several.
 fn put_shown(text: &mut Vec<u8>, bytes: &[u8]) -> Result<(), Fault>
     ensures memory { IsOkUnless result Fault.Memory }
 {
-    let mut before = b' ';
-    for byte in bytes {
-        let shown = printable(*byte);
+    let is_utf8 = str::from_utf8(bytes).is_ok();
+    let (mut before, mut hidden) = (b' ', 0_usize);
+    for (index, byte) in bytes.iter().enumerate() {
+        if hidden > 0 {
+            hidden = hidden.saturating_sub(1);
+            continue;
+        }
+        let (_, rest) = bytes.split_at(index);
+        hidden = hidden_length(rest).saturating_sub(1);
+        let shown = if hidden > 0 {
+            b'?'
+        } else {
+            printable(*byte, is_utf8)
+        };
         if shown != b' ' || before != b' ' {
             put_bytes(text, &[shown])?;
         }
@@ -71,10 +117,12 @@ fn put_line(text: &mut Vec<u8>, line: &[u8], columns: usize) -> Result<(), Fault
 {
     let start = text.len();
     put_shown(text, line.trim_ascii())?;
-    if text.len().saturating_sub(start) <= columns {
+    let put = text.get(start..).unwrap_or(b"");
+    if columns_of(put) <= columns {
         return Ok(());
     }
-    text.truncate(start.saturating_add(columns.saturating_sub(2)));
+    let kept = bytes_of(put, columns.saturating_sub(2));
+    text.truncate(start.saturating_add(kept));
     put_bytes(text, b"..")
 }
 
