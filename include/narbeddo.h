@@ -207,6 +207,7 @@ uint32_t narbeddo_inputs(narbeddo_scale *scale, uint16_t inputs);
     ensures RefusesScan: \result.status == NARBEDDO_DONE || \result.status == NARBEDDO_CLOSED || \result.status == NARBEDDO_NO_PROGRAM
         || \result.status == NARBEDDO_MOMENT_OUT_OF_RANGE || \result.status == NARBEDDO_MOMENT_BACK;
     ensures RefusesScan: moment > 1099511627775 ==> \result.status != NARBEDDO_DONE && \result.status != NARBEDDO_MOMENT_BACK;
+    ensures RefusesScan: moment <= 1099511627775 ==> \result.status != NARBEDDO_MOMENT_OUT_OF_RANGE;
     ensures IsScanned: \result.steps <= 1000000 && \result.bits <= 65535;
     ensures RefusesScan: \result.status != NARBEDDO_DONE ==> \result.steps == 0 && \result.bits == 0
         && (\forall integer i; 0 <= i < 4 ==> \result.words[i] == 0); */
@@ -229,7 +230,8 @@ narbeddo_reading narbeddo_read(narbeddo_scale *scale);
 narbeddo_engraved narbeddo_plate(narbeddo_scale *scale);
 
 /* Your program has these three functions over its allocator (examples/embedded/memory.c has them over malloc): whether there was memory, and where,
- * which is never null; a block aligned to `align`; of a block that grows its first `kept` bytes stay.
+ * which is never null; a block aligned to `align`, which is 16 at most; of a block that grows its first `kept` bytes stay. If there is no memory
+ * to grow, the block stays as it was. A request of no bytes gets a block too. Blocks come back in any order.
  *
  *     typedef struct { bool ok; void *at; } tried;
  *     tried rattle_alloc(size_t size, size_t align);

@@ -7,7 +7,7 @@ macro_rules! with_constants {
             "0.1.0",
             "rattle-kit-13 logic dac8208d650f15bf",
             "087613ac477c8b88ca0f6716c05be58ec188e5ba21a02872838f0064433a3224",
-            "ab435baf5d4480af87435b1ec3b4af4ac5682645c2f186bacc885f9c43750785"
+            "7f272c80ac0dd6a431d5aa184b8e7a9cd50da6b587431f4844a53530013db7ac"
         )
     };
 }
