@@ -63,9 +63,9 @@ typedef struct narbeddo_scale {
 /* Comments that begin with an @ are for Frama-C, in ACSL (docs/EMBEDDING.md, section 3): what a call requires of its pointers, what it writes,
  * and what its result may be. Each `ensures` repeats, for a scale that the calls below made, the clause or relation of its export that it is
  * named for (crates/narbeddo, crates/wc_scale). What a call writes leaves out the blocks that your three functions of memory gave the library.
- * A tool sees that a place is large enough and aligned, and that something was written into a scale; it can't see what. */
-/*@ predicate narbeddo_is_place{L}(narbeddo_scale *scale) = \valid{L}(scale) && \offset{L}(scale) % 8 == 0;
-    predicate narbeddo_is_scale{L}(narbeddo_scale *scale) = narbeddo_is_place{L}(scale) && \initialized{L}(&scale->words[0]);
+ * A tool can check that storage is large enough and aligned, and that a scale has been written to; it cannot check what is in it. */
+/*@ predicate narbeddo_is_storage{L}(narbeddo_scale *scale) = \valid{L}(scale) && \offset{L}(scale) % 8 == 0;
+    predicate narbeddo_is_scale{L}(narbeddo_scale *scale) = narbeddo_is_storage{L}(scale) && \initialized{L}(&scale->words[0]);
     predicate narbeddo_is_text{L}(uint8_t *text, integer length) = text != \null && \valid_read{L}(text + (0 .. length - 1)); */
 
 /* What comes of a text: the status; where it is NARBEDDO_REFUSED, the number of the rule that is broken and the line (0 of a plate). */
@@ -127,7 +127,7 @@ typedef struct narbeddo_identity {
 narbeddo_identity narbeddo_identify(void);
 
 /* Makes a closed scale of the room, whatever it holds: so never of a scale that is open. */
-/*@ requires narbeddo_is_place(scale);
+/*@ requires narbeddo_is_storage(scale);
     assigns *scale \from \nothing;
     ensures lies_at: narbeddo_is_scale(scale); */
 void narbeddo_make(narbeddo_scale *scale);

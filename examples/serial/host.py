@@ -3,7 +3,7 @@
 
   host.py PORT
 
-It prints each request that it shows, with the answer, and at the end which statuses, modes and motions it has met. Every answer has to be
+It prints each request that it shows, with the answer, and at the end how many statuses, modes and motions it has seen. Every answer has to be
 one that the page allows; an answer that is late or odd ends it."""
 import re
 import sys
@@ -38,7 +38,7 @@ class Scale:
     """A scale at the other end of a serial port."""
 
     def __init__(self, port):
-        self.port, self.met = serial.Serial(port, 9600, timeout=1), set()
+        self.port, self.seen = serial.Serial(port, 9600, timeout=1), set()
 
     def ask(self, text):
         """The answer to a request, None to one that the scale does not know. A request begins with LF: what was begun before is dropped."""
@@ -50,7 +50,7 @@ class Scale:
         if not found:
             sys.exit(f"to {text} came {frame}")
         status, mode, motion = (found[name].decode() for name in ("status", "mode", "motion"))
-        self.met |= {("status", status), ("mode", mode), ("motion", motion)}
+        self.seen |= {("status", status), ("mode", mode), ("motion", motion)}
         weight = None if found["weight"] == b"-" * 10 else Decimal(found["weight"].decode().strip())
         return Answer(status, mode, motion == " ", weight, found["unit"].decode().strip())
 
@@ -103,9 +103,9 @@ def main():
         sys.exit(__doc__)
     scale = Scale(sys.argv[1])
     weigh(scale)
-    met = {kind: sum(1 for it, _ in scale.met if it == kind) for kind in ("status", "mode", "motion")}
-    print(f"met: {met['status']} of {len(STATUSES)} statuses, {met['mode']} of {len(MODES)} modes, {met['motion']} of 2 motions")
-    return 0 if sum(met.values()) == len(STATUSES) + len(MODES) + 2 else 1
+    seen = {kind: sum(1 for it, _ in scale.seen if it == kind) for kind in ("status", "mode", "motion")}
+    print(f"seen: {seen['status']} of {len(STATUSES)} statuses, {seen['mode']} of {len(MODES)} modes, {seen['motion']} of 2 motions")
+    return 0 if sum(seen.values()) == len(STATUSES) + len(MODES) + 2 else 1
 
 
 if __name__ == "__main__":
