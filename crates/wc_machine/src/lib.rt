@@ -5,6 +5,7 @@ mod body;
 mod carry;
 mod first;
 mod machine;
+mod prepared;
 mod seen;
 mod tracing;
 
