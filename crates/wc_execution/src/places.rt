@@ -2,7 +2,7 @@ ghost use Rattle.std.specs.Prelude.{◌≡◌, ◌≤◌, ℕ, Some, IsSome, fal
 ghost use Rattle.wc_flat.specs.NumberOperators.{flipped};
 ghost use Rattle.wc_model.specs.declared.operator.Storing.TheVariants as stores;
 ghost use Rattle.wc_execution.specs.Lines.{held, loaded, negated_if, passed, stored, written, AreBefore};
-ghost use Rattle.wc_execution.specs.Strides.{is_put};
+ghost use Rattle.wc_execution.specs.Strides.{is_store};
 
 use crate::operators::truth;
 use wc_model::{Place, Storing};
@@ -77,14 +77,14 @@ fn negates(storing: Storing) -> bool
 
 /// ST and STN.
 #[inline(always)]
-pub(crate) fn put_plain<S: Store>(
+pub(crate) fn put_result<S: Store>(
     store: &mut S,
     base: usize,
     storing: Storing,
     place: Place,
     current: i32,
 )
-    requires plain { is_put storing ≡ true }
+    requires plain { is_store storing ≡ true }
     requires room { length (S.slot_kinds store.old) ≤ 65536 }
     requires there { IsSome
         (stored base (S.slot_kinds store.old) (S.numbers store.old) storing place current) }
@@ -122,7 +122,7 @@ pub(crate) fn put<S: Store>(
 {
     match storing {
         Storing::Result | Storing::Negation => {
-            write(store, base, place, negated_where(negates(storing), current));
+            put_result(store, base, storing, place, current);
         }
         Storing::Set => {
             if truth(current) {

@@ -4,4 +4,4 @@ pub mod Scanning
 pub mod Carrying
 pub mod SeenLines
 pub mod SeenScans
-pub mod Preparing
+pub mod StrideLines

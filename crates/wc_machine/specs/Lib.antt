@@ -1,4 +1,4 @@
 pub mod Machines
 pub mod Carrying
 pub mod Seeing
-pub mod Preparing
+pub mod Executables

@@ -3,9 +3,9 @@
 
 mod body;
 mod carry;
+mod executable;
 mod first;
 mod machine;
-mod prepared;
 mod seen;
 mod tracing;
 
