@@ -1,6 +1,5 @@
 -- A log can be cut: the rows of its prelude, read by a new scale, can be put in the place of the rows before the cut.
 use Rattle.std.proofs.Common.{◌≡◌, ℕ, zero, suc, ◌+◌, ◌-◌, ◌*◌, ◌<◌, ◌≤◌, Bool, true, false, ◌&&◌, List, [], ◌∷◌, ◌++◌, length, map, refl, ap, sym, subst, ◌∙◌, arith, append_assoc, append-nil}
-use Rattle.std.proofs.lemmas.Bool.{and_parts}
 use Rattle.std.proofs.lemmas.List.{length-append, length-drop, length-map, length-replicate}
 use Rattle.std.specs.Cmp.{signed_Decides}
 use Rattle.std.specs.List.{list_all}
@@ -11,7 +10,7 @@ use Rattle.wc_instrument_laws.proofs.Preludes.{again, before_samples, state_brou
 use Rattle.wc_instrument_laws.proofs.Requests.{in_piece, open_behind_feed, open_request_after, text_completes_nothing}
 use Rattle.wc_instrument_laws.proofs.SameLines.{AreAlike, ArePastsAlike, goes_on, kept}
 use Rattle.wc_instrument_laws.proofs.SameStates.{HaveSameState}
-use Rattle.wc_instrument_laws.specs.Preludes.{BringsBack, CanBeCut, at_load, brought_by, input_rows, past_after, prelude_of, request_rows, scale_state, tare_rows, text_kept, zero_rows}
+use Rattle.wc_instrument_laws.specs.Preludes.{BringsBack, CanBeCut, at_load, brought_by, input_rows, load_rows, moved_zero, past_after, prelude_of, request_rows, scale_state, tare_load, text_kept}
 use Rattle.wc_model.specs.Instrument.Answers.{after_requests}
 use Rattle.wc_model.specs.Instrument.Indication.{active_tare, window_of, zero_point}
 use Rattle.wc_model.specs.Instrument.Plates.{PlateData}
@@ -132,16 +131,16 @@ tare_request history = record {
   shut = λ bytes e. request_shut 84 refl bytes;
 }
 
-zero_leads : (p : PlateData) (point : ℤ) → LeadTo (zero_rows p point) [] (zero_history p (int_eq point p.zero_counts) point)
+zero_leads : (p : PlateData) (point : ℤ) → LeadTo (load_rows p.window (codes "Z") (moved_zero p point)) [] (zero_history p (int_eq point p.zero_counts) point)
 zero_leads p point = go (int_eq point p.zero_counts)
   where
-    go : (same : Bool) → LeadTo (if same then [] else at_load p.window (codes "Z") point) [] (zero_history p same point)
+    go : (same : Bool) → LeadTo (load_rows p.window (codes "Z") (if same then None else Some point)) [] (zero_history p same point)
     go true = nothing_leads []
     go false =
         then_leads (replicate p.window (Counts point)) (Bytes (line_feed ∷ codes "Z" ++ (carriage_return ∷ [])) ∷ []) [] (again p.window point [])
         (SetZero ∷ again p.window point []) (again_leads p.window point []) (zero_request (again p.window point []))
 
-tare_leads : (p : PlateData) (point : ℤ) (tare : Option ℤ) (before : History) → LeadTo (tare_rows p point tare) before (tare_history p point tare before)
+tare_leads : (p : PlateData) (point : ℤ) (tare : Option ℤ) (before : History) → LeadTo (load_rows p.window (codes "T") (tare_load point tare)) before (tare_history p point tare before)
 tare_leads p point None before = nothing_leads before
 tare_leads p point (Some tare) before =
     then_leads (replicate p.window (Counts (point +ℤ tare))) (Bytes (line_feed ∷ codes "T" ++ (carriage_return ∷ [])) ∷ []) before
@@ -168,13 +167,10 @@ open_is_text (byte ∷ rest) text e = go (λ t f. open_is_text rest t f) (open_r
     go known (Some inner) u f = known text (u ∙ f)
     go known None u f = at (list_all is_text rest) refl (byte == line_feed) f
 
-front_is_text : (text : List ℕ) → list_all is_text text ≡ true → list_all is_text (text_kept text) ≡ true
-front_is_text [] h = refl
-front_is_text (a ∷ []) h = h
-front_is_text (a ∷ b ∷ rest) h =
-    let first : (is_text a ≡ true) × ((is_text b && list_all is_text rest) ≡ true) = and_parts (is_text a) (is_text b && list_all is_text rest) h in
-    let second : (is_text b ≡ true) × (list_all is_text rest ≡ true) = and_parts (is_text b) (list_all is_text rest) first.1 in
-    λ i. first.0 i && (second.0 i && true)
+kept_is_text : (text : List ℕ) → list_all is_text text ≡ true → list_all is_text (text_kept text) ≡ true
+kept_is_text [] h = refl
+kept_is_text (a ∷ []) h = h
+kept_is_text (a ∷ b ∷ rest) h = refl
 
 kept_twice : (text : List ℕ) → text_kept (text_kept text) ≡ text_kept text
 kept_twice [] = refl
@@ -188,13 +184,13 @@ request_leaves None known bytes history = refl
 request_leaves (Some text) known bytes history =
     ap (λ r. after_requests r history)
     (in_piece bytes (line_feed ∷ text_kept text)
-    ∙ text_completes_nothing (bytes ++ (line_feed ∷ [])) (text_kept text) (front_is_text text (known text refl)))
+    ∙ text_completes_nothing (bytes ++ (line_feed ∷ [])) (text_kept text) (kept_is_text text (known text refl)))
 
 request_opens : (o : Option (List ℕ)) → ((text : List ℕ) → o ≡ Some text → list_all is_text text ≡ true) → (bytes : List ℕ) → open_request bytes ≡ None →
     kept (bytes_on (request_rows (option_map text_kept o)) bytes) ≡ option_map text_kept o
 request_opens None known bytes none = ap (option_map text_kept) none
 request_opens (Some text) known bytes none =
-    ap (option_map text_kept) (open_behind_feed bytes (text_kept text) (front_is_text text (known text refl))) ∙ ap Some (kept_twice text)
+    ap (option_map text_kept) (open_behind_feed bytes (text_kept text) (kept_is_text text (known text refl))) ∙ ap Some (kept_twice text)
 
 -- the inputs of the rows
 same_inputs : (n inputs : ℕ) (counts : ℤ) → inputs_on (replicate n (Counts counts)) inputs ≡ inputs
@@ -209,14 +205,14 @@ load_inputs : (n inputs : ℕ) (letter : List ℕ) (counts : ℤ) → inputs_on 
 load_inputs n inputs letter counts =
     inputs_append (replicate n (Counts counts)) (Bytes (line_feed ∷ letter ++ (carriage_return ∷ [])) ∷ []) inputs ∙ same_inputs n inputs counts
 
-zero_inputs : (p : PlateData) (point : ℤ) (inputs : ℕ) → inputs_on (zero_rows p point) inputs ≡ inputs
+zero_inputs : (p : PlateData) (point : ℤ) (inputs : ℕ) → inputs_on (load_rows p.window (codes "Z") (moved_zero p point)) inputs ≡ inputs
 zero_inputs p point inputs = go (int_eq point p.zero_counts)
   where
-    go : (same : Bool) → inputs_on (if same then [] else at_load p.window (codes "Z") point) inputs ≡ inputs
+    go : (same : Bool) → inputs_on (load_rows p.window (codes "Z") (if same then None else Some point)) inputs ≡ inputs
     go true = refl
     go false = load_inputs p.window inputs (codes "Z") point
 
-tare_inputs : (p : PlateData) (point : ℤ) (tare : Option ℤ) (inputs : ℕ) → inputs_on (tare_rows p point tare) inputs ≡ inputs
+tare_inputs : (p : PlateData) (point : ℤ) (tare : Option ℤ) (inputs : ℕ) → inputs_on (load_rows p.window (codes "T") (tare_load point tare)) inputs ≡ inputs
 tare_inputs p point None inputs = refl
 tare_inputs p point (Some tare) inputs = load_inputs p.window inputs (codes "T") (point +ℤ tare)
 
@@ -230,16 +226,16 @@ request_inputs (Some text) inputs = refl
 
 module _ (p : PlateData) (some : 0 < p.window) (history : History) (bytes : List ℕ) (inputs : ℕ) where
   abbrev samples_part : List RowData
-  samples_part = zero_rows p (zero_point p history) ++ tare_rows p (zero_point p history) (active_tare p history) ++ map Counts (window_of p history)
+  samples_part = load_rows p.window (codes "Z") (moved_zero p (zero_point p history)) ++ load_rows p.window (codes "T") (tare_load (zero_point p history) (active_tare p history)) ++ map Counts (window_of p history)
 
   abbrev same_zero : Bool
   same_zero = int_eq (zero_point p history) p.zero_counts
 
   samples_there : LeadTo samples_part [] (with_samples (window_of p history) (before_samples p some history same_zero))
   samples_there =
-      then_leads (zero_rows p (zero_point p history) ++ tare_rows p (zero_point p history) (active_tare p history)) (map Counts (window_of p history)) []
+      then_leads (load_rows p.window (codes "Z") (moved_zero p (zero_point p history)) ++ load_rows p.window (codes "T") (tare_load (zero_point p history) (active_tare p history))) (map Counts (window_of p history)) []
       (before_samples p some history same_zero) (with_samples (window_of p history) (before_samples p some history same_zero))
-      (then_leads (zero_rows p (zero_point p history)) (tare_rows p (zero_point p history) (active_tare p history)) [] (zero_history p same_zero (zero_point p history))
+      (then_leads (load_rows p.window (codes "Z") (moved_zero p (zero_point p history))) (load_rows p.window (codes "T") (tare_load (zero_point p history) (active_tare p history))) [] (zero_history p same_zero (zero_point p history))
       (before_samples p some history same_zero) (zero_leads p (zero_point p history))
       (tare_leads p (zero_point p history) (active_tare p history) (zero_history p same_zero (zero_point p history))))
       (samples_lead (window_of p history) (before_samples p some history same_zero))
@@ -271,10 +267,10 @@ module _ (p : PlateData) (some : 0 < p.window) (history : History) (bytes : List
       inputs_append inputs_part request_part 0 ∙ request_inputs (option_map text_kept (open_request bytes)) (inputs_on inputs_part 0)
       ∙ inputs_append samples_part (input_rows inputs) 0
       ∙ ap (inputs_on (input_rows inputs))
-      (inputs_append (zero_rows p (zero_point p history) ++ tare_rows p (zero_point p history) (active_tare p history)) (map Counts (window_of p history)) 0
-      ∙ sample_inputs (window_of p history) (inputs_on (zero_rows p (zero_point p history) ++ tare_rows p (zero_point p history) (active_tare p history)) 0)
-      ∙ inputs_append (zero_rows p (zero_point p history)) (tare_rows p (zero_point p history) (active_tare p history)) 0
-      ∙ tare_inputs p (zero_point p history) (active_tare p history) (inputs_on (zero_rows p (zero_point p history)) 0)
+      (inputs_append (load_rows p.window (codes "Z") (moved_zero p (zero_point p history)) ++ load_rows p.window (codes "T") (tare_load (zero_point p history) (active_tare p history))) (map Counts (window_of p history)) 0
+      ∙ sample_inputs (window_of p history) (inputs_on (load_rows p.window (codes "Z") (moved_zero p (zero_point p history)) ++ load_rows p.window (codes "T") (tare_load (zero_point p history) (active_tare p history))) 0)
+      ∙ inputs_append (load_rows p.window (codes "Z") (moved_zero p (zero_point p history))) (load_rows p.window (codes "T") (tare_load (zero_point p history) (active_tare p history))) 0
+      ∙ tare_inputs p (zero_point p history) (active_tare p history) (inputs_on (load_rows p.window (codes "Z") (moved_zero p (zero_point p history))) 0)
       ∙ zero_inputs p (zero_point p history) 0)
       ∙ set_inputs inputs
 
@@ -291,7 +287,7 @@ module _ (p : PlateData) (some : 0 < p.window) (history : History) (bytes : List
       }
 
 -- rows that bring a prelude
-pub pasts_brought : (p : PlateData) (some : 0 < p.window) (past : Past) (opening : List LogRow) → brought_by opening ≡ prelude_of p (scale_state p past) →
+pub pasts_brought : (p : PlateData) (some : 0 < p.window) (past : Past) (opening : List LogRow) → brought_by opening ≡ prelude_of p.window (scale_state p past) →
     ArePastsAlike p some past (past_after [] opening)
 pasts_brought p some past opening e =
     let alike : AreAlike p some (history_of past) (line_bytes past) (inputs_of past)
@@ -304,7 +300,7 @@ pasts_brought p some past opening e =
       same_inputs = inputs_by [] opening ∙ alike.same_inputs;
     }
 
-prelude_brings_back : (p : PlateData) → 0 < p.window → (past : Past) → BringsBack p past (prelude_of p (scale_state p past))
+prelude_brings_back : (p : PlateData) → 0 < p.window → (past : Past) → BringsBack p past (prelude_of p.window (scale_state p past))
 prelude_brings_back p some past opening rows others e timed_alike =
     goes_on p some past (past_after [] opening) rows others timed_alike (pasts_brought p some past opening e)
 
@@ -314,16 +310,9 @@ load_length n letter counts =
     length-append (replicate n (Counts counts)) (Bytes (line_feed ∷ letter ++ (carriage_return ∷ [])) ∷ [])
     ∙ ap (λ m. m + 1) (length-replicate n (Counts counts))
 
-zero_length : (p : PlateData) (point : ℤ) → length (zero_rows p point) ≤ p.window + 1
-zero_length p point = go (int_eq point p.zero_counts)
-  where
-    go : (same : Bool) → length (if same then [] else at_load p.window (codes "Z") point) ≤ p.window + 1
-    go true = omega arith
-    go false = omega (arith, load_length p.window (codes "Z") point)
-
-tare_length : (p : PlateData) (point : ℤ) (tare : Option ℤ) → length (tare_rows p point tare) ≤ p.window + 1
-tare_length p point None = omega arith
-tare_length p point (Some tare) = omega (arith, load_length p.window (codes "T") (point +ℤ tare))
+load_rows_length : (n : ℕ) (letter : List ℕ) (load : Option ℤ) → length (load_rows n letter load) ≤ n + 1
+load_rows_length n letter None = omega arith
+load_rows_length n letter (Some counts) = omega (arith, load_length n letter counts)
 
 input_length : (inputs : ℕ) → length (input_rows inputs) ≤ 1
 input_length zero = omega arith
@@ -333,10 +322,10 @@ request_length : (o : Option (List ℕ)) → length (request_rows o) ≤ 1
 request_length None = omega arith
 request_length (Some text) = omega arith
 
-few_rows : (p : PlateData) (past : Past) → length (prelude_of p (scale_state p past)) ≤ 3 * p.window + 4
+few_rows : (p : PlateData) (past : Past) → length (prelude_of p.window (scale_state p past)) ≤ 3 * p.window + 4
 few_rows p past =
-    let zero_part : List RowData = zero_rows p (scale_state p past).zero in
-    let tare_part : List RowData = tare_rows p (scale_state p past).zero (scale_state p past).tare in
+    let zero_part : List RowData = load_rows p.window (codes "Z") (scale_state p past).zero in
+    let tare_part : List RowData = load_rows p.window (codes "T") (scale_state p past).tare in
     let window : List ℤ = (scale_state p past).window in
     let inputs : List RowData = input_rows (scale_state p past).inputs in
     let request : List RowData = request_rows (scale_state p past).request in
@@ -350,8 +339,8 @@ few_rows p past =
       length-append zero_part tare_part,
       length-map window Counts,
       samples_length,
-      zero_length p (scale_state p past).zero,
-      tare_length p (scale_state p past).zero (scale_state p past).tare,
+      load_rows_length p.window (codes "Z") (scale_state p past).zero,
+      load_rows_length p.window (codes "T") (scale_state p past).tare,
       input_length (scale_state p past).inputs,
       request_length (scale_state p past).request,
     )

@@ -6,7 +6,7 @@ use Rattle.wc_instrument_laws.proofs.Changes.{from_state}
 use Rattle.wc_instrument_laws.proofs.CutLogs.{pasts_brought}
 use Rattle.wc_instrument_laws.proofs.SameLines.{ArePastsAlike, alike_row, answers_alike, first_of, image_alike, rest_of}
 use Rattle.wc_instrument_laws.specs.Changes.{lines_at, lines_from}
-use Rattle.wc_instrument_laws.specs.Preludes.{ReportsCanBeCut, at_load, brought_by, input_rows, past_after, prelude_of, request_rows, scale_state, tare_rows, timed, zero_rows}
+use Rattle.wc_instrument_laws.specs.Preludes.{ReportsCanBeCut, at_load, brought_by, input_rows, load_rows, moved_zero, past_after, prelude_of, request_rows, scale_state, tare_load, timed}
 use Rattle.wc_model.specs.Instrument.Plates.{PlateData}
 use Rattle.wc_model.specs.Run.Rows.{Bytes, Change, Counts, Inputs, LogRow, Past, RowData, Scan}
 use Rattle.wc_model.specs.Say.Report.{Program, answer_line, scan_line, state_after, state_with}
@@ -36,16 +36,9 @@ quiet_samples : (xs : List ℤ) → AreQuiet (map Counts xs)
 quiet_samples [] = tt
 quiet_samples (x ∷ xs) = (tt, quiet_samples xs)
 
-quiet_zero : (p : PlateData) (point : ℤ) → AreQuiet (zero_rows p point)
-quiet_zero p point = go (int_eq point p.zero_counts)
-  where
-    go : (same : Bool) → AreQuiet (if same then [] else at_load p.window (codes "Z") point)
-    go true = tt
-    go false = quiet_append (replicate p.window (Counts point)) _ (quiet_again p.window point) (tt, tt)
-
-quiet_tare : (p : PlateData) (point : ℤ) (tare : Option ℤ) → AreQuiet (tare_rows p point tare)
-quiet_tare p point None = tt
-quiet_tare p point (Some tare) = quiet_append (replicate p.window (Counts (point +ℤ tare))) _ (quiet_again p.window (point +ℤ tare)) (tt, tt)
+quiet_load : (n : ℕ) (letter : List ℕ) (load : Option ℤ) → AreQuiet (load_rows n letter load)
+quiet_load n letter None = tt
+quiet_load n letter (Some counts) = quiet_append (replicate n (Counts counts)) _ (quiet_again n counts) (tt, tt)
 
 quiet_inputs : (inputs : ℕ) → AreQuiet (input_rows inputs)
 quiet_inputs zero = tt
@@ -55,16 +48,16 @@ quiet_request : (o : Option (List ℕ)) → AreQuiet (request_rows o)
 quiet_request None = tt
 quiet_request (Some text) = (tt, tt)
 
-quiet_prelude : (p : PlateData) (past : Past) → AreQuiet (prelude_of p (scale_state p past))
+quiet_prelude : (p : PlateData) (past : Past) → AreQuiet (prelude_of p.window (scale_state p past))
 quiet_prelude p past =
-    let zero_part : List RowData = zero_rows p (scale_state p past).zero in
-    let tare_part : List RowData = tare_rows p (scale_state p past).zero (scale_state p past).tare in
+    let zero_part : List RowData = load_rows p.window (codes "Z") (scale_state p past).zero in
+    let tare_part : List RowData = load_rows p.window (codes "T") (scale_state p past).tare in
     let samples_part : List RowData = map Counts (scale_state p past).window in
     let inputs_part : List RowData = input_rows (scale_state p past).inputs in
     quiet_append (zero_part ++ tare_part ++ samples_part ++ inputs_part) (request_rows (scale_state p past).request)
     (quiet_append (zero_part ++ tare_part ++ samples_part) inputs_part
     (quiet_append (zero_part ++ tare_part) samples_part
-    (quiet_append zero_part tare_part (quiet_zero p (scale_state p past).zero) (quiet_tare p (scale_state p past).zero (scale_state p past).tare))
+    (quiet_append zero_part tare_part (quiet_load p.window (codes "Z") (scale_state p past).zero) (quiet_load p.window (codes "T") (scale_state p past).tare))
     (quiet_samples (scale_state p past).window))
     (quiet_inputs (scale_state p past).inputs))
     (quiet_request (scale_state p past).request)

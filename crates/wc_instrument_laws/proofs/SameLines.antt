@@ -30,11 +30,11 @@ long_is_unknown first second rest = λ i.
     else if never (first == 67) i then Clear
     else Unknown
 
--- the first two bytes of a text are enough to know its command
+-- what is kept of a text is enough to know its command
 kept_command : (text : List ℕ) → command_of (text_kept text) ≡ command_of text
 kept_command [] = refl
 kept_command (first ∷ []) = refl
-kept_command (first ∷ second ∷ rest) = long_is_unknown first second [] ∙ sym (long_is_unknown first second rest)
+kept_command (first ∷ second ∷ rest) = sym (long_is_unknown first second rest)
 
 -- and to know what is kept of a longer text
 kept_more : (text : List ℕ) (x : ℕ) → text_kept (text ++ (x ∷ [])) ≡ text_kept (text_kept text ++ (x ∷ []))

@@ -1,7 +1,7 @@
 -- A log that is cut: a few rows, the prelude, bring a new scale to the state that the rows before the cut have left. (The
 -- profile's own.)
 use Rattle.std.specs.Ordering.{int_eq}
-use Rattle.std.specs.Prelude.{◌≡◌, ℕ, zero, suc, ◌+◌, ◌*◌, ◌≤◌, List, [], ◌∷◌, ◌++◌, length, map, replicate, take, codes, ℤ, ◌+ℤ◌, Option, Some, None, option_map, if◌then◌else◌}
+use Rattle.std.specs.Prelude.{◌≡◌, ℕ, zero, suc, ◌+◌, ◌*◌, ◌≤◌, List, [], ◌∷◌, ◌++◌, length, map, replicate, codes, ℤ, ◌+ℤ◌, Option, Some, None, option_map, if◌then◌else◌}
 use Rattle.wc_instrument_laws.specs.Changes.{lines_from}
 use Rattle.wc_model.specs.Instrument.Answers.{Asked, Mode, answer}
 use Rattle.wc_model.specs.Instrument.Indication.{active_tare, gross, has_sample, is_centre_of_zero, is_over, is_stable, is_tare_active, is_under, is_valid, net, shown, tare_refusal, tare_value, window_of, zero_point, zero_refusal}
@@ -12,24 +12,36 @@ use Rattle.wc_model.specs.Run.ProcessImage.{image_after, inputs_of}
 use Rattle.wc_model.specs.Run.Rows.{Bytes, Counts, Inputs, LogRow, Past, RowData, answers_after, history_of, line_bytes}
 use Rattle.wc_model.specs.Say.Report.{Program, answer_lines, report_lines, state_after}
 
--- All that the answers and images to come depend on: the zero point and the tare in counts, the last samples, the open
--- request's text as far as it matters, and the inputs.
+-- All that the answers and images to come depend on: the load at which zero was set, unless it is the calibrated zero, the load
+-- at which the tare was taken, if one is active, the last samples, the open request's text as far as it matters, and the inputs.
+-- Loads are samples.
 pub record ScaleState : Type 0 where
-  pub zero : ℤ
+  pub zero : Option ℤ
   pub tare : Option ℤ
   pub window : List ℤ
   pub request : Option (List ℕ)
   pub inputs : ℕ
 
--- the first two bytes of a request's text: a text of two bytes or more is no command
+-- a zero point, unless it is the calibrated zero
+abbrev pub moved_zero : PlateData → ℤ → Option ℤ
+moved_zero p point = if int_eq point p.zero_counts then None else Some point
+
+-- the load at which a tare was taken
+abbrev pub tare_load : ℤ → Option ℤ → Option ℤ
+tare_load point tare = option_map (λ counts. point +ℤ counts) tare
+
+-- a request's text as far as it matters: one of two bytes or more is no command, whatever it goes on with, and is two question
+-- marks
 abbrev pub text_kept : List ℕ → List ℕ
-text_kept text = take 2 text
+text_kept [] = []
+text_kept (byte ∷ []) = byte ∷ []
+text_kept (first ∷ second ∷ rest) = codes "??"
 
 -- the state that an indicator's history, the line's bytes and the inputs come to
 abbrev pub state_of : PlateData → History → List ℕ → ℕ → ScaleState
 state_of p history bytes inputs = record {
-  zero = zero_point p history;
-  tare = active_tare p history;
+  zero = moved_zero p (zero_point p history);
+  tare = tare_load (zero_point p history) (active_tare p history);
   window = window_of p history;
   request = option_map text_kept (open_request bytes);
   inputs = inputs;
@@ -44,14 +56,10 @@ abbrev pub at_load : ℕ → List ℕ → ℤ → List RowData
 at_load window letter counts =
     replicate window (Counts counts) ++ (Bytes (line_feed ∷ letter ++ (carriage_return ∷ [])) ∷ [])
 
--- a zero command at the zero point, if that is not the calibrated one
-abbrev pub zero_rows : PlateData → ℤ → List RowData
-zero_rows p point = if int_eq point p.zero_counts then [] else at_load p.window (codes "Z") point
-
--- a tare command at the load at which the tare was taken, if one is active
-abbrev pub tare_rows : PlateData → ℤ → Option ℤ → List RowData
-tare_rows p point None = []
-tare_rows p point (Some tare) = at_load p.window (codes "T") (point +ℤ tare)
+-- if there is such a load
+abbrev pub load_rows : ℕ → List ℕ → Option ℤ → List RowData
+load_rows window letter None = []
+load_rows window letter (Some counts) = at_load window letter counts
 
 -- the inputs, unless they are those of a new scale
 abbrev pub input_rows : ℕ → List RowData
@@ -63,11 +71,12 @@ abbrev pub request_rows : Option (List ℕ) → List RowData
 request_rows None = []
 request_rows (Some text) = Bytes (line_feed ∷ text) ∷ []
 
--- what the rows of a prelude bring: zero, tare, the last samples, the inputs and the open request
-abbrev pub prelude_of : PlateData → ScaleState → List RowData
-prelude_of p state =
-    zero_rows p state.zero ++ tare_rows p state.zero state.tare ++ map Counts state.window ++ input_rows state.inputs
-    ++ request_rows state.request
+-- what the rows of a prelude bring, where the window holds so many samples: zero, tare, the last samples, the inputs and the
+-- open request
+abbrev pub prelude_of : ℕ → ScaleState → List RowData
+prelude_of window state =
+    load_rows window (codes "Z") state.zero ++ load_rows window (codes "T") state.tare ++ map Counts state.window
+    ++ input_rows state.inputs ++ request_rows state.request
 
 -- the rows so far, and these after them
 abbrev pub past_after : Past → List LogRow → Past
@@ -121,14 +130,14 @@ BringsBack p past prelude =
 
 -- The prelude of the state that any rows have left brings it back, and is short.
 pub record CanBeCut (p : PlateData) (past : Past) : Type 0 where
-  pub brings_back : BringsBack p past (prelude_of p (scale_state p past))
-  pub few : length (prelude_of p (scale_state p past)) ≤ 3 * p.window + 4
+  pub brings_back : BringsBack p past (prelude_of p.window (scale_state p past))
+  pub few : length (prelude_of p.window (scale_state p past)) ≤ 3 * p.window + 4
 
 -- The report of a cut log, beside a program in whatever state.
 --     begins     after the prelude it has the lines that the rows have beside a program that begins again there
 --     whole      those of the whole log are the same, beside the program as the rows so far have left it
 pub record ReportsCanBeCut {State : Type 0} (p : PlateData) (program : Program State) (past : Past) : Type 0 where
-  pub begins : (start : State) (opening rows others : List LogRow) → brought_by opening ≡ prelude_of p (scale_state p past) → timed others ≡ timed rows →
+  pub begins : (start : State) (opening rows others : List LogRow) → brought_by opening ≡ prelude_of p.window (scale_state p past) → timed others ≡ timed rows →
       report_lines p program start (past_after [] opening) others ≡ lines_from p program start past rows
   pub whole : (start : State) (rows : List LogRow) →
       report_lines p program start past rows ≡ lines_from p program (state_after p program start past) past rows
