@@ -6,8 +6,8 @@ macro_rules! with_constants {
         $macro!(
             "0.1.0",
             "rattle-kit-13 logic dac8208d650f15bf",
-            "087613ac477c8b88ca0f6716c05be58ec188e5ba21a02872838f0064433a3224",
-            "f84d5b5413305f262b902d10db15fc34a3913bd529044b32af55a18c30b49842"
+            "255b787828ff9ba45eb8ef470165440afc32b0ea11dbddfe8aac65ffb53bd9f2",
+            "837c4fa1297a7cb6fdf155fa3808edc559d90169cb0e760bdab719e46b6c3814"
         )
     };
 }

@@ -1,7 +1,7 @@
 -- The last samples, and what one more does to them.
-use Rattle.std.proofs.Common.{◌≡◌, ℕ, ◌+◌, ◌-◌, ◌≤◌, List, [], ◌∷◌, ◌++◌, length, drop, refl, ap, sym, ◌∙◌, arith}
+use Rattle.std.proofs.Common.{◌≡◌, ◌+◌, ◌-◌, ◌≤◌, List, [], ◌∷◌, ◌++◌, length, ap, sym, ◌∙◌, arith}
 use Rattle.std.proofs.lemmas.List.{length-append, length-drop}
-use Rattle.std.specs.Prelude.{ℤ, Option, Some, None, Result, Ok, Err, IsOk, OnOk, ◌↔◌}
+use Rattle.std.specs.Prelude.{ℤ, Some, None, Result, Ok, Err, IsOk, OnOk, ◌↔◌}
 use Rattle.wc_instrument_laws.proofs.LastItems.{last_of, one_more}
 use Rattle.wc_model.specs.Instrument.Plates.{PlateData, IsPlate}
 use Rattle.wc_model.specs.Instrument.WeighingHistories.{History, Sample, samples, last_items}

@@ -1,12 +1,11 @@
 -- Reports of a log that is cut, beside a program.
-use Rattle.std.proofs.Common.{◌≡◌, ℕ, zero, suc, ◌<◌, Bool, true, false, List, [], ◌∷◌, ◌++◌, map, refl, ap, sym, subst, ◌∙◌}
-use Rattle.std.specs.Ordering.{int_eq}
-use Rattle.std.specs.Prelude.{⊤, ℤ, ◌+ℤ◌, Option, Some, None, codes, replicate, if◌then◌else◌}
+use Rattle.std.proofs.Common.{◌≡◌, ℕ, zero, suc, ◌<◌, List, [], ◌∷◌, ◌++◌, map, refl, ap, sym, subst, ◌∙◌}
+use Rattle.std.specs.Prelude.{⊤, ℤ, Option, Some, None, codes, replicate}
 use Rattle.wc_instrument_laws.proofs.Changes.{from_state}
 use Rattle.wc_instrument_laws.proofs.CutLogs.{pasts_brought}
 use Rattle.wc_instrument_laws.proofs.SameLines.{ArePastsAlike, alike_row, answers_alike, first_of, image_alike, rest_of}
 use Rattle.wc_instrument_laws.specs.Changes.{lines_at, lines_from}
-use Rattle.wc_instrument_laws.specs.Preludes.{ReportsCanBeCut, at_load, brought_by, input_rows, load_rows, moved_zero, past_after, prelude_of, request_rows, scale_state, tare_load, timed}
+use Rattle.wc_instrument_laws.specs.Preludes.{ReportsCanBeCut, brought_by, input_rows, load_rows, past_after, prelude_of, request_rows, scale_state, timed}
 use Rattle.wc_model.specs.Instrument.Plates.{PlateData}
 use Rattle.wc_model.specs.Run.Rows.{Bytes, Change, Counts, Inputs, LogRow, Past, RowData, Scan}
 use Rattle.wc_model.specs.Say.Report.{Program, answer_line, scan_line, state_after, state_with}

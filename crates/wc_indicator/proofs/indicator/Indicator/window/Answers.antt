@@ -1,4 +1,4 @@
-use Rattle.std.proofs.Common.{ap, sym, ◌∙◌, subst, length, ◌≤◌}
+use Rattle.std.proofs.Common.{sym, ◌∙◌, subst, length, ◌≤◌}
 use Rattle.wc_indicator.specs.Fields.{kept_view}
 use Rattle.wc_indicator.specs.Kept.{StandsForHistory}
 use Rattle.wc_indicator.proofs.Windows.{both_taken, few_latest}
