@@ -36,7 +36,7 @@ extern "C" {
  *     narbeddo_load                      CLOSED, then REFUSED or NO_MEMORY; after it any moment is accepted
  *     narbeddo_change                    CLOSED, NO_PROGRAM, then REFUSED or NO_MEMORY; the moment of the last scan stays
  *     narbeddo_sample                    CLOSED, COUNTS_OUT_OF_RANGE
- *     narbeddo_byte, _inputs, _read, _plate    CLOSED (and of a byte LINE_FAILED, which never comes)
+ *     narbeddo_byte, _inputs, _read, _plate, _prelude    CLOSED (and of a byte LINE_FAILED, which never comes)
  *     narbeddo_scan                      CLOSED, NO_PROGRAM, MOMENT_OUT_OF_RANGE, MOMENT_BACK
  *     narbeddo_about, narbeddo_path      REFUSED, NO_MEMORY or NO_UNIT; of a path also NO_ROOM
  *     narbeddo_close                     DONE alone
@@ -228,6 +228,37 @@ narbeddo_reading narbeddo_read(narbeddo_scale *scale);
         || \result.status == NARBEDDO_CLOSED && \result.e == 0 && \result.max == 0;
     ensures TellsEngraved: 0 <= \result.decimals <= 3; */
 narbeddo_engraved narbeddo_plate(narbeddo_scale *scale);
+
+/* What brings a new scale of the same plate to the state of this one, but for its program. Give that scale, in this order, and drop its answers:
+ *
+ *     if has_zero is 1, `window` samples of `zero` and the bytes 10, 'Z', 13;
+ *     if has_tare is 1, `window` samples of `tare` and the bytes 10, 'T', 13;
+ *     the `count` samples; the inputs; and the `length` bytes of the request.
+ *
+ * From then on each answer, reading and scan of that scale is as it would have been here. In a log these are at most 52 rows
+ * (docs/LOG.md, 4, "A log that is cut"; examples/embedded/record.c). */
+typedef struct narbeddo_state {
+    uint32_t status;
+    uint32_t window;     /* how many samples the plate's window holds, 2 to 16 */
+    uint32_t has_zero;   /* 1 if the zero point is not the calibrated zero */
+    int32_t zero;        /* the sample at which it was set */
+    uint32_t has_tare;   /* 1 while a tare is active */
+    int32_t tare;        /* the sample at which it was taken */
+    uint32_t count;      /* how many of the last samples: fewer than the window holds only if no more came */
+    int32_t samples[16]; /* the oldest first */
+    uint32_t inputs;     /* bit i is %IX0.i */
+    uint32_t length;     /* how many bytes of the open request, 0 if none is open */
+    uint8_t request[3];  /* 10 and its text; "??" for any text of two bytes or more */
+} narbeddo_state;
+
+/* The state of the scale, as above. */
+/*@ requires narbeddo_is_scale(scale);
+    assigns \result \from *scale;
+    ensures HoldsNothing: \result.status == NARBEDDO_DONE
+        || \result.status == NARBEDDO_CLOSED && \result.window == 0 && \result.count == 0 && \result.length == 0;
+    ensures TellsPrelude: \result.window <= 16 && \result.count <= \result.window && \result.length <= 3;
+    ensures TellsPrelude: \result.length != 0 ==> \result.request[0] == 10; */
+narbeddo_state narbeddo_prelude(narbeddo_scale *scale);
 
 /* Your program has these three functions over its allocator (examples/embedded/memory.c has them over malloc): whether there was memory, and where,
  * which is never null; a block aligned to `align`, which is 16 at most; of a block that grows its first `kept` bytes stay. If there is no memory

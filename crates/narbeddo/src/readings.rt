@@ -4,9 +4,10 @@ ghost use Rattle.std.specs.Ptr.{lies_at};
 ghost use Rattle.wc_scale.specs.contracts.scale.Scale.{the_row};
 ghost use Rattle.std.specs.Prelude.{◌≡◌};
 ghost use Rattle.wc_scale.specs.Calls.{ShowsNoPlate, ShowsNothing, TellsEngraved, TellsReading};
+ghost use Rattle.wc_scale.specs.Preludes.{HoldsNothing, TellsPrelude};
 ghost use Rattle.wc_scale.specs.Standing.{IsClosed};
 
-use wc_scale::{Engraved, Reading, Scale};
+use wc_scale::{Engraved, PreludeTold, Reading, Scale};
 
 /// What the indicator shows. The scale stays as it is.
 fn reading_of(scale: &mut Scale) -> Reading
@@ -48,4 +49,25 @@ pub unsafe extern "C" fn narbeddo_plate(scale: *mut u8) -> Engraved
         × (after ≡ before) ⌝) }
 {
     engraved_of(&mut *(scale as *mut Scale))
+}
+
+/// What brings a new scale of the same plate to the state of the scale. The scale stays as it is.
+fn prelude_of(scale: &mut Scale) -> PreludeTold
+    ensures tells { TellsPrelude scale.old result }
+    ensures closed { IsClosed scale.old → HoldsNothing result }
+    ensures kept { scale.new ≡ scale.old }
+{
+    scale.prelude()
+}
+
+/// What brings a new scale of the same plate to the state of the scale.
+#[unsafe(no_mangle)]
+pub unsafe extern "C" fn narbeddo_prelude(scale: *mut u8) -> PreludeTold
+    ghost before: { Scale }
+    requires* { sem 𝓛 (lies_at the_row full_share scale before) }
+    ensures* { ∃ₛ (λ (after : Scale). sem 𝓛 (lies_at the_row full_share scale after)
+        ∗ ⌜ (TellsPrelude before result) × (IsClosed before → HoldsNothing result)
+        × (after ≡ before) ⌝) }
+{
+    prelude_of(&mut *(scale as *mut Scale))
 }

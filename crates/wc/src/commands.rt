@@ -1,5 +1,5 @@
 ghost use Rattle.std.specs.Prelude.{◌≡◌, ◌≤◌, IfSome, Some, None, option_map};
-ghost use Rattle.wc_words.specs.Asked.{asked, check, decode, form_asked, job, line, run, show, texts_of, trace};
+ghost use Rattle.wc_words.specs.Asked.{asked, check, cut, decode, form_asked, job, line, run, show, texts_of, trace};
 
 use crate::desk::Desk;
 use crate::files::{KeptSource, RunFiles, RunPaths, kept_cause, kept_source, read_of};
@@ -8,6 +8,7 @@ use crate::telling::{CommandEnd, Sources, end};
 use std::io;
 use std::io::{IsTerminal, Stdin};
 use wc_controller::{Ending, Input, RefusedRow, answer_job, check_file, last_files, report_files};
+use wc_cut::cut_files;
 use wc_decode::{DecodeFault, DecodeForm, decode as decode_report};
 use wc_devices::{Keeping, Noting};
 use wc_model::Device;
@@ -342,6 +343,43 @@ pub(crate) fn line_words<'a>(
     let mut opened = RunFiles::new(desk, paths);
     let ending = report_files(
         desk.rt.alloc(),
+        &mut opened.inputs,
+        &mut Device::new(Sharing::new(desk.gathered)),
+        row,
+    );
+    finish_run(desk, ending, &opened, row)
+}
+
+/// How many rows stand before the cut, the heading not counted: those up to the row of that number, or all.
+fn rows_before(at: Option<u64>) -> u64 {
+    match at {
+        Some(row) => row.saturating_sub(1),
+        None => u64::MAX,
+    }
+}
+
+/// Writes the log that goes on after a row of the log in a file, or after the last one: the exit status.
+pub(crate) fn cut_words<'a>(
+    desk: Desk<'_>,
+    _words: &[String],
+    row: &mut RefusedRow,
+    at: Option<u64>,
+    plate: &'a str,
+    log: &'a str,
+) -> u8
+    requires asked { asked (texts_of _words.now) ≡ cut plate.now log.now at }
+    requires form { form_asked (texts_of _words.now) ≡ Some desk.form }
+{
+    let paths = RunPaths {
+        plate,
+        program: None,
+        next: None,
+        log,
+    };
+    let mut opened = RunFiles::new(desk, paths);
+    let ending = cut_files(
+        desk.rt.alloc(),
+        rows_before(at),
         &mut opened.inputs,
         &mut Device::new(Sharing::new(desk.gathered)),
         row,

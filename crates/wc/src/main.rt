@@ -16,8 +16,8 @@ mod telling;
 use clap::Error;
 use clap::error::ErrorKind;
 use commands::{
-    Watched, check_words, decode_words, line_words, preview_words, run_job, run_words, show_words,
-    trace_words, watch_words,
+    Watched, check_words, cut_words, decode_words, line_words, preview_words, run_job, run_words,
+    show_words, trace_words, watch_words,
 };
 use desk::Desk;
 use explaining::explain;
@@ -94,7 +94,7 @@ fn tell_meant(rt: &HostRuntime, words: &[String]) -> io::Result<()> {
         }
         _ => {
             rt.eprintln(
-                "help: the words are check, run, trace, show, line, decode, explain and help",
+                "help: the words are check, run, trace, show, line, cut, decode, explain and help",
             )?;
             tell_call(rt, job, words, " < ", "job.txt")
         }
@@ -210,6 +210,7 @@ fn execute(desk: Desk<'_>, words: &[String], row: &mut RefusedRow, wanted: Wante
         Wanted::Decode { table } => decode_words(desk, words, row, table),
         Wanted::Explain { number } => show_page(desk.rt, words, number),
         Wanted::Line { plate, log } => line_words(desk, words, row, plate, log),
+        Wanted::Cut { plate, log, at } => cut_words(desk, words, row, at, plate, log),
     }
 }
 

@@ -6,8 +6,8 @@ macro_rules! with_constants {
         $macro!(
             "0.1.0",
             "rattle-kit-13 logic dac8208d650f15bf",
-            "087613ac477c8b88ca0f6716c05be58ec188e5ba21a02872838f0064433a3224",
-            "3d00b1a0d4c63d3c3d13efb6a4052bdc9e14f87f03d0da7f0b3d9815dd2e64e4"
+            "255b787828ff9ba45eb8ef470165440afc32b0ea11dbddfe8aac65ffb53bd9f2",
+            "533137e0ac12048111f3d89b0f9f0ef8502bb66874f9d4eb4a49280825215a77"
         )
     };
 }

@@ -1,30 +1,11 @@
 -- The last samples, and what one more does to them.
-use Rattle.std.proofs.Common.{◌≡◌, ℕ, ◌+◌, ◌-◌, List, [], ◌∷◌, ◌++◌, length, drop, refl, ap, sym, ◌∙◌, arith}
-use Rattle.std.proofs.lemmas.List.{drop-append-le, drop-drop, length-drop, length-append}
-use Rattle.std.specs.Prelude.{ℤ, Option, Some, None}
-use Rattle.std.specs.List.{last_or}
-use Rattle.wc_model.specs.Instrument.Plates.{PlateData}
+use Rattle.std.proofs.Common.{◌≡◌, ◌+◌, ◌-◌, ◌≤◌, List, [], ◌∷◌, ◌++◌, length, ap, sym, ◌∙◌, arith}
+use Rattle.std.proofs.lemmas.List.{length-append, length-drop}
+use Rattle.std.specs.Prelude.{ℤ, Some, None, Result, Ok, Err, IsOk, OnOk, ◌↔◌}
+use Rattle.wc_instrument_laws.proofs.LastItems.{last_of, one_more}
+use Rattle.wc_model.specs.Instrument.Plates.{PlateData, IsPlate}
 use Rattle.wc_model.specs.Instrument.WeighingHistories.{History, Sample, samples, last_items}
 use Rattle.wc_indicator.specs.Kept.{IndicatorState, StandsForHistory}
-
--- what is left behind two cuts
-two_cuts : (n l : ℕ) → l - n + (l - (l - n) + 1 - n) ≡ l + 1 - n
-two_cuts n l = omega arith
-
--- the last n of the last n and one more
-pub one_more : (n : ℕ) (xs : List ℤ) (x : ℤ) → last_items n (last_items n xs ++ x ∷ []) ≡ last_items n (xs ++ x ∷ [])
-one_more n xs x =
-    let k : ℕ = length xs - n in
-    let joined : drop k xs ++ x ∷ [] ≡ drop k (xs ++ x ∷ []) = sym (drop-append-le k xs (x ∷ []) (omega arith)) in
-    let cut : length (drop k xs ++ x ∷ []) ≡ length xs - k + 1 = length-append (drop k xs) (x ∷ []) ∙ ap (λ m. m + 1) (length-drop k xs) in
-    let whole : length (xs ++ x ∷ []) ≡ length xs + 1 = length-append xs (x ∷ []) in
-    ap (λ m. drop (m - n) (drop k xs ++ x ∷ [])) cut ∙ ap (drop (length xs - k + 1 - n)) joined
-    ∙ drop-drop (length xs - k + 1 - n) k (xs ++ x ∷ []) ∙ ap (λ m. drop m (xs ++ x ∷ [])) (two_cuts n (length xs) ∙ ap (λ m. m - n) (sym whole))
-
--- the last item, where one more has come
-last_of : (o : Option ℤ) (xs : List ℤ) (x : ℤ) → last_or o (xs ++ x ∷ []) ≡ Some x
-last_of o [] x = refl
-last_of o (y ∷ ys) x = last_of (Some y) ys x
 
 -- an indicator that takes one more sample
 pub stands_after : (k : IndicatorState) (p : PlateData) (history : History) (x : ℤ) (latest : List ℤ) → StandsForHistory k p history →
@@ -38,3 +19,27 @@ stands_after k p history x latest h e = record {
   same_zero = h.same_zero;
   same_tare = h.same_tare;
 }
+
+-- the last samples are few
+pub few_latest : (k : IndicatorState) (p : PlateData) (history : History) → IsPlate k.plate → StandsForHistory k p history → length k.latest ≤ 16
+few_latest k p history plate stands =
+    let same : k.plate.window ≡ p.window = ap (λ q. q.window) stands.same_plate in
+    let few : length k.latest ≡ length (samples history) - (length (samples history) - p.window) =
+    ap length stands.same_latest ∙ length-drop (length (samples history) - p.window) (samples history) in
+    omega (arith, few, same, plate.window_in_range.1)
+
+-- what holds of a success
+given : {T E P : Type 0} (r : Result T E) → IsOk r → OnOk r P → P
+given (Ok x) is holds = holds
+given (Err e) is holds = absurd (cc)
+
+-- two parts that fit are both taken
+pub both_taken : {T E : Type 0} (first second empty one two : List ℤ) (r s : Result T E) → empty ≡ [] → length (first ++ second) ≤ 16 →
+    (IsOk r ↔ (length empty + length first ≤ 16)) → OnOk r (one ≡ empty ++ first) →
+    (IsOk s ↔ (length one + length second ≤ 16)) → OnOk s (two ≡ one ++ second) → two ≡ first ++ second
+both_taken first second empty one two r s none few fits taken fits_too taken_too =
+    let start : length empty ≡ 0 = ap length none in
+    let whole : length (first ++ second) ≡ length first + length second = length-append first second in
+    let here : one ≡ first = given r (fits.1 (omega (arith, start, whole, few))) taken ∙ ap (λ e. e ++ first) none in
+    let there : length one ≡ length first = ap length here in
+    given s (fits_too.1 (omega (arith, there, whole, few))) taken_too ∙ ap (λ l. l ++ second) here

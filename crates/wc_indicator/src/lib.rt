@@ -8,6 +8,7 @@ mod indicator;
 mod refused;
 mod rounding;
 mod spread;
+mod state;
 
 pub use indicator::Indicator;
 pub use refused::Refused;

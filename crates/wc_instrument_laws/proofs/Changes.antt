@@ -10,23 +10,24 @@ use Rattle.wc_model.specs.Run.ProcessImage.{image_after}
 use Rattle.wc_model.specs.Run.Rows.{RowData, Counts, Bytes, Inputs, Scan, Change, LogRow, Past}
 use Rattle.wc_model.specs.Say.LogFor.{log_while, row_on}
 use Rattle.wc_model.specs.Say.ProgramReport.{Logic, change_logic, logic_behind, programs}
-use Rattle.wc_model.specs.Say.Report.{ReportLine, lines_with, report_lines, state_with}
+use Rattle.wc_model.specs.Say.Report.{Program, ReportLine, lines_with, report_lines, state_after, state_with}
 
--- the lines of a row are those of the logic that the rows before it left
-at_row : (plate : PlateData) (start : Logic) (brings : RowData) (past : Past) (row : LogRow) →
-    lines_with plate programs start brings past row ≡ lines_at plate (logic_behind plate start past) brings past row
-at_row plate start (Counts counts) past row = refl
-at_row plate start another past row = refl
+module _ {State : Type 0} (plate : PlateData) (program : Program State) (start : State) where
+  -- the lines of a row are those of the state that the rows before it left
+  at_row : (brings : RowData) (past : Past) (row : LogRow) →
+      lines_with plate program start brings past row ≡ lines_at plate program (state_after plate program start past) brings past row
+  at_row (Counts counts) past row = refl
+  at_row another past row = refl
 
--- so are those of all rows that follow
-pub from_logic : (plate : PlateData) (start : Logic) (past : Past) (rows : List LogRow) →
-    report_lines plate programs start past rows ≡ lines_from plate (logic_behind plate start past) past rows
-from_logic plate start past [] = refl
-from_logic plate start past (row ∷ rows) = λ i. at_row plate start row.brings past row i ++ from_logic plate start (row ∷ past) rows i
+  -- so are those of all rows that follow
+  pub from_state : (past : Past) (rows : List LogRow) →
+      report_lines plate program start past rows ≡ lines_from plate program (state_after plate program start past) past rows
+  from_state past [] = refl
+  from_state past (row ∷ rows) = λ i. at_row row.brings past row i ++ from_state (row ∷ past) rows i
 
 -- logics that differ in the next text alone have the same lines for a row that is no change
 alike_at : (plate : PlateData) (text : Text) (store : Store) (next other : Option Text) (brings : RowData) (past : Past) (row : LogRow) → IsNoChange brings →
-    lines_at plate (record { text = text; store = store; next = next }) brings past row ≡ lines_at plate (record { text = text; store = store; next = other }) brings past row
+    lines_at plate programs (record { text = text; store = store; next = next }) brings past row ≡ lines_at plate programs (record { text = text; store = store; next = other }) brings past row
 alike_at plate text store next other (Counts counts) past row none = refl
 alike_at plate text store next other (Bytes bytes) past row none = refl
 alike_at plate text store next other (Inputs inputs) past row none = refl
@@ -46,17 +47,17 @@ store_with plate text store Change ms past none = absurd none
 -- the lines of rows without a change stand before those of the rows behind them, whatever the next text
 up_to : (plate : PlateData) (text : Text) (store : Store) (next other : Option Text) (past : Past) (first behind : List LogRow) → HasNoChange first →
     (rest : List ReportLine)
-    × (lines_from plate (record { text = text; store = store; next = next }) past (first ++ behind)
-    ≡ lines_from plate (record { text = text; store = store; next = other }) past first ++ rest)
-up_to plate text store next other past [] behind none = (lines_from plate (record { text = text; store = store; next = next }) past behind, refl)
+    × (lines_from plate programs (record { text = text; store = store; next = next }) past (first ++ behind)
+    ≡ lines_from plate programs (record { text = text; store = store; next = other }) past first ++ rest)
+up_to plate text store next other past [] behind none = (lines_from plate programs (record { text = text; store = store; next = next }) past behind, refl)
 up_to plate text store next other past (row ∷ first) behind none =
     let left = store_with plate text store row.brings row.ms past none.0 in
     let rest = up_to plate text left.0 next other (row ∷ past) first behind none.1 in
-    let here : List ReportLine = lines_at plate (record { text = text; store = store; next = other }) row.brings past row in (
+    let here : List ReportLine = lines_at plate programs (record { text = text; store = store; next = other }) row.brings past row in (
       rest.0,
-      (λ i. alike_at plate text store next other row.brings past row none.0 i ++ lines_from plate (left.1 next i) (row ∷ past) (first ++ behind))
-          ∙ ap (λ lines. here ++ lines) (rest.1 ∙ ap (λ logic. lines_from plate logic (row ∷ past) first ++ rest.0) (sym (left.1 other)))
-          ∙ sym (append_assoc here (lines_from plate (state_with plate programs row.brings row.ms past (record { text = text; store = store; next = other })) (row ∷ past) first) rest.0),
+      (λ i. alike_at plate text store next other row.brings past row none.0 i ++ lines_from plate programs (left.1 next i) (row ∷ past) (first ++ behind))
+          ∙ ap (λ lines. here ++ lines) (rest.1 ∙ ap (λ logic. lines_from plate programs logic (row ∷ past) first ++ rest.0) (sym (left.1 other)))
+          ∙ sym (append_assoc here (lines_from plate programs (state_with plate programs row.brings row.ms past (record { text = text; store = store; next = other })) (row ∷ past) first) rest.0),
     )
 
 -- before the first change the report is that of the text alone
@@ -64,14 +65,14 @@ pub reports_up_to_the_change : ReportsUpToTheChange
 reports_up_to_the_change plate text store next other first behind none =
     let lines = up_to plate text store next other [] first behind none in (
       lines.0,
-      from_logic plate (record { text = text; store = store; next = next }) [] (first ++ behind) ∙ lines.1
-          ∙ ap (λ l. l ++ lines.0) (sym (from_logic plate (record { text = text; store = store; next = other }) [] first)),
+      from_state plate programs (record { text = text; store = store; next = next }) [] (first ++ behind) ∙ lines.1
+          ∙ ap (λ l. l ++ lines.0) (sym (from_state plate programs (record { text = text; store = store; next = other }) [] first)),
     )
 
 -- a change has no line, and goes on from what it makes of the logic
 at_change : (plate : PlateData) (logic : Logic) (past : Past) (brings : RowData) (row : LogRow) (rows : List LogRow) → brings ≡ Change →
-    lines_at plate logic brings past row ++ lines_from plate (state_with plate programs brings row.ms past logic) (row ∷ past) rows
-    ≡ lines_from plate (change_logic logic) (row ∷ past) rows
+    lines_at plate programs logic brings past row ++ lines_from plate programs (state_with plate programs brings row.ms past logic) (row ∷ past) rows
+    ≡ lines_from plate programs (change_logic logic) (row ∷ past) rows
 at_change plate logic past (Counts counts) row rows e = absurd (cc)
 at_change plate logic past (Bytes bytes) row rows e = absurd (cc)
 at_change plate logic past (Inputs inputs) row rows e = absurd (cc)
@@ -81,8 +82,8 @@ at_change plate logic past Change row rows e = refl
 -- from a change on the report is that of the next text
 pub reports_from_the_change : ReportsFromTheChange
 reports_from_the_change plate start past text new store row rows changes left =
-    from_logic plate start past (row ∷ rows) ∙ at_change plate (logic_behind plate start past) past row.brings row rows changes
-    ∙ ap (λ logic. lines_from plate (change_logic logic) (row ∷ past) rows) left
+    from_state plate programs start past (row ∷ rows) ∙ at_change plate (logic_behind plate start past) past row.brings row rows changes
+    ∙ ap (λ logic. lines_from plate programs (change_logic logic) (row ∷ past) rows) left
 
 -- the rows that a run takes are run
 taken_with : (left : Bool) (brings : RowData) (number ms : ℕ) (rest : Bool → LogOf) → ((more : Bool) → (log_while more (rest more).rows None).refusal ≡ None) →

@@ -9,3 +9,9 @@ pub mod LogRows
 pub mod LineBytes
 pub mod WrittenLines
 pub mod Changes
+pub mod LastItems
+pub mod SameStates
+pub mod SameLines
+pub mod Preludes
+pub mod CutLogs
+pub mod CutReports

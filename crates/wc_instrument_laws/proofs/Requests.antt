@@ -347,7 +347,7 @@ same_completed before other (x ∷ piece) e =
     λ i. completed_by x (e i) ++ same_completed (before ++ (x ∷ [])) (other ++ (x ∷ [])) piece after i
 
 -- text alone completes nothing
-text_completes_nothing : (before text : List ℕ) → list_all is_text text ≡ true → completed before text ≡ []
+pub text_completes_nothing : (before text : List ℕ) → list_all is_text text ≡ true → completed before text ≡ []
 text_completes_nothing before [] h = refl
 text_completes_nothing before (x ∷ text) h =
     let parts : (is_text x ≡ true) × (list_all is_text text ≡ true) = and_parts (is_text x) (list_all is_text text) h in
@@ -358,7 +358,7 @@ text_completes_nothing before (x ∷ text) h =
     λ i. none i ++ text_completes_nothing (before ++ (x ∷ [])) text parts.1 i
 
 -- an LF and text behind it are open
-open_behind_feed : (before text : List ℕ) → list_all is_text text ≡ true → open_request (before ++ (line_feed ∷ text)) ≡ Some text
+pub open_behind_feed : (before text : List ℕ) → list_all is_text text ≡ true → open_request (before ++ (line_feed ∷ text)) ≡ Some text
 open_behind_feed [] text h =
     ap (λ o. option_or o (open_at line_feed text)) (nothing_open_in_text text h) ∙ cond-true (list_all is_text text) (Some text) None h
 open_behind_feed (byte ∷ before) text h =

@@ -10,7 +10,7 @@ use Rattle.wc_model.specs.Run.ProcessImage.{image_after}
 use Rattle.wc_model.specs.Run.Rows.{RowData, Counts, Bytes, Inputs, Scan, Change, LogRow, Past, answer_of_row}
 use Rattle.wc_model.specs.Say.LogFor.{AreRun, log_for}
 use Rattle.wc_model.specs.Say.ProgramReport.{Logic, logic_behind, programs}
-use Rattle.wc_model.specs.Say.Report.{ReportLine, answer_line, report_lines, scan_line, state_with}
+use Rattle.wc_model.specs.Say.Report.{Program, ReportLine, answer_line, report_lines, scan_line, state_with}
 
 -- a row that changes no program
 abbrev pub IsNoChange : RowData → Type 0
@@ -25,19 +25,20 @@ abbrev pub HasNoChange : List LogRow → Type 0
 HasNoChange [] = ⊤
 HasNoChange (row ∷ rows) = IsNoChange row.brings × HasNoChange rows
 
--- the lines of a row that comes to a logic, behind the rows so far
-abbrev pub lines_at : PlateData → Logic → RowData → Past → LogRow → List ReportLine
-lines_at plate logic (Counts counts) past row = []
-lines_at plate logic (Bytes bytes) past row = answer_line row.ms (answer_of_row plate past row)
-lines_at plate logic (Inputs inputs) past row = []
-lines_at plate logic Scan past row = scan_line row.ms (programs.scan logic (image_after plate past) row.ms)
-lines_at plate logic Change past row = []
+-- the lines of a row that comes to a program in this state, after the rows so far
+abbrev pub lines_at : {State : Type 0} → PlateData → Program State → State → RowData → Past → LogRow → List ReportLine
+lines_at plate program state (Counts counts) past row = []
+lines_at plate program state (Bytes bytes) past row = answer_line row.ms (answer_of_row plate past row)
+lines_at plate program state (Inputs inputs) past row = []
+lines_at plate program state Scan past row = scan_line row.ms (program.scan state (image_after plate past) row.ms)
+lines_at plate program state Change past row = []
 
--- the lines of rows that come to a logic, each from what the one before left
-abbrev pub lines_from : PlateData → Logic → Past → List LogRow → List ReportLine
-lines_from plate logic past [] = []
-lines_from plate logic past (row ∷ rows) =
-    lines_at plate logic row.brings past row ++ lines_from plate (state_with plate programs row.brings row.ms past logic) (row ∷ past) rows
+-- the lines of rows that come to it, each from what the one before left
+abbrev pub lines_from : {State : Type 0} → PlateData → Program State → State → Past → List LogRow → List ReportLine
+lines_from plate program state past [] = []
+lines_from plate program state past (row ∷ rows) =
+    lines_at plate program state row.brings past row
+    ++ lines_from plate program (state_with plate program row.brings row.ms past state) (row ∷ past) rows
 
 -- Before the first change the report is that of the text alone, whatever the next one is.
 abbrev pub ReportsUpToTheChange : Type 0
@@ -53,7 +54,7 @@ ReportsFromTheChange =
     (plate : PlateData) (start : Logic) (past : Past) (text new : Text) (store : Store) (row : LogRow) (rows : List LogRow) → row.brings ≡ Change →
     logic_behind plate start past ≡ record { text = text; store = store; next = Some new } →
     report_lines plate programs start past (row ∷ rows)
-    ≡ lines_from plate (record { text = new; store = carried text store new; next = None }) (row ∷ past) rows
+    ≡ lines_from plate programs (record { text = new; store = carried text store new; next = None }) (row ∷ past) rows
 
 -- The rows that a run takes of a log are all run beside its machine; rows without a change are, whether or not there is a next
 -- program; and of rows that are run the first so many are.

@@ -2,3 +2,4 @@ pub mod Jobs
 pub mod Logs
 pub mod WrittenLines
 pub mod Changes
+pub mod Preludes

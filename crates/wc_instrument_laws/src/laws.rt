@@ -5,6 +5,7 @@ ghost use Rattle.std.specs.List.{list_all};
 ghost use Rattle.wc_instrument_laws.specs.Changes.{ReportsFromTheChange, ReportsUpToTheChange, RowsAreRun};
 ghost use Rattle.wc_instrument_laws.specs.Jobs.{JobIsItsSections};
 ghost use Rattle.wc_instrument_laws.specs.Logs.{RowsAreInOrder};
+ghost use Rattle.wc_instrument_laws.specs.Preludes.{CanBeCut, ReportsCanBeCut};
 ghost use Rattle.wc_instrument_laws.specs.WrittenLines.{ScanLinesComeOut};
 ghost use Rattle.wc_model.specs.Instrument.Answers.{Asked, Mode, answer};
 ghost use Rattle.wc_model.specs.Instrument.Effects.{EffectsOf};
@@ -17,7 +18,7 @@ ghost use Rattle.wc_model.specs.Instrument.PlateTable.{Table, plate_of};
 ghost use Rattle.wc_model.specs.Say.Report.{Program};
 ghost use Rattle.wc_model.specs.Instrument.Requests.{IsCutAnywhere, carriage_return, is_text, line_feed, requests, requests_in};
 ghost use Rattle.wc_model.specs.Instrument.Rounding.{HasOneNearest};
-ghost use Rattle.wc_model.specs.Run.Rows.{LogRow};
+ghost use Rattle.wc_model.specs.Run.Rows.{LogRow, Past};
 
 /// Exactly one whole number is nearest to a quotient by a positive span, and it is the one that is computed.
 pub fn one_number_is_nearest()
@@ -114,4 +115,16 @@ pub fn stretches_are_requests()
 pub fn too_few_samples_are_motion()
     ensures { (p : PlateData) (history : History) → length (samples history) < p.window
         → IsFalse (is_stable p history) }
+{}
+
+/// A log can be cut after any rows: a new scale that reads their prelude goes on as theirs does, whatever rows follow, and also
+/// where the cut is within a request. Of the rows before the cut nothing is asked.
+pub fn logs_can_be_cut()
+    ensures { (p : PlateData) → 0 < p.window → (past : Past) → CanBeCut p past }
+{}
+
+/// Beside a program the report goes on from a cut as that of the rows beside a program that begins again there.
+pub fn reports_of_cut_logs<State>()
+    ensures { (p : PlateData) (program : Program State) → 0 < p.window → (past : Past)
+        → ReportsCanBeCut p program past }
 {}

@@ -1,7 +1,7 @@
 //! The lines of the report.
 use std::test::Fail;
 use wc_model::{Outputs, Steps, put_bytes};
-use wc_report::{put_answer_line, put_number, put_scan_line, put_signed};
+use wc_report::{put_answer_line, put_hex, put_number, put_scan_line, put_signed};
 
 /// Outputs with these bits and words.
 fn outputs(bits: u16, words: [i32; 4]) -> Outputs {
@@ -18,9 +18,10 @@ fn lines_stand_behind_a_text(rt: HostRuntime) -> Result<(), Fail> {
     assert!(rt; put_bytes(&mut text, b"V ").is_ok());
     assert!(rt; put_number(&mut text, u64::MAX).is_ok());
     assert!(rt; put_signed(&mut text, -9).is_ok());
+    assert!(rt; put_hex(&mut text, &[0, 255]).is_ok());
     assert!(rt;
         text.as_slice()
-            == b"L 1 0a\nS 18446744073709551615 4294967295 a0f5 -2147483648 -2147483648 -2147483648 -2147483648\nL 7 0a3f0d\nV 18446744073709551615-9".as_slice()
+            == b"L 1 0a\nS 18446744073709551615 4294967295 a0f5 -2147483648 -2147483648 -2147483648 -2147483648\nL 7 0a3f0d\nV 18446744073709551615-900ff".as_slice()
     );
     Ok(())
 }

@@ -69,6 +69,31 @@ fn is_answer(alloc: Global, mode: Mode, asked: Asked, wanted: &[u8; 20]) -> bool
     }
 }
 
+/// After a zero at 11000 counts, a tare at 71000 and a request that is open, the indicator and the line say so.
+fn is_state_told(alloc: Global) -> bool {
+    let Ok(mut indicator) = at_rest(alloc, 11000) else {
+        return false;
+    };
+    let mut out = Vec::new(alloc);
+    let mut line = Line::new();
+    let zeroed = answers(&mut line, &mut indicator, b"\nZ\r", &mut out);
+    for _ in 0..4 {
+        indicator.sample(71000);
+    }
+    let tared = answers(&mut line, &mut indicator, b"\nT\r\nWx", &mut out);
+    let open = match line.open_request() {
+        Some(text) => text.as_slice() == b"??".as_slice(),
+        None => false,
+    };
+    let loads = indicator.zero_load() == Some(11000) && indicator.tare_load() == Some(71000);
+    zeroed && tared && open && loads && indicator.window().as_slice() == [71000; 4].as_slice()
+}
+
+#[test]
+fn a_state_is_told(rt: HostRuntime) {
+    assert!(rt; is_state_told(rt.alloc()));
+}
+
 #[test]
 fn streams_are_cut_anywhere(rt: HostRuntime) {
     assert!(rt; are_all_cuts_alike(rt.alloc()));

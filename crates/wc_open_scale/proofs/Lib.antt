@@ -3,3 +3,4 @@ pub mod Feeding
 pub mod ProgramChanges
 pub mod RowCalls
 pub mod Scans
+pub mod KeptStates

@@ -4,3 +4,4 @@ pub mod Coming
 pub mod Rows
 pub mod Scanning
 pub mod Standing
+pub mod States

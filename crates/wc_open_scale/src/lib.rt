@@ -6,9 +6,11 @@ mod change_fault;
 mod changing;
 mod laws;
 mod open_scale;
+mod preludes;
 mod scanning;
 mod tracing;
 
 pub use change_fault::ChangeFault;
 pub use laws::{bytes_are_cut_anywhere, each_row_is_a_call};
 pub use open_scale::OpenScale;
+pub use preludes::Prelude;

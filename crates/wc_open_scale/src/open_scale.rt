@@ -21,7 +21,7 @@ use wc_store::Store;
 #[derive(Drop)]
 pub struct OpenScale<'a, S: Store> {
     pub(crate) indicator: Indicator,
-    line: Line,
+    pub(crate) line: Line,
     pub(crate) inputs: u16,
     pub(crate) machine: Option<Machine<'a, S>>,
 }

@@ -3,8 +3,9 @@ ghost use Rattle.wc_model.specs.Run.Hex.{hex_of_bytes};
 
 use wc_model::{Fault, or_memory};
 
-/// Puts the hexadecimal digits of these bytes, two for each, behind a text. `Memory` is the only fault.
-pub(crate) fn put_digits(text: &mut Vec<u8>, bytes: &[u8]) -> Result<(), Fault>
+/// Puts the hexadecimal digits of these bytes after a text, two small ones for each. `Memory` is the only fault; a part of the
+/// digits may follow the text then.
+pub fn put_hex(text: &mut Vec<u8>, bytes: &[u8]) -> Result<(), Fault>
     ensures digits { OnOk result (text.new.items ≡ text.old.items ++ hex_of_bytes bytes.now) }
     ensures memory { IsOkUnless result Fault.Memory }
 {

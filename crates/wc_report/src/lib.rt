@@ -6,5 +6,6 @@ mod digits;
 mod lines;
 mod numbers;
 
+pub use digits::put_hex;
 pub use lines::{path_line, put_answer_line, put_scan_line, refused_line, unit_line};
 pub use numbers::{put_number, put_signed};

@@ -4,7 +4,7 @@ ghost use Rattle.wc_model.specs.Say.Report.{AnswerLine, ScanLine, line_text};
 ghost use Rattle.wc_model.specs.Say.UnitReport.{path_line, unit_line};
 
 use crate::backward;
-use crate::digits::put_digits;
+use crate::digits::put_hex;
 use crate::numbers::spaced_lines;
 use std::alloc::Global;
 use wc_model::{Fault, Outputs, Steps, or_memory, put_bytes};
@@ -58,7 +58,7 @@ pub fn put_answer_line(text: &mut Vec<u8>, ms: u64, bytes: &[u8]) -> Result<(), 
     let mut room = [0; HEAD_ROOM];
     let start = head_backward(ms, &mut room);
     put_bytes(text, &room[start..])?;
-    put_digits(text, bytes)?;
+    put_hex(text, bytes)?;
     put_bytes(text, b"\n")
 }
 

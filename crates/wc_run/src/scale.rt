@@ -60,6 +60,13 @@ impl<'a, S: Store> Scale<'a, S> {
         self.opened.indicator()
     }
 
+    /// The open scale.
+    pub fn opened(&self) -> &OpenScale<'a, S>
+        ensures { result.now ≡ self.now.opened }
+    {
+        &self.opened
+    }
+
     /// The machine, if there is one.
     pub fn machine(&self) -> Option<&Machine<'a, S>>
         ensures { option_copied result ≡ self.now.opened.machine }

@@ -5,3 +5,4 @@ pub mod Opening
 pub mod Programs
 pub mod Refusals
 pub mod Standing
+pub mod Preludes

@@ -8,6 +8,7 @@ mod beginning;
 mod changing;
 mod line;
 mod opening;
+mod prelude_told;
 mod reading;
 mod results;
 mod scale;
@@ -15,7 +16,7 @@ mod scanning;
 mod statuses;
 mod units;
 
-pub use results::{Answer, Engraved, PathTold, Reading, Refusal, Scanned, UnitTold};
+pub use results::{Answer, Engraved, PathTold, PreludeTold, Reading, Refusal, Scanned, UnitTold};
 pub use scale::Scale;
 pub use statuses::{
     ALREADY_OPEN, CLOSED, COUNTS_OUT_OF_RANGE, DONE, LINE_FAILED, MOMENT_BACK, MOMENT_OUT_OF_RANGE,

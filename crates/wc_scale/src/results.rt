@@ -54,6 +54,35 @@ pub struct Reading {
     pub weights: [i32; 3],
 }
 
+/// What brings a new scale of the same plate to the state of a scale: a status, and the samples, commands, inputs and bytes that
+/// do it.
+#[repr(C)]
+#[derive(Clone, Copy)]
+pub struct PreludeTold {
+    /// The status.
+    pub status: u32,
+    /// How many samples the window holds, 2 to 16.
+    pub window: u32,
+    /// 1 if zero is set at `zero`: as many samples of it as the window holds, and a `Z` request. Else 0.
+    pub has_zero: u32,
+    /// The sample at which zero is set.
+    pub zero: i32,
+    /// 1 if the tare is taken at `tare`: as many samples of it as the window holds, and a `T` request. Else 0.
+    pub has_tare: u32,
+    /// The sample at which the tare is taken.
+    pub tare: i32,
+    /// How many of the last samples there are.
+    pub count: u32,
+    /// They, the oldest first, and zeros after them.
+    pub samples: [i32; 16],
+    /// The digital inputs; bit i is `%IX0.i`.
+    pub inputs: u32,
+    /// How many bytes the request has that is open, 0 if none is.
+    pub length: u32,
+    /// They, and zeros after them.
+    pub request: [u8; 3],
+}
+
 /// What is engraved on the scale: a status, and of its plate what a display needs beside a weight.
 #[repr(C)]
 #[derive(Clone, Copy)]

@@ -18,7 +18,7 @@ use wc_model::{ByteOut, WriteFault, write_whole};
 /// The line: what it knows of the request that is open, and whether it has failed.
 #[derive(Drop)]
 pub struct Line {
-    begun: Option<Seen>,
+    pub(crate) begun: Option<Seen>,
     failed: bool,
 }
 

@@ -6,7 +6,7 @@ use Rattle.std.specs.Str.{bytes_eq}
 use Rattle.clap.proofs.OnLiterals.{clap_on_literals}
 use Rattle.clap.specs.declared.error.kind.ErrorKind.TheVariants as kind
 use Rattle.wc_refusals.specs.declared.form.Form.TheVariants.{Long}
-use Rattle.wc_words.specs.Asked.{Ask, IsPlain, asked, check, decode, explain, fault_in, job, line, run, show, trace}
+use Rattle.wc_words.specs.Asked.{Ask, IsPlain, asked, check, cut, decode, explain, fault_in, job, line, run, show, trace}
 
 -- the word is no option, no bundle of flags and not `--`
 abbrev pub IsValue : Text → Type 0
@@ -73,6 +73,15 @@ next_alone_form name = refl
 pub line_form : (name p l : Text) → IsValue p → IsValue l → Ask (name ∷ codes "line" ∷ codes "--plate" ∷ p ∷ codes "--log" ∷ l ∷ []) (line p l) Long
 unfolding clap_on_literals
 line_form name p l u w = (rw (u.0, u.1, u.2, w.0, w.1, w.2) refl, rw (u.0, u.1, u.2, w.0, w.1, w.2) refl, rw (u.0, u.1, u.2, w.0, w.1, w.2) refl, refl)
+
+pub cut_form : (name p l : Text) → IsValue p → IsValue l → Ask (name ∷ codes "cut" ∷ codes "--plate" ∷ p ∷ codes "--log" ∷ l ∷ []) (cut p l None) Long
+unfolding clap_on_literals
+cut_form name p l u w = (rw (u.0, u.1, u.2, w.0, w.1, w.2) refl, rw (u.0, u.1, u.2, w.0, w.1, w.2) refl, rw (u.0, u.1, u.2, w.0, w.1, w.2) refl, refl)
+
+pub cut_at_form : (name : Text) → Ask (name ∷ codes "cut" ∷ codes "--plate" ∷ codes "a" ∷ codes "--log" ∷ codes "b" ∷ codes "--at" ∷ codes "5000" ∷ [])
+    (cut (codes "a") (codes "b") (Some 5000)) Long
+unfolding clap_on_literals
+cut_at_form name = (refl, refl, refl, refl)
 
 pub decode_form : (name : Text) → Ask (name ∷ codes "decode" ∷ []) (decode false) Long
 unfolding clap_on_literals

@@ -70,6 +70,9 @@ pub data Asked : Type 0 where
   explain : ℕ → Asked
   -- the files of a plate and a log
   line : Text → Text → Asked
+  -- the files of a plate and a log that is cut, and the number of the row after which it is, where one is
+  -- given
+  cut : Text → Text → Option ℕ → Asked
 
 -- what a word asks for, by what is given to its options
 abbrev pub asked_at : Text → List Row → Asked
@@ -93,7 +96,10 @@ asked_at word given =
     else (if bytes_eq word (codes "explain")
     then explain (unwrap_or (number_in (codes "number") given) 0)
     else (if bytes_eq word (codes "line")
-    then line (file_in (codes "plate") given) (file_in (codes "log") given) else job))))))
+    then line (file_in (codes "plate") given) (file_in (codes "log") given)
+    else (if bytes_eq word (codes "cut")
+    then cut (file_in (codes "plate") given) (file_in (codes "log") given)
+    (wide_number_in (codes "at") given) else job)))))))
 
 -- what is asked for by the word that was met: a job where none was
 abbrev pub asked_by : Option (Text × List Row) → Asked
@@ -120,6 +126,7 @@ view (wanted.Show plate program next log) =
 view (wanted.Decode table) = decode table
 view (wanted.Explain number) = explain number
 view (wanted.Line plate log) = line plate.now log.now
+view (wanted.Cut plate log at) = cut plate.now log.now at
 
 -- the text of a form that is given behind the word that was met, or else before it
 abbrev pub form_in : Option (Text × List Row) → List Row → Option Text

@@ -84,6 +84,12 @@ abbrev pub line_word : App
 line_word = with_rule (with_rule (with_rule (new_app (codes "line")) (file_option (codes "plate")))
     (file_option (codes "log"))) message_option
 
+-- `cut --plate FILE --log FILE [--at ROW] [--message FORM]`
+abbrev pub cut_word : App
+cut_word = with_rule (with_rule (with_rule (with_rule (new_app (codes "cut"))
+    (file_option (codes "plate"))) (file_option (codes "log"))) (wide_number_option (codes "at")))
+    message_option
+
 -- `decode [--csv]`
 abbrev pub decode_word : App
 decode_word = with_rule (new_app (codes "decode")) (flag (codes "csv"))
@@ -100,8 +106,9 @@ program_name =
 -- `wc [--message FORM]` alone, or with one of the words behind it
 abbrev pub command_line : App
 command_line = with_subcommand (with_subcommand (with_subcommand (with_subcommand (with_subcommand
-    (with_subcommand (with_subcommand (with_rule program_name message_option) check_word.top)
-    run_word.top) trace_word.top) show_word.top) line_word.top) decode_word.top) explain_word.top
+    (with_subcommand (with_subcommand (with_subcommand (with_rule program_name message_option)
+    check_word.top) run_word.top) trace_word.top) show_word.top) line_word.top) cut_word.top)
+    decode_word.top) explain_word.top
 
 -- the command takes what the table says
 abbrev pub Takes : App → Command → Type 0

@@ -2,7 +2,7 @@ ghost use Rattle.std.specs.Prelude.{◌≡◌, [], ◌∷◌, Some, None, true, 
 ghost use Rattle.clap.specs.Words.{Text};
 ghost use Rattle.clap.specs.declared.error.kind.ErrorKind.TheVariants as kind;
 ghost use Rattle.wc_refusals.specs.declared.form.Form.TheVariants.{Long};
-ghost use Rattle.wc_words.specs.Asked.{Ask, IsPlain, check, decode, explain, fault_in, job, line, asked, run};
+ghost use Rattle.wc_words.specs.Asked.{Ask, IsPlain, check, cut, decode, explain, fault_in, job, line, asked, run};
 ghost use Rattle.wc_words.specs.Asked.{show, trace};
 
 /// What the plain forms of the words ask for, where each file is a word that does not begin with a hyphen.
@@ -48,6 +48,12 @@ pub fn plain_forms()
     ensures line { (name plate log : Text) → IsPlain plate → IsPlain log
         → Ask (name ∷ codes "line" ∷ codes "--plate" ∷ plate ∷ codes "--log" ∷ log ∷ [])
         (line plate log) Long }
+    ensures cut { (name plate log : Text) → IsPlain plate → IsPlain log
+        → Ask (name ∷ codes "cut" ∷ codes "--plate" ∷ plate ∷ codes "--log" ∷ log ∷ [])
+        (cut plate log None) Long }
+    ensures cut_at { (name : Text) → Ask (name ∷ codes "cut" ∷ codes "--plate" ∷ codes "a"
+        ∷ codes "--log" ∷ codes "b" ∷ codes "--at" ∷ codes "5000" ∷ [])
+        (cut (codes "a") (codes "b") (Some 5000)) Long }
     ensures decode { (name : Text) → Ask (name ∷ codes "decode" ∷ []) (decode false) Long }
     ensures table { (name : Text)
         → Ask (name ∷ codes "decode" ∷ codes "--csv" ∷ []) (decode true) Long }

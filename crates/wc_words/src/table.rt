@@ -167,7 +167,7 @@ pub(crate) const MESSAGE: OptionRow<'static> = OptionRow {
 };
 
 /// The words.
-pub(crate) const WORDS: [WordRow<'static>; 7] = [
+pub(crate) const WORDS: [WordRow<'static>; 8] = [
     WordRow {
         name: "check",
         about: "Load a program and print the greatest number of steps of each unit",
@@ -276,6 +276,21 @@ pub(crate) const WORDS: [WordRow<'static>; 7] = [
         name: "line",
         about: "Run a log with no program: print each answer of the line",
         options: &[PLATE, LOG, MESSAGE],
+    },
+    WordRow {
+        name: "cut",
+        about: "Write the log that goes on after a row: the prelude of the rows up to it, and the others",
+        options: &[
+            PLATE,
+            LOG,
+            OptionRow {
+                kind: OptionKind::WideNumber,
+                name: "at",
+                value: "ROW",
+                help: "Cut after the row of this number, as in a refusal; else after the last row",
+            },
+            MESSAGE,
+        ],
     },
     WordRow {
         name: "decode",

@@ -26,6 +26,7 @@ const ABOUT: &str =
   ./wc trace --plate plate.toml --program program.il --log log.csv --at 650
   ./wc show --plate plate.toml --program program.il --log log.csv > run.svg
   ./wc line --plate plate.toml --log log.csv
+  ./wc cut --plate plate.toml --log log.csv --at 5000 > rest.csv
   ./wc run --plate plate.toml --program program.il --log log.csv | ./wc decode
   ./wc explain 403
   ./wc < job.txt
@@ -92,6 +93,12 @@ pub enum Wanted<'a> {
     Line {
         plate: &'a str,
         log: &'a str,
+    },
+    /// The log that goes on after the row of that number, or after the last row.
+    Cut {
+        plate: &'a str,
+        log: &'a str,
+        at: Option<u64>,
     },
 }
 
@@ -223,6 +230,11 @@ fn wanted_by<'a>(word: &str, matches: &ArgMatches<'a>) -> Wanted<'a>
         "line" => Wanted::Line {
             plate: file(matches, "plate"),
             log: file(matches, "log"),
+        },
+        "cut" => Wanted::Cut {
+            plate: file(matches, "plate"),
+            log: file(matches, "log"),
+            at: wide_number(matches, "at"),
         },
         _ => Wanted::Job,
     }

@@ -1,4 +1,4 @@
-use Rattle.wc_words.proofs.Plain.{check_form, decode_form, drawn_form, explain_form, job_form, last_form, line_form, next_alone_form, next_form, paths_form, plain, preview_form, redrawn_form, run_form, show_form, table_form, trace_form, watch_form}
+use Rattle.wc_words.proofs.Plain.{check_form, cut_at_form, cut_form, decode_form, drawn_form, explain_form, job_form, last_form, line_form, next_alone_form, next_form, paths_form, plain, preview_form, redrawn_form, run_form, show_form, table_form, trace_form, watch_form}
 use Rattle.wc_words.proofs.forms.plain_forms.Goals as goal
 
 pub returns : goal.returns
@@ -17,6 +17,8 @@ returns c = record {
   redrawn = redrawn_form;
   next_alone = next_alone_form;
   line = λ name p l h j. line_form name p l (plain p h) (plain l j);
+  cut = λ name p l h j. cut_form name p l (plain p h) (plain l j);
+  cut_at = cut_at_form;
   decode = decode_form;
   table = table_form;
   explain = explain_form;

@@ -3,7 +3,7 @@ use Rattle.std.proofs.lemmas.Grind.{common_steps}
 use Rattle.hex.specs.Hex.{IsBytes}
 use Rattle.wc_report.proofs.Placed.{filled}
 use Rattle.wc_report.proofs.WrittenDigits.{digits_same}
-use Rattle.wc_report.proofs.digits.put_digits.Goals as goal
+use Rattle.wc_report.proofs.digits.put_hex.Goals as goal
 
 pub returns-in-Ok-clause-digits : goal.returns-in-Ok-clause-digits
 returns-in-Ok-clause-digits c =

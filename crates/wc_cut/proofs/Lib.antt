@@ -1,0 +1,4 @@
+pub mod Replays
+pub mod Plans
+pub mod RowsSoFar
+pub mod Observed

@@ -1,0 +1,104 @@
+-- What an observer that cuts a log has seen, row by row.
+use Rattle.std.proofs.Common.{◌≡◌, ℕ, ◌+◌, ◌-◌, ◌<◌, Bool, true, false, List, [], ◌∷◌, ◌++◌, length, refl, ap, sym, ◌∙◌, arith}
+use Rattle.std.proofs.lemmas.Bool.{le-leb, lt-leb}
+use Rattle.std.specs.Prelude.{Err, Ok, OnOk, Option, Result, Some, None, is_some, if◌then◌else◌}
+use Rattle.wc_cut.proofs.Plans.{written_after, written_at, written_before}
+use Rattle.wc_cut.specs.Cuts.{end_written, opening_text, row_written}
+use Rattle.wc_cut.specs.Keeping.{HasSeenBy, IsBefore, kept_rows}
+use Rattle.wc_cut.specs.RowTexts.{heading_text, lines_of, row_text}
+use Rattle.wc_cut.specs.declared.cutter.Cutter.{Cutter}
+use Rattle.wc_instrument_laws.specs.Preludes.{past_after, prelude_of, scale_state}
+use Rattle.wc_model.specs.Instrument.Plates.{PlateData}
+use Rattle.wc_model.specs.Run.Log.{LogRefusal}
+use Rattle.wc_model.specs.Run.Rows.{LogRow, Past}
+use Rattle.wc_model.specs.Say.ProgramReport.{Logic}
+use Rattle.wc_open_scale.specs.States.{state_view}
+use Rattle.wc_open_scale.specs.declared.preludes.Prelude.{Prelude}
+use Rattle.wc_run.specs.Observing.{onto, refusal_of}
+
+-- what is kept of the rows so far
+is_kept : (prelude : Prelude) (plate : PlateData) (past : Past) → prelude.window ≡ plate.window → state_view prelude ≡ scale_state plate past →
+    kept_rows (Some prelude) ≡ prelude_of plate.window (scale_state plate past)
+is_kept prelude plate past wide same = λ i. prelude_of (wide i) (same i)
+
+-- one row more before the cut
+pub keeps : (opened : Bool) (old new : Cutter) (prelude : Prelude) (plate : PlateData) (past : Past) (row : LogRow) → HasSeenBy opened old plate past → 0 < old.left →
+    new.count ≡ old.count → new.left ≡ old.left - 1 → new.time ≡ row.ms → new.prelude ≡ Some prelude →
+    prelude.window ≡ plate.window → state_view prelude ≡ scale_state plate (row ∷ past) → HasSeenBy opened new plate (row ∷ past)
+keeps false old new prelude plate past row seen some count left time kept wide same = record {
+  left = omega (arith, seen.left, some, count, left);
+  rows = ap kept_rows kept ∙ is_kept prelude plate (row ∷ past) wide same;
+  time = time;
+}
+keeps true old new prelude plate past row seen some count left time kept wide same = absurd (omega (arith, some, seen.none_left))
+
+-- nothing is written of it
+pub writes_none : (opened : Bool) (old : Cutter) (plate : PlateData) (logic : Option Logic) (past : Past) (row : LogRow) → HasSeenBy opened old plate past → 0 < old.left →
+    row_written old.count plate logic past row ≡ []
+writes_none false old plate logic past row seen some = written_before old.count plate logic past row (omega (arith, seen.left, some))
+writes_none true old plate logic past row seen some = absurd (omega (arith, some, seen.none_left))
+
+-- the opening
+opens : (old : Cutter) (plate : PlateData) (past : Past) → IsBefore old plate past → heading_text ++ lines_of old.time (kept_rows old.prelude) ≡ opening_text plate past
+opens old plate past seen = λ i. heading_text ++ lines_of (seen.time i) (seen.rows i)
+
+-- the first row after the cut
+pub writes_first : (old : Cutter) (plate : PlateData) (logic : Option Logic) (past : Past) (row : LogRow) (opened : Bool) → opened ≡ false → HasSeenBy opened old plate past →
+    (old.left ≡ 0) → (heading_text ++ lines_of old.time (kept_rows old.prelude)) ++ row_text row ≡ row_written old.count plate logic past row
+writes_first old plate logic past row false e seen none =
+    ap (λ text. text ++ row_text row) (opens old plate past seen) ∙ sym (written_at old.count plate logic past row (omega (arith, seen.left, none)))
+writes_first old plate logic past row true e seen none = absurd (cc)
+
+-- a further one
+pub writes_more : (old : Cutter) (plate : PlateData) (logic : Option Logic) (past : Past) (row : LogRow) (opened : Bool) → opened ≡ true → HasSeenBy opened old plate past →
+    row_text row ≡ row_written old.count plate logic past row
+writes_more old plate logic past row true e seen = sym (written_after old.count plate logic past row seen.more)
+writes_more old plate logic past row false e seen = absurd (cc)
+
+-- after either
+pub has_opened : (old new : Cutter) (plate : PlateData) (past : Past) (row : LogRow) (opened : Bool) → HasSeenBy opened old plate past → old.left ≡ 0 →
+    new.left ≡ old.left → new.count ≡ old.count → HasSeenBy true new plate (row ∷ past)
+has_opened old new plate past row false seen none left count = record { none_left = left ∙ none; more = omega (arith, seen.left, none, count) }
+has_opened old new plate past row true seen none left count = record { none_left = left ∙ none; more = omega (arith, seen.more, count) }
+
+-- rows put together again
+again : (past : Past) (rows : List LogRow) → past_after [] (onto past rows) ≡ past_after past rows
+again [] rows = refl
+again (row ∷ past) rows = again past (row ∷ rows)
+
+length_onto : (past : Past) (rows : List LogRow) → length (onto past rows) ≡ length past + length rows
+length_onto [] rows = omega arith
+length_onto (row ∷ past) rows = omega (arith, length_onto past (row ∷ rows))
+
+-- the end of a log with no row after the cut
+pub ends_before : (old : Cutter) (plate : PlateData) (logic : Option Logic) (past : Past) (opened : Bool) → opened ≡ false → HasSeenBy opened old plate past →
+    heading_text ++ lines_of old.time (kept_rows old.prelude) ≡ end_written old.count plate logic (onto past []) None
+ends_before old plate logic past true e seen = absurd (cc)
+ends_before old plate logic past false e seen =
+    opens old plate past seen ∙ ap (opening_text plate) (sym (again past []))
+    ∙ sym (ap (λ b. if b then opening_text plate (past_after [] (onto past [])) else [])
+    (le-leb (length (onto past [])) old.count (omega (arith, seen.left, length_onto past []))))
+
+-- and of one with such a row, or of a row that is refused
+pub ends_after : (old : Cutter) (plate : PlateData) (logic : Option Logic) (past : Past) (opened : Bool) → opened ≡ true → HasSeenBy opened old plate past →
+    (refusal : Option LogRefusal) → end_written old.count plate logic (onto past []) refusal ≡ []
+ends_after old plate logic past false e seen refusal = absurd (cc)
+ends_after old plate logic past true e seen None =
+    ap (λ b. if b then opening_text plate (past_after [] (onto past [])) else [])
+    (lt-leb (length (onto past [])) old.count (omega (arith, seen.more, length_onto past [])))
+ends_after old plate logic past true e seen (Some refusal) = refl
+
+-- a row that is refused
+pub ends_refused : (count : ℕ) (plate : PlateData) (logic : Option Logic) (rows : List LogRow) (refused : Option (ℕ × ℕ)) → is_some refused ≡ true →
+    end_written count plate logic rows (refusal_of refused) ≡ []
+ends_refused count plate logic rows None e = absurd (cc)
+ends_refused count plate logic rows (Some at) e = refl
+
+pub none_refused : (refused : Option (ℕ × ℕ)) → is_some refused ≡ false → refusal_of refused ≡ None
+none_refused None e = refl
+none_refused (Some at) e = absurd (cc)
+
+-- what holds whatever the answer
+pub always : {T E P : Type 0} (r : Result T E) → P → OnOk r P
+always (Ok x) holds = holds
+always (Err e) holds = tt

@@ -1,0 +1,108 @@
+ghost use Rattle.std.specs.Prelude.{◌≡◌, ◌++◌, IsOkUnless, OnOk, Option};
+ghost use Rattle.wc_cut.specs.Cuts.{cut_plan};
+ghost use Rattle.wc_cut.specs.Keeping.{IsNew, kept_rows};
+ghost use Rattle.wc_cut.specs.RowTexts.{heading_text, lines_of};
+
+use crate::rows::{put_prelude, put_row};
+use std::alloc::Global;
+use wc_model::{ByteOut, put_bytes};
+use wc_open_scale::Prelude;
+use wc_run::{Observer, Program, RowSeen, RunFault, Scale, write_text};
+use wc_store::SlotStore;
+
+/// Observes a run, and writes the log that goes on after some of its rows.
+#[derive(Drop)]
+pub(crate) struct Cutter {
+    count: u64,
+    left: u64,
+    opened: bool,
+    time: u64,
+    prelude: Option<Prelude>,
+    text: Vec<u8>,
+}
+
+impl Cutter {
+    /// Before the first row, where so many rows stand before the cut. It takes no memory.
+    pub(crate) fn new(alloc: Global, count: u64) -> Cutter
+        ensures count { result.count ≡ count }
+        ensures new { IsNew result }
+    {
+        Cutter {
+            count,
+            left: count,
+            opened: false,
+            time: 0,
+            prelude: None,
+            text: Vec::new(alloc),
+        }
+    }
+
+    /// Puts the heading and the prelude of the rows so far, in the place of what was put before.
+    fn put_opening(&mut self) -> Result<(), RunFault>
+        ensures text { OnOk result (self.new.text.items
+            ≡ heading_text ++ lines_of self.old.time (kept_rows self.old.prelude)) }
+        ensures count { self.new.count ≡ self.old.count }
+        ensures left { self.new.left ≡ self.old.left }
+        ensures memory { IsOkUnless result RunFault.Memory }
+    {
+        self.text.clear();
+        put_bytes(&mut self.text, b"ms,kind,data\n")?;
+        match &self.prelude {
+            Some(prelude) => put_prelude(&mut self.text, self.time, prelude),
+            None => Ok(()),
+        }
+    }
+}
+
+impl<W: ByteOut> Observer<SlotStore, W> for Cutter {
+    ghost use Rattle.wc_cut.specs.Cuts.{cut_plan};
+    ghost use Rattle.wc_cut.specs.Keeping.{HasSeen, IsNew};
+
+    ghost plan = { λ cutter. cut_plan cutter.count };
+
+    ghost is_new = { λ cutter. IsNew cutter };
+
+    ghost has_seen = { λ cutter plate logic past. HasSeen cutter plate past };
+
+    fn begin(
+        &mut self,
+        _first: Option<Program<'_, '_>>,
+        _next: Option<Program<'_, '_>>,
+    ) -> Result<(), RunFault> {
+        Ok(())
+    }
+
+    fn looks_at(&self, _ms: u64) -> bool {
+        false
+    }
+
+    fn see(
+        &mut self,
+        seen: &RowSeen<'_>,
+        scale: &Scale<'_, SlotStore>,
+        writer: &mut W,
+    ) -> Result<(), RunFault> {
+        if self.left > 0 {
+            self.left -= 1;
+            self.time = seen.row.ms;
+            self.prelude = Some(scale.opened().prelude());
+            return Ok(());
+        }
+        if self.opened {
+            self.text.clear();
+        } else {
+            self.put_opening()?;
+            self.opened = true;
+        }
+        put_row(&mut self.text, seen.row.ms, seen.row.kind, seen.bytes)?;
+        write_text(&self.text, writer)
+    }
+
+    fn end(&mut self, refused: Option<(u16, u32)>, writer: &mut W) -> Result<(), RunFault> {
+        if self.opened || refused.is_some() {
+            return Ok(());
+        }
+        self.put_opening()?;
+        write_text(&self.text, writer)
+    }
+}

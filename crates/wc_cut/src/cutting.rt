@@ -1,0 +1,29 @@
+ghost use Rattle.wc_controller.specs.InputRuns.{RunsAs};
+ghost use Rattle.wc_controller.specs.InputStates.{writer_of};
+ghost use Rattle.wc_cut.specs.Cuts.{cut_observed};
+ghost use Rattle.wc_record.specs.Told.{fields_told};
+
+use crate::cutter::Cutter;
+use std::alloc::Global;
+use wc_controller::{Ending, RefusedRow, RunInputs, run_files};
+use wc_model::{ByteIn, ByteOut};
+
+/// Runs a log as `run_files` does, and in place of its report writes the log that goes on after `count` rows, the heading not
+/// counted: the heading, the prelude of those rows, at the time of the last of them, and the other rows. If the log has no more
+/// rows than that, it is the heading and the prelude of all. Each row is written before the next one is read.
+///
+/// A row that is refused ends what is written; if it comes before the first row after the cut, the line of its refusal is all
+/// that is written. A write fault and out of memory end the run, as they end that of a report.
+pub fn cut_files<P: ByteIn, T: ByteIn, N: ByteIn, L: ByteIn, W: ByteOut>(
+    alloc: Global,
+    count: u64,
+    inputs: &mut RunInputs<P, T, N, L>,
+    writer: &mut W,
+    told: &mut RefusedRow,
+) -> Ending
+    ensures { RunsAs (cut_observed count) inputs.old inputs.new (fields_told told.new) result
+        (writer_of W.bytes_taken W.failure_count writer.old)
+        (writer_of W.bytes_taken W.failure_count writer.new) }
+{
+    run_files(alloc, &mut Cutter::new(alloc, count), inputs, writer, told)
+}

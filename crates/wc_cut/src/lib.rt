@@ -1,0 +1,11 @@
+//! A log is cut: the rows before the cut are left out, and in their place stand the few rows that bring a new scale to the state
+//! that they left.
+#![tactic(auto)]
+
+mod cutter;
+mod cutting;
+mod laws;
+mod rows;
+
+pub use cutting::cut_files;
+pub use laws::cut_logs_go_on;

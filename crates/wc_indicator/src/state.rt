@@ -1,0 +1,42 @@
+ghost use Rattle.wc_instrument_laws.specs.Preludes as prelude;
+ghost use Rattle.wc_model.specs.Instrument.Indication as told;
+ghost use Rattle.wc_indicator.specs.Kept.{Tells};
+
+use crate::Indicator;
+use arrayvec::ArrayVec;
+
+impl Indicator {
+    /// The sample at which zero was set, if the zero point is not the calibrated zero.
+    pub fn zero_load(&self) -> Option<i32>
+        ensures { Tells (λ p history. prelude.moved_zero p (told.zero_point p history)) self.now
+            result }
+    {
+        if self.zero == self.plate.zero_counts() {
+            None
+        } else {
+            Some(self.zero)
+        }
+    }
+
+    /// The sample at which the tare was taken, if one is active.
+    pub fn tare_load(&self) -> Option<i32>
+        ensures { Tells (λ p history. prelude.tare_load (told.zero_point p history)
+            (told.active_tare p history)) self.now result }
+    {
+        match self.tare {
+            Some(tare) => Some(self.zero + tare),
+            None => None,
+        }
+    }
+
+    /// The last samples, the oldest first: as many as the window holds, or all if fewer have come.
+    pub fn window(&self) -> ArrayVec<i32, 16>
+        ensures { Tells told.window_of self.now result.items }
+    {
+        let mut window = ArrayVec::new();
+        let (first, second) = self.latest.as_slices();
+        let _first = window.try_extend_from_slice(first);
+        let _second = window.try_extend_from_slice(second);
+        window
+    }
+}

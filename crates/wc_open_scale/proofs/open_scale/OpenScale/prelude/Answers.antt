@@ -1,0 +1,10 @@
+use Rattle.wc_open_scale.proofs.KeptStates.{kept_brings_back}
+use Rattle.wc_open_scale.specs.Rows.{came_by}
+use Rattle.wc_open_scale.specs.States.{state_view}
+use Rattle.wc_open_scale.proofs.open_scale.OpenScale.prelude.Goals as goal
+
+pub returns-clause-brings_back : goal.returns-clause-brings_back
+returns-clause-brings_back g c plate past program stands =
+    kept_brings_back plate past c.kept_state.result.window (state_view c.kept_state.result)
+    (c.kept_state.ensures.window plate (came_by past program) stands) (c.kept_state.ensures.state plate (came_by past program) stands)
+    stands.is_plate
