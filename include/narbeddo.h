@@ -60,6 +60,14 @@ typedef struct narbeddo_scale {
     uint64_t words[NARBEDDO_WORDS];
 } narbeddo_scale;
 
+/* Comments that begin with an @ are for Frama-C, in ACSL (docs/EMBEDDING.md, section 3): what a call requires of its pointers, what it writes,
+ * and what its result may be. Each `ensures` repeats, for a scale that the calls below made, the clause or relation of its export that it is
+ * named for (crates/narbeddo, crates/wc_scale). What a call writes leaves out the blocks that your three functions of memory gave the library.
+ * A tool can check that storage is large enough and aligned, and that a scale has been written to; it cannot check what is in it. */
+/*@ predicate narbeddo_is_storage{L}(narbeddo_scale *scale) = \valid{L}(scale) && \offset{L}(scale) % 8 == 0;
+    predicate narbeddo_is_scale{L}(narbeddo_scale *scale) = narbeddo_is_storage{L}(scale) && \initialized{L}(&scale->words[0]);
+    predicate narbeddo_is_text{L}(uint8_t *text, integer length) = text != \null && \valid_read{L}(text + (0 .. length - 1)); */
+
 /* What comes of a text: the status; where it is NARBEDDO_REFUSED, the number of the rule that is broken and the line (0 of a plate). */
 typedef struct narbeddo_refusal {
     uint32_t status;
@@ -114,51 +122,116 @@ typedef struct narbeddo_identity {
 } narbeddo_identity;
 
 /* What identifies the library, for a display: it needs no scale, and always answers. */
+/*@ assigns \result \from \nothing;
+    ensures IsThisVersion: \result.version[15] == 0 && \result.toolchain[47] == 0 && \result.legal_part[64] == 0 && \result.data_path[64] == 0; */
 narbeddo_identity narbeddo_identify(void);
 
 /* Makes a closed scale of the room, whatever it holds: so never of a scale that is open. */
+/*@ requires narbeddo_is_storage(scale);
+    assigns *scale \from \nothing;
+    ensures lies_at: narbeddo_is_scale(scale); */
 void narbeddo_make(narbeddo_scale *scale);
 
 /* How many bytes a scale takes. */
+/*@ assigns \result \from \nothing;
+    ensures most: \result <= sizeof(narbeddo_scale); */
 size_t narbeddo_size(void);
 
 /* Opens the scale by its plate: nothing has come to it then, the inputs are 0, and it has no program. */
+/*@ requires narbeddo_is_scale(scale) && narbeddo_is_text(plate, length) && \separated(scale, plate + (0 .. length - 1));
+    assigns *scale, \result \from *scale, plate[0 .. length - 1];
+    ensures lies_at: narbeddo_is_scale(scale);
+    ensures RefusesOpen: \result.status <= NARBEDDO_NO_MEMORY || \result.status == NARBEDDO_ALREADY_OPEN;
+    ensures RefusesOpen: \result.status == NARBEDDO_REFUSED ==> 501 <= \result.number <= 508;
+    ensures RefusesOpen: \result.status != NARBEDDO_REFUSED ==> \result.number == 0;
+    ensures RefusesOpen: \result.place == 0; */
 narbeddo_refusal narbeddo_open(narbeddo_scale *scale, const uint8_t *plate, size_t length);
 
 /* Closes the scale. It may be opened again. */
+/*@ requires narbeddo_is_scale(scale);
+    assigns *scale, \result \from *scale;
+    ensures lies_at: narbeddo_is_scale(scale);
+    ensures done: \result == NARBEDDO_DONE; */
 uint32_t narbeddo_close(narbeddo_scale *scale);
 
 /* Loads a program, which begins anew; one that was loaded is let go, and stays where the text is refused.
  * THE TEXT IS NOT COPIED: it must stay where it is, unchanged, until the scale is closed or has got another program. */
+/*@ requires narbeddo_is_scale(scale) && narbeddo_is_text(text, length) && \separated(scale, text + (0 .. length - 1));
+    assigns *scale, \result \from *scale, text[0 .. length - 1];
+    ensures lies_at: narbeddo_is_scale(scale);
+    ensures RefusesLoad: \result.status <= NARBEDDO_CLOSED;
+    ensures RefusesLoad: \result.status != NARBEDDO_REFUSED ==> \result.number == 0 && \result.place == 0; */
 narbeddo_refusal narbeddo_load(narbeddo_scale *scale, const uint8_t *text, size_t length);
 
 /* Changes the program between two scans: outputs, and what both have by the same names and of the same kind keep their values, whatever stands
  * after := in the new text; all else begins anew. AN OUTPUT THAT THE NEW PROGRAM NEVER WRITES STAYS AS THE OLD ONE LEFT IT: a valve that is
  * open stays open. The old program stays where the text is refused. This text is not copied either; the old one may go once this call was
  * done. */
+/*@ requires narbeddo_is_scale(scale) && narbeddo_is_text(text, length) && \separated(scale, text + (0 .. length - 1));
+    assigns *scale, \result \from *scale, text[0 .. length - 1];
+    ensures lies_at: narbeddo_is_scale(scale);
+    ensures RefusesChange: \result.status <= NARBEDDO_CLOSED || \result.status == NARBEDDO_NO_PROGRAM;
+    ensures RefusesChange: \result.status != NARBEDDO_REFUSED ==> \result.number == 0 && \result.place == 0; */
 narbeddo_refusal narbeddo_change(narbeddo_scale *scale, const uint8_t *text, size_t length);
 
 /* Takes a sample: -8388608 to 8388607 counts. */
+/*@ requires narbeddo_is_scale(scale);
+    assigns *scale, \result \from *scale, counts;
+    ensures lies_at: narbeddo_is_scale(scale);
+    ensures TakesSample: -8388608 <= counts <= 8388607 ==> \result == NARBEDDO_DONE || \result == NARBEDDO_CLOSED;
+    ensures RefusesSample: !(-8388608 <= counts <= 8388607) ==> \result == NARBEDDO_COUNTS_OUT_OF_RANGE || \result == NARBEDDO_CLOSED; */
 uint32_t narbeddo_sample(narbeddo_scale *scale, int32_t counts);
 
 /* Takes a byte of the line, and gives the answer to the request that it completes. Send it before you give the next byte, or keep it. */
+/*@ requires narbeddo_is_scale(scale);
+    assigns *scale, \result \from *scale, byte;
+    ensures lies_at: narbeddo_is_scale(scale);
+    ensures RefusesByte: \result.status == NARBEDDO_DONE || \result.status == NARBEDDO_CLOSED && \result.length == 0;
+    ensures IsAnswered: \result.length == 0 || \result.length == 3 || \result.length == 20;
+    ensures IsAnswered: \result.length != 0 ==> \result.bytes[0] == 10 && \result.bytes[\result.length - 1] == 13; */
 narbeddo_answer narbeddo_byte(narbeddo_scale *scale, uint8_t byte);
 
 /* Takes the digital inputs: bit i is %IX0.i. */
+/*@ requires narbeddo_is_scale(scale);
+    assigns *scale \from *scale, inputs;
+    assigns \result \from *scale;
+    ensures lies_at: narbeddo_is_scale(scale);
+    ensures RefusesInputs: \result == NARBEDDO_DONE || \result == NARBEDDO_CLOSED; */
 uint32_t narbeddo_inputs(narbeddo_scale *scale, uint16_t inputs);
 
 /* Scans the program once, at a moment in milliseconds that is not before the last scan's. The outputs of a scan that was not done are 0 here:
  * keep the ones of the scan before, or go to your safe state. */
+/*@ requires narbeddo_is_scale(scale);
+    assigns *scale, \result \from *scale, moment;
+    ensures lies_at: narbeddo_is_scale(scale);
+    ensures RefusesScan: \result.status == NARBEDDO_DONE || \result.status == NARBEDDO_CLOSED || \result.status == NARBEDDO_NO_PROGRAM
+        || \result.status == NARBEDDO_MOMENT_OUT_OF_RANGE || \result.status == NARBEDDO_MOMENT_BACK;
+    ensures RefusesScan: moment > 1099511627775 ==> \result.status != NARBEDDO_DONE && \result.status != NARBEDDO_MOMENT_BACK;
+    ensures RefusesScan: moment <= 1099511627775 ==> \result.status != NARBEDDO_MOMENT_OUT_OF_RANGE;
+    ensures IsScanned: \result.steps <= 1000000 && \result.bits <= 65535;
+    ensures RefusesScan: \result.status != NARBEDDO_DONE ==> \result.steps == 0 && \result.bits == 0
+        && (\forall integer i; 0 <= i < 4 ==> \result.words[i] == 0); */
 narbeddo_scanned narbeddo_scan(narbeddo_scale *scale, uint64_t moment);
 
 /* What the indicator shows. */
+/*@ requires narbeddo_is_scale(scale);
+    assigns \result \from *scale;
+    ensures ShowsNothing: \result.status == NARBEDDO_DONE || \result.status == NARBEDDO_CLOSED && \result.flags == 0;
+    ensures TellsReading: \result.flags <= 63;
+    ensures TellsReading: (\result.flags & NARBEDDO_VALID) == 0 ==> (\forall integer i; 0 <= i < 3 ==> \result.weights[i] == 0); */
 narbeddo_reading narbeddo_read(narbeddo_scale *scale);
 
 /* What is engraved on the scale. */
+/*@ requires narbeddo_is_scale(scale);
+    assigns \result \from *scale;
+    ensures TellsEngraved: \result.status == NARBEDDO_DONE && 1 <= \result.e <= 50 && 500 * \result.e <= \result.max <= 10000 * \result.e
+        || \result.status == NARBEDDO_CLOSED && \result.e == 0 && \result.max == 0;
+    ensures TellsEngraved: 0 <= \result.decimals <= 3; */
 narbeddo_engraved narbeddo_plate(narbeddo_scale *scale);
 
 /* Your program has these three functions over its allocator (examples/embedded/memory.c has them over malloc): whether there was memory, and where,
- * which is never null; a block aligned to `align`; of a block that grows its first `kept` bytes stay.
+ * which is never null; a block aligned to `align`, which is 16 at most; of a block that grows its first `kept` bytes stay. If there is no memory
+ * to grow, the block stays as it was. A request of no bytes gets a block too. Blocks come back in any order.
  *
  *     typedef struct { bool ok; void *at; } tried;
  *     tried rattle_alloc(size_t size, size_t align);
@@ -175,6 +248,11 @@ typedef struct narbeddo_unit {
     uint8_t name[32];
 } narbeddo_unit;
 
+/*@ requires narbeddo_is_text(text, length);
+    assigns \result \from text[0 .. length - 1], unit;
+    ensures IsUnitStatus: \result.text.status <= NARBEDDO_NO_MEMORY || \result.text.status == NARBEDDO_NO_UNIT;
+    ensures TellsUnit: \result.text.status == NARBEDDO_DONE ==>
+        unit < \result.units <= 64 && \result.bound <= 1000000 && \result.length <= 32; */
 narbeddo_unit narbeddo_about(const uint8_t *text, size_t length, uint32_t unit);
 
 /* The lines of a unit's worst path, put into the room. NARBEDDO_NO_ROOM where they do not fit, with how many there are; 1024 are always enough. */
@@ -183,6 +261,13 @@ typedef struct narbeddo_lines {
     uint32_t length;
 } narbeddo_lines;
 
+/*@ requires narbeddo_is_text(text, length);
+    requires room != \null && \valid(room + (0 .. room_length - 1)) && \offset(room) % 4 == 0;
+    requires \separated(room + (0 .. room_length - 1), text + (0 .. length - 1));
+    assigns room[0 .. room_length - 1], \result \from text[0 .. length - 1], unit, room_length;
+    ensures IsPathStatus: \result.text.status <= NARBEDDO_NO_MEMORY || \result.text.status == NARBEDDO_NO_UNIT || \result.text.status == NARBEDDO_NO_ROOM;
+    ensures TellsPath: \result.text.status == NARBEDDO_DONE ==> \result.length <= room_length && \result.length <= 1024;
+    ensures TellsNoRoom: \result.text.status == NARBEDDO_NO_ROOM ==> room_length < \result.length <= 1024; */
 narbeddo_lines narbeddo_path(const uint8_t *text, size_t length, uint32_t unit, uint32_t *room, size_t room_length);
 
 #ifdef __cplusplus

@@ -117,7 +117,7 @@ static void rows(narbeddo_scale *scale)
 {
     static const char *ask = "\nW\r";
     uint32_t length = 0;
-    narbeddo_answer answer;
+    narbeddo_answer answer = {0, 0, {0}};
     is("counts below", narbeddo_sample(scale, -8388609), NARBEDDO_COUNTS_OUT_OF_RANGE);
     is("counts above", narbeddo_sample(scale, 8388608), NARBEDDO_COUNTS_OUT_OF_RANGE);
     is("least counts", narbeddo_sample(scale, INT32_MIN), NARBEDDO_COUNTS_OUT_OF_RANGE);

@@ -1,4 +1,5 @@
 pub mod ScanEndings
+pub mod ManyChanges
 pub mod LoadedTexts
 pub mod Refusals
 pub mod UnitReports

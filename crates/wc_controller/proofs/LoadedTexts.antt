@@ -1,5 +1,6 @@
 -- The headline of a loaded text.
 use Rattle.std.proofs.Common.{◌≡◌, refl, ◌∙◌, subst, ℕ, List, [], ◌∷◌, reverse, Option, None}
+use Rattle.wc_controller.proofs.ManyChanges.{keeps_in_turn}
 use Rattle.wc_controller.proofs.ScanEndings.{ends_within, has_bound, shows_outcome}
 use Rattle.wc_controller.specs.Headline.{IsTheHeadline, outcome_of, store_behind}
 use Rattle.wc_instrument_laws.proofs.Independence.{is_free_of_programs}
@@ -65,4 +66,5 @@ headline_holds = λ plate bytes text loaded.
             (outcome_of plate (logic_behind plate (first_logic text next) past) past ms) (well plate bytes text loaded next other past ms);
         line = λ rows run. is_free_of_programs plate programs (first_logic text next) rows;
       };
+      turns = keeps_in_turn plate bytes text loaded;
     }

@@ -15,6 +15,7 @@ use Rattle.wc_model.specs.Language.Scans.{outputs_of, scan_of}
 use Rattle.wc_model.specs.Language.Store.{Store}
 use Rattle.wc_model.specs.Say.Report.{ScanResult}
 use Rattle.wc_model.specs.Language.Tree.{Text}
+use Rattle.wc_controller.specs.Turns.{AreLoaded, Turns, first_turn, in_turn, turns_after}
 
 -- the outcome is done, in at most so many items
 abbrev pub EndsWithin : ℕ → Outcome → Type 0
@@ -59,13 +60,22 @@ pub record KeepsOverAChange (plate : PlateData) (text : Text) (next : Option Tex
       (programs.scan (logic_behind plate (first_logic text next) past) (image_after plate past) ms)
   pub line : (rows : List LogRow) → AreRun next rows → IsFreeOfPrograms plate programs (first_logic text next) rows
 
+-- The same of a program that others follow, as many as there are: after whatever rows, in whatever
+-- order scans and changes come, the next scan of the text that runs then ends within its bound, and
+-- the answers are those of a run with no program.
+pub record KeepsInTurn (plate : PlateData) (first : Turns) : Type 0 where
+  pub scan : (past : Past) (ms bound : ℕ) → IsProgramBound (turns_after plate first past).text bound →
+      EndsWithin bound (scan_of (turns_after plate first past).text (turns_after plate first past).store (image_after plate past) ms)
+  pub line : (rows : List LogRow) → IsFreeOfPrograms plate in_turn first rows
+
 -- Each loaded text has a bound, and with it keeps to itself beside every plate; and so it does over a
--- change to whatever next text is loaded.
+-- change to whatever next text is loaded, and over as many changes as one likes.
 pub record HasTheHeadline (plate : PlateData) (text : Text) : Type 0 where
   pub bound : ℕ
   pub is_bound : IsProgramBound text bound
   pub keeps : (n : ℕ) → IsProgramBound text n → KeepsToItself plate text n
   pub changes : (next : Option Text) → IsNextLoaded next → KeepsOverAChange plate text next
+  pub turns : (nexts : List Text) → AreLoaded nexts → KeepsInTurn plate (first_turn text nexts)
 
 abbrev pub IsTheHeadline : Type 0
 IsTheHeadline = (plate : PlateData) (bytes : List ℕ) (text : Text) → IsLoaded bytes text → HasTheHeadline plate text

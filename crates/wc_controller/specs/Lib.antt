@@ -10,3 +10,4 @@ pub mod Endings
 pub mod Blames
 pub mod Shown
 pub mod InputRuns
+pub mod Turns

@@ -209,7 +209,7 @@ pub(crate) fn put_lanes(
 ) -> Result<(), AllocError> {
     let mut top = FIRST;
     for lane in lanes {
-        write!(out, "<g id=\"{lane}\">\n")?;
+        write!(out, "<g data-lane=\"{lane}\">\n")?;
         put_lane(out, view, all, *lane, top)?;
         out.push_str("</g>\n")?;
         top = top.saturating_add(height(*lane)).saturating_add(GAP);

@@ -8,3 +8,4 @@ pub mod Filling
 pub mod Lefts
 pub mod BodyLines
 pub mod Bits
+pub mod Strides

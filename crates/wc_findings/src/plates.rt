@@ -208,6 +208,8 @@ pub(crate) fn find_plate_fault(
             Err(rule) if rule.number() == number => tell_rule(alloc, finding, text, rule),
             _ => Ok(()),
         },
-        Err(error) => tell_syntax(alloc, finding, text, &error),
+        Err(error) if number == 501 => tell_syntax(alloc, finding, text, &error),
+        // a text that is too long was not read to its end
+        Err(_) => Ok(()),
     }
 }

@@ -7,7 +7,7 @@ macro_rules! with_constants {
             "0.1.0",
             "rattle-kit-13 logic dac8208d650f15bf",
             "087613ac477c8b88ca0f6716c05be58ec188e5ba21a02872838f0064433a3224",
-            "f84d5b5413305f262b902d10db15fc34a3913bd529044b32af55a18c30b49842"
+            "3d00b1a0d4c63d3c3d13efb6a4052bdc9e14f87f03d0da7f0b3d9815dd2e64e4"
         )
     };
 }

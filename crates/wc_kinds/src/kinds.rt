@@ -9,35 +9,20 @@ use wc_model::{Kind, Operator};
 pub fn is_kind(a: Kind, b: Kind) -> bool
     ensures { result ≡ is_kind a b }
 {
-    match a {
-        Kind::Bool => match b {
-            Kind::Bool => true,
-            _ => false,
-        },
-        Kind::Dint => match b {
-            Kind::Dint => true,
-            _ => false,
-        },
-        Kind::Time => match b {
-            Kind::Time => true,
-            _ => false,
-        },
-    }
+    matches!(
+        (a, b),
+        (Kind::Bool, Kind::Bool) | (Kind::Dint, Kind::Dint) | (Kind::Time, Kind::Time)
+    )
 }
 
 /// Whether two results are of the same kind, or there is none of either.
 pub fn same_result(a: Option<Kind>, b: Option<Kind>) -> bool
     ensures { result ≡ same_result a b }
 {
-    match a {
-        Some(a) => match b {
-            Some(b) => is_kind(a, b),
-            None => false,
-        },
-        None => match b {
-            Some(_) => false,
-            None => true,
-        },
+    match (a, b) {
+        (Some(a), Some(b)) => is_kind(a, b),
+        (None, None) => true,
+        _ => false,
     }
 }
 

@@ -1,3 +1,4 @@
 pub mod Machines
 pub mod Carrying
 pub mod Seeing
+pub mod Executables

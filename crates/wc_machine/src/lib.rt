@@ -3,6 +3,7 @@
 
 mod body;
 mod carry;
+mod executable;
 mod first;
 mod machine;
 mod seen;

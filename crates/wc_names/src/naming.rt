@@ -37,21 +37,14 @@ fn kind_of_value(value: Value) -> Kind
     }
 }
 
-/// The kind of a directly represented variable.
+/// The kind of a directly represented variable: the weights and the output words are DINT.
 fn kind_of_direct(number: u8) -> Kind
     requires { number < 45 }
     ensures { result ≡ kind_of_direct (direct_at number) }
 {
-    if number < 16 {
-        Kind::Bool
-    } else if number < 22 {
-        Kind::Bool
-    } else if number < 25 {
-        Kind::Dint
-    } else if number < 41 {
-        Kind::Bool
-    } else {
-        Kind::Dint
+    match number {
+        22..=24 | 41.. => Kind::Dint,
+        _ => Kind::Bool,
     }
 }
 
@@ -60,17 +53,7 @@ fn is_output(number: u8) -> bool
     requires { number < 45 }
     ensures { result ≡ is_output (direct_at number) }
 {
-    if number < 16 {
-        false
-    } else if number < 22 {
-        false
-    } else if number < 25 {
-        false
-    } else if number < 41 {
-        true
-    } else {
-        true
-    }
+    number >= 25
 }
 
 /// Whether variables of a section are inputs.
