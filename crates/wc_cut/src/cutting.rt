@@ -8,12 +8,14 @@ use std::alloc::Global;
 use wc_controller::{Ending, RefusedRow, RunInputs, run_files};
 use wc_model::{ByteIn, ByteOut};
 
-/// Runs a log as `run_files` does, and in place of its report writes the log that goes on after `count` rows, the heading not
-/// counted: the heading, the prelude of those rows, at the time of the last of them, and the other rows. If the log has no more
-/// rows than that, it is the heading and the prelude of all. Each row is written before the next one is read.
+/// Runs a log as `run_files` does, and in place of its report writes the log that goes on after
+/// `count` rows, the heading not counted: the heading, the prelude of those rows, at the time of
+/// the last of them, and the other rows. If the log has no more rows than that, it is the heading
+/// and the prelude of all. Each row is written before the next one is read.
 ///
-/// A row that is refused ends what is written; if it comes before the first row after the cut, the line of its refusal is all
-/// that is written. A write fault and out of memory end the run, as they end that of a report.
+/// A row that is refused ends what is written; if it comes before the first row after the cut, the
+/// line of its refusal is all that is written. A write fault and out of memory end the run, as they
+/// end that of a report.
 pub fn cut_files<P: ByteIn, T: ByteIn, N: ByteIn, L: ByteIn, W: ByteOut>(
     alloc: Global,
     count: u64,

@@ -1,4 +1,5 @@
-ghost use Rattle.std.specs.Prelude.{◌≡◌, ◌++◌, ◌/◌, ◌%◌, ◌∷◌, [], IsOkUnless, OnOk, map, option_map, replicate};
+ghost use Rattle.std.specs.Prelude.{◌≡◌, ◌++◌, ◌/◌, ◌%◌, ◌∷◌};
+ghost use Rattle.std.specs.Prelude.{[], IsOkUnless, OnOk, map, option_map, replicate};
 ghost use Rattle.wc_cut.specs.RowTexts.{data_text, line_of, lines_of};
 ghost use Rattle.wc_instrument_laws.specs.Preludes.{input_rows, load_rows, prelude_of, request_rows};
 ghost use Rattle.wc_model.specs.Run.Rows.{Counts};
@@ -94,7 +95,8 @@ fn put_load(text: &mut Vec<u8>, ms: u64, window: usize, counts: i32) -> Result<(
     Ok(())
 }
 
-/// Puts the rows of a load and of the request that is made at it after a text, if there is such a load.
+/// Puts the rows of a load and of the request that is made at it after a text, if there is such a
+/// load.
 fn put_command(
     text: &mut Vec<u8>,
     ms: u64,

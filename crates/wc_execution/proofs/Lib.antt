@@ -8,4 +8,3 @@ pub mod Filling
 pub mod Lefts
 pub mod BodyLines
 pub mod Bits
-pub mod Strides

@@ -3,4 +3,3 @@ pub mod Courses
 pub mod Logic
 pub mod Running
 pub mod Writing
-pub mod Strides

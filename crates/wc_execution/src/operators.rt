@@ -43,7 +43,7 @@ fn remainder(a: i32, b: i32) -> i32
 
 /// `a operator b` on numbers.
 #[inline(always)]
-pub(crate) fn counted(operator: Operator, a: i32, b: i32) -> i32
+fn counted(operator: Operator, a: i32, b: i32) -> i32
     requires kind { is_logic operator ≡ false }
     requires there { IsSome (combined operator a b) }
     ensures { combined operator a b ≡ Some result }

@@ -2,7 +2,6 @@ ghost use Rattle.std.specs.Prelude.{◌≡◌, ◌≤◌, ℕ, Some, IsSome, fal
 ghost use Rattle.wc_flat.specs.NumberOperators.{flipped};
 ghost use Rattle.wc_model.specs.declared.operator.Storing.TheVariants as stores;
 ghost use Rattle.wc_execution.specs.Lines.{held, loaded, negated_if, passed, stored, written, AreBefore};
-ghost use Rattle.wc_execution.specs.Strides.{is_store};
 
 use crate::operators::truth;
 use wc_model::{Place, Storing};
@@ -75,33 +74,6 @@ fn negates(storing: Storing) -> bool
     }
 }
 
-/// ST and STN.
-#[inline(always)]
-pub(crate) fn put_result<S: Store>(
-    store: &mut S,
-    base: usize,
-    storing: Storing,
-    place: Place,
-    current: i32,
-)
-    requires plain { is_store storing ≡ true }
-    requires room { length (S.slot_kinds store.old) ≤ 65536 }
-    requires there { IsSome
-        (stored base (S.slot_kinds store.old) (S.numbers store.old) storing place current) }
-    ensures numbers { stored base (S.slot_kinds store.old) (S.numbers store.old) storing place
-        current ≡ Some (S.numbers store.new) }
-    ensures kinds { S.slot_kinds store.new ≡ S.slot_kinds store.old }
-    ensures moments { (now : ℕ) → AreBefore now (S.slot_kinds store.old) (S.numbers store.old)
-        → AreBefore now (S.slot_kinds store.new) (S.numbers store.new) }
-{
-    match storing {
-        Storing::Result | Storing::Negation => {
-            write(store, base, place, negated_where(negates(storing), current));
-        }
-        Storing::Set | Storing::Reset => unreachable!(),
-    }
-}
-
 /// ST, STN, S and R.
 #[inline(always)]
 pub(crate) fn put<S: Store>(
@@ -122,7 +94,7 @@ pub(crate) fn put<S: Store>(
 {
     match storing {
         Storing::Result | Storing::Negation => {
-            put_result(store, base, storing, place, current);
+            write(store, base, place, negated_where(negates(storing), current));
         }
         Storing::Set => {
             if truth(current) {

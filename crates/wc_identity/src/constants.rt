@@ -6,8 +6,8 @@ macro_rules! with_constants {
         $macro!(
             "0.1.0",
             "rattle-kit-13 logic dac8208d650f15bf",
-            "255b787828ff9ba45eb8ef470165440afc32b0ea11dbddfe8aac65ffb53bd9f2",
-            "533137e0ac12048111f3d89b0f9f0ef8502bb66874f9d4eb4a49280825215a77"
+            "4f000ccb436899dda6aac353b8b53ca61b795792c01af8c24045ebd8348a179c",
+            "4c32fbba5a4bbd75c93b44382a09b2f3d3d071a370aacade9249d314cc842ed0"
         )
     };
 }

@@ -4,4 +4,3 @@ pub mod Scanning
 pub mod Carrying
 pub mod SeenLines
 pub mod SeenScans
-pub mod StrideLines

@@ -1,4 +1,3 @@
 pub mod Machines
 pub mod Carrying
 pub mod Seeing
-pub mod Executables

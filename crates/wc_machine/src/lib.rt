@@ -3,7 +3,6 @@
 
 mod body;
 mod carry;
-mod executable;
 mod first;
 mod machine;
 mod seen;

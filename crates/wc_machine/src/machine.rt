@@ -12,7 +12,6 @@ ghost use Rattle.wc_model.specs.Language.Views.{text_view};
 
 use crate::body::run;
 use crate::carry::carried_over;
-use crate::executable::Executable;
 use crate::first::first_store;
 use crate::seen::{SeenLine, Sight};
 use crate::tracing::{Instance, run_seen};
@@ -26,7 +25,7 @@ use wc_store::Store;
 /// A machine: a loaded text that is run scan by scan over a store of plain numbers.
 #[derive(Drop)]
 pub struct Machine<'a, S: Store> {
-    loaded: Executable<'a>,
+    loaded: Loaded<'a>,
     store: S,
     last: u64,
     bound: u32,
@@ -65,10 +64,6 @@ impl<'a, S: Store> Machine<'a, S> {
             Ok(store) => store,
             Err(fault) => return Err(fault),
         };
-        let loaded = match Executable::new(alloc, loaded) {
-            Ok(executable) => executable,
-            Err(refused) => return Err(refused),
-        };
         Ok(Machine {
             loaded,
             store,
@@ -101,12 +96,8 @@ impl<'a, S: Store> Machine<'a, S> {
         };
         let units = loaded.units();
         let bound = loaded.bound(units - 1);
-        let store = carried_over(first, &loaded, self.loaded.text(), &self.store);
+        let store = carried_over(first, &loaded, &self.loaded, &self.store);
         let last = self.last;
-        let loaded = match Executable::new(alloc, loaded) {
-            Ok(executable) => executable,
-            Err(refused) => return Err((self, refused)),
-        };
         Ok(Machine {
             loaded,
             store,

@@ -10,22 +10,24 @@ use crate::open_scale::OpenScale;
 use arrayvec::ArrayVec;
 use wc_store::Store;
 
-/// What brings a new scale of the same plate to the state of this one: the zero, the tare, the last samples, the digital inputs
-/// and the open request. It has no part of a program.
+/// What brings a new scale of the same plate to the state of this one: the zero, the tare, the last
+/// samples, the digital inputs and the open request. It has no part of a program.
 #[derive(Drop)]
 pub struct Prelude {
     /// How many samples the window holds, 2 to 16.
     pub window: usize,
-    /// The sample at which zero is set, if the zero point is not the calibrated zero: as many of it as the window holds, and a
-    /// `Z` request.
+    /// The sample at which zero is set, if the zero point is not the calibrated zero: as many of it
+    /// as the window holds, and a `Z` request.
     pub zero: Option<i32>,
-    /// The sample at which the tare is taken, if one is active: as many of it as the window holds, and a `T` request.
+    /// The sample at which the tare is taken, if one is active: as many of it as the window holds,
+    /// and a `T` request.
     pub tare: Option<i32>,
     /// The last samples, the oldest first; fewer than the window holds only if no more have come.
     pub samples: ArrayVec<i32, 16>,
     /// The digital inputs; bit i is `%IX0.i`.
     pub inputs: u16,
-    /// The text so far of the request that is open, if one is; `??` represents any text of two bytes or more.
+    /// The text so far of the request that is open, if one is; `??` represents any text of two
+    /// bytes or more.
     pub request: Option<ArrayVec<u8, 2>>,
 }
 
@@ -47,13 +49,15 @@ impl<'a, S: Store> OpenScale<'a, S> {
         }
     }
 
-    /// What brings a new scale of this plate to the state of this one, whatever has come. It takes no memory.
+    /// What brings a new scale of this plate to the state of this one, whatever has come. It takes
+    /// no memory.
     pub fn prelude(&self) -> Prelude
         ensures state { (plate : PlateData) (came : Came) → Stands self.now plate came
             → state_view result ≡ state_of plate came.history came.bytes came.inputs }
         ensures window { (plate : PlateData) (came : Came) → Stands self.now plate came
             → result.window ≡ plate.window }
-        // Rows that bring it can be put in the place of those that have come: whatever follows goes on as it would have.
+        // Rows that bring it can be put in the place of those that have come: whatever follows goes
+        // on as it would have.
         ensures brings_back { (plate : PlateData) (past : Past) (program : Option Running)
             → Stands self.now plate (came_by past program)
             → BringsBack plate past (prelude_of result.window (state_view result)) }

@@ -70,7 +70,8 @@ fn told(prelude: &Prelude, window: u32) -> PreludeTold
 }
 
 impl Scale {
-    /// What brings a new scale of the same plate to the state of this one, but for a program. It takes no memory.
+    /// What brings a new scale of the same plate to the state of this one, but for a program. It
+    /// takes no memory.
     pub fn prelude(&self) -> PreludeTold
         ensures tells { TellsPrelude self.now result }
         ensures closed { IsClosed self.now → HoldsNothing result }

@@ -8,7 +8,8 @@ use crate::command::Seen;
 use crate::line::Line;
 use arrayvec::ArrayVec;
 
-/// The text of which this is known, as far as it matters: two question marks represent any of two bytes or more.
+/// The text of which this is known, as far as it matters: two question marks represent any of two
+/// bytes or more.
 fn kept_text(seen: Seen) -> ArrayVec<u8, 2>
     ensures { (text : List ℕ) → seen ≡ seen_in text → result.items ≡ text_kept text }
 {
@@ -25,8 +26,8 @@ fn kept_text(seen: Seen) -> ArrayVec<u8, 2>
 }
 
 impl Line {
-    /// The text so far of the request that is open, if one is, as far as it matters. A text of two bytes or more is no command,
-    /// whatever it goes on with: two question marks represent it.
+    /// The text so far of the request that is open, if one is, as far as it matters. A text of two
+    /// bytes or more is no command, whatever it goes on with: two question marks represent it.
     pub fn open_request(&self) -> Option<ArrayVec<u8, 2>>
         ensures { (before : List ℕ) → StandsAfter self.now before
             → option_map (λ text. text.items) result ≡ option_map text_kept (open_request before) }
