@@ -1,6 +1,7 @@
+use crate::lines::{behind, front};
+use memchr::memchr;
 use std::alloc::{AllocError, Global};
 use wc_built_in::{Keyword, keyword_named};
-use wc_lexer::{Shape, Token, tokens};
 use wc_refusals::{Values, text_with};
 
 /// How many bytes at the front of both are the same letters.
@@ -76,51 +77,65 @@ pub(crate) fn operator_advice(alloc: Global, word: &[u8]) -> Result<String, Allo
     Ok(String::new(alloc))
 }
 
-/// Where the tokens are: in declarations, and there before the type.
-#[derive(Clone, Copy)]
-struct Walk {
-    in_section: bool,
-    at_names: bool,
+/// Whether a line begins with a word, in letters of either case.
+fn begins(line: &[u8], word: &[u8]) -> bool {
+    front(line, word.len()).eq_ignore_ascii_case(word)
 }
 
-/// Goes past a token: whether it is a name that is declared.
-fn declares(walk: &mut Walk, token: &Token<'_>) -> bool {
-    match keyword_named(token.text) {
-        Some(Keyword::SectionStart(_)) => {
-            walk.in_section = true;
-            walk.at_names = true;
-            return false;
-        }
-        Some(Keyword::SectionEnd) => walk.in_section = false,
-        _ => {}
+/// The keyword with which a line begins, and what stands behind it.
+fn keyword_on(line: &[u8]) -> (Option<Keyword>, &[u8]) {
+    if !(begins(line, b"PROGRAM") || begins(line, b"FUNCTION_BLOCK") || begins(line, b"VAR")) {
+        return (None, line);
     }
-    match token.shape {
-        Shape::Colon => walk.at_names = false,
-        Shape::Semicolon => walk.at_names = true,
-        _ => {}
+    let word = line
+        .split(|byte| byte.is_ascii_whitespace())
+        .next()
+        .unwrap_or(b"");
+    match keyword_named(word) {
+        Some(keyword) => (Some(keyword), behind(line, word.len())),
+        None => (None, line),
     }
-    walk.in_section && walk.at_names && matches!(token.shape, Shape::Identifier)
 }
 
-/// The name that the unit around a place declares and that is spelled almost as this one.
-fn near_name<'a>(all: &[Token<'a>], name: &[u8], place: usize) -> &'a [u8] {
-    let mut walk = Walk {
-        in_section: false,
-        at_names: false,
+/// Whether a section of declarations ends at the end of a line.
+fn ends_section(line: &[u8]) -> bool {
+    behind(line, line.len().saturating_sub(7)).eq_ignore_ascii_case(b"END_VAR")
+}
+
+/// The name among those in front of a type that is spelled almost as this one; empty if none is.
+fn near_on_line<'a>(line: &'a [u8], name: &[u8]) -> &'a [u8] {
+    let Some(colon) = memchr(b':', line) else {
+        return b"";
     };
-    let mut found: &'a [u8] = b"";
-    for token in all {
-        if token.start as usize >= place {
-            return found;
-        }
-        if let Some(Keyword::UnitStart(_)) = keyword_named(token.text) {
-            found = b"";
-        }
-        if declares(&mut walk, token) && is_near(token.text, name) {
-            found = token.text;
+    for declared in front(line, colon).split(|byte| *byte == b',') {
+        let declared = declared.trim_ascii();
+        if is_near(declared, name) {
+            return declared;
         }
     }
-    found
+    b""
+}
+
+/// The name that the unit around a place declares and that is spelled almost as this one. The lines are passed
+/// upwards from the place, so that a text of many units costs no more than the last of them.
+fn near_name<'a>(text: &'a [u8], name: &[u8], place: usize) -> &'a [u8] {
+    let mut in_section = false;
+    for line in front(text, place).rsplit(|byte| *byte == b'\n') {
+        let line = line.trim_ascii();
+        let (keyword, names) = keyword_on(line);
+        if matches!(keyword, Some(Keyword::UnitStart(_))) {
+            return b"";
+        }
+        in_section |= ends_section(line);
+        if in_section {
+            let near = near_on_line(names, name);
+            if !near.is_empty() {
+                return near;
+            }
+        }
+        in_section &= !matches!(keyword, Some(Keyword::SectionStart(_)));
+    }
+    b""
 }
 
 /// What may be meant by a name that is not declared; empty if no name is near.
@@ -130,10 +145,7 @@ pub(crate) fn advice_for(
     name: &[u8],
     place: usize,
 ) -> Result<String, AllocError> {
-    let Ok(all) = tokens(alloc, text) else {
-        return Ok(String::new(alloc));
-    };
-    let near = str::from_utf8(near_name(&all, name, place)).unwrap_or("");
+    let near = str::from_utf8(near_name(text, name, place)).unwrap_or("");
     if near.is_empty() {
         return Ok(String::new(alloc));
     }
