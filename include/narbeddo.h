@@ -15,14 +15,15 @@
  * docs/EMBEDDING.md says what is proved of these calls and what you owe them; examples/embedded/ has two whole programs. In short:
  *
  *   - Each call says by a status whether it was done. Where it was not, it has changed nothing.
- *   - narbeddo_open, narbeddo_load, narbeddo_change, narbeddo_about and narbeddo_path ask your allocator for memory; no other call does, and
- *     none of those can fail on arguments in range.
+ *   - narbeddo_open, narbeddo_load, narbeddo_change, narbeddo_value, narbeddo_about and narbeddo_path ask your allocator for memory; no other
+ *     call does, and none of those others can fail on arguments in range.
  *   - A scale stays on the thread that made it, and no call comes from a signal handler. There may be any number of scales.
  *   - A pointer is never null, and leads to what its type says; a text of no bytes too has some address.
  */
 #ifndef NARBEDDO_H
 #define NARBEDDO_H
 
+#include <stdbool.h>
 #include <stddef.h>
 #include <stdint.h>
 
@@ -38,6 +39,7 @@ extern "C" {
  *     narbeddo_sample                    CLOSED, COUNTS_OUT_OF_RANGE
  *     narbeddo_byte, _inputs, _read, _plate, _prelude    CLOSED (and of a byte LINE_FAILED, which never comes)
  *     narbeddo_scan                      CLOSED, NO_PROGRAM, MOMENT_OUT_OF_RANGE, MOMENT_BACK
+ *     narbeddo_value                     CLOSED, NO_PROGRAM, then NO_MEMORY or NO_VARIABLE
  *     narbeddo_about, narbeddo_path      REFUSED, NO_MEMORY or NO_UNIT; of a path also NO_ROOM
  *     narbeddo_close                     DONE alone
  */
@@ -53,6 +55,7 @@ extern "C" {
 #define NARBEDDO_LINE_FAILED 9         /* never of a scale that was made and opened by the calls below: so it is proved */
 #define NARBEDDO_NO_UNIT 10            /* the text has no unit of that number */
 #define NARBEDDO_NO_ROOM 11            /* the room is too small, and nothing was put there */
+#define NARBEDDO_NO_VARIABLE 12        /* the program has no variable of that name */
 
 /* The room for a scale. Its contents are the library's. narbeddo_size() is at most its size: the library and this header belong together. */
 #define NARBEDDO_WORDS 48
@@ -229,6 +232,27 @@ narbeddo_reading narbeddo_read(narbeddo_scale *scale);
     ensures TellsEngraved: 0 <= \result.decimals <= 3; */
 narbeddo_engraved narbeddo_plate(narbeddo_scale *scale);
 
+/* The value of a variable of the program. */
+typedef struct narbeddo_variable {
+    uint32_t status;
+    uint32_t kind;  /* NARBEDDO_BOOL, NARBEDDO_DINT or NARBEDDO_TIME; 0 if the status is not NARBEDDO_DONE */
+    int64_t number; /* 0 or 1 of a BOOL, a DINT, the milliseconds of a TIME; 0 if the status is not NARBEDDO_DONE */
+} narbeddo_variable;
+
+#define NARBEDDO_BOOL 1
+#define NARBEDDO_DINT 2
+#define NARBEDDO_TIME 3
+
+/* The value that a variable of the program has after the last scan, for an online view: a name as "fill", "dose.timer.ET" through instances
+ * of blocks, or "%QX0.3", in letters of either case. What a standard block keeps for itself has no name. Nothing changes. */
+/*@ requires narbeddo_is_scale(scale) && narbeddo_is_text(name, length) && \separated(scale, name + (0 .. length - 1));
+    assigns \result \from *scale, name[0 .. length - 1];
+    ensures RefusesValue: \result.status == NARBEDDO_DONE || \result.status == NARBEDDO_NO_MEMORY || \result.status == NARBEDDO_CLOSED
+        || \result.status == NARBEDDO_NO_PROGRAM || \result.status == NARBEDDO_NO_VARIABLE;
+    ensures RefusesValue: \result.status != NARBEDDO_DONE ==> \result.kind == 0 && \result.number == 0;
+    ensures TellsValue: \result.status == NARBEDDO_DONE ==> NARBEDDO_BOOL <= \result.kind <= NARBEDDO_TIME; */
+narbeddo_variable narbeddo_value(narbeddo_scale *scale, const uint8_t *name, size_t length);
+
 /* What brings a new scale of the same plate to the state of this one, but for its program. Give that scale, in this order, and drop its answers:
  *
  *     if has_zero is 1, `window` samples of `zero` and the bytes 10, 'Z', 13;
@@ -260,15 +284,18 @@ typedef struct narbeddo_state {
     ensures TellsPrelude: \result.length != 0 ==> \result.request[0] == 10; */
 narbeddo_state narbeddo_prelude(narbeddo_scale *scale);
 
-/* Your program has these three functions over its allocator (examples/embedded/memory.c has them over malloc): whether there was memory, and where,
- * which is never null; a block aligned to `align`, which is 16 at most; of a block that grows its first `kept` bytes stay. If there is no memory
- * to grow, the block stays as it was. A request of no bytes gets a block too. Blocks come back in any order.
- *
- *     typedef struct { bool ok; void *at; } tried;
- *     tried rattle_alloc(size_t size, size_t align);
- *     tried rattle_realloc(void *at, size_t kept, size_t size, size_t align);
- *     void rattle_dealloc(void *at);
- */
+/* Your program defines these three functions over its allocator (examples/embedded/memory.c has them over malloc). The library calls them, in
+ * the calls that the list at the top of this file names and in narbeddo_close. A block is aligned to `align`, which is 16 at most; when one
+ * grows, its first `kept` bytes stay. If there is no memory to grow, the block stays as it was. A request of no bytes gets a block too.
+ * Blocks come back in any order. */
+typedef struct narbeddo_block {
+    bool ok;  /* whether there was memory */
+    void *at; /* where; never null, even if there was none */
+} narbeddo_block;
+
+narbeddo_block rattle_alloc(size_t size, size_t align);
+narbeddo_block rattle_realloc(void *at, size_t kept, size_t size, size_t align);
+void rattle_dealloc(void *at);
 
 /* One unit of a program's text, which need not be loaded: units are counted in text order from 0, and the program is the last. */
 typedef struct narbeddo_unit {

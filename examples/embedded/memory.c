@@ -1,35 +1,26 @@
 /* The three functions through which the library asks for memory, over malloc, realloc and free. Put your own in their place where you have no
  * malloc; all three go to one allocator. A block is aligned to `align`, which is at most 16 (malloc's own alignment).
  *
- * They are called by narbeddo_open, narbeddo_load, narbeddo_change, narbeddo_close, narbeddo_about and narbeddo_path, and by nothing else. */
-#include <stdbool.h>
-#include <stddef.h>
+ * They are called by narbeddo_open, narbeddo_load, narbeddo_change, narbeddo_close, narbeddo_value, narbeddo_about and narbeddo_path, and by
+ * nothing else. */
+#include "narbeddo.h"
+
 #include <stdlib.h>
 
-/* Whether there was memory, and where; the pointer is never null. */
-typedef struct tried {
-    bool ok;
-    void *at;
-} tried;
-
-tried rattle_alloc(size_t size, size_t align);
-tried rattle_realloc(void *at, size_t kept, size_t size, size_t align);
-void rattle_dealloc(void *at);
-
-static tried told(void *at)
+static narbeddo_block told(void *at)
 {
     static char none;
-    tried answer = {at != NULL, at != NULL ? at : &none};
+    narbeddo_block answer = {at != NULL, at != NULL ? at : &none};
     return answer;
 }
 
 /* A block of no bytes is one of some, so that it can be freed. */
-tried rattle_alloc(size_t size, size_t align)
+narbeddo_block rattle_alloc(size_t size, size_t align)
 {
     return told(malloc(size != 0 ? size : align));
 }
 
-tried rattle_realloc(void *at, size_t kept, size_t size, size_t align)
+narbeddo_block rattle_realloc(void *at, size_t kept, size_t size, size_t align)
 {
     (void)kept; /* how many of its bytes stay */
     return told(realloc(at, size != 0 ? size : align));

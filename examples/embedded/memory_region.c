@@ -4,9 +4,8 @@
  * So where a block lies does not depend on where the region ends, and what fits into a region fits into a larger one. How large it has to be for
  * your plate and your program is found by try_region.c. */
 #include "memory_region.h"
+#include "narbeddo.h"
 
-#include <stdbool.h>
-#include <stdint.h>
 #include <string.h>
 
 /* The size of the array, in bytes. */
@@ -22,16 +21,6 @@ typedef struct hole {
     size_t size;
     struct hole *next;
 } hole;
-
-/* Whether there was memory, and where; the pointer is never null. */
-typedef struct tried {
-    bool ok;
-    void *at;
-} tried;
-
-tried rattle_alloc(size_t size, size_t align);
-tried rattle_realloc(void *at, size_t kept, size_t size, size_t align);
-void rattle_dealloc(void *at);
 
 static union array {
     uint8_t bytes[REGION];
@@ -91,9 +80,9 @@ static hole *cut(hole *found, size_t size)
     return rest;
 }
 
-tried rattle_alloc(size_t size, size_t align)
+narbeddo_block rattle_alloc(size_t size, size_t align)
 {
-    tried answer = {false, array.bytes};
+    narbeddo_block answer = {false, array.bytes};
     size_t needed = GRAIN + size / GRAIN * GRAIN + (size % GRAIN != 0 ? GRAIN : 0);
     hole **at = &holes;
     (void)align; /* at most GRAIN */
@@ -135,10 +124,10 @@ void rattle_dealloc(void *at)
 }
 
 /* The block stays where it is if it is large enough; else its bytes go to another one. */
-tried rattle_realloc(void *at, size_t kept, size_t size, size_t align)
+narbeddo_block rattle_realloc(void *at, size_t kept, size_t size, size_t align)
 {
     const hole *block = (const hole *)(const void *)((const uint8_t *)at - GRAIN);
-    tried answer = {true, at};
+    narbeddo_block answer = {true, at};
     if (size > block->size - GRAIN) {
         answer = rattle_alloc(size, align);
         if (answer.ok) {

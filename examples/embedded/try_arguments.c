@@ -2,21 +2,11 @@
  * of addresses and of undefined behaviour. Each text stands in a block of just its size, so that a byte read behind it would be seen. */
 #include "narbeddo.h"
 
-#include <stdbool.h>
 #include <stdio.h>
 #include <stdlib.h>
 #include <string.h>
 
 static unsigned long asked, refuse_from, tried_count, failed_count, blocks;
-
-typedef struct tried {
-    bool ok;
-    void *at;
-} tried;
-
-tried rattle_alloc(size_t size, size_t align);
-tried rattle_realloc(void *at, size_t kept, size_t size, size_t align);
-void rattle_dealloc(void *at);
 
 static bool is_refused(void)
 {
@@ -24,10 +14,10 @@ static bool is_refused(void)
     return refuse_from != 0 && asked >= refuse_from;
 }
 
-tried rattle_alloc(size_t size, size_t align)
+narbeddo_block rattle_alloc(size_t size, size_t align)
 {
     static char none;
-    tried answer = {false, &none};
+    narbeddo_block answer = {false, &none};
     if (!is_refused()) {
         answer.at = malloc(size != 0 ? size : align);
         answer.ok = answer.at != NULL;
@@ -36,10 +26,10 @@ tried rattle_alloc(size_t size, size_t align)
     return answer;
 }
 
-tried rattle_realloc(void *at, size_t kept, size_t size, size_t align)
+narbeddo_block rattle_realloc(void *at, size_t kept, size_t size, size_t align)
 {
     static char none;
-    tried answer = {false, &none};
+    narbeddo_block answer = {false, &none};
     (void)kept;
     if (!is_refused()) {
         answer.at = realloc(at, size != 0 ? size : align);
@@ -100,6 +90,16 @@ static void closed(narbeddo_scale *scale)
     is("plate of a closed scale", narbeddo_plate(scale).status, NARBEDDO_CLOSED);
     is("load into a closed scale", narbeddo_load(scale, text, 0).status, NARBEDDO_CLOSED);
     is("change of a closed scale", narbeddo_change(scale, text, 0).status, NARBEDDO_CLOSED);
+    is("value of a closed scale", narbeddo_value(scale, text, 0).status, NARBEDDO_CLOSED);
+}
+
+/* The value of a variable, by a name in a block of just its size. */
+static narbeddo_variable value_of(narbeddo_scale *scale, const char *name)
+{
+    uint8_t *block = exact(name);
+    narbeddo_variable value = narbeddo_value(scale, block, strlen(name));
+    free(block);
+    return value;
 }
 
 /* What is engraved on a scale with the plate below. */
@@ -131,6 +131,7 @@ static void rows(narbeddo_scale *scale)
     is("counts in range", narbeddo_sample(scale, -8388608), NARBEDDO_DONE);
     is("counts in range", narbeddo_sample(scale, 8388607), NARBEDDO_DONE);
     is("scan with no program", narbeddo_scan(scale, 5).status, NARBEDDO_NO_PROGRAM);
+    is("value with no program", value_of(scale, "a").status, NARBEDDO_NO_PROGRAM);
     is("change with no program", narbeddo_change(scale, (const uint8_t *)counting, strlen(counting)).status, NARBEDDO_NO_PROGRAM);
 }
 
@@ -143,6 +144,33 @@ static void moments(narbeddo_scale *scale)
     is("the latest number", narbeddo_scan(scale, UINT64_MAX).status, NARBEDDO_MOMENT_OUT_OF_RANGE);
     is("no scan was done by these", narbeddo_scan(scale, 8).words[0], 3);
     is("what is shown", narbeddo_read(scale).flags & NARBEDDO_OVER, NARBEDDO_OVER);
+}
+
+/* Values after the three scans above: a counts them, and t was started at 7 ms. */
+static void values(narbeddo_scale *scale)
+{
+    static const char *const unknown[] = {"", ".", "a", "a.", ".y", "a.z", "a.y.y", "b", "t.start", "%", "%QX0.16", "%QX0.3.Q", "a y", "a.y ", "1"};
+    size_t i;
+    is("a DINT", (unsigned long)value_of(scale, "a.y").number, 3);
+    is("its kind", value_of(scale, "A.Y").kind, NARBEDDO_DINT);
+    is("a TIME", (unsigned long)value_of(scale, "t.et").number, 1);
+    is("its kind", value_of(scale, "t.ET").kind, NARBEDDO_TIME);
+    is("a preset", (unsigned long)value_of(scale, "t.PT").number, 1000);
+    is("a BOOL", (unsigned long)value_of(scale, "t.IN").number, 1);
+    is("its kind", value_of(scale, "t.IN").kind, NARBEDDO_BOOL);
+    is("an output word", (unsigned long)value_of(scale, "%QD0").number, 3);
+    is("an output", (unsigned long)value_of(scale, "%qx0.3").number, 0);
+    for (i = 0; i < sizeof unknown / sizeof unknown[0]; i++) {
+        narbeddo_variable value = value_of(scale, unknown[i]);
+        is(unknown[i], value.status, NARBEDDO_NO_VARIABLE);
+        is("no kind", value.kind, 0);
+        is("no number", (unsigned long)value.number, 0);
+    }
+    asked = 0;
+    refuse_from = 1;
+    is("no memory for a name", value_of(scale, "a.y").status, NARBEDDO_NO_MEMORY);
+    refuse_from = 0;
+    is("the name again", value_of(scale, "a.y").status, NARBEDDO_DONE);
 }
 
 static void texts(narbeddo_scale *scale)
@@ -219,6 +247,7 @@ int main(void)
     rows(&scale);
     is("a program", narbeddo_load(&scale, (const uint8_t *)counting, strlen(counting)).status, NARBEDDO_DONE);
     moments(&scale);
+    values(&scale);
     texts(&scale);
     is("close", narbeddo_close(&scale), NARBEDDO_DONE);
     is("blocks that were not given back", blocks, 0);

@@ -2,7 +2,6 @@
 #define _POSIX_C_SOURCE 199309L
 #include "narbeddo.h"
 
-#include <stdbool.h>
 #include <stdio.h>
 #include <stdlib.h>
 #include <string.h>
@@ -10,20 +9,11 @@
 
 static unsigned long asked, held, held_most;
 
-typedef struct tried {
-    bool ok;
-    void *at;
-} tried;
-
-tried rattle_alloc(size_t size, size_t align);
-tried rattle_realloc(void *at, size_t kept, size_t size, size_t align);
-void rattle_dealloc(void *at);
-
 /* Each block has its size in front, so that what is held can be summed. */
-static tried block_of(void *old, size_t size)
+static narbeddo_block block_of(void *old, size_t size)
 {
     static char none;
-    tried answer = {false, &none};
+    narbeddo_block answer = {false, &none};
     size_t before = old == NULL ? 0 : *(size_t *)((char *)old - 16);
     char *block = realloc(old == NULL ? NULL : (char *)old - 16, size + 16);
     asked++;
@@ -38,13 +28,13 @@ static tried block_of(void *old, size_t size)
     return answer;
 }
 
-tried rattle_alloc(size_t size, size_t align)
+narbeddo_block rattle_alloc(size_t size, size_t align)
 {
     (void)align;
     return block_of(NULL, size);
 }
 
-tried rattle_realloc(void *at, size_t kept, size_t size, size_t align)
+narbeddo_block rattle_realloc(void *at, size_t kept, size_t size, size_t align)
 {
     (void)kept;
     (void)align;

@@ -12,7 +12,6 @@
 #include "narbeddo.h"
 
 #include <signal.h>
-#include <stdbool.h>
 #include <stdio.h>
 #include <stdlib.h>
 #include <string.h>
@@ -101,21 +100,12 @@ static size_t used[2], block_count;
 static block blocks[MOST_BLOCKS];
 static bool is_wrong_block; /* whether a block was given back that was not out */
 
-typedef struct tried {
-    bool ok;
-    void *at;
-} tried;
-
-tried rattle_alloc(size_t size, size_t align);
-tried rattle_realloc(void *at, size_t kept, size_t size, size_t align);
-void rattle_dealloc(void *at);
-
 /* Blocks lie one after another, and none is used again. */
-tried rattle_alloc(size_t size, size_t align)
+narbeddo_block rattle_alloc(size_t size, size_t align)
 {
     uint8_t *bytes = (uint8_t *)filled;
     size_t most = sizeof all->first.words, from = (used[filled_side] + align - 1) / align * align;
-    tried answer = {false, bytes};
+    narbeddo_block answer = {false, bytes};
     if (size < most && from < most - size && block_count < MOST_BLOCKS) {
         block taken = {bytes + from, size, true};
         blocks[block_count++] = taken;
@@ -126,9 +116,9 @@ tried rattle_alloc(size_t size, size_t align)
     return answer;
 }
 
-tried rattle_realloc(void *at, size_t kept, size_t size, size_t align)
+narbeddo_block rattle_realloc(void *at, size_t kept, size_t size, size_t align)
 {
-    tried answer = rattle_alloc(size, align);
+    narbeddo_block answer = rattle_alloc(size, align);
     if (answer.ok) {
         memcpy(answer.at, at, kept);
         rattle_dealloc(at);

@@ -6,8 +6,9 @@ ghost use Rattle.std.specs.Prelude.{◌≡◌};
 ghost use Rattle.wc_scale.specs.Calls.{ShowsNoPlate, ShowsNothing, TellsEngraved, TellsReading};
 ghost use Rattle.wc_scale.specs.Preludes.{HoldsNothing, TellsPrelude};
 ghost use Rattle.wc_scale.specs.Standing.{IsClosed};
+ghost use Rattle.wc_scale.specs.Values.{RefusesValue, TellsValue};
 
-use wc_scale::{Engraved, PreludeTold, Reading, Scale};
+use wc_scale::{Engraved, PreludeTold, Reading, Scale, VariableRead};
 
 /// What the indicator shows. The scale stays as it is.
 fn reading_of(scale: &mut Scale) -> Reading
@@ -70,4 +71,25 @@ pub unsafe extern "C" fn narbeddo_prelude(scale: *mut u8) -> PreludeTold
         × (after ≡ before) ⌝) }
 {
     prelude_of(&mut *(scale as *mut Scale))
+}
+
+/// The value of a variable of the program, by its name. The scale stays as it is.
+fn value_of(scale: &mut Scale, name: &[u8]) -> VariableRead
+    ensures tells { TellsValue scale.old name.now result }
+    ensures refused { RefusesValue scale.old name.now result }
+    ensures kept { scale.new ≡ scale.old }
+{
+    scale.value(name)
+}
+
+/// The value of a variable of the program, by its name.
+#[unsafe(no_mangle)]
+pub unsafe extern "C" fn narbeddo_value(scale: *mut u8, name: &[u8]) -> VariableRead
+    ghost before: { Scale }
+    requires* { sem 𝓛 (lies_at the_row full_share scale before) }
+    ensures* { ∃ₛ (λ (after : Scale). sem 𝓛 (lies_at the_row full_share scale after)
+        ∗ ⌜ (TellsValue before name.now result) × (RefusesValue before name.now result)
+        × (after ≡ before) ⌝) }
+{
+    value_of(&mut *(scale as *mut Scale), name)
 }

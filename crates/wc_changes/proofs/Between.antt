@@ -17,7 +17,7 @@ use Rattle.wc_changes.specs.Shown.{Form, Plain, Instance, Shown, inside, names_o
 use Rattle.wc_changes.specs.Sides.{IsSide, kept_between, line_between, numbered_side, pass_text, side_behind, side_found, side_lead, type_behind, unit_numbered}
 use Rattle.wc_changes.specs.declared.describing.Pass.{Pass}
 use Rattle.wc_changes.proofs.Leads.{lead_is, never_field, not_field}
-use Rattle.wc_changes.proofs.Units.{block_unit}
+use Rattle.wc_variables.proofs.BlockUnits.{block_unit}
 
 -- the unit to which a name leads is that of the number
 pub side_is : (text : Text) (unit : Option ℕ) (side : Option Scope) (name : Name) → IsSide text unit side → IsSide text (unit_numbered (numbered_side side name)) (side_behind side name)

@@ -20,7 +20,7 @@ use Rattle.wc_names.proofs.Places.{TypeCase, of_block, of_elementary, of_standar
 use Rattle.wc_soundness.proofs.Places.{Some-same}
 use Rattle.wc_changes.specs.ChangeReport.{Group, block_text, found_by, found_from, found_type, has_line, kind_text}
 use Rattle.wc_changes.specs.Sides.{IsSide, line_numbered, numbered_side, side_found}
-use Rattle.wc_changes.proofs.Units.{block_unit}
+use Rattle.wc_variables.proofs.BlockUnits.{block_unit}
 
 -- the type at hand, as it is spelled
 abbrev text_at : List ProgramUnit → Option VariableType → Option (List ℕ)

@@ -1,5 +1,5 @@
 ghost use Rattle.std.specs.Prelude.{◌≡◌, ℕ};
-ghost use Rattle.wc_controller.specs.Endings.{EndsBehind, EndsRefused, TellsFailures, TellsWriteFaults, met, status_of};
+ghost use Rattle.wc_controller.specs.Endings.{EndsBehind, EndsRefused, TellsFailures, TellsWriteFaults, ending_of, met, status_of};
 
 use crate::input::{Input, Stopped};
 use std::alloc::Global;
@@ -33,6 +33,27 @@ pub enum Ending {
 }
 
 impl Ending {
+    /// The ending of what was done, or of what stopped it, if no line of a refusal is to be written.
+    pub fn of(answer: Result<(), Stopped>) -> Ending
+        ensures { result ≡ ending_of answer }
+    {
+        let stopped = match answer {
+            Ok(()) => return Ending::Done,
+            Err(stopped) => stopped,
+        };
+        let input = stopped.input;
+        match stopped.fault {
+            RunFault::Refused { number, place } => Ending::Refused {
+                input,
+                number,
+                place,
+            },
+            RunFault::Read => Ending::ReadFault { input },
+            RunFault::Write => Ending::WriteFault,
+            RunFault::Memory => Ending::NoMemory,
+        }
+    }
+
     /// The exit status: 0 where all was done, 1 where something was refused, 3 where a device
     /// failed, 4 for want of memory.
     pub fn status(&self) -> u8

@@ -24,6 +24,6 @@ pub use inputs::RunInputs;
 pub use loading::load;
 pub use log_runs::{run, run_last};
 pub use reading::read_input;
-pub use running::{last_files, report_files, run_files};
+pub use running::{last_files, report_files, run_files, run_inputs};
 pub use unit_lines::text_of_units;
 pub use wc_run::{RefusedRow, RunFault};

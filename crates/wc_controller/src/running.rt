@@ -18,9 +18,16 @@ use wc_record::RefusedRow;
 use wc_run::{LastScans, Observer, Report};
 use wc_store::SlotStore;
 
-/// Reads a plate, and a program and the next one, if there are such, and runs a log. What follows an
-/// input that is refused is not read.
-fn run_inputs<P: ByteIn, T: ByteIn, N: ByteIn, L: ByteIn, W: ByteOut, O: Observer<SlotStore, W>>(
+/// Reads a plate, and a program and the next one, if there are such, and runs a log, as `run_files` does, but does not write the
+/// line of a refusal: what is refused, and at which input, is in the result alone.
+pub fn run_inputs<
+    P: ByteIn,
+    T: ByteIn,
+    N: ByteIn,
+    L: ByteIn,
+    W: ByteOut,
+    O: Observer<SlotStore, W>,
+>(
     alloc: Global,
     observer: &mut O,
     inputs: &mut RunInputs<P, T, N, L>,

@@ -179,6 +179,13 @@ impl<'a, S: Store> Machine<'a, S> {
         number_at(&self.store, place)
     }
 
+    /// The text that it runs, as it was loaded.
+    pub fn loaded(&self) -> &Loaded<'a>
+        ensures { result.now.source ≡ self.now.source }
+    {
+        &self.loaded
+    }
+
     /// The moment of the last scan in milliseconds, 0 before the first.
     pub fn last(&self) -> u64
         ensures { result ≡ self.now.last }

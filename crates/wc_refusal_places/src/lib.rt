@@ -5,6 +5,7 @@
 mod awaits;
 mod calls;
 mod kinds;
+mod listing;
 mod pieces;
 mod placed;
 mod places;
@@ -13,6 +14,7 @@ mod spots;
 mod stops;
 mod twice;
 
+pub use listing::the_list_is_exact;
 pub use placed::{Placed, read_by_places};
 pub use span::RefusalSpan;
 pub use spots::spot_in;

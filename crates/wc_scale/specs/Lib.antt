@@ -6,3 +6,4 @@ pub mod Programs
 pub mod Refusals
 pub mod Standing
 pub mod Preludes
+pub mod Values

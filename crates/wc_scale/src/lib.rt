@@ -15,11 +15,14 @@ mod scale;
 mod scanning;
 mod statuses;
 mod units;
+mod values;
 
-pub use results::{Answer, Engraved, PathTold, PreludeTold, Reading, Refusal, Scanned, UnitTold};
+pub use results::{
+    Answer, Engraved, PathTold, PreludeTold, Reading, Refusal, Scanned, UnitTold, VariableRead,
+};
 pub use scale::Scale;
 pub use statuses::{
     ALREADY_OPEN, CLOSED, COUNTS_OUT_OF_RANGE, DONE, LINE_FAILED, MOMENT_BACK, MOMENT_OUT_OF_RANGE,
-    NO_MEMORY, NO_PROGRAM, NO_ROOM, NO_UNIT, REFUSED,
+    NO_MEMORY, NO_PROGRAM, NO_ROOM, NO_UNIT, NO_VARIABLE, REFUSED,
 };
 pub use units::{about, path};

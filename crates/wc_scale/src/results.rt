@@ -99,6 +99,18 @@ pub struct Engraved {
     pub e: i32,
 }
 
+/// The value of a variable of the program: a status, the kind of the value, and its number.
+#[repr(C)]
+#[derive(Clone, Copy)]
+pub struct VariableRead {
+    /// The status.
+    pub status: u32,
+    /// 1 of a BOOL, 2 of a DINT, 3 of a TIME; 0 if there is no value.
+    pub kind: u32,
+    /// Of a BOOL 0 or 1, of a DINT its number, of a TIME its milliseconds; 0 if there is no value.
+    pub number: i64,
+}
+
 /// What is told of one unit of a program's text.
 #[repr(C)]
 #[derive(Clone, Copy)]

@@ -24,3 +24,5 @@ pub const LINE_FAILED: u32 = 9;
 pub const NO_UNIT: u32 = 10;
 /// The room is too small for all lines of a path.
 pub const NO_ROOM: u32 = 11;
+/// The program has no variable of this name.
+pub const NO_VARIABLE: u32 = 12;

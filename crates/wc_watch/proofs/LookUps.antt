@@ -7,12 +7,13 @@ use Rattle.std.specs.List.{flat_map, onto_first, position_from}
 use Rattle.std.specs.Prelude.{◌==◌, ◌||◌, is_some, not, option_and_then, option_map, slice_get}
 use Rattle.wc_model.specs.Language.Tree.{Text}
 use Rattle.wc_names.proofs.Lists.{from_index}
-use Rattle.wc_watch.proofs.ValueTexts.{known}
-use Rattle.wc_watch.specs.Meaning.{watched_by}
-use Rattle.wc_watch.specs.Names.{meant, names_in}
+use Rattle.wc_variables.proofs.Readings.{known}
+use Rattle.wc_variables.specs.Numbered.{variable_named}
+use Rattle.wc_variables.specs.Names.{named_location}
+use Rattle.wc_watch.specs.Names.{names_in}
 use Rattle.wc_watch.specs.Unknown.{has_meaning, is_unknown, with_commas}
 use Rattle.wc_watch.specs.Watching.{AreLookedUp}
-use Rattle.wc_watch.specs.declared.watched.Watched.{Watched}
+use Rattle.wc_variables.specs.declared.variables.NamedVariable.{NamedVariable}
 use Rattle.wc_watch.specs.declared.watched_names.WatchedNames.{WatchedNames}
 
 -- a name of the list
@@ -22,11 +23,11 @@ name_at names list index name are there =
     ap (λ all. slice_get all index) (sym are) ∙ slice_get-map (λ (one : Bor (List ℕ)). one.now) names index ∙ ap (option_map (λ (one : Bor (List ℕ)). one.now)) there
 
 -- and what it means
-pub meaning_at : (f : List ℕ → Option Watched) (all : List (Option Watched)) (names : List (List ℕ)) (index : ℕ) (name : List ℕ) → all ≡ map f names
+pub meaning_at : (f : List ℕ → Option NamedVariable) (all : List (Option NamedVariable)) (names : List (List ℕ)) (index : ℕ) (name : List ℕ) → all ≡ map f names
     → slice_get names index ≡ Some name → slice_get all index ≡ Some (f name)
 meaning_at f all names index name are there = ap (λ xs. slice_get xs index) are ∙ slice_get-map f names index ∙ ap (option_map f) there
 
-pub same_meaning : (f : List ℕ → Option Watched) (all : List (Option Watched)) (names : List (List ℕ)) (index : ℕ) (name : List ℕ) (w : Option Watched) → all ≡ map f names
+pub same_meaning : (f : List ℕ → Option NamedVariable) (all : List (Option NamedVariable)) (names : List (List ℕ)) (index : ℕ) (name : List ℕ) (w : Option NamedVariable) → all ≡ map f names
     → slice_get names index ≡ Some name → slice_get all index ≡ Some w → f name ≡ w
 same_meaning f all names index name w are there found = let e : Some (f name) ≡ Some w = sym (meaning_at f all names index name are there) ∙ found in cc (e)
 
@@ -98,17 +99,17 @@ pub is_known_at : (names : WatchedNames) (list : List ℕ) (text : Text) (next :
 is_known_at names list text next index name looked there =
     (λ i. not (here i || ahead names.next next looked.ahead i))
   where
-    here : is_some (option_and_then (λ (found : Option Watched). found) (slice_get names.watched.items index)) ≡ is_some (meant text name)
-    here = ap (λ (o : Option (Option Watched)). is_some (option_and_then (λ found. found) o)) (meaning_at (watched_by text) names.watched.items (names_in list) index name looked.here there) ∙ known text name
+    here : is_some (option_and_then (λ (found : Option NamedVariable). found) (slice_get names.watched.items index)) ≡ is_some (named_location text name)
+    here = ap (λ (o : Option (Option NamedVariable)). is_some (option_and_then (λ found. found) o)) (meaning_at (variable_named text) names.watched.items (names_in list) index name looked.here there) ∙ known text name
 
-    ahead : (all : Option (Vec (Option Watched) Global)) (other : Option Text) → option_map (λ found. found.items) all ≡ option_map (λ one. map (watched_by one) (names_in list)) other
+    ahead : (all : Option (Vec (Option NamedVariable) Global)) (other : Option Text) → option_map (λ found. found.items) all ≡ option_map (λ one. map (variable_named one) (names_in list)) other
         → is_some (option_and_then (λ found. option_and_then (λ one. one) (slice_get found.items index)) all) ≡ has_meaning other name
     ahead None None e = refl
     ahead None (Some other) e = absurd (cc (e))
     ahead (Some all) None e = absurd (cc (e))
     ahead (Some all) (Some other) e =
-        let are : all.items ≡ map (watched_by other) (names_in list) = cc (e) in
-        ap (λ (o : Option (Option Watched)). is_some (option_and_then (λ found. found) o)) (meaning_at (watched_by other) all.items (names_in list) index name are there) ∙ known other name
+        let are : all.items ≡ map (variable_named other) (names_in list) = cc (e) in
+        ap (λ (o : Option (Option NamedVariable)). is_some (option_and_then (λ found. found) o)) (meaning_at (variable_named other) all.items (names_in list) index name are there) ∙ known other name
 
 -- the first unknown name among those from this one on
 pub found_here : (p : List ℕ → Bool) (names : List (List ℕ)) (index : ℕ) (name : List ℕ) → slice_get names index ≡ Some name → p name ≡ true

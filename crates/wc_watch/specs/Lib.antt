@@ -1,4 +1,3 @@
-pub mod Meaning
 pub mod Names
 pub mod Plans
 pub mod Ring

@@ -1,70 +1,7 @@
--- The names of variables that are watched, and what a name means in a text. (The profile's own.)
-use Rattle.std.specs.Prelude.{ℕ, ◌==◌, Bool, true, false, not, ◌&&◌, List, [], ◌∷◌, map, reverse, Option, Some, None, option_map, option_and_then, if◌then◌else◌}
+-- The names of variables that are watched. (The profile's own.)
+use Rattle.std.specs.Prelude.{ℕ, ◌==◌, List}
 use Rattle.std.specs.List.{slice_split}
-use Rattle.std.specs.Option.{is_none}
-use Rattle.wc_model.specs.Language.Declarations.{VariableType, Elementary, Standard, Block, block_named, member_named, standard_members}
-use Rattle.wc_model.specs.Language.DirectVariables.{variable_at}
-use Rattle.wc_model.specs.Language.Names.{Name, name_of}
-use Rattle.wc_model.specs.Language.Scans.{initial_of}
-use Rattle.wc_model.specs.Language.Scopes.{type_of}
-use Rattle.wc_model.specs.Language.Store.{Location, Direct, Path, Content, Plain, Moment, Phase}
-use Rattle.wc_model.specs.Language.Tree.{ProgramUnit, Text}
-use Rattle.wc_model.specs.declared.block.StandardBlock.{StandardBlock}
 
--- the names of a list are between its commas, and the parts of a name between its dots
+-- the names of a list are between its commas
 abbrev pub names_in : List ℕ → List (List ℕ)
 names_in list = slice_split (λ byte. byte == 44) list
-
-abbrev pub parts_in : List ℕ → List (List ℕ)
-parts_in name = slice_split (λ byte. byte == 46) name
-
--- an address begins with a percent sign
-abbrev pub is_address : List ℕ → Bool
-is_address [] = false
-is_address (byte ∷ bytes) = byte == 37
-
--- the place that a name names: a directly represented variable, or what the parts lead to from the program
-abbrev pub place_named : List ℕ → Option Location
-place_named name = if is_address name then option_map Direct (variable_at (name_of name)) else Some (Path (map name_of (parts_in name)))
-
--- of an instance of a standard block texts can name the inputs and the outputs; another field is hidden, and names that lead to one
-abbrev pub is_hidden_field : StandardBlock → List Name → Bool
-is_hidden_field block [] = false
-is_hidden_field block (field ∷ names) = is_none (member_named (standard_members block) field)
-
-abbrev pub is_hidden_by : (List ProgramUnit → ProgramUnit → Bool) → List ProgramUnit → Option VariableType → List Name → Bool
-is_hidden_by onward before None names = false
-is_hidden_by onward before (Some (Elementary kind)) names = false
-is_hidden_by onward before (Some (Standard block)) names = is_hidden_field block names
-is_hidden_by onward before (Some (Block block)) names = elim (block_named before block) [ Some found ↦ onward found.1 found.0 | None ↦ false ]
-
-abbrev pub is_hidden_from : List Name → List ProgramUnit → ProgramUnit → Bool
-is_hidden_from [] before unit = false
-is_hidden_from (name ∷ names) before unit = is_hidden_by (is_hidden_from names) before (type_of (record { before = before; unit = unit }) name) names
-
--- so from the program, which is the last unit of a text
-abbrev pub is_hidden_reversed : List ProgramUnit → List Name → Bool
-is_hidden_reversed [] names = false
-is_hidden_reversed (program ∷ before) names = is_hidden_from names before program
-
-abbrev pub is_hidden : Text → Location → Bool
-is_hidden text (Direct v) = false
-is_hidden text (Path names) = is_hidden_reversed (reverse text) names
-
--- a BOOL, a DINT or a TIME; what a timer keeps for itself is not a value
-abbrev pub is_value : Option Content → Bool
-is_value None = false
-is_value (Some (Plain value)) = true
-is_value (Some (Moment moment)) = false
-is_value (Some (Phase phase)) = false
-
--- the text's program has a value at the place, and texts can name it
-abbrev pub is_watchable : Text → Location → Bool
-is_watchable text place = is_value (initial_of text place) && not (is_hidden text place)
-
--- what a name means in a text: the place that it names, if that can be watched
-abbrev pub if_watchable : Text → Location → Option Location
-if_watchable text place = if is_watchable text place then Some place else None
-
-abbrev pub meant : Text → List ℕ → Option Location
-meant text name = option_and_then (if_watchable text) (place_named name)

@@ -4,17 +4,18 @@ use Rattle.std.specs.List.{flat_map, position_from}
 use Rattle.std.specs.Option.{is_none}
 use Rattle.wc_model.specs.Language.Tree.{Text}
 use Rattle.wc_model.specs.Say.ProgramReport.{Logic}
-use Rattle.wc_watch.specs.Names.{meant, names_in}
+use Rattle.wc_variables.specs.Names.{named_location}
+use Rattle.wc_watch.specs.Names.{names_in}
 use Rattle.wc_watch.specs.declared.names.UnknownName.{UnknownName}
 
 -- a name means something in a text, or in none where there is no text
 abbrev pub has_meaning : Option Text → List ℕ → Bool
 has_meaning None name = false
-has_meaning (Some text) name = is_some (meant text name)
+has_meaning (Some text) name = is_some (named_location text name)
 
 -- a name is unknown that means nothing in the first text nor in the next one
 abbrev pub is_unknown : Text → Option Text → List ℕ → Bool
-is_unknown first next name = not (is_some (meant first name) || has_meaning next name)
+is_unknown first next name = not (is_some (named_location first name) || has_meaning next name)
 
 -- the first unknown name of a list, counted from 0; with no program no name is looked up
 abbrev pub unknown_in : List ℕ → Option Logic → Option ℕ

@@ -8,7 +8,7 @@ use Rattle.wc_model.specs.Say.ProgramReport.{Logic}
 use Rattle.wc_run.specs.Logics.{logic_after}
 use Rattle.wc_run.specs.declared.fault.RunFault.{RunFault}
 use Rattle.wc_run.specs.declared.fault.RunFault.TheVariants.{Refused}
-use Rattle.wc_watch.specs.Meaning.{watched_by}
+use Rattle.wc_variables.specs.Numbered.{variable_named}
 use Rattle.wc_watch.specs.Names.{names_in}
 use Rattle.wc_watch.specs.Plans.{scans_so_far}
 use Rattle.wc_watch.specs.Ring.{RingState, HoldsLast}
@@ -20,8 +20,8 @@ use Rattle.wc_watch.specs.declared.watcher.Watcher.{Watcher}
 -- the names of the list, what they mean in the text that runs, and in the next one, if there is one
 pub record AreLookedUp (names : WatchedNames) (list : List ℕ) (text : Text) (next : Option Text) : Type 0 where
   pub listed : map (λ name. name.now) names.names.items ≡ names_in list
-  pub here : names.watched.items ≡ map (watched_by text) (names_in list)
-  pub ahead : option_map (λ all. all.items) names.next ≡ option_map (λ other. map (watched_by other) (names_in list)) next
+  pub here : names.watched.items ≡ map (variable_named text) (names_in list)
+  pub ahead : option_map (λ all. all.items) names.next ≡ option_map (λ other. map (variable_named other) (names_in list)) next
 
 -- the text that runs after a change: the next one, if there is one
 abbrev pub text_behind : Text → Option Text → Text

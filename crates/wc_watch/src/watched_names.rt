@@ -5,7 +5,7 @@ ghost use Rattle.wc_model.specs.Language.Tree.{Text};
 ghost use Rattle.wc_model.specs.Language.Views.{text_view};
 ghost use Rattle.wc_model.specs.Say.ProgramReport.{first_logic};
 ghost use Rattle.wc_run.specs.Logics.{text_of_next};
-ghost use Rattle.wc_watch.specs.Meaning.{watched_by};
+ghost use Rattle.wc_variables.specs.Numbered.{variable_named};
 ghost use Rattle.wc_watch.specs.Names.{names_in};
 ghost use Rattle.wc_watch.specs.Unknown.{IsUnknown};
 ghost use Rattle.wc_watch.specs.Values.{value_text, values_line};
@@ -13,20 +13,21 @@ ghost use Rattle.wc_watch.specs.Watching.{AreLookedUp, text_behind};
 
 use crate::names::{UnknownName, names_of};
 use crate::values::put_value;
-use crate::watched::{Watched, all_watched};
+use crate::watched::all_watched;
 use std::alloc::Global;
 use wc_cost::Loaded;
 use wc_machine::Machine;
 use wc_model::{Fault, put_bytes};
 use wc_report::put_number;
 use wc_store::SlotStore;
+use wc_variables::NamedVariable;
 
 /// The names that are watched, and what each of them means in the program that runs and in the next one, if one is left.
 #[derive(Drop)]
 pub(crate) struct WatchedNames<'n> {
     pub(crate) names: Vec<&'n [u8]>,
-    pub(crate) watched: Vec<Option<Watched>>,
-    pub(crate) next: Option<Vec<Option<Watched>>>,
+    pub(crate) watched: Vec<Option<NamedVariable>>,
+    pub(crate) next: Option<Vec<Option<NamedVariable>>>,
 }
 
 /// Puts a name and its value. `Memory` is the only fault.
@@ -34,10 +35,10 @@ fn put_named(
     line: &mut Vec<u8>,
     machine: &Machine<'_, SlotStore>,
     name: &[u8],
-    watched: &Watched,
+    watched: &NamedVariable,
 ) -> Result<(), Fault>
     ensures puts { (text : Text) (store : Contents) → StandsFor machine.now text store
-        → watched_by text name.now ≡ Some watched.now
+        → variable_named text name.now ≡ Some watched.now
         → OnOk result (line.new.items ≡ line.old.items ++ value_text text store name.now) }
     ensures memory { IsOkUnless result Fault.Memory }
 {
@@ -55,10 +56,10 @@ fn put_if_watched(
     line: &mut Vec<u8>,
     machine: &Machine<'_, SlotStore>,
     name: &[u8],
-    watched: &Option<Watched>,
+    watched: &Option<NamedVariable>,
 ) -> Result<(), Fault>
     ensures puts { (text : Text) (store : Contents) → StandsFor machine.now text store
-        → watched_by text name.now ≡ watched.now
+        → variable_named text name.now ≡ watched.now
         → OnOk result (line.new.items ≡ line.old.items ++ value_text text store name.now) }
     ensures memory { IsOkUnless result Fault.Memory }
 {
@@ -69,7 +70,7 @@ fn put_if_watched(
 }
 
 /// Whether the name of that number means something.
-fn is_watched(watched: &[Option<Watched>], index: usize) -> bool
+fn is_watched(watched: &[Option<NamedVariable>], index: usize) -> bool
     ensures { result ≡ is_some (option_and_then (λ found. found) (slice_get watched.now index)) }
 {
     match watched.get(index) {
@@ -83,9 +84,9 @@ fn all_watched_next(
     alloc: Global,
     next: Option<&Loaded<'_>>,
     names: &[&[u8]],
-) -> Result<Option<Vec<Option<Watched>>>, Fault>
+) -> Result<Option<Vec<Option<NamedVariable>>>, Fault>
     ensures mean { IfOk result (λ all. option_map (λ found. found.items) all
-        ≡ option_map (λ other. map (watched_by other) (map (λ name. name.now) names.now))
+        ≡ option_map (λ other. map (variable_named other) (map (λ name. name.now) names.now))
         (text_of_next (option_map (λ loaded. loaded.now) next.entry))) }
     ensures memory { IsOkUnless result Fault.Memory }
 {

@@ -1,6 +1,7 @@
 use Rattle.std.proofs.Common.{◌∙◌, ◌++◌, ap, append-nil, sym}
 use Rattle.std.specs.Prelude.{is_some}
-use Rattle.wc_watch.proofs.ValueTexts.{known, shows_nothing}
+use Rattle.wc_variables.proofs.Readings.{known}
+use Rattle.wc_watch.proofs.ValueTexts.{shows_nothing}
 use Rattle.wc_watch.proofs.watched_names.put_if_watched.Goals as goal
 
 pub returns-in-None-clause-puts : goal.returns-in-None-clause-puts

@@ -2,8 +2,8 @@ use Rattle.std.proofs.Common.{◌∙◌, List, Bor, ap, map, sym}
 use Rattle.std.proofs.lemmas.List.{drop_all}
 use Rattle.wc_model.specs.Language.Names.{Name, name_of}
 use Rattle.wc_names.proofs.Lists.{from_index}
-use Rattle.wc_watch.proofs.watched.is_hidden_at.Goals as goal
-use Rattle.wc_watch.specs.Names.{is_hidden_field}
+use Rattle.wc_variables.proofs.variables.is_hidden_at.Goals as goal
+use Rattle.wc_variables.specs.Names.{is_hidden_field}
 
 pub returns-in-Some : goal.returns-in-Some
 returns-in-Some c =

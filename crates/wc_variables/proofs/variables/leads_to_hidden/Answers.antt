@@ -8,9 +8,9 @@ use Rattle.wc_model.specs.declared.source.Source.{Source}
 use Rattle.wc_names.proofs.Lists.{from_index}
 use Rattle.wc_names.specs.StandsFor.{AreTables}
 use Rattle.wc_names.specs.declared.declared_type.DeclaredType.TheVariants as numbered
-use Rattle.wc_watch.proofs.Walks.{Walks, at_block, at_end, at_nothing, at_plain, at_standard, from_program}
-use Rattle.wc_watch.proofs.watched.leads_to_hidden.Goals as goal
-use Rattle.wc_watch.specs.Names.{is_hidden}
+use Rattle.wc_variables.proofs.Walks.{Walks, at_block, at_end, at_nothing, at_plain, at_standard, from_program}
+use Rattle.wc_variables.proofs.variables.leads_to_hidden.Goals as goal
+use Rattle.wc_variables.specs.Names.{is_hidden}
 
 pub loop-index-init : goal.loop-index-init
 loop-index-init c =

@@ -2,9 +2,9 @@ use Rattle.std.proofs.Common.{drop, map}
 use Rattle.wc_model.specs.Language.Names.{name_of}
 use Rattle.wc_model.specs.Language.Store.{Path}
 use Rattle.wc_model.specs.Language.Views.{text_view}
-use Rattle.wc_watch.proofs.Walks.{Walks}
-use Rattle.wc_watch.specs.Names.{is_hidden}
-use Rattle.wc_watch.proofs.watched.leads_to_hidden.Given as goal
+use Rattle.wc_variables.proofs.Walks.{Walks}
+use Rattle.wc_variables.specs.Names.{is_hidden}
+use Rattle.wc_variables.proofs.variables.leads_to_hidden.Given as goal
 
 -- the names before this one have led to this unit
 abbrev pub invariant-loop-index : goal.invariant-loop-index

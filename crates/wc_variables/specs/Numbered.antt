@@ -10,8 +10,8 @@ use Rattle.wc_model.specs.declared.kind.Kind.{Kind}
 use Rattle.wc_model.specs.declared.kind.Kind.TheVariants as kinds
 use Rattle.wc_model.specs.declared.kind.SlotKind.{SlotKind}
 use Rattle.wc_model.specs.declared.kind.SlotKind.TheVariants as slots
-use Rattle.wc_watch.specs.Names.{meant}
-use Rattle.wc_watch.specs.declared.watched.Watched.{Watched}
+use Rattle.wc_variables.specs.Names.{named_location}
+use Rattle.wc_variables.specs.declared.variables.NamedVariable.{NamedVariable}
 
 -- the kind of the values that a place holds
 abbrev pub value_kind : SlotKind → Option Kind
@@ -22,13 +22,13 @@ value_kind slots.Moment = None
 value_kind slots.Phase = None
 
 -- a value by the number of its place, and its kind
-abbrev pub watched_in : Option ℕ → Option Content → Option Watched
-watched_in (Some n) (Some (Plain value)) = Some (record { place = record { 0 = n }; kind = kind_of value })
-watched_in number content = None
+abbrev pub numbered_variable : Option ℕ → Option Content → Option NamedVariable
+numbered_variable (Some n) (Some (Plain value)) = Some (record { place = record { 0 = n }; kind = kind_of value })
+numbered_variable number content = None
 
-abbrev pub watched_at : Text → Location → Option Watched
-watched_at text place = watched_in (place_number (frame_of_text text) place) (initial_of text place)
+abbrev pub variable_at_location : Text → Location → Option NamedVariable
+variable_at_location text place = numbered_variable (place_number (frame_of_text text) place) (initial_of text place)
 
 -- what a name means in a text, by the number of its place
-abbrev pub watched_by : Text → List ℕ → Option Watched
-watched_by text name = option_and_then (watched_at text) (meant text name)
+abbrev pub variable_named : Text → List ℕ → Option NamedVariable
+variable_named text name = option_and_then (variable_at_location text) (named_location text name)

@@ -2,7 +2,7 @@
 use Rattle.std.proofs.Common.{◌≡◌, ℕ, Bool, false, List, [], ◌∷◌, Option, Some, None, refl, sym, ap, ◌∙◌, length}
 use Rattle.std.specs.Prelude.{option_and_then, option_map, slice_get}
 use Rattle.wc_model.specs.Language.Frames.{scopes_of}
-use Rattle.wc_changes.proofs.Units.{block_unit}
+use Rattle.wc_variables.proofs.BlockUnits.{block_unit}
 use Rattle.wc_cost.proofs.WholeTexts.{Last}
 use Rattle.wc_model.specs.Language.Declarations.{VariableType, Elementary, Standard, Block, block_named}
 use Rattle.wc_model.specs.Language.Names.{Name}
@@ -14,7 +14,7 @@ use Rattle.wc_model.specs.declared.kind.Kind.{Kind}
 use Rattle.wc_names.proofs.Places.{TypeCase, of_block, of_elementary, of_standard, type_case}
 use Rattle.wc_names.specs.Numbered.{IsUnit, numbered_type}
 use Rattle.wc_names.specs.declared.declared_type.DeclaredType.TheVariants as numbered
-use Rattle.wc_watch.specs.Names.{is_hidden, is_hidden_by, is_hidden_field, is_hidden_from, is_hidden_reversed}
+use Rattle.wc_variables.specs.Names.{is_hidden, is_hidden_by, is_hidden_field, is_hidden_from, is_hidden_reversed}
 
 -- from the unit of that number the names that are left are hidden if all names are
 pub record Walks (text : Text) (unit : ℕ) (left : List Name) (whole : Bool) : Type 0 where

@@ -2,8 +2,8 @@ use Rattle.std.proofs.Common.{◌∙◌, ap}
 use Rattle.std.specs.Prelude.{not}
 use Rattle.wc_model.specs.Language.Declarations.{member_named, standard_members}
 use Rattle.wc_model.specs.Language.Names.{name_of}
-use Rattle.wc_watch.proofs.Meanings.{unnamed}
-use Rattle.wc_watch.proofs.watched.is_hidden_field.Goals as goal
+use Rattle.wc_variables.proofs.Meanings.{unnamed}
+use Rattle.wc_variables.proofs.variables.is_hidden_field.Goals as goal
 
 pub returns-in-Some : goal.returns-in-Some
 returns-in-Some c =

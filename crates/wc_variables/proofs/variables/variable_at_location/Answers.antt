@@ -3,10 +3,10 @@ use Rattle.std.specs.Option.{option_and_then}
 use Rattle.wc_cost.proofs.WholeTexts.{last_unit}
 use Rattle.wc_model.specs.Language.Frames.{location_of, place_number}
 use Rattle.wc_model.specs.Language.Views.{text_view}
-use Rattle.wc_watch.proofs.Meanings.{numbered, unnumbered}
-use Rattle.wc_watch.specs.Meaning.{value_kind}
+use Rattle.wc_variables.proofs.Meanings.{numbered, unnumbered}
+use Rattle.wc_variables.specs.Numbered.{value_kind}
 use Rattle.std.specs.Prelude.{slice_get}
-use Rattle.wc_watch.proofs.watched.watched_at.Goals as goal
+use Rattle.wc_variables.proofs.variables.variable_at_location.Goals as goal
 
 pub returns-in-None : goal.returns-in-None
 returns-in-None c =

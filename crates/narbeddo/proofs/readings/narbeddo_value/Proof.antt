@@ -1,0 +1,49 @@
+-- The scale at the pointer is lent to one call of `value_of`.
+use Rattle.narbeddo.proofs.Steps.{◌≡◌, [], ◌∷◌, ◌++◌, refl, proved, full_share, id⊢, sep, GName, ftrue, flft, flent, named, vptr, fact, tables, sem, Body, lft_new, lft_end, ‵, raw, ◌⊛◌, some, later, prop, ◌$◌, ◌∵◌, !, qed, done, move, keep, use1, use2, use3, split, join, fsplit, pick, show, await, regoal, suffices, frame, group, enter, of_opd, addr, stop, no_more, and_then, returns, alloc_all, pass_all, free_all, look_at, get, through, sets, lands_as, u8, yes, Is, shows, lends_ref, ref_back, mem, ShrSlice, shr_slice_vals, shr_slice_Tells, shr_slice_Lawful, Ptr, RawPtr, block_ptr, lies_at, in_a_block, rawptr_vals, rawptr_Tells, MutRef, plain, shr_slice_of, nothing, heard, peeks, calls_at, lasts, triple_of, Stays, walk_of, says, stay_dropped, Goes-dropped, ends_at, framed, WpFn}
+use Rattle.wc_scale.specs.contracts.scale.Scale.{the_row as R}
+use Rattle.wc_scale.specs.Values.{RefusesValue, TellsValue}
+use Rattle.wc_scale.specs.contracts.results.VariableRead.{the_row as T}
+use Rattle.wc_scale.proofs.results.VariableRead.TheLaws.{the_row_laws as T-laws}
+use Rattle.narbeddo.specs.contracts.readings.narbeddo_value as f
+use Rattle.narbeddo.proofs.readings.narbeddo_value.Statement.{statement}
+use Rattle.narbeddo.proofs.readings.narbeddo_value.Code as code
+use Rattle.narbeddo.specs.contracts.readings.value_of as g
+use Rattle.narbeddo.proofs.readings.value_of.Met.{met}
+
+pub narbeddo_value_spec : {M : Type 1} → statement M
+narbeddo_value_spec 𝓤 𝓛 𝓜 𝓡 wired =
+    let stayed : Stays f.ended.signature.params f.ended.kept = (stay_dropped _ yes, (stay_dropped _ yes, tt)) in
+    let c = f.clauses 𝓛 𝓜.mem 𝓡.returns in let W = walk_of 𝓛 f.ended stayed c in let 𝓣 = tables 𝓤 𝓛.H 𝓜 𝓡 𝓡.env in
+    proved 𝓛 f.ended stayed c 𝓜 𝓡 (Goes-dropped 𝓛 1 (plain (λ _. RawPtr)) yes (λ κs x w. refl), (Goes-dropped 𝓛 1 (shr_slice_of (0 ∷ []) tt (plain (λ _. u8))) yes (λ κs x w. refl), tt))
+    f.Key.name code.function (code.unfolded 𝓤 𝓛.H 𝓜 𝓡 wired)
+    (λ κs. (rawptr_vals, (shr_slice_vals, tt))) (λ κs. (rawptr_Tells, (shr_slice_Tells (named 0) κs.0 u8, tt))) (λ κs qs bounds a h are.
+    let x = a.1.0 in
+    let y : Ptr → W.Ghost = λ p. ((κs, qs, bounds, (p, (x, tt)), (rawptr_vals p, (shr_slice_vals x, tt))), h) in
+    qed 𝓛 (((‵ (flft κs.0 qs.0) ⊛ ‵ ftrue) ⊛ ‵ (RawPtr.own_val a.0 (rawptr_vals a.0)) ⊛ ‵ ((ShrSlice (named 0) κs.0 u8).own_val x (shr_slice_vals x)) ⊛ ‵ ftrue) ∷ ‵ (lies_at R full_share a.0 h) ∷ []) ∵
+    split ! $ split ! $ move ! (2 ∷ []) $ split ! $ move ! (1 ∷ []) $ split ! $ keep ! (5 ∷ 0 ∷ 3 ∷ []) $
+    in_a_block ! a.0 (λ p. lies_at R full_share p h) (id⊢ 𝓤 _) (λ b o e.
+    regoal ! (λ p. prop (WpFn 𝓤 𝓛.H 𝓣.C 𝓣.Λ code.function (rawptr_vals p ++ (shr_slice_vals x ++ [])) (W.post (y p)))) e refl $
+    enter ! _ _ _ _ _ $ alloc_all ! (λ l. pass_all ! refl ((tt, tt), (((shr_slice_Lawful 𝓛 (named 0) κs.0 u8).typed x _ are.1.0).0, tt)) $
+    sets ! (of_opd ! (get ! refl)) refl (tt, tt) $ sets ! (addr ! (through ! refl (stop !))) refl (tt, tt) $
+    lft_new ! tt (λ α. move ! (1 ∷ []) $
+    let Ref = λ (δ : GName). (MutRef (named 0) (α ∷ []) R).own_val (record { ref_ptr = (b, o); ghost_name = δ; now = h }) (vptr b o ∷ []) in
+    use1 𝓛 (later (some (λ (δ : GName). ‵ (Ref δ) ⊛ ‵ (flent (α ∷ []) (Body (mem R) b o δ))))) (lends_ref 𝓛 R (named 0) (α ∷ []) h b o) $ await ! tt $ pick ! (λ δ. split ! $
+    -- [the loan; what the lender keeps; the token of α; the text; the token of its lifetime]
+    let G = triple_of 𝓛 g.signature (g.spec 𝓛 𝓜.mem 𝓡.returns) in
+    let z : G.Ghost = (((α ∷ [], (κs.0, tt)), (full_share, (qs.0, tt)), tt, (record { ref_ptr = (b, o); ghost_name = δ; now = h }, (x, tt)), (vptr b o ∷ [], (shr_slice_vals x, tt))), tt) in
+    nothing ! $ move ! (4 ∷ 0 ∷ []) $ join ! $ move ! (1 ∷ 0 ∷ []) $ join ! $ nothing ! $ move ! (4 ∷ 0 ∷ []) $ join ! $ move ! (3 ∷ 0 ∷ []) $ join ! $ join ! $
+    nothing ! $ move ! (1 ∷ 0 ∷ []) $ use2 𝓛 (raw (G.pre z)) (id⊢ 𝓤 _) $
+    calls_at ! (framed 𝓤 𝓛.H 𝓜 (tables 𝓤 𝓛.H 𝓜 𝓡 𝓡.env)) G (met 𝓤 𝓛 𝓜 𝓡 (code.calls-narbeddo::readings::value_of 𝓡.env wired)) z
+    (and_then ! (get ! refl) (and_then ! (get ! refl) (no_more !))) (λ v.
+    use1 𝓛 (later (some (λ (r : T.Denot). ((‵ (flft (α ∷ []) full_share) ⊛ (‵ (flft κs.0 qs.0) ⊛ ‵ ftrue)) ⊛ ‵ (T.own_val r (v ∷ []))) ⊛
+    some (λ (ws : (R.Denot × (Unit {0} × Unit {0}))). ‵ (lasts g.ended z.0.0 z.0.3 ws) ⊛ (raw (fact 𝓤 (TellsValue h x.now r)) ⊛ (raw (fact 𝓤 (RefusesValue h x.now r)) ⊛ raw (fact 𝓤 (ws.0 ≡ h)))))))) (id⊢ 𝓤 _) $
+    await ! tt $ pick ! (λ r. split ! $ split ! $ split ! $ lft_end ! tt $
+    -- [α is over; the other tokens; the result; its facts; what the lender keeps]
+    move ! (2 ∷ []) $ peeks ! T (Is T) (shows 𝓛 T) r (v ∷ []) (λ is. lands_as ! refl refl ((T-laws.lawful 𝓛).typed r _ is).0 $
+    move ! (3 ∷ []) $ pick ! (λ ws. split ! $ move ! (1 ∷ []) $ split ! $ heard ! _ (λ f0. split ! $ heard ! _ (λ f1. heard ! _ (λ f2. fsplit ! $ fsplit ! $
+    -- [the last value; its borrow; nothing; the result; α is over; the other tokens; what the lender keeps]
+    move ! (4 ∷ 6 ∷ 0 ∷ []) $ use3 𝓛 (later (‵ (lies_at R full_share (block_ptr b o) ws.0))) (ref_back 𝓛 R (α ∷ []) δ ws.0 b o) $ await ! tt $
+    returns ! (look_at ! 0 refl) $ free_all ! refl $ keep ! (3 ∷ 4 ∷ 0 ∷ []) $
+    suffices ! _ (ends_at 𝓛 f.ended stayed c (y (block_ptr b o)) v r (tt, (tt, tt)) (tt, (tt, tt))) $
+    nothing ! $ nothing ! $ join ! $ nothing ! $ join ! $ move ! (2 ∷ 0 ∷ 1 ∷ []) $ group ! 3 $ frame ! $
+    show ! (λ (k : R.Denot). sep 𝓤 (sem 𝓛 (lies_at R full_share (block_ptr b o) k)) (fact 𝓤 ((TellsValue h x.now r) × (RefusesValue h x.now r) × (k ≡ h)))) ws.0 $ says ! (f0, f1, f2) $ done !))))))))))))

@@ -1,0 +1,4 @@
+pub mod BlockUnits
+pub mod Meanings
+pub mod Readings
+pub mod Walks
