@@ -1,3 +1,4 @@
 pub mod Answering
 pub mod Opened
+pub mod ReadValues
 pub mod Refusing
