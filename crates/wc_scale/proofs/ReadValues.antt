@@ -1,5 +1,5 @@
 -- The value that a name leads to in the program of a scale, or that it leads nowhere.
-use Rattle.std.proofs.Common.{◌≡◌, ◌∙◌, ℕ, ℤ, List, Bool, false, Option, Some, None, ap, inr, pos, refl, subst, sym, is_some}
+use Rattle.std.proofs.Common.{◌≡◌, ◌∙◌, ℕ, ℤ, List, false, Option, Some, None, ap, inr, pos, refl, subst, sym, is_some}
 use Rattle.wc_flat.specs.Contents.{frame_of_text, number_in}
 use Rattle.wc_machine.specs.Machines.{MachineState, StandsFor}
 use Rattle.wc_model.specs.Instrument.Plates.{PlateData}
