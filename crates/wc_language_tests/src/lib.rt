@@ -25,4 +25,6 @@ mod tokens;
 #[cfg(test)]
 mod trees;
 #[cfg(test)]
+mod warnings;
+#[cfg(test)]
 mod words;

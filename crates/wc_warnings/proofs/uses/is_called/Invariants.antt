@@ -1,0 +1,10 @@
+use Rattle.std.proofs.Common.{◌≡◌, drop}
+use Rattle.std.specs.List.{list_any}
+use Rattle.wc_model.specs.Language.Names.{name_of}
+use Rattle.wc_warnings.specs.Seen.{events_view}
+use Rattle.wc_warnings.specs.Uses.{doing_calls}
+use Rattle.wc_warnings.proofs.uses.is_called.Given as goal
+
+-- none of the events so far does it
+abbrev pub invariant-loop-event : goal.invariant-loop-event
+invariant-loop-event l = list_any (λ e. doing_calls e.doing (name_of l.name)) (events_view l.events) ≡ list_any (λ e. doing_calls e.doing (name_of l.name)) (events_view (drop l.event-index l.events))

@@ -1,0 +1,8 @@
+pub mod Events
+pub mod Uses
+pub mod Addresses
+pub mod Ways
+pub mod Warnings
+pub mod Seen
+pub mod Places
+pub mod Laws
