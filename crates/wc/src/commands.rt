@@ -56,7 +56,7 @@ fn program_alone<'a>(program: &'a str, reader: &'a KeptSource<'_>) -> Sources<'a
 fn tell_waiting(rt: &HostRuntime) {
     if rt.stdin().is_terminal() {
         let _told = rt.eprintln(
-            "wc: reading a job from standard input, up to its end (Ctrl-D); `help` says more",
+            "reading a job from standard input, up to its end (Ctrl-D); `help` says more",
         );
     }
 }

@@ -7,6 +7,7 @@ mod finding;
 mod lines;
 mod mistakes;
 mod near;
+mod parentheses;
 mod pieces;
 mod plates;
 mod programs;

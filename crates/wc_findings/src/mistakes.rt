@@ -1,5 +1,5 @@
 use crate::lines::{behind, front, piece};
-use wc_built_in::{Keyword, keyword_named, standard_block};
+use wc_built_in::{Keyword, elementary_type, keyword_named, standard_block};
 use wc_model::is_word;
 use wc_refusal_places::RefusalSpan;
 use wc_refusals::{Awaits, Case};
@@ -113,8 +113,24 @@ fn mistaken_before(before: &[u8], awaits: Awaits) -> Option<Case> {
         ),
         (Some(Keyword::Kept), Awaits::CommaOrColon) => Some(Case::SectionQualifier),
         (Some(_), Awaits::CommaOrColon) => Some(Case::OpenSection),
+        (None, Awaits::CommaOrColon) if is_word(b"endvar", before) => Some(Case::OpenSection),
         _ => None,
     }
+}
+
+/// Whether a word is the name of a type.
+fn is_type(word: &[u8]) -> bool {
+    elementary_type(word).is_some() || standard_block(word).is_some()
+}
+
+/// Whether nothing but blanks is between a place and the line end before it.
+fn begins_line(text: &[u8], start: usize) -> bool {
+    let above = front(text, start);
+    above
+        .iter()
+        .rev()
+        .find(|byte| !matches!(**byte, b' ' | b'\t' | b'\r'))
+        .is_some_and(|byte| *byte == b'\n')
 }
 
 /// A mistake that an unexpected token shows; `rest` begins after it.
@@ -123,7 +139,12 @@ fn mistaken_token(token: &[u8], rest: &[u8], awaits: Awaits) -> Case {
     match (awaits, token.first(), keyword_named(token)) {
         (Awaits::Nothing, _, _) => Case::AfterProgram,
         (Awaits::Field, Some(b'0'..=b'9'), _) => Case::NoAddress,
-        (Awaits::LineEnd, Some(b')'), _) => Case::Closing,
+        (Awaits::LineEnd | Awaits::PointOrLineEnd | Awaits::OperandOrLineEnd, Some(b')'), _) => {
+            Case::Closing
+        }
+        (Awaits::FormalOrClosing | Awaits::Formal | Awaits::AssignOrArrow, _, _)
+        | (Awaits::OpeningOrLineEnd, Some(b'A'..=b'Z' | b'a'..=b'z' | b'%'), _) =>
+            Case::UnnamedInput,
         (Awaits::CommaPointOrClosing | Awaits::CommaOrClosing, Some(_), _) => {
             if next.starts_with(b":=") || next.starts_with(b"=>") {
                 Case::MissingComma
@@ -132,7 +153,10 @@ fn mistaken_token(token: &[u8], rest: &[u8], awaits: Awaits) -> Case {
             }
         }
         (Awaits::NameOrEndVar, _, _) => Case::Unknown,
+        (Awaits::CommaOrColon | Awaits::Name | Awaits::TypeName | Awaits::Literal, Some(b';'), _) =>
+            { Case::Unknown }
         (_, Some(b';'), _) => Case::Semicolon,
+        (Awaits::InstructionOrLineEnd, _, _) if is_type(token) => Case::OutsideSection,
         (Awaits::LineEnd | Awaits::PointOrLineEnd, _, Some(Keyword::Apply(_))) => {
             Case::SecondOperator
         }
@@ -141,6 +165,15 @@ fn mistaken_token(token: &[u8], rest: &[u8], awaits: Awaits) -> Case {
         (_, _, Some(Keyword::Kept)) if is_word(b"at", token) => Case::AtAddress,
         (_, _, Some(Keyword::Kept)) => Case::LeftOut,
         _ => Case::Unknown,
+    }
+}
+
+/// A mistake in a duration; `rest` begins after it.
+fn mistaken_duration(token: &[u8], rest: &[u8], case: Case) -> Case {
+    match (rest.first(), rest.get(1), token.last()) {
+        (Some(b','), Some(b'0'..=b'9'), _) => Case::DecimalComma,
+        (_, _, Some(b'0'..=b'9' | b'.' | b'_')) => Case::MissingUnit,
+        _ => case,
     }
 }
 
@@ -204,8 +237,10 @@ pub(crate) fn mistake_at(text: &[u8], number: u16, span: RefusalSpan, case: Case
     let before = word_before(text, span.start);
     match (number, span.awaits) {
         (101, _) => mistaken_byte(rest, case),
-        (106, _) if behind(rest, span.length).first() == Some(&b',') => Case::DecimalComma,
+        (106, _) => mistaken_duration(token, behind(rest, span.length), case),
         (201, Awaits::LabelColon) => mistaken_operator(token, behind(rest, span.length)),
+        (201, Awaits::CommaPointOrClosing | Awaits::CommaOrClosing)
+            if keyword_named(token).is_some() && begins_line(text, span.start) => { Case::OpenList }
         (201, _) => match mistaken_before(before, span.awaits) {
             Some(mistake) => mistake,
             None => mistaken_token(token, behind(rest, span.length), span.awaits),

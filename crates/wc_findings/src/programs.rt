@@ -8,6 +8,7 @@ use crate::finding::Finding;
 use crate::lines::{behind, column_at, front, piece};
 use crate::mistakes::{mistake_at, names_type};
 use crate::near::{advice_for, operator_advice};
+use crate::parentheses::lines_to_opening;
 use crate::pieces::{BYTE_ORDER_MARK, case_of_piece};
 use std::alloc::{AllocError, Global};
 use wc_built_in::{Keyword, keyword_named};
@@ -75,6 +76,12 @@ fn point_to_piece(
     finding.awaits = span.awaits;
     if span.first != 0 {
         finding.detail = text_with(alloc, Values::FirstLine(span.first))?;
+    }
+    if number == 205 {
+        if let Some(lines) = lines_to_opening(front(text, span.start)) {
+            let line = finding.line.saturating_sub(lines);
+            finding.detail = text_with(alloc, Values::OpenSince(line))?;
+        }
     }
     let case = case_at(number, behind(text, span.start), span);
     let length = quoted_length(number, case, span.length);

@@ -105,7 +105,7 @@ fn reading_entry(number: u16) -> Option<&'static Entry>
             help "write at least one line between ( and )";
         205 "reader": "a jump, a call, a return or a label may not stand in a parenthesis"
             at "its line", "PROGRAM P&( / x:" => 2,
-            help "move the jump, the call, the return or the label to a line after the parenthesis";
+            help "close the parenthesis before it, with a `)` on a line of its own";
         206 "reader": "a parenthesis is not closed, or none is open"
             at "the line of the ); the line of the innermost opening", "PROGRAM P)" => 1,
             help "write one ) on a line of its own for each ( that is open";

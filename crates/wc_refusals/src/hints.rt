@@ -44,6 +44,7 @@ fn token_hint(number: u16, case: Case) -> Option<&'static str> {
         105, Case::NoDuration => "a duration begins with T#, as T#500ms";
         105, Case::WithPoint => "count in a smaller unit: 1.5 kg are 1500 g; only a duration has a point, as T#1.5s";
         106, Case::DecimalComma => "a duration has a point, as T#1.5s";
+        106, Case::MissingUnit => "a duration has a unit after its number, as T#1s or T#500ms";
     }
 }
 
@@ -71,6 +72,9 @@ fn reading_hint(number: u16, case: Case) -> Option<&'static str> {
         201, Case::OpenSection => "close the section of declarations with END_VAR before the first instruction";
         201, Case::MissingComma => "commas separate what a call's list has, as CAL t(IN := a, PT := T#1s)";
         201, Case::AtAddress => "AT is left out: use the address itself, as LD %IX0.0, or copy it to a variable on the first lines";
+        201, Case::UnnamedInput => "inputs are given by name, in parentheses: CAL t(IN := a, PT := T#1s)";
+        201, Case::OutsideSection => "declarations stand between VAR and END_VAR, before the first instruction";
+        201, Case::OpenList => "close the list of the call above with `)`";
         201, Case::ListBelow => "the list of a call begins on the line of its CAL";
         201, Case::LeftOut => "left out are FUNCTION, VAR_IN_OUT, VAR_GLOBAL, VAR_EXTERNAL, VAR_TEMP, CONSTANT, RETAIN and AT: use blocks, VAR and addresses such as %IX0.0";
     }
@@ -132,7 +136,7 @@ fn kind_hint(number: u16, case: Case) -> Option<&'static str> {
         402, Case::Untaken(Kind::Dint) => "this operator takes a BOOL: compare the number first, as GE 500, which gives a BOOL";
         402, Case::Untaken(Kind::Time) => "AND, OR, XOR, S, R and the forms with N take a BOOL, MUL, DIV and MOD a DINT: compare the time first, as GE T#500ms";
         402, Case::Unlike(Kind::Bool) => "a comparison makes a BOOL of a number or a time, as GE 500; EQ and ST want the kind of the result";
-        402, Case::Unlike(Kind::Dint) => "a TIME is compared with a duration, as T#500ms, and stored to a TIME; a BOOL is not compared with a number";
+        402, Case::Unlike(Kind::Dint) => "a TIME is compared with a duration, as T#500ms, and stored to a TIME; no operator makes a number of a TIME; a BOOL is not compared with a number";
         402, Case::Unlike(Kind::Time) => "a DINT is compared with a number, as 500, and stored to a DINT; a BOOL is not compared with a TIME";
         402, Case::Unpassed(Kind::Dint, Kind::Time) => "write a duration, as T#500ms, or pass a TIME";
         402, Case::Unpassed(Kind::Time, Kind::Dint) => "write a whole number, as 500, or pass a DINT";

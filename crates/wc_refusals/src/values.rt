@@ -5,6 +5,8 @@ use std::alloc::{AllocError, Global};
 pub enum Values<'a> {
     /// The line of the first of two that have one name.
     FirstLine(u32),
+    /// The line of the innermost parenthesis that is open.
+    OpenSince(u32),
     /// A declared name that is spelled almost alike.
     Near(&'a str),
     /// A key of a plate that is missing, where another is unknown.
@@ -21,6 +23,7 @@ pub enum Values<'a> {
 pub fn text_with(alloc: Global, values: Values<'_>) -> Result<String, AllocError> {
     match values {
         Values::FirstLine(line) => format!(in alloc; "the first stands on line {line}"),
+        Values::OpenSince(line) => format!(in alloc; "the parenthesis of line {line} is open"),
         Values::Near(name) => format!(in alloc; "did you mean `{name}`?"),
         Values::MissingKey(key) => format!(in alloc; "{key} is missing"),
         Values::Interval(unit, decimals, allowed) if allowed.is_empty() => {
