@@ -12,7 +12,7 @@ use crate::parentheses::lines_to_opening;
 use crate::pieces::{BYTE_ORDER_MARK, case_of_piece};
 use std::alloc::{AllocError, Global};
 use wc_built_in::{Keyword, keyword_named};
-use wc_model::Fault;
+use wc_model::{Fault, Kind};
 use wc_refusal_places::{RefusalSpan, read_by_places, spot_in, stop_of};
 use wc_refusals::{Awaits, Case, Values, sentence_of, text_with};
 
@@ -34,6 +34,15 @@ fn case_of_token(token: &[u8]) -> Case {
         (_, Some(b')')) => Case::Closing,
         (_, Some(b'\n')) => Case::LineEnd,
         _ => Case::Plain,
+    }
+}
+
+/// The name of a kind.
+fn name_of(kind: Kind) -> &'static str {
+    match kind {
+        Kind::Bool => "BOOL",
+        Kind::Dint => "DINT",
+        Kind::Time => "TIME",
     }
 }
 
@@ -82,6 +91,9 @@ fn point_to_piece(
             let line = finding.line.saturating_sub(lines);
             finding.detail = text_with(alloc, Values::OpenSince(line))?;
         }
+    }
+    if let Some(result) = span.result {
+        finding.detail = text_with(alloc, Values::ResultOf(name_of(result.kind), result.line))?;
     }
     let case = case_at(number, behind(text, span.start), span);
     let length = quoted_length(number, case, span.length);

@@ -9,6 +9,7 @@ mod listing;
 mod pieces;
 mod placed;
 mod places;
+mod result_kind;
 mod span;
 mod spots;
 mod stops;
@@ -16,6 +17,7 @@ mod twice;
 
 pub use listing::the_list_is_exact;
 pub use placed::{Placed, read_by_places};
+pub use result_kind::ResultKind;
 pub use span::RefusalSpan;
 pub use spots::spot_in;
 pub use stops::stop_of;

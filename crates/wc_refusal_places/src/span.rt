@@ -1,5 +1,6 @@
-ghost use Rattle.std.specs.Prelude.{◌≡◌};
+ghost use Rattle.std.specs.Prelude.{◌≡◌, None};
 
+use crate::result_kind::ResultKind;
 use wc_model::Fault;
 use wc_refusals::{Awaits, Case};
 
@@ -18,6 +19,8 @@ pub struct RefusalSpan {
     pub case: Case,
     /// The line of the first of two that have one name; 0: there are no two.
     pub first: u32,
+    /// The kind of the result before the slice, where it does not fit and is known.
+    pub result: Option<ResultKind>,
 }
 
 impl RefusalSpan {
@@ -30,6 +33,7 @@ impl RefusalSpan {
           awaits = Awaits.Nothing;
           case = Case.Plain;
           first = 0;
+          result = None;
         } }
     {
         RefusalSpan {
@@ -39,6 +43,7 @@ impl RefusalSpan {
             awaits: Awaits::Nothing,
             case: Case::Plain,
             first: 0,
+            result: None,
         }
     }
 }

@@ -8,15 +8,17 @@ ghost use Rattle.wc_refusal_places.specs.Spotting.{IsInBody, IsNamed, PointsTo, 
 use crate::calls::{meant_in_call, piece_of_call};
 use crate::kinds::unfit;
 use crate::pieces::{
-    case_of_operand, is_listed, line_at, opens, operand_of, operator_of, span_of, tokens_from,
+    case_of_operand, is_listed, line_at, opens, operand_of, operator_of, span_of, tokens_at,
+    tokens_from,
 };
 use crate::placed::Placed;
+use crate::result_kind::{ResultKind, result_after};
 use crate::span::RefusalSpan;
 use crate::twice::{case_of_room, first_of_two, unit_at};
 use std::alloc::Global;
 use wc_cost::measure;
 use wc_declare::tables;
-use wc_lexer::Token;
+use wc_lexer::{Shape, Token};
 use wc_model::Fault;
 use wc_names::Tables;
 use wc_refusals::Case;
@@ -165,6 +167,32 @@ fn on_line<'a, 't>(tokens: &'t [Token<'a>], found: Found<'a, 't>) -> Found<'a, '
     }
 }
 
+/// The kind of the result before the instruction at which these tokens begin, if that is what does not fit.
+fn result_before(
+    placed: &Placed<'_>,
+    tables: &Tables<'_>,
+    unit: usize,
+    tokens: &[Token<'_>],
+    case: Case,
+) -> Option<ResultKind> {
+    match case {
+        Case::Unlike(_) | Case::Result => {
+            let count = placed.tokens.len().saturating_sub(tokens.len());
+            match placed.tokens.get(count.saturating_sub(1)) {
+                Some(token) if matches!(token.shape, Shape::LineEnd) => {
+                    result_after(
+                        tables,
+                        unit,
+                        tokens_at(&placed.tokens, 0, count.saturating_sub(1)),
+                    )
+                }
+                _ => None,
+            }
+        }
+        _ => None,
+    }
+}
+
 /// A refusal of pass 4 with what is meant in its instruction.
 fn spot_of_instruction<'a>(
     alloc: Global,
@@ -182,7 +210,10 @@ fn spot_of_instruction<'a>(
     };
     let found = on_line(tokens, found);
     let first = first_line(placed, number, tokens, place).max(found.first);
-    spot_at(tokens, number, found.piece, found.case, first)
+    RefusalSpan {
+        result: result_before(placed, tables, unit, tokens, found.case),
+        ..spot_at(tokens, number, found.piece, found.case, first)
+    }
 }
 
 /// A refusal of pass 3 or of the costs.

@@ -7,6 +7,8 @@ pub enum Values<'a> {
     FirstLine(u32),
     /// The line of the innermost parenthesis that is open.
     OpenSince(u32),
+    /// The kind of a result, and the line that made it.
+    ResultOf(&'a str, u32),
     /// A declared name that is spelled almost alike.
     Near(&'a str),
     /// A key of a plate that is missing, where another is unknown.
@@ -24,6 +26,7 @@ pub fn text_with(alloc: Global, values: Values<'_>) -> Result<String, AllocError
     match values {
         Values::FirstLine(line) => format!(in alloc; "the first stands on line {line}"),
         Values::OpenSince(line) => format!(in alloc; "the parenthesis of line {line} is open"),
+        Values::ResultOf(kind, line) => format!(in alloc; "a {kind} since line {line}"),
         Values::Near(name) => format!(in alloc; "did you mean `{name}`?"),
         Values::MissingKey(key) => format!(in alloc; "{key} is missing"),
         Values::Interval(unit, decimals, allowed) if allowed.is_empty() => {
