@@ -7,7 +7,7 @@ macro_rules! with_constants {
             "0.1.0",
             "rattle-kit-13 logic dac8208d650f15bf",
             "4f000ccb436899dda6aac353b8b53ca61b795792c01af8c24045ebd8348a179c",
-            "4c32fbba5a4bbd75c93b44382a09b2f3d3d071a370aacade9249d314cc842ed0"
+            "c4959cf86e3e50cf0023dc49ff563c6f5da1c2700e610f8d772e50d9e234929e"
         )
     };
 }
