@@ -5,7 +5,9 @@ use std::alloc::Global;
 use wc_machine::{Machine, SeenLine};
 use wc_model::{Code, Fault, Kind, Outputs, StandardBlock, or_memory, put_bytes};
 use wc_store::SlotStore;
-use wc_trace_rows::{BlockOutput, Item, Items, Legend, ShownScan, is_argument, number_in, outputs_of};
+use wc_trace_rows::{
+    BlockOutput, Item, Items, Legend, ShownScan, is_argument, number_in, outputs_of,
+};
 
 /// The first places of a program's frame hold the directly represented variables: 16 inputs, the
 /// 6 bits of the status, 3 weights.

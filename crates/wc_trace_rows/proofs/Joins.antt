@@ -1,6 +1,6 @@
 -- Texts that are put one after another.
-use Rattle.std.proofs.Common.{◌≡◌, ◌∙◌, ℕ, ◌+◌, ◌≤◌, List, [], ◌∷◌, ◌++◌, Bool, true, false, cond, length, take, drop, refl, sym, ap, Option, Some, None}
-use Rattle.std.proofs.lemmas.List.{append-nil, append_assoc, drop_at, take-append-drop, take_at}
+use Rattle.std.proofs.Common.{◌≡◌, ◌∙◌, ℕ, ◌+◌, List, [], ◌∷◌, ◌++◌, Bool, false, cond, length, take, drop, sym, ap, Option, Some, None}
+use Rattle.std.proofs.lemmas.List.{append_assoc, drop_at, take-append-drop, take_at}
 use Rattle.std.specs.Prelude.{option_map}
 use Rattle.wc_trace_rows.specs.Columns.{gap, with_cell}
 
@@ -20,10 +20,7 @@ two_texts old first new a b one two = two ∙ ap (λ l. l ++ b) one ∙ append_a
 pub three_texts : (old first second new a b c : List ℕ) → first ≡ old ++ a → second ≡ first ++ b → new ≡ second ++ c → new ≡ old ++ (a ++ (b ++ c))
 three_texts old first second new a b c one two three = three ∙ ap (λ l. l ++ c) (two_texts old first second a b one two) ∙ append_assoc old (a ++ b) c ∙ ap (λ l. old ++ l) (append_assoc a b c)
 
--- a cell of a row, or none
-pub no_cell : (column start : ℕ) (old : List ℕ) (cell : Option (List ℕ)) → cell ≡ None → old ≡ take start old ++ with_cell column cell (drop start old)
-no_cell column start old cell none = sym (take-append-drop start old) ∙ ap (λ c. take start old ++ with_cell column c (drop start old)) (sym none)
-
+-- a cell of a row
 pub one_cell : (column start : ℕ) (old first new text : List ℕ) (cell : Option (List ℕ)) → cell ≡ Some text → first ≡ old ++ gap column (drop start old) → new ≡ first ++ text
     → new ≡ take start old ++ with_cell column cell (drop start old)
 one_cell column start old first new text cell is one two =
@@ -32,14 +29,7 @@ one_cell column start old first new text cell is one two =
     ∙ append_assoc (take start old) (drop start old) (gap column (drop start old) ++ text)
     ∙ ap (λ c. take start old ++ with_cell column c (drop start old)) (sym is)
 
--- of a part of a call, and where there is no number
-pub part_cell : {A : Type 0} (b : Bool) (cell : Option A) → b ≡ true → cond b None cell ≡ None
-part_cell b cell is = ap (λ x. cond x None cell) is
-
-pub numberless : {A B : Type 0} (b : Bool) (f : A → B) (number : Option A) → number ≡ None → cond b None (option_map f number) ≡ None
-numberless true f number none = refl
-numberless false f number none = ap (option_map f) none
-
+-- the result of a line of a body
 pub numbered : {A B : Type 0} (b : Bool) (f : A → B) (number : Option A) (n : A) → b ≡ false → number ≡ Some n → cond b None (option_map f number) ≡ Some (f n)
 numbered b f number n is there = ap (λ x. cond x None (option_map f number)) is ∙ ap (option_map f) there
 

@@ -1,5 +1,5 @@
 -- The notes of a line among notes that stand in the order of their lines.
-use Rattle.std.proofs.Common.{◌≡◌, ◌∙◌, ℕ, zero, suc, ◌+◌, ◌<◌, ◌≤◌, Bool, true, false, List, [], ◌∷◌, cond, length, get_or, refl, sym, ap, subst, arith, Option, Some, None, drop}
+use Rattle.std.proofs.Common.{◌≡◌, ◌∙◌, ℕ, zero, suc, ◌+◌, ◌<◌, ◌≤◌, Bool, true, false, List, [], ◌∷◌, cond, length, get_or, refl, sym, ap, arith, Some, None, drop}
 use Rattle.std.proofs.lemmas.Bool.Decides.{nat_tests}
 use Rattle.std.specs.Prelude.{◌==◌, filter, slice_get}
 use Rattle.wc_trace_rows.specs.Notes.{AreInOrder, note_among, of_line}

@@ -42,8 +42,9 @@ pub scan_put : (legend : Legend) (machine : MachineState) (scan : ShownScan) (ol
     → first ≡ old ++ heading scan.number scan.ms scan.is_changed → AreRows legend machine scan.lines.now first second → steps ≡ length scan.lines.now → IsProgramBound (text_of machine) bound
     → new ≡ second ++ steps_line steps bound → PutsScan legend machine scan old new
 scan_put legend machine scan old first second new steps bound one (items, are, two) count bounds three =
-    let rows = flat_map (row_of legend) items in
-    (heading scan.number scan.ms scan.is_changed ++ (rows ++ steps_line (length scan.lines.now) bound),
-    record { items = items; are = are; bound = bound; bounds = bounds; is = refl },
-    three_texts old first second new (heading scan.number scan.ms scan.is_changed) rows (steps_line (length scan.lines.now) bound) one two
-    (three ∙ ap (λ n. second ++ steps_line n bound) count))
+    let rows = flat_map (row_of legend) items in (
+      heading scan.number scan.ms scan.is_changed ++ (rows ++ steps_line (length scan.lines.now) bound),
+      record { items = items; are = are; bound = bound; bounds = bounds; is = refl },
+      three_texts old first second new (heading scan.number scan.ms scan.is_changed) rows (steps_line (length scan.lines.now) bound) one two
+          (three ∙ ap (λ n. second ++ steps_line n bound) count),
+    )

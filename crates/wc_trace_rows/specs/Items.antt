@@ -1,5 +1,5 @@
 -- What is known of the items of a scan. (The profile's own.)
-use Rattle.std.specs.Prelude.{◌≡◌, ⊤, ℕ, suc, ◌+◌, ◌<◌, ◌^◌, ◌==◌, nat_lt, ◌&&◌, Bool, true, false, List, [], ◌∷◌, ◌++◌, length, min, Option, Some, None, ℤ, FitsSigned, if◌then◌else◌}
+use Rattle.std.specs.Prelude.{◌≡◌, ℕ, ◌+◌, ◌<◌, ◌==◌, Bool, false, List, [], ◌∷◌, min, Option, Some, None, ℤ, FitsSigned, if◌then◌else◌}
 use Rattle.std.specs.Int.{w32}
 use Rattle.wc_flat.specs.Contents.{frame_of_text, number_in}
 use Rattle.wc_machine.specs.Machines.{MachineState, StandsFor}

@@ -1,10 +1,10 @@
 -- The kinds of results while the items of a scan are gone through, body by body. (The profile's own; the kinds that operators give
 -- are those of IEC 61131-3:2003, 3.2.2.)
-use Rattle.std.specs.Prelude.{ℕ, suc, ◌+◌, List, [], ◌∷◌, ◌++◌, map, take, replicate, slice_get, slice_set, Option, Some, None}
+use Rattle.std.specs.Prelude.{ℕ, suc, ◌+◌, List, [], ◌∷◌, ◌++◌, take, replicate, slice_get, slice_set, Option, Some, None}
 use Rattle.wc_machine.specs.declared.seen.SeenLine.{SeenLine}
 use Rattle.wc_model.specs.Language.Kinds.{kind_after_operator}
 use Rattle.wc_model.specs.declared.code.Code.{Code}
-use Rattle.wc_model.specs.declared.code.Code.TheVariants.{LoadNumber, LoadPlace, Store, ApplyNumber, ApplyPlace, Not, Open, OpenNumber, OpenPlace, Close, Jump, Return, Call, ArgumentNumber, ArgumentPlace, Standard, Body}
+use Rattle.wc_model.specs.declared.code.Code.TheVariants.{LoadNumber, LoadPlace, Store, ApplyNumber, ApplyPlace, Open, OpenNumber, OpenPlace, Close, Call, ArgumentNumber, ArgumentPlace, Standard}
 use Rattle.wc_model.specs.declared.kind.Kind.{Kind}
 use Rattle.wc_trace_rows.specs.Items.{up_to_most}
 use Rattle.wc_trace_rows.specs.Legends.{kind_at, literal_kind, note_of}

@@ -23,7 +23,7 @@ fn put_spaces(text: &mut Vec<u8>, count: usize) -> Result<(), Fault>
 }
 
 /// Puts spaces up to a column of the row that starts there, and two at least. `Memory` is the only fault.
-pub fn put_gap(text: &mut Vec<u8>, start: usize, column: usize) -> Result<(), Fault>
+pub(crate) fn put_gap(text: &mut Vec<u8>, start: usize, column: usize) -> Result<(), Fault>
     ensures puts { OnOk result
         (text.new.items ≡ text.old.items ++ gap column (drop start text.old.items)) }
     ensures memory { IsOkUnless result Fault.Memory }
@@ -57,7 +57,7 @@ fn put_aligned(text: &mut Vec<u8>, number: u32) -> Result<(), Fault>
 
 /// Puts the front of a row: the number of the line and its text, or spaces for a part of a call. What a block of the text executes
 /// is two columns further right for each call, 8 at most. `Memory` is the only fault.
-pub fn put_place(
+pub(crate) fn put_place(
     text: &mut Vec<u8>,
     number: Option<u32>,
     depth: u32,

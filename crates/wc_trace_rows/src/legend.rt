@@ -1,5 +1,8 @@
-ghost use Rattle.std.specs.Prelude.{◌≡◌, ◌+◌, IsOkUnless, length};
-ghost use Rattle.wc_trace_rows.specs.Legends.{kind_at, line_of, literal_kind, name_of, note_of};
+ghost use Rattle.std.specs.Prelude.{◌≡◌, ◌+◌, ◌++◌, ◌∷◌, [], IfOk, IsOkUnless, OnOk, length};
+ghost use Rattle.wc_model.specs.Language.CarriedPlaces.{frame_of_text};
+ghost use Rattle.wc_model.specs.Language.Frames.{slot_kinds};
+ghost use Rattle.wc_model.specs.Language.Views.{text_view};
+ghost use Rattle.wc_trace_rows.specs.Legends.{IsLegendOf, kind_at, line_of, line_starts, literal_kind, name_of, note_of};
 
 use crate::notes::{Note, Notes, note_among, note_units};
 use std::alloc::Global;
@@ -17,6 +20,7 @@ pub struct Legend {
 
 /// Puts where a line starts.
 fn put_start(starts: &mut Vec<usize>, start: usize) -> Result<(), Fault>
+    ensures puts { OnOk result (starts.new.items ≡ starts.old.items ++ start ∷ []) }
     ensures memory { IsOkUnless result Fault.Memory }
 {
     match starts.push(start) {
@@ -25,21 +29,24 @@ fn put_start(starts: &mut Vec<usize>, start: usize) -> Result<(), Fault>
     }
 }
 
-/// Puts where the lines of a text start, and the end of the last.
+/// Puts where the lines of a text start, and where one would start after the last.
 fn put_starts(starts: &mut Vec<usize>, text: &[u8]) -> Result<(), Fault>
+    ensures puts { OnOk result (starts.new.items ≡ starts.old.items ++ line_starts text.now) }
     ensures memory { IsOkUnless result Fault.Memory }
 {
-    let mut next = 0_usize;
-    for line in text.split(|byte| *byte == b'\n') {
-        put_start(starts, next)?;
-        next = next.saturating_add(line.len()).saturating_add(1);
+    put_start(starts, 0)?;
+    for (index, byte) in text.iter().enumerate() {
+        if *byte == b'\n' {
+            put_start(starts, index + 1)?;
+        }
     }
-    put_start(starts, next)
+    put_start(starts, text.len() + 1)
 }
 
 impl Legend {
     /// The legend of a text that is loaded. `Memory` is the only fault.
     pub fn new(alloc: Global, text: &[u8], loaded: &Loaded<'_>) -> Result<Legend, Fault>
+        ensures told { IfOk result (λ legend. IsLegendOf legend text.now (text_view loaded.now.source)) }
         ensures memory { IsOkUnless result Fault.Memory }
     {
         let mut legend = Legend {
@@ -54,6 +61,11 @@ impl Legend {
 
     /// Takes over what is told from a text and its program, since both are lent for the time of a call.
     fn copy(&mut self, text: &[u8], loaded: &Loaded<'_>) -> Result<(), Fault>
+        ensures text { OnOk result (self.new.text.items ≡ self.old.text.items ++ text.now) }
+        ensures starts { OnOk result
+            (self.new.starts.items ≡ self.old.starts.items ++ line_starts text.now) }
+        ensures kinds { OnOk result (self.new.kinds.items ≡ self.old.kinds.items
+            ++ slot_kinds (frame_of_text (text_view loaded.now.source))) }
         ensures memory { IsOkUnless result Fault.Memory }
     {
         put_bytes(&mut self.text, text)?;

@@ -1,8 +1,4 @@
-ghost use Rattle.std.specs.Prelude.{◌≡◌, ◌+◌, ◌∷◌, [], option_map, option_to_list, map};
-ghost use Rattle.wc_machine.specs.Machines.{StandsFor};
-ghost use Rattle.wc_model.specs.Language.Declarations.{standard_members};
-ghost use Rattle.wc_model.specs.Language.Store.{Location, Store as Contents};
-ghost use Rattle.wc_model.specs.Language.Tree.{Text};
+ghost use Rattle.std.specs.Prelude.{◌≡◌, ◌∷◌, option_to_list, map};
 ghost use Rattle.wc_trace_rows.specs.Items.{IsNumberAt};
 ghost use Rattle.wc_trace_rows.specs.Rows.{output_view, outputs_of};
 

@@ -117,12 +117,7 @@ fn put_name(text: &mut Vec<u8>, legend: &Legend, item: &Item) -> Result<(), Faul
 
 /// Puts what an item writes: a place and its value, or that a standard block is called, with the
 /// outputs after its last call in the scan.
-fn put_written(
-    alloc: Global,
-    text: &mut Vec<u8>,
-    legend: &Legend,
-    item: &Item,
-) -> Result<(), Fault>
+fn put_written(alloc: Global, text: &mut Vec<u8>, legend: &Legend, item: &Item) -> Result<(), Fault>
     ensures puts { OnOk result
         (text.new.items ≡ text.old.items ++ written_text legend.now item.now item.now.seen.written) }
     ensures memory { IsOkUnless result Fault.Memory }
@@ -190,7 +185,12 @@ fn put_row(alloc: Global, text: &mut Vec<u8>, legend: &Legend, item: &Item) -> R
 {
     let start = text.len();
     let seen = &item.seen;
-    put_place(text, number_shown(seen), seen.depth, legend.line(seen.source))?;
+    put_place(
+        text,
+        number_shown(seen),
+        seen.depth,
+        legend.line(seen.source),
+    )?;
     put_result(alloc, text, start, item)?;
     put_if_written(alloc, text, start, legend, item)?;
     put_bytes(text, b"\n")

@@ -28,7 +28,12 @@ fn heading_end(is_changed: bool) -> &'static [u8]
 
 /// Puts the heading of a scan: its number among those of the run, from 1, its moment in milliseconds, and whether the next program
 /// has replaced the first. `Memory` is the only fault.
-pub fn put_heading(text: &mut Vec<u8>, number: u32, ms: u64, is_changed: bool) -> Result<(), Fault>
+pub(crate) fn put_heading(
+    text: &mut Vec<u8>,
+    number: u32,
+    ms: u64,
+    is_changed: bool,
+) -> Result<(), Fault>
     ensures puts { OnOk result
         (text.new.items ≡ text.old.items ++ heading number ms is_changed) }
     ensures memory { IsOkUnless result Fault.Memory }
@@ -49,7 +54,7 @@ pub fn put_none_chosen(text: &mut Vec<u8>, scans: u32) -> Result<(), Fault>
 }
 
 /// Puts how many steps a scan took, and how many one takes at most. `Memory` is the only fault.
-pub fn put_steps(text: &mut Vec<u8>, steps: usize, bound: u32) -> Result<(), Fault>
+pub(crate) fn put_steps(text: &mut Vec<u8>, steps: usize, bound: u32) -> Result<(), Fault>
     ensures puts { OnOk result (text.new.items ≡ text.old.items ++ steps_line steps bound) }
     ensures memory { IsOkUnless result Fault.Memory }
 {

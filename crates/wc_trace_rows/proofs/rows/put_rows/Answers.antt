@@ -30,7 +30,8 @@ loop-index-preserved c =
 
 pub returns-clause-puts : goal.returns-clause-puts
 returns-clause-puts c =
-    let so_far = c.loop-index.invariant in
-    (so_far.done,
-    all_items c.args.legend.now c.args.machine.now c.args.lines.now c.loop-index.index (levels_view c.loop-index.items.levels) so_far.done c.loop-index-test.false so_far.on,
-    so_far.put)
+    let so_far = c.loop-index.invariant in (
+      so_far.done,
+      all_items c.args.legend.now c.args.machine.now c.args.lines.now c.loop-index.index (levels_view c.loop-index.items.levels) so_far.done c.loop-index-test.false so_far.on,
+      so_far.put,
+    )
