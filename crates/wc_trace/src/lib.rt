@@ -2,21 +2,11 @@
 //! scan executes it gives the line of the text, the result after it and what it wrote.
 #![tactic(auto)]
 
-mod block_calls;
 mod chosen;
-mod item;
-mod items;
-mod kinds;
-mod legend;
-mod levels;
-mod notes;
 mod objects;
-mod rows;
-mod shown_scan;
 mod trace_form;
 mod tracer;
 mod tracing;
-mod values;
 
 pub use chosen::Chosen;
 pub use trace_form::TraceForm;

@@ -1,17 +1,13 @@
 ghost use Rattle.std.specs.Prelude.{IsOkUnless};
 
-use crate::block_calls::{block_of, number_in};
-use crate::item::Item;
-use crate::items::{Items, is_argument};
-use crate::legend::Legend;
-use crate::rows::put_field_name;
-use crate::shown_scan::ShownScan;
 use json::Writer;
 use std::alloc::Global;
-use wc_built_in::standard_fields;
 use wc_machine::{Machine, SeenLine};
-use wc_model::{Code, Fault, Kind, Outputs, Place, Section, or_memory, put_bytes};
+use wc_model::{Code, Fault, Kind, Outputs, StandardBlock, or_memory, put_bytes};
 use wc_store::SlotStore;
+use wc_trace_rows::{
+    BlockOutput, Item, Items, Legend, ShownScan, is_argument, number_in, outputs_of,
+};
 
 /// The first places of a program's frame hold the directly represented variables: 16 inputs, the
 /// 6 bits of the status, 3 weights.
@@ -86,36 +82,37 @@ fn write_line(alloc: Global, writer: &mut Writer, legend: &Legend, item: &Item) 
     }
 }
 
-/// Writes the name of a field as a member's name, in capital letters, as the standard has it.
-fn write_field_key(alloc: Global, writer: &mut Writer, name: &[u8]) -> Result<(), Fault>
+/// Writes an output of a standard block as a member, if it has a number.
+fn write_output(
+    alloc: Global,
+    writer: &mut Writer,
+    output: &BlockOutput,
+    number: Option<i32>,
+) -> Result<(), Fault>
     ensures memory { IsOkUnless result Fault.Memory }
 {
-    let mut capitals = Vec::new(alloc);
-    put_field_name(&mut capitals, name)?;
-    or_memory(writer.key(str::from_utf8(&capitals).unwrap_or("")))
+    let Some(number) = number else {
+        return Ok(());
+    };
+    or_memory(writer.key(output.name))?;
+    write_value(alloc, writer, Some(output.kind), number)
 }
 
 /// Writes a member for each output of the standard block that an item has called.
 fn write_outputs(
     alloc: Global,
     writer: &mut Writer,
-    legend: &Legend,
-    machine: &Machine<'_, SlotStore>,
+    block: StandardBlock,
     item: &Item,
 ) -> Result<(), Fault>
     ensures memory { IsOkUnless result Fault.Memory }
 {
-    let Some((block, first)) = block_of(&item.seen) else {
-        return Ok(());
-    };
-    for (number, field) in standard_fields(block).iter().enumerate() {
-        let place = first.saturating_add(number);
-        if let (Section::Output, Some(value)) = (field.section, number_in(machine, place)) {
-            write_field_key(alloc, writer, field.name)?;
-            write_value(alloc, writer, legend.kind(place, Place(0)), value)?;
-        }
+    let (first, second) = outputs_of(block);
+    write_output(alloc, writer, &first, item.first)?;
+    match second {
+        Some(second) => write_output(alloc, writer, &second, item.second),
+        None => Ok(()),
     }
-    Ok(())
 }
 
 /// Writes the body of a standard block: its instance and, if the scan does not call it again, its
@@ -124,7 +121,7 @@ fn write_block(
     alloc: Global,
     writer: &mut Writer,
     legend: &Legend,
-    machine: &Machine<'_, SlotStore>,
+    block: StandardBlock,
     item: &Item,
 ) -> Result<(), Fault>
     ensures memory { IsOkUnless result Fault.Memory }
@@ -137,25 +134,19 @@ fn write_block(
     }
     or_memory(writer.key("outputs"))?;
     or_memory(writer.begin_object())?;
-    write_outputs(alloc, writer, legend, machine, item)?;
+    write_outputs(alloc, writer, block, item)?;
     or_memory(writer.end_object())
 }
 
 /// Writes an item: its line of the text, how many calls deep it was executed, and what it did.
-fn write_item(
-    alloc: Global,
-    writer: &mut Writer,
-    legend: &Legend,
-    machine: &Machine<'_, SlotStore>,
-    item: &Item,
-) -> Result<(), Fault>
+fn write_item(alloc: Global, writer: &mut Writer, legend: &Legend, item: &Item) -> Result<(), Fault>
     ensures memory { IsOkUnless result Fault.Memory }
 {
     or_memory(writer.begin_object())?;
     write_number(writer, "line", u64::from(item.seen.source))?;
     write_number(writer, "depth", u64::from(item.seen.depth))?;
     match item.seen.line {
-        Code::Standard { .. } => write_block(alloc, writer, legend, machine, item)?,
+        Code::Standard { block, .. } => write_block(alloc, writer, legend, block, item)?,
         _ if is_argument(&item.seen.line) => write_written(alloc, writer, legend, item)?,
         _ => write_line(alloc, writer, legend, item)?,
     }
@@ -176,8 +167,8 @@ fn write_items(
     or_memory(writer.key("items"))?;
     or_memory(writer.begin_array())?;
     for (index, seen) in lines.iter().enumerate() {
-        let item = items.next(alloc, legend, index, seen)?;
-        write_item(alloc, writer, legend, machine, &item)?;
+        let item = items.next(alloc, legend, machine, index + 1, seen)?;
+        write_item(alloc, writer, legend, &item)?;
     }
     or_memory(writer.end_array())
 }

@@ -1,10 +1,7 @@
 ghost use Rattle.std.specs.Prelude.{IsOkUnless};
 
 use crate::chosen::Chosen;
-use crate::legend::Legend;
 use crate::objects::{put_end_object, put_object};
-use crate::rows::{put_none_chosen, put_scan};
-use crate::shown_scan::ShownScan;
 use crate::trace_form::TraceForm;
 use std::alloc::Global;
 use wc_machine::{Machine, SeenLine};
@@ -12,6 +9,7 @@ use wc_model::ByteOut;
 use wc_record::HeadKind;
 use wc_run::{Observer, Program, RowSeen, RunFault, Scale, ScanSeen, write_text};
 use wc_store::SlotStore;
+use wc_trace_rows::{Legend, ShownScan, put_none_chosen, put_scan};
 
 /// Observes a run, and writes the items of the scans that are chosen.
 #[derive(Drop)]

@@ -1,0 +1,10 @@
+pub mod Bodies
+pub mod Digits
+pub mod Ends
+pub mod HandedOn
+pub mod Joins
+pub mod LastCalls
+pub mod NotesFound
+pub mod Pieces
+pub mod RowsPut
+pub mod SafeLines

@@ -1,0 +1,12 @@
+pub mod Calls
+pub mod Columns
+pub mod Items
+pub mod Legends
+pub mod LevelViews
+pub mod Levels
+pub mod Notes
+pub mod Rows
+pub mod Safe
+pub mod Scans
+pub mod Shown
+pub mod Steps
