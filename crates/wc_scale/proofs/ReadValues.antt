@@ -75,10 +75,10 @@ module _ (scale : Scale) (opened : OpenScale SlotStore) (machine : MachineState)
   pub refuses_value : (name : List ℕ) (read : VariableRead) → read ≡ record { status = 12; kind = 0; number = pos 0 }
       → OfProgram scale (λ running. named_location running.text name ≡ None) → RefusesValue scale name read
   refuses_value name read e nowhere = subst (λ (r : VariableRead). RefusesValue scale name r) (sym e) (record {
-        closed = λ closed. absurd (let n : None ≡ Some opened = sym closed ∙ is in cc (n));
-        program = λ _ none. absurd (let n : None ≡ Some machine = sym (subst (λ held. machine_in held ≡ None) is none) ∙ has in cc (n));
-        unknown = λ _. nowhere;
-        known = λ plate came running there stands named. absurd (named (nowhere plate came running there stands));
-        else = λ _ _. inr (inr refl);
-        empty = λ _. (refl, refl);
-      })
+    closed = λ closed. absurd (let n : None ≡ Some opened = sym closed ∙ is in cc (n));
+    program = λ _ none. absurd (let n : None ≡ Some machine = sym (subst (λ held. machine_in held ≡ None) is none) ∙ has in cc (n));
+    unknown = λ _. nowhere;
+    known = λ plate came running there stands named. absurd (named (nowhere plate came running there stands));
+    else = λ _ _. inr (inr refl);
+    empty = λ _. (refl, refl);
+  })
