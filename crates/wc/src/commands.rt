@@ -4,7 +4,7 @@ ghost use Rattle.wc_words.specs.Asked.{asked, check, cut, decode, form_asked, jo
 use crate::desk::Desk;
 use crate::files::{KeptSource, RunFiles, RunPaths, kept_cause, kept_source, read_of};
 use crate::output::{Emptying, Sharing};
-use crate::telling::{CommandEnd, Sources, end};
+use crate::telling::{CommandEnd, ReadFile, Sources, end, tell_warnings, without_memory};
 use std::io;
 use std::io::{IsTerminal, Stdin};
 use wc_controller::{Ending, Input, RefusedRow, answer_job, check_file, last_files, report_files};
@@ -52,6 +52,27 @@ fn program_alone<'a>(program: &'a str, reader: &'a KeptSource<'_>) -> Sources<'a
     }
 }
 
+/// The paths of a program, and of the one to which it is to be changed.
+#[derive(Clone, Copy)]
+pub(crate) struct ChangedPaths<'a> {
+    pub(crate) program: &'a str,
+    pub(crate) next: &'a str,
+}
+
+/// Says what is suspicious of a program that is accepted: the exit status, that of a refusal where warnings are denied.
+fn with_warnings(desk: Desk<'_>, status: u8, file: &ReadFile<'_>, deny: bool) -> u8 {
+    if status != 0 {
+        return status;
+    }
+    match tell_warnings(desk, file) {
+        Ok(count) if deny && count > 0 => 1,
+        Ok(_) => 0,
+        Err(error) if error.kind() == io::ErrorKind::OutOfMemory => without_memory(desk.rt),
+        // Where standard error fails there is nobody left to tell.
+        Err(_) => 0,
+    }
+}
+
 /// Says that a job is awaited, where somebody types it.
 fn tell_waiting(rt: &HostRuntime) {
     if rt.stdin().is_terminal() {
@@ -85,20 +106,22 @@ pub(crate) fn check_words(
     row: &mut RefusedRow,
     program: &str,
     paths: bool,
+    deny: bool,
 ) -> u8
-    requires asked { asked (texts_of _words.now) ≡ check program.now None paths }
+    requires asked { asked (texts_of _words.now) ≡ check program.now None paths deny }
     requires form { form_asked (texts_of _words.now) ≡ Some desk.form }
 {
     let mut reader = kept_source(desk, program);
     let mut writer = Device::new(Sharing::new(desk.gathered));
     let ending = check_file(desk.rt.alloc(), paths, &mut reader, &mut writer);
-    finish(
+    let status = finish(
         desk,
         ending,
         kept_cause(&reader),
         &program_alone(program, &reader),
         row,
-    )
+    );
+    with_warnings(desk, status, &read_of(program, &reader), deny)
 }
 
 /// Tells what a change from the program in a file to the one in another keeps: the exit status.
@@ -106,13 +129,15 @@ pub(crate) fn preview_words(
     desk: Desk<'_>,
     _words: &[String],
     row: &mut RefusedRow,
-    program: &str,
-    next: &str,
+    files: ChangedPaths<'_>,
     paths: bool,
+    deny: bool,
 ) -> u8
-    requires asked { asked (texts_of _words.now) ≡ check program.now (Some next.now) paths }
+    requires asked { asked (texts_of _words.now)
+        ≡ check files.program.now (Some files.next.now) paths deny }
     requires form { form_asked (texts_of _words.now) ≡ Some desk.form }
 {
+    let ChangedPaths { program, next } = files;
     let mut reader = kept_source(desk, program);
     let mut next_reader = kept_source(desk, next);
     let mut writer = Device::new(Sharing::new(desk.gathered));
@@ -124,7 +149,7 @@ pub(crate) fn preview_words(
         &mut writer,
     );
     let reading = kept_cause(&reader).or(kept_cause(&next_reader));
-    finish(
+    let status = finish(
         desk,
         ending,
         reading,
@@ -133,7 +158,8 @@ pub(crate) fn preview_words(
             next: Some(read_of(next, &next_reader)),
         },
         row,
-    )
+    );
+    with_warnings(desk, status, &read_of(next, &next_reader), deny)
 }
 
 /// Runs the log in a file with a program, and where one is given the next one, and prints every scan or the last so many:

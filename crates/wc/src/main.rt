@@ -16,8 +16,8 @@ mod telling;
 use clap::Error;
 use clap::error::ErrorKind;
 use commands::{
-    Watched, check_words, cut_words, decode_words, line_words, preview_words, run_job, run_words,
-    show_words, trace_words, watch_words,
+    ChangedPaths, Watched, check_words, cut_words, decode_words, line_words, preview_words,
+    run_job, run_words, show_words, trace_words, watch_words,
 };
 use desk::Desk;
 use explaining::explain;
@@ -144,14 +144,22 @@ fn show(rt: &HostRuntime, error: &Error, words: &[String]) -> u8 {
     }
 }
 
-/// Prints the page of a refusal: the exit status. A number that there is not is a wrong word.
-fn show_page(rt: &HostRuntime, _words: &[String], number: u16) -> u8
-    requires { asked (texts_of _words.now) ≡ explain_asked number }
+/// Says that there is no page of that number.
+fn tell_no_page(rt: &HostRuntime, number: &str) -> io::Result<()> {
+    rt.eprint("error: there is no refusal ")?;
+    let number = shown(rt.alloc(), number.as_bytes())?;
+    rt.stderr().write_all(number.as_bytes())?;
+    rt.eprintln("")
+}
+
+/// Prints the page of a refusal or of a warning: the exit status. A number that there is not is a wrong word.
+fn show_page(rt: &HostRuntime, _words: &[String], number: &str) -> u8
+    requires { asked (texts_of _words.now) ≡ explain_asked number.now }
 {
     match explain(rt, number) {
         Ok(true) => 0,
         Ok(false) => {
-            let _told = eprintln!(rt; "error: there is no refusal {number}");
+            let _told = tell_no_page(rt, number);
             WRONG_WORDS
         }
         Err(error) => end_unprinted(rt, error),
@@ -170,9 +178,17 @@ fn execute(desk: Desk<'_>, words: &[String], row: &mut RefusedRow, wanted: Wante
             program,
             next,
             paths,
+            deny,
         } => match next {
-            Some(next) => preview_words(desk, words, row, program, next, paths),
-            None => check_words(desk, words, row, program, paths),
+            Some(next) => preview_words(
+                desk,
+                words,
+                row,
+                ChangedPaths { program, next },
+                paths,
+                deny,
+            ),
+            None => check_words(desk, words, row, program, paths, deny),
         },
         Wanted::Run {
             plate,

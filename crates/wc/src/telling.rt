@@ -2,7 +2,11 @@ use crate::desk::Desk;
 use std::io;
 use std::io::Write;
 use wc_controller::{Ending, Input, RefusedRow};
-use wc_messages::{Evidence, JobSection, Part, Refusal, explained, section_of, shown};
+use wc_messages::{
+    Evidence, JobSection, Part, Refusal, explained, section_of, shown, warning_message,
+};
+use wc_reader::read;
+use wc_warnings::find_warnings;
 use wc_watch::UnknownName;
 
 /// How a command ended, and what the system said of a read and of a write that failed.
@@ -174,6 +178,23 @@ fn tell_refusal(
     };
     let message = explained(desk.rt.alloc(), desk.form, &refusal)?;
     desk.rt.stderr().write_all(&message)
+}
+
+/// Says what is suspicious of a program that is accepted: how many warnings there are.
+pub(crate) fn tell_warnings(desk: Desk<'_>, file: &ReadFile<'_>) -> io::Result<usize> {
+    let alloc = desk.rt.alloc();
+    let text = file.bytes.unwrap_or(b"");
+    let Ok(source) = read(alloc, text) else {
+        return Ok(0);
+    };
+    let Ok(warnings) = find_warnings(alloc, &source) else {
+        return Err(io::ErrorKind::OutOfMemory.into());
+    };
+    for warning in &warnings {
+        let message = warning_message(alloc, desk.form, file.path.as_bytes(), text, warning)?;
+        desk.rt.stderr().write_all(&message)?;
+    }
+    Ok(warnings.len())
 }
 
 /// Says which input could not be read, and why.

@@ -7,3 +7,4 @@ pub mod Explanations
 pub mod Known
 pub mod Forms
 pub mod Paged
+pub mod Spotted

@@ -13,9 +13,12 @@ mod page;
 mod parts;
 mod placing;
 mod short;
+mod warned;
+mod warning_entries;
 
 pub use explaining::explained;
 pub use jobs::{JobSection, section_of};
 pub use message::{Message, shown};
 pub use page::page as page_of;
+pub use warned::{warning_message, warning_page};
 pub use wc_findings::{Evidence, Part, Refusal};

@@ -12,7 +12,7 @@ use std::alloc::{AllocError, Global};
 use wc_findings::{Finding, Refusal};
 
 /// Writes a member with a text.
-fn write_text(writer: &mut Writer, name: &str, text: &str) -> Result<(), AllocError>
+pub(crate) fn write_text(writer: &mut Writer, name: &str, text: &str) -> Result<(), AllocError>
     ensures before { writer.new.before ≡ writer.old.before }
     ensures tokens { OnOk result (writer.new.tokens
         ≡ writer.old.tokens ++ text_member name.now text.now) }
@@ -34,7 +34,7 @@ fn write_words_if_any(writer: &mut Writer, name: &str, words: &Message) -> Resul
 }
 
 /// Writes a member with a number.
-fn write_number(writer: &mut Writer, name: &str, number: usize) -> Result<(), AllocError>
+pub(crate) fn write_number(writer: &mut Writer, name: &str, number: usize) -> Result<(), AllocError>
     ensures before { writer.new.before ≡ writer.old.before }
     ensures tokens { OnOk result (writer.new.tokens
         ≡ writer.old.tokens ++ number_member name.now number) }
@@ -44,7 +44,11 @@ fn write_number(writer: &mut Writer, name: &str, number: usize) -> Result<(), Al
 }
 
 /// Writes a member with a number that is not 0.
-fn write_number_if_any(writer: &mut Writer, name: &str, number: usize) -> Result<(), AllocError>
+pub(crate) fn write_number_if_any(
+    writer: &mut Writer,
+    name: &str,
+    number: usize,
+) -> Result<(), AllocError>
     ensures before { writer.new.before ≡ writer.old.before }
     ensures tokens { OnOk result (writer.new.tokens
         ≡ writer.old.tokens ++ number_if_any name.now number) }
@@ -139,7 +143,7 @@ fn write_object(
 }
 
 /// What was written, as a line.
-fn line_of(writer: Writer) -> Result<Vec<u8>, AllocError>
+pub(crate) fn line_of(writer: Writer) -> Result<Vec<u8>, AllocError>
     requires { writer.before ≡ [] }
     ensures all { IfOk result (λ bytes. bytes.items ≡ print writer.tokens ++ 10 ∷ []) }
     ensures reads { tokens (print writer.tokens) ≡ writer.tokens }

@@ -20,15 +20,19 @@ pub job_form : (name : Text) → Ask (name ∷ []) job Long
 unfolding clap_on_literals
 job_form name = (refl, refl, refl, refl)
 
-pub check_form : (name p : Text) → IsValue p → Ask (name ∷ codes "check" ∷ p ∷ []) (check p None false) Long
+pub check_form : (name p : Text) → IsValue p → Ask (name ∷ codes "check" ∷ p ∷ []) (check p None false false) Long
 unfolding clap_on_literals
 check_form name p v = (rw (v.0, v.1, v.2) refl, rw (v.0, v.1, v.2) refl, rw (v.0, v.1, v.2) refl, refl)
 
-pub paths_form : (name p : Text) → IsValue p → Ask (name ∷ codes "check" ∷ codes "--path" ∷ p ∷ []) (check p None true) Long
+pub paths_form : (name p : Text) → IsValue p → Ask (name ∷ codes "check" ∷ codes "--path" ∷ p ∷ []) (check p None true false) Long
 unfolding clap_on_literals
 paths_form name p v = (rw (v.0, v.1, v.2) refl, rw (v.0, v.1, v.2) refl, rw (v.0, v.1, v.2) refl, refl)
 
-pub preview_form : (name : Text) → Ask (name ∷ codes "check" ∷ codes "--next" ∷ codes "b" ∷ codes "a" ∷ []) (check (codes "a") (Some (codes "b")) false) Long
+pub deny_form : (name p : Text) → IsValue p → Ask (name ∷ codes "check" ∷ codes "--deny-warnings" ∷ p ∷ []) (check p None false true) Long
+unfolding clap_on_literals
+deny_form name p v = (rw (v.0, v.1, v.2) refl, rw (v.0, v.1, v.2) refl, rw (v.0, v.1, v.2) refl, refl)
+
+pub preview_form : (name : Text) → Ask (name ∷ codes "check" ∷ codes "--next" ∷ codes "b" ∷ codes "a" ∷ []) (check (codes "a") (Some (codes "b")) false false) Long
 unfolding clap_on_literals
 preview_form name = (refl, refl, refl, refl)
 
@@ -91,7 +95,7 @@ pub table_form : (name : Text) → Ask (name ∷ codes "decode" ∷ codes "--csv
 unfolding clap_on_literals
 table_form name = (refl, refl, refl, refl)
 
-pub explain_form : (name : Text) → Ask (name ∷ codes "explain" ∷ codes "403" ∷ []) (explain 403) Long
+pub explain_form : (name : Text) → Ask (name ∷ codes "explain" ∷ codes "403" ∷ []) (explain (codes "403")) Long
 unfolding clap_on_literals
 explain_form name = (refl, refl, refl, refl)
 

@@ -53,9 +53,9 @@ number_in option given = option_and_then number_of (one_of option given)
 -- what the words ask for, with the texts of files in the order of the options
 pub data Asked : Type 0 where
   job : Asked
-  -- a program's file, that of one that may take its place where it is given, and whether paths are
-  -- wanted
-  check : Text → Option Text → Bool → Asked
+  -- a program's file, that of one that may take its place where it is given, whether paths are
+  -- wanted, and whether warnings are refused
+  check : Text → Option Text → Bool → Bool → Asked
   -- the files of a plate, a program, a next program where one is given, and a log, how many scans
   -- are wanted, and the names of the variables that are watched
   run : Text → Text → Option Text → Text → Option ℕ → Option Text → Asked
@@ -67,7 +67,8 @@ pub data Asked : Type 0 where
   show : Text → Option Text → Option Text → Text → Asked
   -- a report from standard input, and whether a table is wanted
   decode : Bool → Asked
-  explain : ℕ → Asked
+  -- the number of a refusal or of a warning
+  explain : Text → Asked
   -- the files of a plate and a log
   line : Text → Text → Asked
   -- the files of a plate and a log that is cut, and the number of the row after which it is, where one is
@@ -79,7 +80,7 @@ abbrev pub asked_at : Text → List Row → Asked
 asked_at word given =
     if bytes_eq word (codes "check")
     then check (file_in (codes "program") given) (first_of (codes "next") given)
-    (flag_in (codes "path") given)
+    (flag_in (codes "path") given) (flag_in (codes "deny-warnings") given)
     else (if bytes_eq word (codes "run")
     then run (file_in (codes "plate") given) (file_in (codes "program") given)
     (first_of (codes "next") given) (file_in (codes "log") given)
@@ -94,7 +95,7 @@ asked_at word given =
     (first_of (codes "next") given) (file_in (codes "log") given)
     else (if bytes_eq word (codes "decode") then decode (flag_in (codes "csv") given)
     else (if bytes_eq word (codes "explain")
-    then explain (unwrap_or (number_in (codes "number") given) 0)
+    then explain (file_in (codes "number") given)
     else (if bytes_eq word (codes "line")
     then line (file_in (codes "plate") given) (file_in (codes "log") given)
     else (if bytes_eq word (codes "cut")
@@ -112,8 +113,8 @@ asked words = asked_by (subcommand_of command_line words)
 -- a command of the code as what is asked for
 abbrev pub view : Wanted → Asked
 view wanted.Job = job
-view (wanted.Check program next paths) =
-    check program.now (option_map (λ path. path.now) next) paths
+view (wanted.Check program next paths deny) =
+    check program.now (option_map (λ path. path.now) next) paths deny
 view (wanted.Run plate files last watch) =
     run plate.now files.program.now (option_map (λ next. next.now) files.next) files.log.now last
     (option_map (λ names. names.now) watch)
@@ -124,7 +125,7 @@ view (wanted.Show plate program next log) =
     show plate.now (option_map (λ path. path.now) program) (option_map (λ path. path.now) next)
     log.now
 view (wanted.Decode table) = decode table
-view (wanted.Explain number) = explain number
+view (wanted.Explain number) = explain number.now
 view (wanted.Line plate log) = line plate.now log.now
 view (wanted.Cut plate log at) = cut plate.now log.now at
 

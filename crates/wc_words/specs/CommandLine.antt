@@ -23,10 +23,6 @@ file_option name = record (place name) { long = Some name }
 abbrev pub flag : Text → Rule
 flag name = record (new_rule name) { long = Some name; action = Some SetTrue }
 
--- a number that must be given, from 0 to 65535
-abbrev pub number_place : Text → Rule
-number_place name = record (place name) { parser = Some (Signed (pos 0) (pos 65535)) }
-
 -- `--NAME N`, where N lies in a range
 abbrev pub number_option : Text → ℕ → ℕ → Rule
 number_option name least most = record (new_rule name) {
@@ -51,10 +47,11 @@ value_option name = record (new_rule name) { long = Some name; value_names = 1 }
 abbrev pub message_option : Rule
 message_option = value_option (codes "message")
 
--- `check PROGRAM [--next FILE] [--path] [--message FORM]`
+-- `check PROGRAM [--next FILE] [--path] [--deny-warnings] [--message FORM]`
 abbrev pub check_word : App
-check_word = with_rule (with_rule (with_rule (with_rule (new_app (codes "check"))
-    (place (codes "program"))) (value_option (codes "next"))) (flag (codes "path"))) message_option
+check_word = with_rule (with_rule (with_rule (with_rule (with_rule (new_app (codes "check"))
+    (place (codes "program"))) (value_option (codes "next"))) (flag (codes "path")))
+    (flag (codes "deny-warnings"))) message_option
 
 -- `run --plate FILE --program FILE [--next FILE] --log FILE [--last N] [--watch NAMES]
 -- [--message FORM]`, N from 1 to 1000
@@ -96,7 +93,7 @@ decode_word = with_rule (new_app (codes "decode")) (flag (codes "csv"))
 
 -- `explain NUMBER`
 abbrev pub explain_word : App
-explain_word = with_rule (new_app (codes "explain")) (number_place (codes "number"))
+explain_word = with_rule (new_app (codes "explain")) (place (codes "number"))
 
 -- `wc`, which has a version
 abbrev pub program_name : App

@@ -1,7 +1,7 @@
 -- What the rows of the table of words stand for.
 use Rattle.std.specs.Prelude.{List, [], ◌∷◌}
 use Rattle.clap.specs.Words.{App, Rule, Text, new_app, with_rule, with_subcommand}
-use Rattle.wc_words.specs.CommandLine.{file_option, flag, number_option, number_place, place}
+use Rattle.wc_words.specs.CommandLine.{file_option, flag, number_option, place}
 use Rattle.wc_words.specs.CommandLine.{value_option, wide_number_option}
 use Rattle.wc_words.specs.declared.table.OptionKind.{OptionKind}
 use Rattle.wc_words.specs.declared.table.OptionKind.TheVariants as kind
@@ -11,7 +11,6 @@ use Rattle.wc_words.specs.declared.table.WordRow.{WordRow}
 -- an option of that kind and name
 abbrev pub rule_by : OptionKind → Text → Rule
 rule_by kind.Place name = place name
-rule_by kind.NumberPlace name = number_place name
 rule_by kind.File name = file_option name
 rule_by kind.Value name = value_option name
 rule_by kind.Scans name = number_option name 1 1000

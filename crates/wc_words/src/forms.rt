@@ -9,13 +9,16 @@ ghost use Rattle.wc_words.specs.Asked.{show, trace};
 pub fn plain_forms()
     ensures job { (name : Text) → Ask (name ∷ []) job Long }
     ensures check { (name program : Text) → IsPlain program
-        → Ask (name ∷ codes "check" ∷ program ∷ []) (check program None false) Long }
+        → Ask (name ∷ codes "check" ∷ program ∷ []) (check program None false false) Long }
     ensures paths { (name program : Text) → IsPlain program
         → Ask (name ∷ codes "check" ∷ codes "--path" ∷ program ∷ [])
-        (check program None true) Long }
+        (check program None true false) Long }
     ensures preview { (name : Text)
         → Ask (name ∷ codes "check" ∷ codes "--next" ∷ codes "b" ∷ codes "a" ∷ [])
-        (check (codes "a") (Some (codes "b")) false) Long }
+        (check (codes "a") (Some (codes "b")) false false) Long }
+    ensures deny { (name program : Text) → IsPlain program
+        → Ask (name ∷ codes "check" ∷ codes "--deny-warnings" ∷ program ∷ [])
+        (check program None false true) Long }
     ensures run { (name plate program log : Text) → IsPlain plate → IsPlain program → IsPlain log
         → asked (name ∷ codes "run" ∷ codes "--plate" ∷ plate ∷ codes "--program" ∷ program
         ∷ codes "--log" ∷ log ∷ []) ≡ run plate program None log None None }
@@ -58,5 +61,5 @@ pub fn plain_forms()
     ensures table { (name : Text)
         → Ask (name ∷ codes "decode" ∷ codes "--csv" ∷ []) (decode true) Long }
     ensures explain { (name : Text)
-        → Ask (name ∷ codes "explain" ∷ codes "403" ∷ []) (explain 403) Long }
+        → Ask (name ∷ codes "explain" ∷ codes "403" ∷ []) (explain (codes "403")) Long }
 {}

@@ -11,8 +11,6 @@ use std::alloc::{AllocError, Global};
 pub(crate) enum OptionKind {
     /// By its place, a text that must be given.
     Place,
-    /// By its place, a number of 16 bits that must be given.
-    NumberPlace,
     /// Behind its name, a text that must be given.
     File,
     /// Behind its name, a text that may be given.
@@ -59,9 +57,6 @@ fn argument<'a>(alloc: Global, row: &OptionRow<'a>) -> Arg<'a>
 {
     match row.kind {
         OptionKind::Place => valued(alloc, row).required(true),
-        OptionKind::NumberPlace => valued(alloc, row)
-            .required(true)
-            .value_parser(value_parser!(u16)),
         OptionKind::File => valued(alloc, row).long(row.name).required(true),
         OptionKind::Value => valued(alloc, row).long(row.name),
         OptionKind::Scans => valued(alloc, row)
@@ -190,6 +185,12 @@ pub(crate) const WORDS: [WordRow<'static>; 8] = [
                 value: "",
                 help: "Print the lines of a longest path after each unit too",
             },
+            OptionRow {
+                kind: OptionKind::Flag,
+                name: "deny-warnings",
+                value: "",
+                help: "End with status 1 where there is a warning",
+            },
             MESSAGE,
         ],
     },
@@ -304,12 +305,12 @@ pub(crate) const WORDS: [WordRow<'static>; 8] = [
     },
     WordRow {
         name: "explain",
-        about: "Say what a refusal means, where it is met, and how to mend it",
+        about: "Say what a refusal or a warning means, where it is met, and how to mend it",
         options: &[OptionRow {
-            kind: OptionKind::NumberPlace,
+            kind: OptionKind::Place,
             name: "number",
             value: "NUMBER",
-            help: "The number of a refusal, as 403",
+            help: "The number of a refusal, as 403, or of a warning, as W3",
         }],
     },
 ];

@@ -28,6 +28,7 @@ const ABOUT: &str =
   ./wc line --plate plate.toml --log log.csv
   ./wc cut --plate plate.toml --log log.csv --at 5000 > rest.csv
   ./wc run --plate plate.toml --program program.il --log log.csv | ./wc decode
+  ./wc check --deny-warnings program.il
   ./wc explain 403
   ./wc < job.txt
 
@@ -54,11 +55,12 @@ pub enum Wanted<'a> {
     /// No words: a job from standard input.
     Job,
     /// The cost of each unit of a program, and its worst path where `paths` says so; with a next program that one's, and
-    /// what a change to it keeps.
+    /// what a change to it keeps. Where `deny` says so, a warning ends with the status of a refusal.
     Check {
         program: &'a str,
         next: Option<&'a str>,
         paths: bool,
+        deny: bool,
     },
     /// A run of a log with a program, which prints every scan or the last so many, and beside each the values of variables, where
     /// their names are given.
@@ -85,9 +87,9 @@ pub enum Wanted<'a> {
     Decode {
         table: bool,
     },
-    /// The page of a refusal by its number.
+    /// The page of a refusal by its number, or of a warning by its number behind a W.
     Explain {
-        number: u16,
+        number: &'a str,
     },
     /// A run of a log with no program.
     Line {
@@ -203,6 +205,7 @@ fn wanted_by<'a>(word: &str, matches: &ArgMatches<'a>) -> Wanted<'a>
             program: file(matches, "program"),
             next: optional_file(matches, "next"),
             paths: is_given(matches, "path"),
+            deny: is_given(matches, "deny-warnings"),
         },
         "run" => Wanted::Run {
             plate: file(matches, "plate"),
@@ -225,7 +228,7 @@ fn wanted_by<'a>(word: &str, matches: &ArgMatches<'a>) -> Wanted<'a>
             table: is_given(matches, "csv"),
         },
         "explain" => Wanted::Explain {
-            number: number(matches, "number").unwrap_or(0),
+            number: file(matches, "number"),
         },
         "line" => Wanted::Line {
             plate: file(matches, "plate"),

@@ -1,4 +1,4 @@
-use Rattle.wc_words.proofs.Plain.{check_form, cut_at_form, cut_form, decode_form, drawn_form, explain_form, job_form, last_form, line_form, next_alone_form, next_form, paths_form, plain, preview_form, redrawn_form, run_form, show_form, table_form, trace_form, watch_form}
+use Rattle.wc_words.proofs.Plain.{check_form, cut_at_form, cut_form, decode_form, deny_form, drawn_form, explain_form, job_form, last_form, line_form, next_alone_form, next_form, paths_form, plain, preview_form, redrawn_form, run_form, show_form, table_form, trace_form, watch_form}
 use Rattle.wc_words.proofs.forms.plain_forms.Goals as goal
 
 pub returns : goal.returns
@@ -7,6 +7,7 @@ returns c = record {
   check = λ name p h. check_form name p (plain p h);
   paths = λ name p h. paths_form name p (plain p h);
   preview = preview_form;
+  deny = λ name p h. deny_form name p (plain p h);
   run = λ name p q l h i j. run_form name p q l (plain p h) (plain q i) (plain l j);
   last = last_form;
   next = next_form;
