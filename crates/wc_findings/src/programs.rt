@@ -68,6 +68,28 @@ fn quoted_length(number: u16, case: Case, length: usize) -> usize {
     }
 }
 
+/// What follows the sentence of a refusal on a line: what made the result, which parenthesis is open, where the first of two is.
+fn detail_of(
+    alloc: Global,
+    text: &[u8],
+    number: u16,
+    line: u32,
+    span: RefusalSpan,
+) -> Result<String, AllocError> {
+    if let Some(result) = span.result {
+        return text_with(alloc, Values::ResultOf(name_of(result.kind), result.line));
+    }
+    if number == 205 {
+        if let Some(lines) = lines_to_opening(front(text, span.start)) {
+            return text_with(alloc, Values::OpenSince(line.saturating_sub(lines)));
+        }
+    }
+    if span.first != 0 {
+        return text_with(alloc, Values::FirstLine(span.first));
+    }
+    Ok(String::new(alloc))
+}
+
 /// Points to the piece at which a pass refuses a text, and says what is wrong with it.
 fn point_to_piece(
     alloc: Global,
@@ -83,18 +105,7 @@ fn point_to_piece(
 {
     finding.point(column_at(text, span.start), span.length);
     finding.awaits = span.awaits;
-    if span.first != 0 {
-        finding.detail = text_with(alloc, Values::FirstLine(span.first))?;
-    }
-    if number == 205 {
-        if let Some(lines) = lines_to_opening(front(text, span.start)) {
-            let line = finding.line.saturating_sub(lines);
-            finding.detail = text_with(alloc, Values::OpenSince(line))?;
-        }
-    }
-    if let Some(result) = span.result {
-        finding.detail = text_with(alloc, Values::ResultOf(name_of(result.kind), result.line))?;
-    }
+    finding.detail = detail_of(alloc, text, number, finding.line, span)?;
     let case = case_at(number, behind(text, span.start), span);
     let length = quoted_length(number, case, span.length);
     finding.tell(piece(text, span.start, length), case)?;
