@@ -4,4 +4,4 @@ if exists("current_compiler")
 endif
 let current_compiler = "narbeddo"
 CompilerSet makeprg=narbeddo\ check\ --message\ short\ %:S
-CompilerSet errorformat=%f:%l:%c:\ %trror[%n]:\ %m,%f:%l:\ %trror[%n]:\ %m,%f:\ %trror[%n]:\ %m,%-G%.%#
+CompilerSet errorformat=%f:%l:%c:\ %trror[%n]:\ %m,%f:%l:%c:\ %tarning[W%n]:\ %m,%f:%l:\ %trror[%n]:\ %m,%f:\ %trror[%n]:\ %m,%-G%.%#
