@@ -5,11 +5,11 @@ use Rattle.std.specs.Prelude.{slice_get}
 use Rattle.wc_machine.specs.declared.seen.SeenLine.{SeenLine}
 use Rattle.wc_model.specs.declared.kind.Kind.{Kind}
 use Rattle.wc_trace_rows.specs.LevelViews.{level_view}
-use Rattle.wc_trace_rows.specs.Levels.{Level, after_seen, closed, level_behind, level_or_fresh, levels_after, levels_at}
+use Rattle.wc_trace_rows.specs.Levels.{Level, after_seen, closed, level_left, level_or_fresh, levels_after, levels_at}
 use Rattle.wc_trace_rows.specs.declared.legend.Legend.{Legend}
 use Rattle.wc_trace_rows.specs.declared.levels.BodyLevel.{BodyLevel}
 
--- the first so many of a list behind which one stands again and again
+-- the first ones of a list that one follows again and again
 filled : {X : Type 0} (n m : ℕ) (xs : List X) (x : X) → n ≤ m → take n (xs ++ replicate m x) ≡ take n xs ++ replicate (n - length (take n xs)) x
 filled zero m xs x few = refl
 filled (suc n) m [] x few = take-replicate (suc n) m x few ∙ ap (λ k. replicate k x) (let e : suc n ≡ suc n - 0 = omega arith in e)
@@ -17,7 +17,7 @@ filled (suc n) m (y ∷ xs) x few =
     let same : n - length (take n xs) ≡ suc n - suc (length (take n xs)) = omega arith in
     ap (λ l. y ∷ l) (filled n m xs x (omega arith)) ∙ ap (λ k. y ∷ (take n xs ++ replicate k x)) same
 
--- those that are left, and new ones behind them
+-- those that are left, and new ones after them
 pub gone : {A B : Type 0} (f : A → B) (x : B) (depth count : ℕ) (old cut new : List A) → count ≡ depth + 1 → cut ≡ take count old
     → map f new ≡ map f cut ++ replicate (count - length cut) x → map f new ≡ take (suc depth) (map f old ++ replicate (suc depth) x)
 gone f x depth count old cut new is is_cut begun =
@@ -43,9 +43,9 @@ body_at f [] i body few is = absurd (omega arith)
 body_at f (first ∷ bodies) zero body few is = ap (λ b. Some (f b)) (sym is)
 body_at f (first ∷ bodies) (suc i) body few is = body_at f bodies i body (omega arith) is
 
-pub behind_is : (legend : Legend) (seen : SeenLine) (levels : List Level) (bodies : List BodyLevel) (old new : BodyLevel) → seen.depth < length bodies → old ≡ get_or bodies seen.depth old
-    → map level_view bodies ≡ levels_at seen.depth levels → level_view new ≡ after_seen legend seen (level_view old) → level_view new ≡ level_behind legend seen levels
-behind_is legend seen levels bodies old new few is at passed =
+pub left_is : (legend : Legend) (seen : SeenLine) (levels : List Level) (bodies : List BodyLevel) (old new : BodyLevel) → seen.depth < length bodies → old ≡ get_or bodies seen.depth old
+    → map level_view bodies ≡ levels_at seen.depth levels → level_view new ≡ after_seen legend seen (level_view old) → level_view new ≡ level_left legend seen levels
+left_is legend seen levels bodies old new few is at passed =
     passed ∙ ap (λ o. after_seen legend seen (level_or_fresh o)) (sym (body_at level_view bodies seen.depth old few is) ∙ ap (λ l. slice_get l seen.depth) at)
 
 set_mapped : {A B : Type 0} (f : A → B) (xs : List A) (i : ℕ) (x : A) → map f (set xs i x) ≡ set (map f xs) i (f x)
@@ -54,9 +54,9 @@ set_mapped f (y ∷ xs) zero x = refl
 set_mapped f (y ∷ xs) (suc i) x = ap (λ l. f y ∷ l) (set_mapped f xs i x)
 
 pub after_is : (legend : Legend) (seen : SeenLine) (levels : List Level) (bodies all : List BodyLevel) (new : BodyLevel) → map level_view bodies ≡ levels_at seen.depth levels
-    → level_view new ≡ level_behind legend seen levels → all ≡ set bodies seen.depth new → map level_view all ≡ levels_after legend seen levels
-after_is legend seen levels bodies all new at behind put =
-    ap (map level_view) put ∙ set_mapped level_view bodies seen.depth new ∙ (λ i. set (at i) seen.depth (behind i))
+    → level_view new ≡ level_left legend seen levels → all ≡ set bodies seen.depth new → map level_view all ≡ levels_after legend seen levels
+after_is legend seen levels bodies all new at left put =
+    ap (map level_view) put ∙ set_mapped level_view bodies seen.depth new ∙ (λ i. set (at i) seen.depth (left i))
 
 -- a kind that is put by, and one that is taken again
 pub one_put_by : (old new : List (Option Kind)) (kind : Option Kind) → new ≡ old ++ kind ∷ [] → reverse new ≡ kind ∷ reverse old

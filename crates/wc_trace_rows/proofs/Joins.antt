@@ -33,7 +33,7 @@ one_cell column start old first new text cell is one two =
 pub numbered : {A B : Type 0} (b : Bool) (f : A → B) (number : Option A) (n : A) → b ≡ false → number ≡ Some n → cond b None (option_map f number) ≡ Some (f n)
 numbered b f number n is there = ap (λ x. cond x None (option_map f number)) is ∙ ap (option_map f) there
 
--- the row that begins behind a text
+-- the row that follows a text
 pub row_put : (old front first second new : List ℕ) (result written : Option (List ℕ)) (r w : ℕ) (start : ℕ) → start ≡ length old → first ≡ old ++ front
     → second ≡ take start first ++ with_cell r result (drop start first)
     → new ≡ take start second ++ with_cell w written (drop start second)

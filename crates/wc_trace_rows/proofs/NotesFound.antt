@@ -5,11 +5,11 @@ use Rattle.std.specs.Prelude.{◌==◌, filter, slice_get}
 use Rattle.wc_trace_rows.specs.Notes.{AreInOrder, note_among, of_line}
 use Rattle.wc_trace_rows.specs.declared.notes.Note.{Note}
 
--- what is there behind the first so many
-pub behind_first : {X : Type 0} (n i : ℕ) (xs : List X) → slice_get (drop n xs) i ≡ slice_get xs (n + i)
-behind_first zero i xs = ap (slice_get xs) (let e : i ≡ 0 + i = omega arith in e)
-behind_first (suc n) i [] = refl
-behind_first (suc n) i (x ∷ xs) = behind_first n i xs ∙ ap (slice_get (x ∷ xs)) (let e : suc (n + i) ≡ suc n + i = omega arith in e)
+-- what is there after the first ones
+pub from_number : {X : Type 0} (n i : ℕ) (xs : List X) → slice_get (drop n xs) i ≡ slice_get xs (n + i)
+from_number zero i xs = ap (slice_get xs) (let e : i ≡ 0 + i = omega arith in e)
+from_number (suc n) i [] = refl
+from_number (suc n) i (x ∷ xs) = from_number n i xs ∙ ap (slice_get (x ∷ xs)) (let e : suc (n + i) ≡ suc n + i = omega arith in e)
 
 -- no note has this line, where each has a greater one
 abbrev AllAfter : ℕ → List Note → Type 0

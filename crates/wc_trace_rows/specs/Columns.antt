@@ -13,21 +13,21 @@ continues byte = is_within 128 191 byte
 abbrev pub columns_of : List ℕ → ℕ
 columns_of bytes = count_by (λ byte. not (continues byte)) bytes
 
--- the front of a text that takes so many columns, or all of it
+-- the front of a text that takes n columns, or all of it
 abbrev pub first_columns : ℕ → List ℕ → List ℕ
 first_columns n [] = []
 first_columns zero (byte ∷ bytes) = if continues byte then byte ∷ first_columns zero bytes else []
 first_columns (suc n) (byte ∷ bytes) = if continues byte then byte ∷ first_columns (suc n) bytes else byte ∷ first_columns n bytes
 
--- a text in so many columns: where it takes more, its front and two dots
+-- a text in that many columns: where it takes more, its front and two dots
 abbrev pub fitted : ℕ → List ℕ → List ℕ
 fitted columns bytes = if nat_le (columns_of bytes) columns then bytes else first_columns (columns - 2) bytes ++ codes ".."
 
--- a line of the program's text in so many columns
+-- a line of the program's text in that many columns
 abbrev pub line_shown : ℕ → List ℕ → List ℕ
 line_shown columns line = fitted columns (shown (between_words line))
 
--- the spaces behind the front of a row up to a column, and two at least
+-- the spaces after the front of a row up to a column, and two at least
 abbrev pub gap : ℕ → List ℕ → List ℕ
 gap column row = spaces (max (column - columns_of row) 2)
 
@@ -46,13 +46,13 @@ result_column = 44
 abbrev pub written_column : ℕ
 written_column = 58
 
--- the front of a row that an item has so many calls deep: the number of its line and the line, up to two columns before the result;
+-- the front of a row that an item has at that depth of calls: the number of its line and the line, up to two columns before the result;
 -- or as many spaces, where the item is a part of a call
 abbrev pub front : Option ℕ → ℕ → List ℕ → List ℕ
 front None depth line = spaces (6 + indent depth)
 front (Some number) depth line = six_columns number ++ (spaces (indent depth) ++ line_shown (result_column - (6 + indent depth + 2)) line)
 
--- what stands at a column behind the front of a row, or nothing
+-- what stands at a column after the front of a row, or nothing
 abbrev pub with_cell : ℕ → Option (List ℕ) → List ℕ → List ℕ
 with_cell column None row = row
 with_cell column (Some cell) row = row ++ (gap column row ++ cell)

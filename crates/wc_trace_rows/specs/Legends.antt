@@ -9,7 +9,7 @@ use Rattle.wc_trace_rows.specs.Notes.{note_among}
 use Rattle.wc_trace_rows.specs.declared.legend.Legend.{Legend}
 use Rattle.wc_trace_rows.specs.declared.notes.Note.{Note}
 
--- where the lines of a text start, of which so many bytes stand before, and where one would start after the last
+-- where the lines of a text start, with n bytes before it, and where one would start after the last
 abbrev pub starts_from : ℕ → List ℕ → List ℕ
 starts_from n [] = (n + 1) ∷ []
 starts_from n (byte ∷ bytes) = if byte == 10 then (n + 1) ∷ starts_from (n + 1) bytes else starts_from (n + 1) bytes

@@ -26,7 +26,7 @@ fresh = record { kind = None; put_by = []; items = 0 }
 abbrev pub with_kind : Level → Option Kind → Level
 with_kind level kind = record { kind = kind; put_by = level.put_by; items = level.items }
 
--- a parenthesis is opened, behind which the result has this kind
+-- a parenthesis is opened, and the result after it has this kind
 abbrev pub opened : Level → Option Kind → Level
 opened level kind = record { kind = kind; put_by = level.kind ∷ level.put_by; items = level.items }
 
@@ -70,7 +70,7 @@ written_kind legend base (ArgumentNumber target n) = kind_at legend (base + targ
 written_kind legend base (ArgumentPlace place target) = kind_at legend (base + target.0)
 written_kind legend base line = None
 
--- the note of what a line writes to, or of the instance that it calls: a call's notes are one for the instance, and behind it one
+-- the note of what a line writes to, or of the instance that it calls: a call's notes are one for the instance, and after it one
 -- for each item of its list
 abbrev pub note_said : Legend → ℕ → ℕ → Code → Option Note
 note_said legend line items (Store storing target) = note_of legend line 0
@@ -88,7 +88,7 @@ said_of legend seen level = record {
   note = note_said legend seen.source level.items seen.line;
 }
 
--- the bodies that run where a line is executed so many calls deep: one that is deeper is left, and one that is new begins
+-- the bodies that run where a line is executed at that depth of calls: one that is deeper is left, and one that is new begins
 abbrev pub levels_at : ℕ → List Level → List Level
 levels_at depth levels = take (suc depth) (levels ++ replicate (suc depth) fresh)
 
@@ -100,9 +100,9 @@ level_or_fresh (Some level) = level
 abbrev pub level_before : SeenLine → List Level → Level
 level_before seen levels = level_or_fresh (slice_get (levels_at seen.depth levels) seen.depth)
 
-abbrev pub level_behind : Legend → SeenLine → List Level → Level
-level_behind legend seen levels = after_seen legend seen (level_before seen levels)
+abbrev pub level_left : Legend → SeenLine → List Level → Level
+level_left legend seen levels = after_seen legend seen (level_before seen levels)
 
 -- all bodies after it
 abbrev pub levels_after : Legend → SeenLine → List Level → List Level
-levels_after legend seen levels = slice_set (levels_at seen.depth levels) seen.depth (level_behind legend seen levels)
+levels_after legend seen levels = slice_set (levels_at seen.depth levels) seen.depth (level_left legend seen levels)

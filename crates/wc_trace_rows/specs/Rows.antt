@@ -51,7 +51,7 @@ abbrev pub is_output : Section → Bool
 is_output sections.Output = true
 is_output section = false
 
--- the outputs among members, of which so many stand before
+-- the outputs among members, with n members before them
 abbrev pub outputs_from : ℕ → List Member → List Output
 outputs_from n [] = []
 outputs_from n (m ∷ members) =

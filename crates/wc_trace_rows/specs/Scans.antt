@@ -6,7 +6,7 @@ use Rattle.wc_machine.specs.declared.seen.SeenLine.{SeenLine}
 use Rattle.wc_model.specs.Language.Paths.{IsProgramBound}
 use Rattle.wc_model.specs.declared.block.StandardBlock.{StandardBlock}
 use Rattle.wc_trace_rows.specs.Items.{IsNumberAt, block_of, last_call, up_to_most}
-use Rattle.wc_trace_rows.specs.Levels.{Level, level_behind, levels_after, said_of}
+use Rattle.wc_trace_rows.specs.Levels.{Level, level_left, levels_after, said_of}
 use Rattle.wc_trace_rows.specs.Rows.{Output, outputs_of, row_of}
 use Rattle.wc_trace_rows.specs.Steps.{heading, steps_line}
 use Rattle.wc_trace_rows.specs.declared.item.Item.{Item}
@@ -25,7 +25,7 @@ abbrev pub AreShown : MachineState → ℕ → List Output → Bool → Option �
 AreShown machine base outputs false first second = (first ≡ None) × (second ≡ None)
 AreShown machine base outputs true first second = AreNumbers machine base outputs first second
 
--- the item of that number is the last call in its scan of a standard block whose places are among so many, and has its outputs then
+-- the item of that number is the last call in its scan of a standard block whose places are among the first ones, and has its outputs then
 abbrev pub is_last_call : ℕ → List SeenLine → ℕ → ℕ → Bool
 is_last_call places lines number place = nat_lt place places && last_call place lines == number
 
@@ -37,10 +37,10 @@ HasOutputs places machine lines number (Some found) item =
 -- an item has what is seen of it, what the text says, and the outputs
 pub record IsItem (legend : Legend) (machine : MachineState) (lines : List SeenLine) (number : ℕ) (seen : SeenLine) (levels : List Level) (item : Item) : Type 0 where
   pub seen_is : item.seen ≡ seen
-  pub said_is : item.said ≡ said_of legend seen (level_behind legend seen levels)
+  pub said_is : item.said ≡ said_of legend seen (level_left legend seen levels)
   pub outputs : HasOutputs (length legend.kinds.items) machine lines number (block_of seen) item
 
--- the items of a scan, of which so many stand before and leave these bodies
+-- the items of a scan, with count items before them, which leave these bodies
 abbrev pub AreItemsFrom : Legend → MachineState → List SeenLine → ℕ → List Level → List SeenLine → List Item → Type 0
 AreItemsFrom legend machine lines count levels [] [] = ⊤
 AreItemsFrom legend machine lines count levels [] (item ∷ items) = ⊥

@@ -10,11 +10,11 @@ is_control byte = nat_lt byte 32 || byte == 127
 abbrev pub is_within : ℕ → ℕ → ℕ → Bool
 is_within first last byte = nat_le first byte && nat_le byte last
 
--- behind the byte C2 this one makes a control character, U+0080 to U+009F
+-- after the byte C2 this one makes a control character, U+0080 to U+009F
 abbrev pub ends_control : ℕ → Bool
 ends_control second = is_within 128 159 second
 
--- behind the byte E2 these two make a character that turns the direction of writing: U+200E, U+200F, U+202A to U+202E, U+2066 to
+-- after the byte E2 these two make a character that turns the direction of writing: U+200E, U+200F, U+202A to U+202E, U+2066 to
 -- U+2069
 abbrev pub ends_turning : ℕ → ℕ → Bool
 ends_turning second third = second == 128 && (is_within 142 143 third || is_within 170 174 third) || second == 129 && is_within 166 169 third
@@ -32,12 +32,12 @@ acting_length bytes = acting_by (slice_index bytes 0) (slice_index bytes 1) (sli
 abbrev pub shown_byte : Bool → ℕ → ℕ
 shown_byte is_text byte = if byte == 9 then 32 else (if is_control byte || nat_le 128 byte && not is_text then 63 else byte)
 
--- the byte that is shown of a character with so many bytes on which a terminal would act, or of any other byte
+-- the byte that is shown of a character of n bytes on which a terminal would act, or of any other byte
 abbrev pub shown_first : Bool → ℕ → ℕ → ℕ
 shown_first is_text zero byte = shown_byte is_text byte
 shown_first is_text (suc n) byte = 63
 
--- the bytes of a text as they are shown, of which the first so many are those of a character that is shown already
+-- the bytes of a text as they are shown, of which the first n are those of a character that is shown already
 abbrev pub shown_bytes : Bool → ℕ → List ℕ → List ℕ
 shown_bytes is_text n [] = []
 shown_bytes is_text (suc n) (byte ∷ bytes) = shown_bytes is_text n bytes

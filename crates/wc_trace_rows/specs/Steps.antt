@@ -1,7 +1,7 @@
--- What a trace says of a scan before its rows and behind them, and of a run of which it shows no scan. (The profile's own.)
+-- What a trace says of a scan before its rows and after them, and of a run of which it shows no scan. (The profile's own.)
 use Rattle.std.specs.Prelude.{ℕ, zero, suc, Bool, true, false, List, ◌++◌, codes, decimal}
 
--- behind the moment of a scan: whether the next program has taken the place of the first
+-- after the moment of a scan: whether the next program has taken the place of the first
 abbrev pub heading_end : Bool → List ℕ
 heading_end false = codes " ms\n"
 heading_end true = codes " ms, next program\n"

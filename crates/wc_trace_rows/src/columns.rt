@@ -11,7 +11,7 @@ const RESULT: usize = 44;
 /// The number of columns of a line number.
 const NUMBER: usize = 6;
 
-/// Puts so many spaces.
+/// Puts that many spaces.
 fn put_spaces(text: &mut Vec<u8>, count: usize) -> Result<(), Fault>
     ensures puts { OnOk result (text.new.items ≡ text.old.items ++ spaces count) }
     ensures memory { IsOkUnless result Fault.Memory }

@@ -9,7 +9,7 @@ use std::alloc::Global;
 use wc_cost::Loaded;
 use wc_model::{Fault, Kind, Place, SlotKind, or_memory, put_bytes};
 
-/// What the rows of a scan are told from: the lines of a program's text, what they name, and the kinds of its places.
+/// What a trace says of a program: the lines of a program's text, what they name, and the kinds of its places.
 #[derive(Drop)]
 pub struct Legend {
     text: Vec<u8>,
@@ -46,7 +46,7 @@ fn put_starts(starts: &mut Vec<usize>, text: &[u8]) -> Result<(), Fault>
 impl Legend {
     /// The legend of a text that is loaded. `Memory` is the only fault.
     pub fn new(alloc: Global, text: &[u8], loaded: &Loaded<'_>) -> Result<Legend, Fault>
-        ensures told { IfOk result (λ legend. IsLegendOf legend text.now (text_view loaded.now.source)) }
+        ensures legend { IfOk result (λ legend. IsLegendOf legend text.now (text_view loaded.now.source)) }
         ensures memory { IsOkUnless result Fault.Memory }
     {
         let mut legend = Legend {
@@ -59,7 +59,7 @@ impl Legend {
         Ok(legend)
     }
 
-    /// Takes over what is told from a text and its program, since both are lent for the time of a call.
+    /// Takes over what is said of a text and its program, since both are lent for the time of a call.
     fn copy(&mut self, text: &[u8], loaded: &Loaded<'_>) -> Result<(), Fault>
         ensures text { OnOk result (self.new.text.items ≡ self.old.text.items ++ text.now) }
         ensures starts { OnOk result

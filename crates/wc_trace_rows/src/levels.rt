@@ -1,7 +1,7 @@
 ghost use Rattle.std.specs.Prelude.{◌≡◌, ◌+◌, ◌<◌, ◌++◌, ◌∷◌, [], OnOk, IfOk, length, IsOkUnless};
 ghost use Rattle.wc_trace_rows.specs.LevelViews.{level_view, levels_view};
 ghost use Rattle.wc_model.specs.Language.Kinds.{kind_after_operator};
-ghost use Rattle.wc_trace_rows.specs.Levels.{after_seen, closed, fresh, level_behind, levels_after, levels_at, note_said, opened, operated, said_of, written_kind};
+ghost use Rattle.wc_trace_rows.specs.Levels.{after_seen, closed, fresh, level_left, levels_after, levels_at, note_said, opened, operated, said_of, written_kind};
 
 use crate::legend::Legend;
 use crate::notes::Note;
@@ -177,7 +177,7 @@ impl Levels {
         }
     }
 
-    /// Goes to the body that is so many calls deep, where one that is deeper is left and one that is new begins.
+    /// Goes to the body at that depth of calls, where one that is deeper is left and one that is new begins.
     fn go_to(&mut self, alloc: Global, depth: u32) -> Result<(), Fault>
         ensures there { OnOk result (depth < length self.new.levels.items) }
         ensures goes { OnOk result (levels_view self.new ≡ levels_at depth (levels_view self.old)) }
@@ -199,7 +199,7 @@ impl Levels {
         seen: &SeenLine,
     ) -> Result<Said, Fault>
         ensures says { IfOk result (λ said. said
-            ≡ said_of legend.now seen.now (level_behind legend.now seen.now (levels_view self.old))) }
+            ≡ said_of legend.now seen.now (level_left legend.now seen.now (levels_view self.old))) }
         ensures follows { OnOk result
             (levels_view self.new ≡ levels_after legend.now seen.now (levels_view self.old)) }
         ensures memory { IsOkUnless result Fault.Memory }

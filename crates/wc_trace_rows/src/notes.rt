@@ -6,20 +6,20 @@ use std::alloc::Global;
 use wc_model::{Argument, Direction, Fault, Instr, Kind, Line, Operand, Source, Value, put_bytes};
 
 /// What a line of the text names, beside its flat lines: of a load the kind of its literal, of a store its target, of a call
-/// its instance, and behind that note one for each item of its list, the inputs first.
+/// its instance, and after that note one for each item of its list, the inputs first.
 #[derive(Clone, Copy)]
 pub struct Note {
     /// The line of the text, counted from 1.
     pub line: u32,
     /// The kind of a literal that is loaded.
     pub kind: Option<Kind>,
-    /// Where the name stands among the names: a variable, an instance, or a field behind its instance and a dot.
+    /// Where the name stands among the names: a variable, an instance, or a field after its instance and a dot.
     pub start: usize,
     /// Where it ends.
     pub end: usize,
 }
 
-/// The notes of a text, in text order, and the names that they speak of, one behind the other.
+/// The notes of a text, in text order, and the names that they speak of, one after the other.
 #[derive(Drop)]
 pub(crate) struct Notes {
     pub(crate) notes: Vec<Note>,

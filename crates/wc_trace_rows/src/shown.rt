@@ -40,7 +40,7 @@ pub(crate) fn columns_of(text: &[u8]) -> usize
         .count()
 }
 
-/// The number of bytes of a text that take so many columns.
+/// The number of bytes of a text that take that many columns.
 fn bytes_of(text: &[u8], columns: usize) -> usize
     ensures front { take result text.now ≡ first_columns columns text.now }
     ensures within { result ≤ length text.now }

@@ -15,7 +15,7 @@ fn put_between(text: &mut Vec<u8>, before: &[u8], number: u64, after: &[u8]) -> 
     put_bytes(text, after)
 }
 
-/// What stands in a heading behind the moment.
+/// What stands in a heading after the moment.
 fn heading_end(is_changed: bool) -> &'static [u8]
     ensures { result.now ≡ heading_end is_changed }
 {
@@ -42,7 +42,7 @@ pub(crate) fn put_heading(
     put_between(text, b"", ms, heading_end(is_changed))
 }
 
-/// Puts that none of so many scans was chosen. `Memory` is the only fault.
+/// Puts that none of the scans was chosen, of which there are that many. `Memory` is the only fault.
 pub fn put_none_chosen(text: &mut Vec<u8>, scans: u32) -> Result<(), Fault>
     ensures puts { OnOk result (text.new.items ≡ text.old.items ++ none_chosen scans) }
     ensures memory { IsOkUnless result Fault.Memory }

@@ -3,7 +3,7 @@ use Rattle.wc_trace_rows.specs.LevelViews.{level_view}
 use Rattle.wc_trace_rows.specs.Levels.{fresh}
 use Rattle.wc_trace_rows.proofs.levels.Levels.go_to.Given as goal
 
--- there are as many bodies as the loop has come to, and those behind the ones that were there are new
+-- there are as many bodies as the loop has come to, and those after the ones that were there are new
 pub record Begun (l : goal.Live-loop-level) : Type 0 where
   pub reached : length l.self.levels.items ≡ l._level
   pub within : l._level ≤ l.count
