@@ -59,13 +59,14 @@ pub(crate) struct ChangedPaths<'a> {
     pub(crate) next: &'a str,
 }
 
-/// Says what is suspicious of a program that is accepted: the exit status, that of a refusal where warnings are denied.
+/// Prints what is suspicious of a program that is accepted, if warnings are denied: the exit status, that of a refusal if there is
+/// one. It is asked for, since the search for warnings takes longer than a check if a unit has many names and many lines.
 fn with_warnings(desk: Desk<'_>, status: u8, file: &ReadFile<'_>, deny: bool) -> u8 {
-    if status != 0 {
+    if status != 0 || !deny {
         return status;
     }
     match tell_warnings(desk, file) {
-        Ok(count) if deny && count > 0 => 1,
+        Ok(count) if count > 0 => 1,
         Ok(_) => 0,
         Err(error) if error.kind() == io::ErrorKind::OutOfMemory => without_memory(desk.rt),
         // Where standard error fails there is nobody left to tell.

@@ -180,7 +180,10 @@ fn tell_refusal(
     desk.rt.stderr().write_all(&message)
 }
 
-/// Says what is suspicious of a program that is accepted: how many warnings there are.
+/// How many warnings of a program are printed at most.
+const MOST_WARNINGS: usize = 100;
+
+/// Prints what is suspicious of a program that is accepted, the first hundred warnings: how many there are.
 pub(crate) fn tell_warnings(desk: Desk<'_>, file: &ReadFile<'_>) -> io::Result<usize> {
     let alloc = desk.rt.alloc();
     let text = file.bytes.unwrap_or(b"");
@@ -190,7 +193,7 @@ pub(crate) fn tell_warnings(desk: Desk<'_>, file: &ReadFile<'_>) -> io::Result<u
     let Ok(warnings) = find_warnings(alloc, &source) else {
         return Err(io::ErrorKind::OutOfMemory.into());
     };
-    for warning in &warnings {
+    for warning in warnings.iter().take(MOST_WARNINGS) {
         let message = warning_message(alloc, desk.form, file.path.as_bytes(), text, warning)?;
         desk.rt.stderr().write_all(&message)?;
     }
