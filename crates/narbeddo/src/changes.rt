@@ -31,7 +31,7 @@ pub unsafe extern "C" fn narbeddo_close(scale: *mut u8) -> u32
     (&mut *(scale as *mut Scale)).close()
 }
 
-/// Loads a program, which begins anew. Its text is not copied.
+/// Loads a program, which starts over. Its text is not copied.
 #[unsafe(no_mangle)]
 pub unsafe extern "C" fn narbeddo_load(scale: *mut u8, text: &'static [u8]) -> Refusal
     ghost before: { Scale }

@@ -1,5 +1,5 @@
 //! The controller for a maker's own program in C: each function is called from C by its name, and does one call of a
-//! scale. The memory at a pointer is the caller's; it is lent for the call and comes back.
+//! scale. The memory at a pointer is the caller's; it is borrowed for the call and comes back.
 #![tactic(auto)]
 
 mod changes;

@@ -9,7 +9,7 @@ ghost use Rattle.wc_scale.specs.contracts.scale.Scale.{the_row};
 use std::alloc::Global;
 use wc_scale::Scale;
 
-/// Makes a closed scale in the room at the pointer. It takes no memory.
+/// Makes a closed scale in the buffer at the pointer. It takes no memory.
 #[unsafe(no_mangle)]
 pub unsafe extern "C" fn narbeddo_make(alloc: Global, scale: *mut u8)
     requires* { sem 𝓛 (room_at the_row scale) }

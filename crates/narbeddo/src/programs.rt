@@ -4,7 +4,7 @@ ghost use Rattle.wc_scale.specs.About.{IsPathStatus, IsUnitStatus, RefusesText, 
 use std::alloc::Global;
 use wc_scale::{PathTold, UnitTold, about, path};
 
-/// What is told of a unit of a program's text, counted in text order from 0.
+/// What is reported about a unit of a program's text, counted in text order from 0.
 #[unsafe(no_mangle)]
 pub extern "C" fn narbeddo_about(alloc: Global, text: &[u8], unit: u32) -> UnitTold
     ensures told { TellsUnit text.now unit result }
@@ -15,7 +15,7 @@ pub extern "C" fn narbeddo_about(alloc: Global, text: &[u8], unit: u32) -> UnitT
     about(alloc, text, unit)
 }
 
-/// The lines of a unit's worst path, put into the room.
+/// The lines of a unit's worst path, put into the buffer.
 #[unsafe(no_mangle)]
 pub extern "C" fn narbeddo_path(alloc: Global, text: &[u8], unit: u32, room: &mut [u32]) -> PathTold
     ensures told { TellsPath text.now unit room.new result }

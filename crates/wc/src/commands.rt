@@ -1,5 +1,5 @@
 ghost use Rattle.std.specs.Prelude.{◌≡◌, ◌≤◌, IfSome, Some, None, option_map};
-ghost use Rattle.wc_words.specs.Asked.{asked, check, cut, decode, form_asked, job, line, run, show, texts_of, trace};
+ghost use Rattle.wc_arguments.specs.Asked.{asked, check, cut, decode, form_asked, job, line, run, show, texts_of, trace};
 
 use crate::desk::Desk;
 use crate::files::{KeptSource, RunFiles, RunPaths, kept_cause, kept_source, read_of};
@@ -7,19 +7,19 @@ use crate::output::{Emptying, Sharing};
 use crate::telling::{CommandEnd, ReadFile, Sources, end, tell_warnings, without_memory};
 use std::io;
 use std::io::{IsTerminal, Stdin};
+use wc_arguments::{ProgramFiles, ScanChoice};
 use wc_controller::{Ending, Input, RefusedRow, answer_job, check_file, last_files, report_files};
 use wc_cut::cut_files;
-use wc_decode::{DecodeFault, DecodeForm, decode as decode_report};
 use wc_devices::{Keeping, Noting};
+use wc_diag_texts::Form;
 use wc_model::Device;
-use wc_picture::show_files;
-use wc_preview::preview_files;
-use wc_refusals::Form;
-use wc_trace::{Chosen, TraceForm, trace_files};
-use wc_watch::{UnknownName, watch_files};
-use wc_words::{ProgramFiles, ScanChoice};
+use wc_view_decode::{DecodeFault, DecodeForm, decode as decode_report};
+use wc_view_picture::show_files;
+use wc_view_preview::preview_files;
+use wc_view_trace::{Chosen, TraceForm, trace_files};
+use wc_view_watch::{UnknownName, watch_files};
 
-/// Writes what is still gathered, and tells how the command ended: the exit status.
+/// Writes what is still gathered, and returns how the command ended: the exit status.
 fn finish(
     desk: Desk<'_>,
     ending: Ending,
@@ -44,7 +44,7 @@ fn finish_run(desk: Desk<'_>, ending: Ending, files: &RunFiles<'_>, row: &Refuse
     finish(desk, ending, files.cause(), &files.sources(), row)
 }
 
-/// The file of a check with no other program. It stands apart, so that what is read has a lifetime of its own.
+/// The file of a check with no other program. It is kept apart, so that what is read has a lifetime of its own.
 fn program_alone<'a>(program: &'a str, reader: &'a KeptSource<'_>) -> Sources<'a> {
     Sources::Program {
         program: read_of(program, reader),
@@ -59,22 +59,20 @@ pub(crate) struct ChangedPaths<'a> {
     pub(crate) next: &'a str,
 }
 
-/// Prints what is suspicious of a program that is accepted, if warnings are denied: the exit status, that of a refusal if there is
-/// one. It is asked for, since the search for warnings takes longer than a check if a unit has many names and many lines.
+/// Prints what is suspicious of a program that is accepted: the exit status, that of a refusal if there is one, or if there is a
+/// warning and warnings are denied.
 fn with_warnings(desk: Desk<'_>, status: u8, file: &ReadFile<'_>, deny: bool) -> u8 {
-    if status != 0 || !deny {
+    if status != 0 {
         return status;
     }
     match tell_warnings(desk, file) {
-        Ok(count) if count > 0 => 1,
+        Ok(warned) if warned && deny => 1,
         Ok(_) => 0,
-        Err(error) if error.kind() == io::ErrorKind::OutOfMemory => without_memory(desk.rt),
-        // Where standard error fails there is nobody left to tell.
-        Err(_) => 0,
+        Err(_) => without_memory(desk.rt),
     }
 }
 
-/// Says that a job is awaited, where somebody types it.
+/// Says that a job is expected, if somebody types it.
 fn tell_waiting(rt: &HostRuntime) {
     if rt.stdin().is_terminal() {
         let _told = rt.eprintln(
@@ -163,7 +161,7 @@ pub(crate) fn preview_words(
     with_warnings(desk, status, &read_of(next, &next_reader), deny)
 }
 
-/// Runs the log in a file with a program, and where one is given the next one, and prints every scan or the last so many:
+/// Runs the log in a file with a program, and with the next one if given, and prints every scan or a number of last ones:
 /// the exit status.
 pub(crate) fn run_words(
     desk: Desk<'_>,
@@ -189,14 +187,14 @@ pub(crate) fn run_words(
     finish_run(desk, ending, &opened, row)
 }
 
-/// The variables that are watched, and of how many of the last scans, 1 to 1000, or `None` for every scan.
+/// The variables that are watched, and the number of last scans, 1 to 1000, or `None` for every scan.
 #[derive(Clone, Copy)]
 pub(crate) struct Watched<'a> {
     pub(crate) names: &'a str,
     pub(crate) last: Option<u16>,
 }
 
-/// Runs the log in a file with a program as `run_words` does, and prints the values of variables behind each scan: the exit
+/// Runs the log in a file with a program as `run_words` does, and prints the values of variables after each scan: the exit
 /// status.
 pub(crate) fn watch_words(
     desk: Desk<'_>,
@@ -242,7 +240,7 @@ fn refuse_name(desk: Desk<'_>, list: &str, unknown: UnknownName, row: &RefusedRo
     finish(desk, ending, None, &names, row)
 }
 
-/// The scans that the words choose.
+/// The scans that the arguments choose.
 fn scans_of(chosen: ScanChoice) -> Chosen {
     Chosen {
         at: chosen.at,
@@ -287,7 +285,7 @@ pub(crate) fn trace_words(
     finish_run(desk, ending, &opened, row)
 }
 
-/// Runs the log in a file, with a program and a next one where they are given, and writes a picture of it: the exit status.
+/// Runs the log in a file, with a program and a next one if they are given, and writes a picture of it: the exit status.
 pub(crate) fn show_words(
     desk: Desk<'_>,
     _words: &[String],
@@ -377,7 +375,7 @@ pub(crate) fn line_words<'a>(
     finish_run(desk, ending, &opened, row)
 }
 
-/// How many rows stand before the cut, the heading not counted: those up to the row of that number, or all.
+/// The number of rows before the cut, the heading not counted: those up to the row of that number, or all.
 fn rows_before(at: Option<u64>) -> u64 {
     match at {
         Some(row) => row.saturating_sub(1),

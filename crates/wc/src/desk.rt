@@ -1,8 +1,8 @@
 use crate::output::Gathered;
 use std::cell::RefCell;
-use wc_refusals::Form;
+use wc_diag_texts::Form;
 
-/// What each command is given: the system, the form in which a refusal is told, and standard output with what is gathered for it.
+/// What each command is given: the system, the format of a refusal's message, and standard output with what is gathered for it.
 #[derive(Clone, Copy)]
 pub(crate) struct Desk<'a> {
     pub(crate) rt: &'a HostRuntime,

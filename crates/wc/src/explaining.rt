@@ -1,8 +1,8 @@
 use std::io;
 use std::io::Write;
-use wc_messages::{page_of, warning_page};
+use wc_diag_messages::{page_of, warning_page};
 
-/// Prints the page of a refusal, or of a warning, whose number stands behind a W: false where there is none of that number.
+/// Prints the page of a refusal, or of a warning, whose number follows a W: false if there is none of that number.
 pub(crate) fn explain(rt: &HostRuntime, number: &str) -> io::Result<bool> {
     let warning = number.strip_prefix("W").or(number.strip_prefix("w"));
     let page = match warning {

@@ -2,10 +2,10 @@ use crate::desk::Desk;
 use crate::file_source::FileSource;
 use crate::telling::{ReadFile, Sources};
 use std::io;
+use wc_arguments::ProgramFiles;
 use wc_controller::RunInputs;
 use wc_devices::Keeping;
 use wc_model::Device;
-use wc_words::ProgramFiles;
 
 /// A file whose bytes are kept, so that a refusal shows those that were read.
 pub(crate) type KeptSource<'a> = Device<Keeping<FileSource<'a>>>;

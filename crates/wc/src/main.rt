@@ -1,9 +1,9 @@
-//! The program: with no words it reads a job from standard input; else it checks a program, runs a log with one, or runs a
+//! The program: with no arguments it reads a job from standard input; else it checks a program, runs a log with one, or runs a
 //! log with none.
 #![tactic(auto)]
 
 ghost use Rattle.std.specs.Prelude.{◌≡◌, Some};
-ghost use Rattle.wc_words.specs.Asked.{asked, explain as explain_asked, form_asked, texts_of, view};
+ghost use Rattle.wc_arguments.specs.Asked.{asked, explain as explain_asked, form_asked, texts_of, view};
 
 mod commands;
 mod desk;
@@ -29,23 +29,23 @@ use std::io::Write;
 use std::process::ExitCode;
 use std::{env, io};
 use telling::{tell_write_fault, without_memory};
+use wc_arguments::{Wanted, read_words};
 use wc_controller::RefusedRow;
-use wc_messages::shown;
-use wc_words::{Wanted, read_words};
+use wc_diag_messages::shown;
 
-/// The exit status where the words are wrong.
+/// The exit status if the arguments are wrong.
 const WRONG_WORDS: u8 = 2;
 
-/// The exit status where a device failed.
+/// The exit status if a device failed.
 const DEVICE_FAULT: u8 = 3;
 
-/// The words of the command line, the first of which is the program's own name.
+/// The arguments of the command line, the first of which is the program's own name.
 fn words_given(rt: &HostRuntime) -> io::Result<Vec<String>> {
     let words = env::args(rt)?.collect(rt.alloc())?;
     Ok(words)
 }
 
-/// The exit status where the words could not be had.
+/// The exit status if the arguments could not be had.
 fn end_without_words(rt: &HostRuntime, error: &io::Error) -> u8 {
     if error.kind() == io::ErrorKind::OutOfMemory {
         return without_memory(rt);
@@ -54,7 +54,7 @@ fn end_without_words(rt: &HostRuntime, error: &io::Error) -> u8 {
     WRONG_WORDS
 }
 
-/// Says how the program is called with a word in front of a path, by the name by which it was called.
+/// Says how the program is called with a word before a path, by the name by which it was called.
 fn tell_call(
     rt: &HostRuntime,
     what: &str,
@@ -75,7 +75,7 @@ fn tell_call(
     rt.eprintln("")
 }
 
-/// Says what could be meant by a first word that the program has not: which word takes a program, or how a job is read.
+/// Says what may be intended by an unknown first argument: which word takes a program, or how a job is read.
 fn tell_meant(rt: &HostRuntime, words: &[String]) -> io::Result<()> {
     let job = "help: a job is read from standard input: ";
     match words.get(1) {
@@ -101,7 +101,7 @@ fn tell_meant(rt: &HostRuntime, words: &[String]) -> io::Result<()> {
     }
 }
 
-/// Says which words print what a word takes.
+/// Says which arguments print what a word takes.
 fn tell_taken(rt: &HostRuntime, words: &[String]) -> io::Result<()> {
     let taken = "help: what may be given is printed by: ";
     match words.get(1) {
@@ -112,7 +112,7 @@ fn tell_taken(rt: &HostRuntime, words: &[String]) -> io::Result<()> {
     }
 }
 
-/// Says what helps where words are wrong.
+/// Says what helps if arguments are wrong.
 fn tell_help(rt: &HostRuntime, kind: ErrorKind, words: &[String]) -> io::Result<()> {
     match kind {
         ErrorKind::InvalidSubcommand => tell_meant(rt, words),
@@ -130,7 +130,7 @@ fn end_unprinted(rt: &HostRuntime, error: io::Error) -> u8 {
     DEVICE_FAULT
 }
 
-/// Prints help, the version, or what is wrong with the words: the exit status.
+/// Prints help, the version, or what is wrong with the arguments: the exit status.
 fn show(rt: &HostRuntime, error: &Error, words: &[String]) -> u8 {
     if error.kind() == ErrorKind::OutOfMemory {
         return without_memory(rt);
@@ -166,7 +166,7 @@ fn show_page(rt: &HostRuntime, _words: &[String], number: &str) -> u8
     }
 }
 
-/// Does what the words ask for: the exit status. The words are a parameter for the proof alone: nothing is done that they do not
+/// Does what the arguments ask for: the exit status. They are a parameter for the proof alone: nothing is done that they do not
 /// ask for.
 fn execute(desk: Desk<'_>, words: &[String], row: &mut RefusedRow, wanted: Wanted<'_>) -> u8
     requires asked { asked (texts_of words.now) ≡ view wanted }
@@ -230,7 +230,7 @@ fn execute(desk: Desk<'_>, words: &[String], row: &mut RefusedRow, wanted: Wante
     }
 }
 
-/// Does what these words ask for, or says what is wrong with them: the exit status.
+/// Does what these arguments ask for, or says what is wrong with them: the exit status.
 fn answer(rt: &HostRuntime, words: &[String], gathered: &RefCell<Gathered>) -> u8 {
     match read_words(rt.alloc(), words) {
         Ok(request) => {
@@ -247,7 +247,7 @@ fn answer(rt: &HostRuntime, words: &[String], gathered: &RefCell<Gathered>) -> u
     }
 }
 
-/// The exit status is 0 where all succeeded, 1 where something was refused, 2 where the words are wrong, 3 where a device
+/// The exit status is 0 if all succeeded, 1 if something was refused, 2 if the arguments are wrong, 3 if a device
 /// failed, 4 if out of memory.
 fn main(rt: HostRuntime) -> ExitCode {
     let words = match words_given(&rt) {

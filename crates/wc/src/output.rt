@@ -4,7 +4,7 @@ use std::io;
 use std::io::{Read, Stdout, Write};
 use wc_devices::{Gathering, Noting};
 
-/// How many bytes are gathered before they are written.
+/// The number of bytes that are gathered before they are written.
 const PIECE: usize = 65536;
 
 /// Standard output, and what is gathered for it.

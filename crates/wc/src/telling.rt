@@ -2,12 +2,14 @@ use crate::desk::Desk;
 use std::io;
 use std::io::Write;
 use wc_controller::{Ending, Input, RefusedRow};
-use wc_messages::{
+use wc_diag_messages::{
     Evidence, JobSection, Part, Refusal, explained, section_of, shown, warning_message,
+    warnings_left_out,
 };
+use wc_diag_warnings::{Warning, find_warnings};
+use wc_model::Fault;
 use wc_reader::read;
-use wc_warnings::find_warnings;
-use wc_watch::UnknownName;
+use wc_view_watch::UnknownName;
 
 /// How a command ended, and what the system said of a read and of a write that failed.
 #[derive(Clone, Copy)]
@@ -17,14 +19,14 @@ pub(crate) struct CommandEnd {
     pub(crate) writing: Option<io::Error>,
 }
 
-/// A file by its path, with the bytes that were read of it, where they were kept.
+/// A file by its path, with the bytes that were read of it, if they were kept.
 #[derive(Clone, Copy)]
 pub(crate) struct ReadFile<'a> {
     pub(crate) path: &'a str,
     pub(crate) bytes: Option<&'a [u8]>,
 }
 
-/// Where the inputs of a command come from: a job on standard input, with its bytes where they were kept, or files. A log is
+/// Where the inputs of a command come from: a job on standard input, with its bytes if they were kept, or files. A log is
 /// read row by row, and not kept.
 #[derive(Clone, Copy)]
 pub(crate) enum Sources<'a> {
@@ -58,7 +60,7 @@ fn log_file(path: &str) -> ReadFile<'_> {
 }
 
 impl<'a> Sources<'a> {
-    /// The file of an input, where it comes from one.
+    /// The file of an input, if it comes from one.
     fn file(&self, input: Input) -> Option<ReadFile<'a>> {
         match self {
             Sources::Job { .. } => None,
@@ -84,7 +86,7 @@ impl<'a> Sources<'a> {
         }
     }
 
-    /// The path of an input, where it comes from a file.
+    /// The path of an input, if it comes from a file.
     fn path(&self, input: Input) -> Option<&'a str> {
         match self.file(input) {
             Some(file) => Some(file.path),
@@ -92,7 +94,7 @@ impl<'a> Sources<'a> {
         }
     }
 
-    /// The text of an input, where it was kept, and how many lines stand above it in what is named.
+    /// The text of an input, if it was kept, and the number of lines above it in what is named.
     fn text(&self, input: Input) -> Option<JobSection<'a>> {
         match self {
             Sources::Job { bytes } => section_of((*bytes)?, part_of(input)),
@@ -128,7 +130,7 @@ fn part_of(input: Input) -> Part {
     }
 }
 
-/// What is at hand of an input that is refused, and how many lines stand above it in what is named.
+/// What is available of an input that is refused, and the number of lines above it in what is named.
 fn evidence_of<'a>(
     sources: &Sources<'a>,
     row: &'a RefusedRow,
@@ -180,24 +182,54 @@ fn tell_refusal(
     desk.rt.stderr().write_all(&message)
 }
 
-/// How many warnings of a program are printed at most.
+/// The number of warnings of a program that are printed at most.
 const MOST_WARNINGS: usize = 100;
 
-/// Prints what is suspicious of a program that is accepted, the first hundred warnings: how many there are.
-pub(crate) fn tell_warnings(desk: Desk<'_>, file: &ReadFile<'_>) -> io::Result<usize> {
+/// Prints the first warnings of a program, and the number of those left out.
+fn write_warnings(
+    desk: Desk<'_>,
+    file: &ReadFile<'_>,
+    text: &[u8],
+    warnings: &[Warning<'_>],
+) -> io::Result<()> {
     let alloc = desk.rt.alloc();
-    let text = file.bytes.unwrap_or(b"");
-    let Ok(source) = read(alloc, text) else {
-        return Ok(0);
-    };
-    let Ok(warnings) = find_warnings(alloc, &source) else {
-        return Err(io::ErrorKind::OutOfMemory.into());
-    };
+    let name = file.path.as_bytes();
     for warning in warnings.iter().take(MOST_WARNINGS) {
-        let message = warning_message(alloc, desk.form, file.path.as_bytes(), text, warning)?;
+        let message = warning_message(alloc, desk.form, name, text, warning)?;
         desk.rt.stderr().write_all(&message)?;
     }
-    Ok(warnings.len())
+    if warnings.len() > MOST_WARNINGS {
+        let left = warnings.len() - MOST_WARNINGS;
+        let message = warnings_left_out(alloc, desk.form, name, left)?;
+        desk.rt.stderr().write_all(&message)?;
+    }
+    Ok(())
+}
+
+/// The error if memory ran out.
+fn memory_error() -> io::Error {
+    io::ErrorKind::OutOfMemory.into()
+}
+
+/// Prints what is suspicious of a program that is accepted: whether anything is. The error is out of memory.
+pub(crate) fn tell_warnings(desk: Desk<'_>, file: &ReadFile<'_>) -> io::Result<bool> {
+    let alloc = desk.rt.alloc();
+    let Some(text) = file.bytes else {
+        return Err(memory_error());
+    };
+    let source = match read(alloc, text) {
+        Ok(source) => source,
+        Err(Fault::Memory) => return Err(memory_error()),
+        Err(Fault::Refused { .. }) => return Ok(false),
+    };
+    let Ok(warnings) = find_warnings(alloc, &source) else {
+        return Err(memory_error());
+    };
+    match write_warnings(desk, file, text, &warnings) {
+        Err(error) if error.kind() == io::ErrorKind::OutOfMemory => Err(error),
+        // If standard error fails there is nobody left to report to.
+        _ => Ok(!warnings.is_empty()),
+    }
 }
 
 /// Says which input could not be read, and why.
@@ -226,7 +258,7 @@ pub(crate) fn tell_write_fault(rt: &HostRuntime, cause: Option<io::Error>) -> io
     }
 }
 
-/// Says on standard error how a command ended, where it did not succeed.
+/// Says on standard error how a command ended, if it did not succeed.
 fn tell(
     desk: Desk<'_>,
     met: &CommandEnd,
@@ -246,13 +278,13 @@ fn tell(
     }
 }
 
-/// Says that memory was refused: the exit status.
+/// Reports that memory ran out: the exit status.
 pub(crate) fn without_memory(rt: &HostRuntime) -> u8 {
     let _told = rt.eprintln("memory");
     Ending::NoMemory.status()
 }
 
-/// The ending, where memory was refused to the system's own calls too.
+/// The ending, if the system's own calls ran out of memory too.
 fn with_memory(met: &CommandEnd) -> Ending {
     match (met.ending, met.reading) {
         (Ending::ReadFault { input }, Some(error)) => {
@@ -272,7 +304,7 @@ pub(crate) fn end(desk: Desk<'_>, met: &CommandEnd, sources: &Sources<'_>, row: 
         ending: with_memory(met),
         ..*met
     };
-    // Where standard error fails there is nobody left to tell.
+    // If standard error fails there is nobody left to report to.
     let _told = tell(desk, &met, sources, row);
     met.ending.status()
 }

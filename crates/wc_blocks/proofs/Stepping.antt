@@ -1,8 +1,8 @@
 -- Fields that are those of a step keep the history as the step does.
 use Rattle.std.proofs.Common.{◌≡◌, ℕ, List, ◌∷◌, sym, subst}
-use Rattle.wc_language_laws.proofs.Counting.{ctu_fits}
-use Rattle.wc_language_laws.proofs.Delaying.{tof_fits}
-use Rattle.wc_language_laws.specs.Laws.{ctu_call, tof_call}
+use Rattle.wc_laws_language.proofs.Counting.{ctu_fits}
+use Rattle.wc_laws_language.proofs.Delaying.{tof_fits}
+use Rattle.wc_laws_language.specs.Laws.{ctu_call, tof_call}
 use Rattle.wc_model.specs.Language.Blocks.{CtuFields, TofFields, ctu_step, tof_step}
 use Rattle.wc_model.specs.Language.Histories.{CtuCall, TimerCall, FitsCtu, FitsTof}
 

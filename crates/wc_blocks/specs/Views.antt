@@ -1,4 +1,4 @@
--- What the blocks of the code stand for: the fields of the definitions. (No rule of the language.)
+-- What the blocks of the code represent: the fields of the definitions. (No rule of the language.)
 use Rattle.wc_model.specs.Language.Blocks.{RTrigFields, SrFields, RsFields, CtuFields, TonFields, TofFields, TpFields}
 use Rattle.wc_blocks.specs.declared.ctu.Ctu.{Ctu}
 use Rattle.wc_blocks.specs.declared.r_trig.RTrig.{RTrig}

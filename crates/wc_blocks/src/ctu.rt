@@ -1,6 +1,6 @@
 ghost use Rattle.std.specs.Prelude.{◌≡◌, List, false, pos, [], ◌∷◌};
 ghost use Rattle.wc_blocks.specs.Views.{ctu_view};
-ghost use Rattle.wc_language_laws.specs.Laws.{ctu_call};
+ghost use Rattle.wc_laws_language.specs.Laws.{ctu_call};
 ghost use Rattle.wc_model.specs.Language.Blocks.{ctu_count, ctu_step};
 ghost use Rattle.wc_model.specs.Language.Histories.{CtuCall, FitsCtu};
 
@@ -38,7 +38,7 @@ impl Ctu {
         }
     }
 
-    /// The count behind a call with these inputs.
+    /// The count after a call with these inputs.
     #[inline(always)]
     fn count(&self) -> i32
         ensures { result ≡ ctu_count (ctu_view self.now) }

@@ -1,7 +1,7 @@
 ghost use Rattle.std.specs.Prelude.{◌≡◌, ◌≤◌, ◌-◌};
 ghost use Rattle.wc_model.specs.Language.Blocks.{elapsed, preset};
 
-/// The preset time: PT, or 0 where it is negative.
+/// The preset time: PT, or 0 if it is negative.
 #[inline(always)]
 pub(crate) fn preset(pt: i32) -> u64
     ensures { result ≡ preset pt }

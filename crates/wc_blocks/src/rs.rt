@@ -1,13 +1,13 @@
 ghost use Rattle.std.specs.Prelude.{◌≡◌, List, false, [], ◌∷◌};
 ghost use Rattle.wc_blocks.specs.Views.{rs_view};
-ghost use Rattle.wc_language_laws.specs.Laws.{rs_call};
+ghost use Rattle.wc_laws_language.specs.Laws.{rs_call};
 ghost use Rattle.wc_model.specs.Language.Blocks.{rs_step};
 ghost use Rattle.wc_model.specs.Language.Histories.{FitsRs, RsCall};
 
 /// RS, a bistable whose reset is dominant (IEC 61131-3:2003, table 34).
 #[derive(Clone, Copy, PartialEq, Eq)]
 pub struct Rs {
-    /// S, which sets where R1 is FALSE.
+    /// S, which sets if R1 is FALSE.
     pub s: bool,
     /// R1, which resets.
     pub r1: bool,

@@ -1,6 +1,6 @@
 ghost use Rattle.std.specs.Prelude.{◌≡◌, List, false, [], ◌∷◌};
 ghost use Rattle.wc_blocks.specs.Views.{sr_view};
-ghost use Rattle.wc_language_laws.specs.Laws.{sr_call};
+ghost use Rattle.wc_laws_language.specs.Laws.{sr_call};
 ghost use Rattle.wc_model.specs.Language.Blocks.{sr_step};
 ghost use Rattle.wc_model.specs.Language.Histories.{FitsSr, SrCall};
 
@@ -9,7 +9,7 @@ ghost use Rattle.wc_model.specs.Language.Histories.{FitsSr, SrCall};
 pub struct Sr {
     /// S1, which sets.
     pub s1: bool,
-    /// R, which resets where S1 is FALSE.
+    /// R, which resets if S1 is FALSE.
     pub r: bool,
     /// Q1, what was set and not reset since.
     pub q1: bool,

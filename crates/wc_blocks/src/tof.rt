@@ -1,6 +1,6 @@
 ghost use Rattle.std.specs.Prelude.{◌≡◌, ◌≤◌, List, false, pos, [], ◌∷◌};
 ghost use Rattle.wc_blocks.specs.Views.{tof_view};
-ghost use Rattle.wc_language_laws.specs.Laws.{tof_call};
+ghost use Rattle.wc_laws_language.specs.Laws.{tof_call};
 ghost use Rattle.wc_model.specs.Language.Blocks.{tof_falling, tof_released, tof_step};
 ghost use Rattle.wc_model.specs.Language.Histories.{FitsTof, TimerCall};
 
@@ -19,7 +19,7 @@ pub struct Tof {
     pub q: bool,
     /// ET, the time for which IN has been FALSE, up to PT.
     pub et: i32,
-    /// 0 where IN was never TRUE, 1 where it is, 2 where it is FALSE since `start`; more counts as 2.
+    /// 0 if IN was never TRUE, 1 if it is, 2 if it is FALSE since `start`; more counts as 2.
     pub phase: u8,
     /// The moment of the first call with IN FALSE, in milliseconds.
     pub start: u64,

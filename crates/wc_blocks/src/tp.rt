@@ -1,6 +1,6 @@
 ghost use Rattle.std.specs.Prelude.{◌≡◌, ◌≤◌, List, false, pos, [], ◌∷◌};
 ghost use Rattle.wc_blocks.specs.Views.{tp_view};
-ghost use Rattle.wc_language_laws.specs.Laws.{tp_call};
+ghost use Rattle.wc_laws_language.specs.Laws.{tp_call};
 ghost use Rattle.wc_model.specs.Language.Blocks.{tp_begun, tp_idle, tp_over, tp_step};
 ghost use Rattle.wc_model.specs.Language.Histories.{FitsTp, TimerCall};
 
@@ -17,9 +17,9 @@ pub struct Tp {
     pub pt: i32,
     /// Q: a pulse began, and PT has not passed since.
     pub q: bool,
-    /// ET, the time since the pulse began, and PT behind its end until IN is FALSE.
+    /// ET, the time since the pulse began, and PT after its end until IN is FALSE.
     pub et: i32,
-    /// 0 where no pulse has begun, 1 where one is on, 2 where it is over and IN has not been FALSE since; more
+    /// 0 if no pulse has started, 1 if one is on, 2 if it is over and IN has not been FALSE since; more
     /// counts as 2.
     pub phase: u8,
     /// The moment of the call that began the pulse, in milliseconds.

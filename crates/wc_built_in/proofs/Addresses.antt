@@ -18,7 +18,7 @@ none_more p i none fails =
     let e : i + 1 ≡ suc i = omega arith in
     ap (λ n. find p (numbers_below n)) e ∙ find-append p (numbers_below i) (i ∷ []) ∙ ap (λ o. option_or o (cond (p i) (Some i) None)) none ∙ ap (λ b. cond b (Some i) None) fails
 
--- none is found where none passes
+-- none is found if none passes
 all_fail : (p : ℕ → Bool) (n : ℕ) → ((i : ℕ) → i < n → p i ≡ false) → find p (numbers_below n) ≡ None
 all_fail p zero fail = refl
 all_fail p (suc n) fail =
@@ -88,19 +88,19 @@ none_before name number e below i less passes =
     let same = only_spelled name i (omega arith) passes in
     omega arith
 
--- no number passes where the one that is read does not
+-- no number passes if the one that is read does not
 none_at_all : (name : Name) (number : ℕ) → number ≡ only_number name → (number < 45 → spelled name number ≡ false) → (i : ℕ) → i < 45 → spelled name i ≡ true → ⊥
 none_at_all name number e refused i below passes =
     let same : i ≡ number = sym (e ∙ only_spelled name i below passes) in
     true≢false (sym passes ∙ ap (spelled name) same ∙ refused (omega arith))
 
--- the variable of the number that is read, where it is spelled so
+-- the variable of the number that is read, if it is spelled so
 pub some_spelled : (name : Name) (number : ℕ) → number ≡ only_number name → number < 45 → spelled name number ≡ true → Some (direct_at number) ≡ variable_at name
 some_spelled name number e below passes =
     let none = all_fail (spelled name) number (λ i less. false_from_ne_true (spelled name i) (none_before name number e below i less)) in
     sym (variable_found name ∙ ap (option_map direct_at) (first_found (spelled name) number 45 below none passes))
 
--- no variable, where the number that is read is none or is not spelled so
+-- no variable, if the number that is read is not valid or is not spelled so
 pub none_spelled : (name : Name) (number : ℕ) → number ≡ only_number name → (number < 45 → spelled name number ≡ false) → None ≡ variable_at name
 none_spelled name number e refused =
     let none = all_fail (spelled name) 45 (λ i below. false_from_ne_true (spelled name i) (none_at_all name number e refused i below)) in

@@ -67,7 +67,7 @@ differ : (a b : Bool) → (not a && b) ≡ true → (a ≡ false) × (b ≡ true
 differ true b h = cc
 differ false b h = (refl, h)
 
--- a name that no field has is none of an input or output
+-- a name that no field has is not that of an input or output
 none_named : (fields : List StandardField) (name : Name) → list_any (same_name name) (names_of fields) ≡ false → find (has_name name) (named_fields fields) ≡ None
 none_named [] name e = refl
 none_named (f ∷ fields) name e =

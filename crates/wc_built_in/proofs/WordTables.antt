@@ -24,7 +24,7 @@ same_name_turned a b = (decided same_name (λ x y. bytes_eq-Decides x y)).symm a
 abbrev pub words_in : {X : Type 0} → List (Name × X) → List Name
 words_in rows = map (λ row. row.0) rows
 
--- something is found where the name is among those of the table
+-- something is found if the name is among those of the table
 pub some_among : {X : Type 0} (rows : List (Name × X)) (name : Name) → is_some (named_in rows name) ≡ is_among (words_in rows) name
 some_among [] name = refl
 some_among {X} (row ∷ rows) name = by (same_name row.0 name) (same_name name row.0) (same_name_turned row.0 name) (some_among rows name)
@@ -35,7 +35,7 @@ some_among {X} (row ∷ rows) name = by (same_name row.0 name) (same_name name r
     by true false e rest = absurd (true≢false e)
     by false true e rest = absurd (true≢false (sym e))
 
--- a name among these is among those, where all of these are
+-- a name among these is among those, if all of these are
 among_too : (xs ys : List Name) (name : Name) → list_all (is_among ys) xs ≡ true → is_among xs name ≡ true → is_among ys name ≡ true
 among_too [] ys name all among = cc
 among_too (x ∷ xs) ys name all among =
@@ -59,7 +59,7 @@ same_words xs ys name there back = by (is_among xs name) (is_among ys name) (amo
 abbrev pub AreRead : {X Y : Type 0} → (X → Option Y) → List (Name × X) → List (Name × Y) → Type 0
 AreRead {X} {Y} f rows part = map (λ (row : Name × Y). option_and_then f (named_in rows row.0)) part ≡ map (λ (row : Name × Y). Some row.1) part
 
--- each row that can be read stands in the other table
+-- each row that can be read is in the other table
 abbrev pub stands_in : {X Y : Type 0} → (X → Option Y) → List (Name × Y) → Name × X → Bool
 stands_in f part row = not (is_some (f row.1)) || is_some (named_in part row.0)
 

@@ -12,7 +12,7 @@ use Rattle.wc_model.specs.declared.source.Section.{Section}
 use Rattle.wc_model.specs.declared.source.Section.TheVariants as sections
 use Rattle.wc_built_in.specs.declared.fields.StandardField.{StandardField}
 
--- what a slot of this kind holds where it holds 0
+-- what a slot of this kind holds if it holds 0
 abbrev pub zero_content : SlotKind → Content
 zero_content slots.Bool = zero_of kinds.Bool
 zero_content slots.Dint = zero_of kinds.Dint
@@ -32,7 +32,7 @@ value_kind slots.Phase = None
 abbrev pub field_content : StandardField → Name × Content
 field_content f = (name_of f.name.now, zero_content f.slot)
 
--- a text can name what stands in this section of a standard block
+-- a text can name what is in this section of a standard block
 abbrev pub is_named : Section → Bool
 is_named sections.Input = true
 is_named sections.Output = true
@@ -42,7 +42,7 @@ is_named sections.Own = false
 abbrev pub named_fields : List StandardField → List StandardField
 named_fields fields = filter (λ f. is_named f.section) fields
 
--- what a text sees behind an instance and a dot: a section and a kind
+-- what a text sees after an instance and a dot: a section and a kind
 pub record Seen : Type 0 where
   pub section : Section
   pub kind : Option Kind
@@ -60,6 +60,6 @@ named_field f = (name_of f.name.now, field_seen f)
 abbrev pub named_member : Member → Name × Seen
 named_member m = (m.name, member_seen m)
 
--- what a text sees of a field, where it can name it
+-- what a text sees of a field, if it can name it
 abbrev pub named_seen : StandardField → Option Seen
 named_seen f = if is_named f.section then Some (field_seen f) else None

@@ -1,4 +1,4 @@
--- The reserved words, each with what it stands for. (IEC 61131-3:2003, tables 10, 51, 52 and C.2; the order is the profile's own.)
+-- The reserved words, each with what it represents. (IEC 61131-3:2003, tables 10, 51, 52 and C.2; the order is the profile's own.)
 use Rattle.std.specs.Prelude.{true, false, List, [], ◌∷◌, codes, Option, Some, None}
 use Rattle.wc_model.specs.Language.Names.{Name, name_of}
 use Rattle.wc_model.specs.Text.Keywords.{unit_word, end_word, section_word, end_var, truth_word, load_word, store_word, operator_word, not_word, jump_word, call_word, return_word, kind_word, block_word}
@@ -16,7 +16,7 @@ use Rattle.wc_built_in.specs.declared.keyword.Keyword.{Keyword}
 use Rattle.wc_built_in.specs.declared.keyword.Keyword.TheVariants.{Load, Store, Apply, Not, Jump, Call, Return, UnitStart, UnitEnd, SectionStart, SectionEnd, Truth, Elementary, Standard, Kept}
 use Rattle.wc_built_in.specs.declared.keywords.KeywordRow.{KeywordRow}
 
--- a word with what it stands for
+-- a word with what it represents
 abbrev pub keyword_row : KeywordRow → Name × Keyword
 keyword_row row = (name_of row.word.now, row.keyword)
 
@@ -55,7 +55,7 @@ keywords =
     ∷ (codes "end_function", Kept) ∷ (codes "var_in_out", Kept) ∷ (codes "var_global", Kept)
     ∷ (codes "var_external", Kept) ∷ (codes "var_temp", Kept) ∷ (codes "constant", Kept) ∷ (codes "retain", Kept) ∷ []
 
--- the elementary type that a word stands for, and the standard block
+-- the elementary type that a word represents, and the standard block
 abbrev pub elementary_meant : Keyword → Option Kind
 elementary_meant (Elementary kind) = Some kind
 elementary_meant _ = None
@@ -64,7 +64,7 @@ abbrev pub standard_meant : Keyword → Option StandardBlock
 standard_meant (Standard block) = Some block
 standard_meant _ = None
 
--- a word that stands for a type
+-- a word that represents a type
 abbrev pub type_meant : Keyword → Option Unit
 type_meant (Elementary kind) = Some tt
 type_meant (Standard block) = Some tt

@@ -60,7 +60,7 @@ fn small_at(text: &[u8], place: usize) -> u8
     text[place].to_ascii_lowercase()
 }
 
-/// The number of the first variable whose address has these three behind its `%`.
+/// The number of the first variable whose address has these three after its `%`.
 fn first_variable(letter: u8, kind: u8, byte: u8) -> u8
     ensures first { result ≡ first_variable letter kind byte }
     ensures small { result < 42 }
@@ -81,7 +81,7 @@ fn first_variable(letter: u8, kind: u8, byte: u8) -> u8
 }
 
 /// The only number that a text can have as an address: of its first variable, and of one digit or two. A text that is
-/// no address may give any.
+/// not an address may give any.
 fn only_number(text: &[u8]) -> u8
     ensures { result ≡ only_number (name_of text.now) }
 {

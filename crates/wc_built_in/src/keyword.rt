@@ -1,9 +1,9 @@
 use wc_model::{Condition, Kind, Operator, Section, StandardBlock, Storing, UnitKind};
 
-/// What a reserved word stands for (IEC 61131-3:2003, tables 10, 51, 52 and C.2).
+/// What a reserved word represents (IEC 61131-3:2003, tables 10, 51, 52 and C.2).
 #[derive(Clone, Copy)]
 pub enum Keyword {
-    /// LD, or LDN where negated.
+    /// LD, or LDN if negated.
     Load(bool),
     /// ST, STN, S, R.
     Store(Storing),

@@ -7,13 +7,13 @@ use crate::keyword::Keyword;
 use crate::words::{END_FUNCTION_BLOCK, END_PROGRAM, END_VAR, FALSE, TRUE};
 use wc_model::{Condition, Kind, Operator, Section, StandardBlock, Storing, UnitKind, is_word};
 
-/// A reserved word, in small letters, and what it stands for.
+/// A reserved word, in small letters, and what it represents.
 pub(crate) struct KeywordRow {
     word: &'static [u8],
     keyword: Keyword,
 }
 
-/// Reserved words, each with what it stands for.
+/// Reserved words, each with what it represents.
 macro_rules! words {
     ($($word:tt $keyword:expr;)*) => {
         &[$(KeywordRow {
@@ -105,7 +105,7 @@ fn keyword_in(rows: &[KeywordRow], text: &[u8]) -> Option<Keyword>
     None
 }
 
-/// What a text stands for, where it is a reserved word. Letter case is not significant.
+/// What a text represents, if it is a reserved word. Letter case is not significant.
 pub fn keyword_named(text: &[u8]) -> Option<Keyword>
     ensures { result ≡ named_in keywords (name_of text.now) }
 {

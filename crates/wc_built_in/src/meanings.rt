@@ -9,7 +9,7 @@ use crate::keyword::Keyword;
 use crate::keywords::keyword_named;
 use wc_model::{Kind, StandardBlock};
 
-/// The elementary type that a word stands for.
+/// The elementary type that a word represents.
 fn elementary_meant(keyword: Keyword) -> Option<Kind>
     ensures { result ≡ elementary_meant keyword }
 {
@@ -29,7 +29,7 @@ pub fn elementary_type(text: &[u8]) -> Option<Kind>
     }
 }
 
-/// The standard function block that a word stands for.
+/// The standard function block that a word represents.
 fn standard_meant(keyword: Keyword) -> Option<StandardBlock>
     ensures { result ≡ standard_meant keyword }
 {
@@ -49,7 +49,7 @@ pub fn standard_block(text: &[u8]) -> Option<StandardBlock>
     }
 }
 
-/// Whether a word stands for a type.
+/// Whether a word represents a type.
 fn is_type(keyword: Keyword) -> bool
     ensures { result ≡ is_some (type_meant keyword) }
 {

@@ -55,12 +55,12 @@ pub known_each : (reader : Option Reader) (P : Option (List ℕ) → Type 0) →
 known_each None P f = f None
 known_each (Some reader) P f = on_each reader.bytes (λ bytes. P (Some bytes)) (λ bytes. f (Some bytes))
 
--- a plate that stands, and what is allowed of the programs
+-- a plate that holds, and what is allowed of the programs
 pub sections_run : (sections : Sections) (plate : PlateData) → plate_of (table_read sections.plate) ≡ Ok plate →
     (answer : JobAnswer) → AnswersPrograms (λ logic. run_answer plate logic (log_of (records_of sections.log))) sections.program sections.next answer → AllowsSections sections answer
 sections_run sections plate e answer h = subst (λ judged. AnswersPlate records_of sections judged answer) (sym e) h
 
--- an input that was not read whole, where one that is too long is refused by what is allowed
+-- an input that was not read whole, if one that is too long is refused by what is allowed
 not_read : (allowed : JobAnswer → Type 0) (bytes : List ℕ) (why : RunFault) (old : Option (List ℕ)) →
     (longest_job < length bytes → allowed (refusing 702 0)) → RefusesLength (Some bytes) why → WritesUpTo allowed (Some why) old old
 not_read allowed bytes (Refused number place) old f h =

@@ -32,7 +32,7 @@ use Rattle.wc_run.specs.Runs.{TellsFault}
 use Rattle.wc_run.specs.declared.fault.RunFault.{RunFault}
 use Rattle.wc_run.specs.declared.fault.RunFault.TheVariants.{Refused, Memory}
 
--- a run that is refused tells the refusal of the log as it is taken, and its row
+-- a run that is refused reports the refusal of the log as it is taken, and its row
 pub log_refused : (plan : Plan) (plate : PlateData) (logic : Option Logic) (taken : List ℕ → LogOf) (fields : Record) (bytes : List ℕ) (why : RunFault) (old new : Option (List ℕ))
     → WritesBy plan plate logic (taken bytes) (Err why) old new → TellsFault (records_read bytes) fields why → RefusesLog taken fields bytes why
 log_refused plan plate logic taken fields bytes (Refused number place) old new told row = (told.0, row)
@@ -52,7 +52,7 @@ pub stops_known : {X : Type 0} (at : Input) (refuses : List ℕ → RunFault →
 stops_known at refuses bytes (Ok done) h = tt
 stops_known at refuses bytes (Err stopped) h = h
 
--- where no text is loaded it is refused so
+-- if no text is loaded, it is refused so
 pub text_refused : (bytes : List ℕ) (why : RunFault) → IsUnloaded bytes why → RefusesText bytes why
 text_refused bytes (Refused number place) h = h
 text_refused bytes why h = tt
@@ -77,7 +77,7 @@ next_read None (Some bytes) why is h = absurd is
 next_read (Some reader) None why is h = absurd is
 next_read (Some reader) (Some bytes) why is h = of_known reader.bytes bytes (λ all. RefusesProgram all why) is.1 (text_in_file bytes why is.0 (text_refused bytes why h))
 
--- there is a next program where its bytes were read
+-- there is a next program if its bytes were read
 pub same_next : (next : Option Reader) (held : Option (List ℕ)) → AreReadOf next held → is_some held ≡ is_some next
 same_next None None is = refl
 same_next None (Some bytes) is = absurd is

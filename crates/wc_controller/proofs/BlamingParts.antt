@@ -37,7 +37,7 @@ next_part : (next : Option (List ℕ)) (number place : ℕ) → IsNextUnloaded n
 next_part None number place h = absurd h
 next_part (Some bytes) number place h = (bytes, refl, h)
 
--- a run behind its program that is stopped
+-- a run after its program that is stopped
 pub run_part : (told : Record) (sections : Sections) (at : Input) (why : RunFault) → (at ≡ input.Next → IsNextUnloaded sections.next why)
     → (at ≡ input.Log → RefusesLog (log_beside (is_some sections.next)) told sections.log why)
     → ((at ≡ input.Job → ⊥) × (at ≡ input.Plate → ⊥) × (at ≡ input.Program → ⊥)) → (at ≡ input.Names → ⊥) → StopsAsPart told (Ok sections) at (fault_in_memory why)

@@ -43,7 +43,7 @@ read_stays : (answer : Result (Unit {0}) Stopped) (other : Input) (ending : Endi
 read_stays (Ok done) other ending old new k e = k.0 ∙ e
 read_stays (Err stopped) other ending old new k e = fault_stays stopped.input other stopped.fault ending old new k e
 
--- and none comes behind
+-- and none comes after it
 read_came : (other : Input) (ran ending : Ending) → IsEndedBy ran ending → ending ≡ ended.ReadFault other → ran ≡ ended.ReadFault other
 read_came other ran ending by e = came by where
   came : IsEndedBy ran ending → ran ≡ ended.ReadFault other
@@ -59,7 +59,7 @@ module _ (before after : InputStates) (told : Record) where
   abbrev pub TellsLog : Type 0
   TellsLog = TellsMemory (log_taken before) before.log.bytes before.log.failures after.log.failures before.log.spent after.log.spent
 
-  -- want of memory comes of it, or of the line of a refusal
+  -- out of memory comes from it, or from the line of a refusal
   memory_behind : (at : Input) (why : RunFault) (ending : Ending) (old new : Option (List ℕ)) → EndsBehindFault at why ending old new
       → ReadsInOrder before after told (fault_ending at why) → (fault_ending at why ≡ ended.NoMemory → TellsLog) → ending ≡ ended.NoMemory → TellsLog
   memory_behind at (Refused number place) ending old new k h memory e =

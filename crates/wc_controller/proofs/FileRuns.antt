@@ -91,7 +91,7 @@ module _ (o : Observed) (table program : Option (List ℕ)) (next : Option Reade
               (λ other longer. on_each log _
               (λ bytes. too_long_file other (AnswersProgram other (λ text. AnswersPrinting o plate (log_of (records_of bytes)) first (Some text))) why old longer)) refused
 
-        -- the log was begun, or the next program not loaded
+        -- the log was started, or the next program not loaded
         pub at_log : (held : Option (List ℕ)) → AreReadOf next held → (answer : Option RunFault) (old new : Option (List ℕ))
             → IfSome log (λ bytes. WritesUpTo (AnswersNext held (AnswersPrinting o plate (log_of (records_of bytes)) first)) answer old new) → OnRun answer old new
         at_log held are answer old new told = behind_text answer old new (by_next next held are told) where

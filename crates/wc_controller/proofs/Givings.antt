@@ -37,7 +37,7 @@ use Rattle.wc_run.specs.Runs.{AppendsFirst, AppendsFront}
 use Rattle.wc_run.specs.declared.fault.RunFault.{RunFault}
 use Rattle.wc_run.specs.declared.fault.RunFault.TheVariants.{Refused, Read, Write, Memory}
 
--- more may be allowed of a front
+-- more may be allowed of a prefix
 front_more : (allowed more : JobAnswer → Type 0) (old new : Option (List ℕ)) → ((answer : JobAnswer) → allowed answer → more answer)
     → WritesFront allowed old new → WritesFront more old new
 front_more allowed more old new f (inl kept) = inl kept
@@ -50,11 +50,11 @@ upto_more allowed more None old new f k = (k.0, f k.0 k.1, k.2, k.3)
 upto_more allowed more (Some (Refused number place)) old new f k = (k.0, f (record { output = k.0 ++ refused_text number place; status = 1 }) k.1, k.2)
 upto_more allowed more (Some why) old new f k = front_more allowed more old new f k
 
--- a text is a front of itself
+-- a text is a prefix of itself
 whole_front : (old new : Option (List ℕ)) (text : List ℕ) → Appends old new text → AppendsFront old new text
 whole_front old new text w = (text, [], sym (append-nil text), w)
 
--- a front behind which nothing was written
+-- a prefix after which nothing was written
 kept_front : (old middle new : Option (List ℕ)) (text : List ℕ) → AppendsFront old middle text → Keeps middle new → AppendsFront old new text
 kept_front old middle new text f k = (f.0, f.1, f.2, Appends-kept old middle new f.0 f.3 k)
 
@@ -71,7 +71,7 @@ module _ (plan : Plan) (plate : PlateData) (logic : Option Logic) (log : LogOf) 
   abbrev pub IsRun : JobAnswer → Type 0
   IsRun answer = answer ≡ behind_report whole log.refusal
 
-  -- a front of what is written is one of the output
+  -- a prefix of what is written is one of the output
   front_of_output : (refusal : Option LogRefusal) → AppendsFront old new whole → AppendsFront old new (behind_report whole refusal).output
   front_of_output None f = f
   front_of_output (Some refusal) f = front_of_more old new whole (refused_text refusal.number refusal.row) f
@@ -79,7 +79,7 @@ module _ (plan : Plan) (plate : PlateData) (logic : Option Logic) (log : LogOf) 
   cut_short : AppendsFront old new whole → WritesFront IsRun old new
   cut_short f = inr (behind_report whole log.refusal, refl, front_of_output log.refusal f)
 
-  -- what is written of the first rows is a front of all of it
+  -- what is written of the first rows is a prefix of all of it
   first_rows : AppendsFirst (text_coming plan plate logic []) log.rows old new → AppendsFront old new whole
   first_rows f = let rest = lines_first plan plate logic log.refusal f.0 f.1 in
       (text_coming plan plate logic [] f.0, rest.0, ap (text_in_all plan plate logic log.refusal) f.2 ∙ rest.1, f.3)
@@ -128,7 +128,7 @@ pub next_unloaded : (next : Option (List ℕ)) (rest : Option Text → JobAnswer
 next_unloaded None rest why old h = absurd h
 next_unloaded (Some bytes) rest why old h = unloaded bytes (λ text. rest (Some text)) why old h
 
--- what is answered once the next program is loaded, where there is one
+-- what is answered once the next program is loaded, if there is one
 pub next_loaded : (bytes : Option (List ℕ)) (next : Option LoadedText) (rest : Option Text → JobAnswer → Type 0) (answer : Option RunFault) (old new : Option (List ℕ))
     → IsNextLoadedOf bytes next → WritesUpTo (rest (text_of_next next)) answer old new → WritesUpTo (AnswersNext bytes rest) answer old new
 next_loaded None None rest answer old new is h = h
@@ -138,7 +138,7 @@ next_loaded (Some bytes) (Some loaded) rest answer old new is h =
     let text : Text = text_view loaded.source in
     upto_more (rest (Some text)) (AnswersProgram bytes (λ other. rest (Some other))) answer old new (λ one e. loads_program text is e) h
 
--- a log that lies in memory
+-- a log in memory
 pub in_memory : (allowed : JobAnswer → Type 0) (why : RunFault) (old new : Option (List ℕ))
     → WritesUpTo allowed (Some why) old new → WritesUpTo allowed (Some (fault_in_memory why)) old new
 in_memory allowed Read old new k = k
@@ -156,7 +156,7 @@ checked paths bytes (Err Write) old new k =
     inr (record { output = k.1; status = 0 }, reports_units k.0 k.1 k.2 k.3 refl, (k.4.front, k.4.rest, k.4.cut, k.4.taken))
 checked paths bytes (Err Memory) old new k = inl k
 
--- a refusal behind a report
+-- a refusal after a report
 behind : (input : Input) (allowed : JobAnswer → Type 0) (said : List ℕ) (number place : ℕ) (ending : Ending) (old middle new : Option (List ℕ))
     → allowed (record { output = said ++ refused_text number place; status = 1 }) → Appends old middle said
     → EndsRefused input number place ending middle new → EndsAs allowed ending old new
@@ -179,7 +179,7 @@ behind input allowed said number place ended.NoMemory old middle new h w k =
       front_of_more old new said (refused_text number place) (whole_front old new said (Appends-kept old middle new said w k)),
     ))
 
--- a front behind which nothing was written
+-- a prefix after which nothing was written
 kept_behind : (allowed : JobAnswer → Type 0) (old middle new : Option (List ℕ)) → WritesFront allowed old middle → Keeps middle new → WritesFront allowed old new
 kept_behind allowed old middle new (inl kept) k = inl (Keeps-trans old middle new kept k)
 kept_behind allowed old middle new (inr f) k = inr (f.0, f.1, kept_front old middle new f.0.output f.2 k)
@@ -198,7 +198,7 @@ ends allowed (Ok done) ending old middle new w k =
     subst (λ e. EndsAs allowed e old new) (sym k.0) (answered w.0 w.1 w.2 (Appends-kept old middle new w.0.output w.3 k.1))
 ends allowed (Err stopped) ending old middle new w k = ended_by stopped.input allowed stopped.fault ending old middle new w k
 
--- a front, at a status that says that something failed
+-- a prefix, at a status that says that something failed
 in_front : (allowed : JobAnswer → Type 0) (status : ℕ) (old new : Option (List ℕ)) → jobs.IsFailure status → WritesFront allowed old new → Gives allowed status old new
 in_front allowed status old new failure (inl kept) = jobs.silent failure kept
 in_front allowed status old new failure (inr f) = jobs.cut_short f.0 f.1 failure f.2
@@ -214,7 +214,7 @@ gives allowed ended.WriteFault old new (failed is f) = in_front allowed 3 old ne
 gives allowed ended.NoMemory old new (failed is f) = in_front allowed 4 old new (inr refl) f
 gives allowed ending old new (answered answer h is w) = absurd is
 
--- an ending that tells a read fault at an input comes of one
+-- an ending that reports a read fault at an input comes of one
 pub read_fault_told : {X : Type 0} (input : Input) (answer : Result X Stopped) (ending : Ending) (old new : Option (List ℕ))
     → EndsBehind answer ending old new → ending ≡ ended.ReadFault input → IsReadFaultAt input answer
 read_fault_told input (Ok done) ending old new k e = absurd (cc (sym k.0 ∙ e))
@@ -224,7 +224,7 @@ read_fault_told input (Err stopped) ending old new k e = by_fault stopped.fault 
   by_fault Read at same h = (sym (subst (λ one. IsAt at one) (sym h.0 ∙ e) refl), same)
   by_fault why at same h = absurd (cc (sym h.0 ∙ e))
 
--- what is said of an ending where its bytes are said, and where nothing is said of them
+-- what is said of an ending if its bytes are given, and if nothing is said of them
 ends_fault_said : (speaks : Bool) (input : Input) (why : RunFault) (ending : Ending) (old new : Option (List ℕ)) → EndsBehindFault input why ending old new
     → EndsBehindFault input why ending (said speaks old) (said speaks new)
 ends_fault_said true input why ending old new h = h

@@ -3,8 +3,8 @@ use Rattle.std.proofs.Common.{◌≡◌, refl, ◌∙◌, subst, ℕ, List, [], 
 use Rattle.wc_controller.proofs.ManyChanges.{keeps_in_turn}
 use Rattle.wc_controller.proofs.ScanEndings.{ends_within, has_bound, shows_outcome}
 use Rattle.wc_controller.specs.Headline.{IsTheHeadline, outcome_of, store_behind}
-use Rattle.wc_instrument_laws.proofs.Independence.{is_free_of_programs}
-use Rattle.wc_instrument_laws.specs.Changes.{HasNoChange, IsNoChange}
+use Rattle.wc_laws_instrument.proofs.Independence.{is_free_of_programs}
+use Rattle.wc_laws_instrument.specs.Changes.{HasNoChange, IsNoChange}
 use Rattle.wc_model.specs.Run.ProcessImage.{image_after}
 use Rattle.wc_model.specs.Say.ProgramReport.{Logic, first_logic, logic_behind, programs}
 use Rattle.wc_model.specs.Say.Report.{state_with}
@@ -14,8 +14,8 @@ use Rattle.wc_model.specs.Language.Loading.{IsLoaded, IsNextLoaded}
 use Rattle.wc_model.specs.Language.Tree.{Text}
 use Rattle.wc_model.specs.Run.Rows.{RowData, Counts, Bytes, Inputs, Scan, Change, Past}
 use Rattle.wc_model.specs.declared.value.Value.{Value}
-use Rattle.wc_soundness.specs.Sound.{EndsWell}
-use Rattle.wc_soundness.proofs.Runs.{first_sound, sound_behind, sound_scan}
+use Rattle.wc_laws_soundness.specs.Sound.{EndsWell}
+use Rattle.wc_laws_soundness.proofs.Runs.{first_sound, sound_behind, sound_scan}
 
 -- the next scan ends well, whatever rows have come
 well : (plate : PlateData) (bytes : List ℕ) (text : Text) → IsLoaded bytes text → (next : Option Text) → IsNextLoaded next → (past : Past) (ms : ℕ) →

@@ -3,7 +3,7 @@ use Rattle.std.proofs.Common.{ℕ, List, [], ◌∷◌, Option, reverse}
 use Rattle.wc_controller.proofs.ScanEndings.{ends_within}
 use Rattle.wc_controller.specs.Headline.{KeepsInTurn}
 use Rattle.wc_controller.specs.Turns.{AreLoaded, Turns, change_in, first_turn, in_turn, turns_after}
-use Rattle.wc_instrument_laws.proofs.Independence.{is_free_of_programs}
+use Rattle.wc_laws_instrument.proofs.Independence.{is_free_of_programs}
 use Rattle.wc_model.specs.Instrument.Plates.{PlateData}
 use Rattle.wc_model.specs.Language.Loading.{IsLoaded}
 use Rattle.wc_model.specs.Language.Scans.{initial_of, scan_of, with_image}
@@ -14,12 +14,12 @@ use Rattle.wc_model.specs.Run.Rows.{RowData, Counts, Bytes, Inputs, Scan, Change
 use Rattle.wc_model.specs.Say.Report.{state_with}
 use Rattle.wc_model.specs.declared.image.Image.{Image}
 use Rattle.wc_model.specs.declared.value.Value.{Value}
-use Rattle.wc_soundness.proofs.Carrying.{carried_holds}
-use Rattle.wc_soundness.proofs.Places.{SameSlots-refl}
-use Rattle.wc_soundness.proofs.Runs.{left_by}
-use Rattle.wc_soundness.proofs.Spelled.{loaded_text_is_never_stuck}
-use Rattle.wc_soundness.specs.Sound.{EndsWell}
-use Rattle.wc_soundness.specs.Typing.{SameSlots}
+use Rattle.wc_laws_soundness.proofs.Carrying.{carried_holds}
+use Rattle.wc_laws_soundness.proofs.Places.{SameSlots-refl}
+use Rattle.wc_laws_soundness.proofs.Runs.{left_by}
+use Rattle.wc_laws_soundness.proofs.Spelled.{loaded_text_is_never_stuck}
+use Rattle.wc_laws_soundness.specs.Sound.{EndsWell}
+use Rattle.wc_laws_soundness.specs.Typing.{SameSlots}
 
 -- the text that runs is loaded, its store holds the kinds of what it declares, and the texts that follow are loaded
 record AreSound (turns : Turns) : Type 0 where

@@ -19,14 +19,14 @@ use Rattle.wc_run.specs.Observing.{RefusesToBegin}
 use Rattle.wc_run.specs.declared.fault.RunFault.{RunFault}
 use Rattle.wc_run.specs.declared.fault.RunFault.TheVariants.{Refused, Read, Write, Memory}
 
--- the names are at fault where it refused to begin
+-- the names are at fault if it refused to begin
 pub refused_at_names : (begins : Bool) (held : Type 0) (why : RunFault) → begun_input why ≡ input.Names → RefusesToBegin begins held why → (begins ≡ false) × held
 refused_at_names begins held (Refused number place) at h = (h.0, h.1)
 refused_at_names begins held Read at h = absurd h
 refused_at_names begins held Write at h = absurd h
 refused_at_names begins held Memory at h = absurd (cc (at))
 
--- with the next text, where there is one
+-- with the next text, if there is one
 pub next_refused : (first : Text) (bytes : Option (List ℕ)) (next : Option LoadedText) (begins : Option Logic → Bool) (held : Option Logic → Type 0) (why : RunFault)
     → IsNextLoadedOf bytes next → begun_input why ≡ input.Names
     → RefusesToBegin (begins (Some (first_logic first (text_of_next next)))) (held (Some (first_logic first (text_of_next next)))) why

@@ -70,7 +70,7 @@ stops_early o before after told stopped writer writes no_job no_log plate progra
   failures = silent;
 }
 
--- what is known where it stopped at the log, at the next program behind its reading, or not at all
+-- what is known if it stopped at the log, at the next program after its reading, or not at all
 record IsLateRun (o : Observed) (before after : InputStates) (told : Record) (answer : Result (Unit {0}) Stopped) (old new : Writer) : Type 0 where
   writes : OfAnswers o before (λ allowed. WritesUpTo allowed (met answer) old.taken new.taken)
   later : IsLater answer
@@ -90,7 +90,7 @@ record IsLateRun (o : Observed) (before after : InputStates) (told : Record) (an
   program_kept : failures_of after.program ≡ failures_of before.program
   next_kept : failures_of after.next ≡ failures_of before.next
 
--- an ending where all was done tells no read fault
+-- an ending after all was done reports no read fault
 done_untold : (at : Input) (old new : ℕ) → new ≡ old → TellsReadEndings at ended.Done old new
 done_untold at old new same = (λ e. absurd (no_read_fault at ended.Done (λ h. h) e), λ no. same)
 
@@ -161,7 +161,7 @@ writes_at_plate o plate None next log why old refused =
     (λ table is. on_each log.bytes _ (λ bytes. plate_not_read table (λ read. IsLineAnswer o read (log_of (records_of bytes))) why old is)) refused
 writes_at_plate o plate (Some program) next log why old refused = files.at_plate o plate.bytes program.bytes next log.bytes why old refused
 
--- of a file that was not read whole no write fault is told
+-- of a file that was not read whole no write fault is reported
 length_silent : (known : Option (List ℕ)) (why : RunFault) (count : ℕ) → RefusesLength known why → TellsWrite why count count
 length_silent known (Refused number place) count h = refl
 length_silent known Read count h = refl
@@ -289,7 +289,7 @@ module _ (o : Observed) (told : Record) (plate plate_after : Reader) (program pr
     (plate_kept : plate_after.failures ≡ plate.failures) (plate_taken : TakesInput plate.bytes plate_after.bytes)
     (program_kept : failures_of program_after ≡ failures_of program) (program_taken : TakesInput (known_of program) (known_of program_after))
     (answer : Result (Unit {0}) Stopped) (old new : Writer) where
-  -- the log was begun with no program
+  -- the log was started with no program
   pub at_line : AreReadOf program None
       → IfSome log.bytes (λ bytes. WritesUpTo (IsLineAnswer o judged (log_of (records_of bytes))) (met answer) old.taken new.taken)
       → IsLater answer
@@ -329,7 +329,7 @@ module _ (o : Observed) (told : Record) (plate plate_after : Reader) (program pr
         }
         by_program (Some reader) whole taken kept = absurd whole
 
-  -- the log was begun with a program, or the next program not loaded
+  -- the log was started with a program, or the next program not loaded
   pub at_log : (text : List ℕ) → AreReadOf program (Some text) → (first : Text) → IsLoaded text first
       → (next_after : Option Reader) (held : Option (List ℕ)) → AreReadOf next held
       → failures_of next_after ≡ failures_of next → TakesInput (known_of next) (known_of next_after)

@@ -1,9 +1,9 @@
 -- A scan that is never stuck, and whose trace is a path, ends within the bound.
 use Rattle.std.proofs.Common.{ℕ, List, [], ◌∷◌, Option, refl}
 use Rattle.wc_controller.specs.Headline.{EndsWithin, ShowsOutcome}
-use Rattle.wc_language_laws.proofs.Longest.{best_path, best_path_is_worst}
-use Rattle.wc_language_laws.proofs.TracesArePaths.{TraceIs, program_trace_is_path}
-use Rattle.wc_language_laws.proofs.UnitBounds.{path_of, longest_there}
+use Rattle.wc_laws_language.proofs.Longest.{best_path, best_path_is_worst}
+use Rattle.wc_laws_language.proofs.TracesArePaths.{TraceIs, program_trace_is_path}
+use Rattle.wc_laws_language.proofs.UnitBounds.{path_of, longest_there}
 use Rattle.wc_model.specs.Language.Meaning.{Outcome, Done, Stuck, program_means}
 use Rattle.wc_model.specs.Language.Paths.{IsBoundOfLast, IsLongest, IsPath}
 use Rattle.wc_model.specs.Say.ProgramReport.{Logic, result_of, with_logic}
@@ -12,7 +12,7 @@ use Rattle.wc_model.specs.Language.Scopes.{Scope}
 use Rattle.wc_model.specs.Language.Store.{Store}
 use Rattle.wc_model.specs.Language.Tree.{ProgramUnit}
 use Rattle.wc_model.specs.declared.value.Value.{Value}
-use Rattle.wc_soundness.specs.Sound.{EndsWell}
+use Rattle.wc_laws_soundness.specs.Sound.{EndsWell}
 
 -- by how the scan ends
 by_outcome : (scope : Scope) (bound : ℕ) (first : Store) → IsLongest scope bound → (outcome : Outcome) → TraceIs (IsPath scope) outcome

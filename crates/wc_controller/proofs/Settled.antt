@@ -3,7 +3,7 @@ use Rattle.std.proofs.Common.{ℕ, List, Result, Ok, Err}
 use Rattle.std.specs.Prelude.{IfErr, IfOk}
 use Rattle.wc_controller.specs.Loads.{IsNeverRefused, IsRefusedLoad, IsTheOnlyRefusal}
 use Rattle.wc_cost.specs.LoadedTexts.{LoadedText}
-use Rattle.wc_loading_laws.proofs.LoadLaws.{never_both, one_refusal}
+use Rattle.wc_laws_loading.proofs.LoadLaws.{never_both, one_refusal}
 use Rattle.wc_model.specs.Language.Loading.{IsLoaded}
 use Rattle.wc_model.specs.Language.Views.{text_view}
 use Rattle.wc_model.specs.declared.fault.Fault.{Fault}

@@ -1,4 +1,4 @@
--- How a run ends, once the line of a refusal is written behind it.
+-- How a run ends, once the line of a refusal is written after it.
 use Rattle.std.proofs.Common.{◌≡◌, List, ℕ, inl, inr, refl, subst, sym, ◌∙◌}
 use Rattle.std.specs.Prelude.{Option, Some, None}
 use Rattle.wc_controller.proofs.Allowing.{known_more, on_known}
@@ -58,7 +58,7 @@ module _ (before after : InputStates) (told : Record) where
     taken = h.taken;
   }
 
-  -- nor does want of memory
+  -- nor does running out of memory
   at_memory : (ran : Ending) → ReadsInOrder before after told ran → ReadsInOrder before after told ended.NoMemory
   at_memory ran h = record {
     blames_plate = tt;
@@ -84,7 +84,7 @@ module _ (before after : InputStates) (told : Record) where
   inputs_shown ran shown (inr (inl e)) h = subst (λ one. ReadsInOrder before after told one) (sym e) (at_write ran h)
   inputs_shown ran shown (inr (inr e)) h = subst (λ one. ReadsInOrder before after told one) (sym e) (at_memory ran h)
 
--- a fault of what is shown is no read fault
+-- a fault of what is shown is not a read fault
 pub faulty_untold : (at : Input) (shown : Ending) → IsFaulty shown → shown ≡ ended.ReadFault at → ⊥
 faulty_untold at shown (inl w) e = no_read_fault at ended.WriteFault (λ h. h) (sym w ∙ e)
 faulty_untold at shown (inr m) e = no_read_fault at ended.NoMemory (λ h. h) (sym m ∙ e)

@@ -32,7 +32,7 @@ named_by at input Read h = h
 named_by at input Write h = absurd h
 named_by at input Memory h = absurd h
 
--- an ending that names no input is no read fault
+-- an ending that names no input is not a read fault
 pub no_read_fault : (input : Input) (ending : Ending) → (IsAt input ending → ⊥) → ending ≡ ended.ReadFault input → ⊥
 no_read_fault input ending none e = none (subst (λ one. IsAt input one) (sym e) refl)
 
@@ -43,26 +43,26 @@ read_by at input Read e = (subst (λ one. IsAt input one) (sym e) refl, refl)
 read_by at input Write e = absurd (no_read_fault input ended.WriteFault (λ h. h) e)
 read_by at input Memory e = absurd (no_read_fault input ended.NoMemory (λ h. h) e)
 
--- want of memory comes of want of memory
+-- out of memory comes from out of memory
 pub memory_by : (at : Input) (why : RunFault) → fault_ending at why ≡ ended.NoMemory → why ≡ Memory
 memory_by at (Refused number place) e = absurd (omega (arith, ap status_of e))
 memory_by at Read e = absurd (omega (arith, ap status_of e))
 memory_by at Write e = absurd (omega (arith, ap status_of e))
 memory_by at Memory e = refl
 
--- behind a refusal a reader has not failed
+-- after a refusal a reader has not failed
 pub read_on_by : (at input : Input) (why : RunFault) (old new : ℕ) → (at ≡ input → HasNotFailed (Err why) old new) → HasNotFailedIn input (fault_ending at why) old new
 read_on_by at input (Refused number place) old new h = h
 read_on_by at input Read old new h = tt
 read_on_by at input Write old new h = tt
 read_on_by at input Memory old new h = tt
 
--- a read fault is told where it came
+-- a read fault is reported where it came
 pub told_by : (stopped : Stopped) (input : Input) (old new : ℕ) → TellsReadFaults {X = Unit {0}} input (Err stopped) old new
     → TellsReadEndings input (fault_ending stopped.input stopped.fault) old new
 told_by stopped input old new h = (λ e. h.0 (read_by stopped.input input stopped.fault e), λ no. h.1 (λ is. no (λ i. fault_ending (is.0 i) (is.1 i))))
 
--- of another input none is told
+-- for another input none is reported
 pub untold_by : (at input : Input) (why : RunFault) (old new : ℕ) → (at ≡ input → ⊥) → new ≡ old → TellsReadEndings input (fault_ending at why) old new
 untold_by at input why old new other same = (λ e. absurd (other ((read_by at input why e).0)), λ no. same)
 

@@ -7,12 +7,12 @@ use Rattle.wc_model.specs.Language.Checks.{Spot, spots_behind, spots_of}
 use Rattle.wc_model.specs.Language.Tree.{ProgramUnit, Text}
 use Rattle.wc_model.specs.Say.UnitReport.{AreUnitLines, IsBoundOf, IsPathPart, IsUnitReport, unit_line}
 
--- the units at the spots are the text's
+-- the units at these positions are the text's
 items_at : (before units : List ProgramUnit) → map (λ spot. spot.item) (spots_behind before units) ≡ units
 items_at before [] = refl
 items_at before (unit ∷ units) = ap (λ l. unit ∷ l) (items_at (unit ∷ before) units)
 
--- the lines of one unit, before the lines of those behind it
+-- the lines of one unit, before the lines of those after it
 one_unit : (paths : Bool) (spots : List (Spot ProgramUnit)) (place : ℕ) (name : List ℕ) (bound : ℕ) (part others : List ℕ) →
     option_map (λ unit. unit.spelled) (slice_get (map (λ spot. spot.item) spots) place) ≡ Some name →
     IfSome (slice_get spots place) (λ spot. IsBoundOf spot bound) → IfSome (slice_get spots place) (λ spot. IsPathPart paths spot part) →
@@ -22,7 +22,7 @@ one_unit paths (spot ∷ spots) zero name bound part others spelled is_bound is_
     (bound, part, others, is_bound, is_part, rest, ap (λ n. (unit_line n bound ++ part) ++ others) (sym (same_Some spot.item.spelled name spelled)))
 one_unit paths (spot ∷ spots) (suc place) name bound part others spelled is_bound is_part rest = one_unit paths spots place name bound part others spelled is_bound is_part rest
 
--- whatever are the lines of the units from a place on, behind these they are the report
+-- whatever are the lines of the units from a place on, after these they are the report
 abbrev pub Begins : Bool → Text → ℕ → List ℕ → Type 0
 Begins paths text place lines = (others : List ℕ) → AreUnitLines paths (drop place (spots_of text)) others → IsUnitReport paths text (lines ++ others)
 
@@ -35,14 +35,14 @@ begins_on paths text place lines more h l = λ others rest.
     subst (IsUnitReport paths text) (ap (λ t. lines ++ (t ++ others)) (sym l.lines_are) ∙ sym (append_assoc lines more others))
     (h ((unit_line l.name l.bound ++ l.part) ++ others) (one_unit paths (spots_of text) place l.name l.bound l.part others spelled l.is_bound l.is_part behind))
 
--- behind the last unit there is nothing
+-- after the last unit there is nothing
 none_left : (paths : Bool) (spots : List (Spot ProgramUnit)) (place : ℕ) → length spots ≤ place → AreUnitLines paths (drop place spots) []
 none_left paths [] zero h = refl
 none_left paths [] (suc place) h = refl
 none_left paths (spot ∷ spots) zero h = absurd (omega arith)
 none_left paths (spot ∷ spots) (suc place) h = none_left paths spots place (omega arith)
 
--- as many spots as units
+-- as many positions as units
 length_spots : (before units : List ProgramUnit) → length (spots_behind before units) ≡ length units
 length_spots before [] = refl
 length_spots before (unit ∷ units) = ap suc (length_spots (unit ∷ before) units)

@@ -44,7 +44,7 @@ RefusesLog taken told bytes (Refused number place) =
     ((taken bytes).refusal ≡ Some (record { number = number; row = place })) × (told ≡ record_at (records_read bytes) place)
 RefusesLog taken told bytes fault = ⊤
 
--- what stopped at this input is a refusal of its bytes, where it is one
+-- what stopped at this input is a refusal of its bytes, if it is one
 abbrev pub StopsFor : {X : Type 0} → Input → (List ℕ → RunFault → Type 0) → Option (List ℕ) → Result X Stopped → Type 0
 StopsFor input refuses known (Ok done) = ⊤
 StopsFor input refuses known (Err stopped) = stopped.input ≡ input → IfSome known (λ bytes. refuses bytes stopped.fault)
@@ -56,7 +56,7 @@ Blames input refuses known ending = ⊤
 
 -- What a refusal says of the part of a job that it names: the job has not its sections; the plate
 -- breaks that rule first; the program, or the next one, has that first fault; the log has that first
--- refused row, whose fields are told.
+-- refused row, whose fields are reported.
 abbrev pub RefusesPart : Record → Result Sections ℕ → Input → ℕ → ℕ → Type 0
 RefusesPart told (Err missing) at number place = (at ≡ input.Job) × (number ≡ missing) × (place ≡ 0)
 RefusesPart told (Ok sections) input.Job number place = ⊥
@@ -66,12 +66,12 @@ RefusesPart told (Ok sections) input.Program number place = IsRefused sections.p
 RefusesPart told (Ok sections) input.Next number place = (next : List ℕ) × (sections.next ≡ Some next) × IsRefused next number place
 RefusesPart told (Ok sections) input.Log number place = RefusesLog (log_beside (is_some sections.next)) told sections.log (Refused number place)
 
--- what stopped at a part of a job is a refusal of that part, where it is one
+-- what stopped at a part of a job is a refusal of that part, if it is one
 abbrev pub StopsAsPart : Record → Result Sections ℕ → Input → RunFault → Type 0
 StopsAsPart told parts at (Refused number place) = RefusesPart told parts at number place
 StopsAsPart told parts at fault = ⊤
 
--- the same of whatever is answered
+-- likewise for whatever is answered
 abbrev pub StopsForPart : {X : Type 0} → Record → Result Sections ℕ → Result X Stopped → Type 0
 StopsForPart told parts (Ok done) = ⊤
 StopsForPart told parts (Err stopped) = StopsAsPart told parts stopped.input stopped.fault

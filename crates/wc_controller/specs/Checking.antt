@@ -8,8 +8,8 @@ use Rattle.wc_run.specs.declared.fault.RunFault.{RunFault}
 use Rattle.wc_run.specs.declared.fault.RunFault.TheVariants.{Refused, Read, Write, Memory}
 use Rattle.wc_model.specs.Run.Writing.{TakesFront}
 
--- A text's report is written; at a write fault a front of it, and not all; for want of memory
--- nothing. There is no other fault.
+-- A text's report is written; at a write fault a prefix of it, and not all; when out of
+-- memory nothing. There is no other fault.
 abbrev pub WritesReport : {X : Type 0} → Bool → Text → Result X RunFault → Option (List ℕ) → Option (List ℕ) → Type 0
 WritesReport paths text (Ok done) old new = (report : List ℕ) × IsUnitReport paths text report × Appends old new report
 WritesReport paths text (Err (Refused number place)) old new = ⊥
@@ -17,8 +17,8 @@ WritesReport paths text (Err Read) old new = ⊥
 WritesReport paths text (Err Write) old new = (report : List ℕ) × IsUnitReport paths text report × TakesFront old new report
 WritesReport paths text (Err Memory) old new = Keeps old new
 
--- The bytes are loaded, and the text's report is written, at a write fault a front of it; or they
--- are refused, and nothing is written, as for want of memory.
+-- The bytes are loaded, and the text's report is written, at a write fault a prefix of it; or
+-- they are refused, and nothing is written, as when out of memory.
 abbrev pub Checks : {X : Type 0} → Bool → List ℕ → Result X RunFault → Option (List ℕ) → Option (List ℕ) → Type 0
 Checks paths bytes (Ok done) old new = (text : Text) × (report : List ℕ) × IsLoaded bytes text × IsUnitReport paths text report × Appends old new report
 Checks paths bytes (Err (Refused number place)) old new = IsRefused bytes number place × Keeps old new

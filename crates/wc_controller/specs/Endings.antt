@@ -26,17 +26,17 @@ abbrev pub met : {X : Type 0} → Result X Stopped → Option RunFault
 met (Ok x) = None
 met (Err stopped) = Some stopped.fault
 
--- the same of a fault alone
+-- likewise for a fault alone
 abbrev pub fault_met : {X : Type 0} → Result X RunFault → Option RunFault
 fault_met (Ok x) = None
 fault_met (Err fault) = Some fault
 
--- nothing was written, or a front of an answer that is allowed
+-- nothing was written, or a prefix of an answer that is allowed
 abbrev pub WritesFront : (JobAnswer → Type 0) → Option (List ℕ) → Option (List ℕ) → Type 0
 WritesFront allowed old new = Keeps old new ⊎ ((answer : JobAnswer) × allowed answer × AppendsFront old new answer.output)
 
--- an answer that is allowed was written: all of it; all but its refusal; at a fault a front of it,
--- or nothing
+-- an answer that is allowed was written: all of it; all but its refusal; at a fault a prefix of
+-- it, or nothing
 abbrev pub WritesUpTo : (JobAnswer → Type 0) → Option RunFault → Option (List ℕ) → Option (List ℕ) → Type 0
 WritesUpTo allowed None old new = (answer : JobAnswer) × allowed answer × (answer.status ≡ 0) × Appends old new answer.output
 WritesUpTo allowed (Some (Refused number place)) old new =
@@ -87,21 +87,21 @@ IsFailing ended.Done = ⊥
 IsFailing (ended.Refused input number place) = ⊥
 IsFailing ending = ⊤
 
--- what an ending tells of an answer that was written whole: that nothing is refused, or the refusal
--- in its last line
+-- what an ending says about an answer that was written whole: that nothing is refused, or the
+-- refusal in its last line
 abbrev pub IsEndingOf : JobAnswer → Ending → Type 0
 IsEndingOf answer ended.Done = answer.status ≡ 0
 IsEndingOf answer (ended.Refused input number place) =
     (report : List ℕ) × (answer ≡ record { output = report ++ refused_text number place; status = 1 })
 IsEndingOf answer ending = ⊥
 
--- An answer that is allowed was written whole, and the ending tells how it ends; or something
--- failed, and a front of such an answer was written, or nothing.
+-- An answer that is allowed was written whole, and the ending says how it ends; or something
+-- failed, and a prefix of such an answer was written, or nothing.
 pub data EndsAs (allowed : JobAnswer → Type 0) (ending : Ending) (old new : Option (List ℕ)) : Type 0 where
   answered : (answer : JobAnswer) → allowed answer → IsEndingOf answer ending → Appends old new answer.output → EndsAs allowed ending old new
   failed : IsFailing ending → WritesFront allowed old new → EndsAs allowed ending old new
 
--- the ending of a refusal, and what was written behind the report
+-- the ending of a refusal, and what was written after the report
 abbrev pub EndsRefused : Input → ℕ → ℕ → Ending → Option (List ℕ) → Option (List ℕ) → Type 0
 EndsRefused input number place ended.Done old new = ⊥
 EndsRefused input number place (ended.Refused at other line) old new =
@@ -110,14 +110,14 @@ EndsRefused input number place (ended.ReadFault at) old new = ⊥
 EndsRefused input number place ended.WriteFault old new = TakesFront old new (refused_text number place)
 EndsRefused input number place ended.NoMemory old new = Keeps old new
 
--- the ending of what stopped with a fault at an input, and what was written behind
+-- the ending of what stopped with a fault at an input, and what was written after
 abbrev pub EndsBehindFault : Input → RunFault → Ending → Option (List ℕ) → Option (List ℕ) → Type 0
 EndsBehindFault input (Refused number place) ending old new = EndsRefused input number place ending old new
 EndsBehindFault input Read ending old new = (ending ≡ ended.ReadFault input) × Keeps old new
 EndsBehindFault input Write ending old new = (ending ≡ ended.WriteFault) × Keeps old new
 EndsBehindFault input Memory ending old new = (ending ≡ ended.NoMemory) × Keeps old new
 
--- the same of whatever is answered
+-- likewise for whatever is answered
 abbrev pub EndsBehind : {X : Type 0} → Result X Stopped → Ending → Option (List ℕ) → Option (List ℕ) → Type 0
 EndsBehind (Ok done) ending old new = (ending ≡ ended.Done) × Keeps old new
 EndsBehind (Err stopped) ending old new = EndsBehindFault stopped.input stopped.fault ending old new
@@ -134,16 +134,16 @@ abbrev pub ending_of : {X : Type 0} → Result X Stopped → Ending
 ending_of (Ok done) = ended.Done
 ending_of (Err stopped) = fault_ending stopped.input stopped.fault
 
--- a write fault is told where the writer's failed calls rose, and only there
+-- a write fault is reported if the writer's failed calls rose, and only then
 abbrev pub TellsFailures : Ending → ℕ → ℕ → Type 0
 TellsFailures ending old new = (ending ≡ ended.WriteFault → HasFailedSince old new) × ((ending ≡ ended.WriteFault → ⊥) → new ≡ old)
 
--- the same of a fault
+-- likewise for a fault
 abbrev pub TellsWriteFaults : Option RunFault → ℕ → ℕ → Type 0
 TellsWriteFaults None old new = new ≡ old
 TellsWriteFaults (Some fault) old new = TellsWrite fault old new
 
--- the input that is named where an observer does not begin: the names that it was to observe, or, for want of memory, the log
+-- the input that is named if an observer does not begin: the names that it was to observe, or, when out of memory, the log
 abbrev pub begun_input : RunFault → Input
 begun_input (Refused number place) = input.Names
 begun_input fault = input.Log
@@ -158,15 +158,15 @@ abbrev pub IsReadFaultAt : {X : Type 0} → Input → Result X Stopped → Type 
 IsReadFaultAt input (Ok done) = ⊥
 IsReadFaultAt input (Err stopped) = (stopped.input ≡ input) × (stopped.fault ≡ Read)
 
--- a read fault is told of this input where its reader's failed calls rose, and only there
+-- a read fault is reported for this input if its reader's failed calls rose, and only then
 abbrev pub TellsReadFaults : {X : Type 0} → Input → Result X Stopped → ℕ → ℕ → Type 0
 TellsReadFaults input result old new = (IsReadFaultAt input result → HasFailedSince old new) × ((IsReadFaultAt input result → ⊥) → new ≡ old)
 
--- the same of an ending
+-- likewise for an ending
 abbrev pub TellsReadEndings : Input → Ending → ℕ → ℕ → Type 0
 TellsReadEndings input ending old new = (ending ≡ ended.ReadFault input → HasFailedSince old new) × ((ending ≡ ended.ReadFault input → ⊥) → new ≡ old)
 
--- of a log that lies in memory: to read it fails only for want of memory
+-- of a log in memory: reading it fails only when out of memory
 abbrev pub fault_in_memory : RunFault → RunFault
 fault_in_memory Read = Memory
 fault_in_memory fault = fault
@@ -188,9 +188,9 @@ HasNotFailedIn input ended.Done old new = new ≤ old
 HasNotFailedIn input (ended.Refused at number place) old new = at ≡ input → new ≤ old
 HasNotFailedIn input ending old new = ⊤
 
--- Why want of memory may be told of a command that has a log: nothing of the log was read; or its
--- reader has no cause to be told as a fault; or the log is refused, its reader has not failed, and
--- the line that says so was not made.
+-- Why out of memory may be reported for a command that has a log: nothing of the log was read; or
+-- its reader has no cause to be reported as a fault; or the log is refused, its reader has not
+-- failed, and the line that says so was not made.
 pub data TellsMemory (taken : List ℕ → LogOf) (known : Option (List ℕ)) (failures_before failures start spent : ℕ) : Type 0 where
   of_unread_log : spent ≡ start → TellsMemory taken known failures_before failures start spent
   of_no_cause : (HasCause failures_before failures start spent → ⊥) → TellsMemory taken known failures_before failures start spent

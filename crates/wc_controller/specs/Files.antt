@@ -1,5 +1,5 @@
 -- What a command answers for the files that it names: its output and its exit status. A plate or a
--- program is read whole and judged before the next file is read. (The profile's own.)
+-- program is read whole and checked before the next file is read. (The profile's own.)
 use Rattle.std.specs.Prelude.{◌≡◌, ℕ, ◌<◌, ◌≤◌, Bool, true, List, length, Option, Some, None, Result, Ok, Err, if◌then◌else◌}
 use Rattle.wc_model.specs.Instrument.PlateTable.{plate_of}
 use Rattle.wc_model.specs.Instrument.Plates.{PlateData}
@@ -35,7 +35,7 @@ pub record Observed : Type 0 where
   pub written : Written
   pub begins : Option Logic → Bool
 
--- the report with every scan, or with the last so many alone: whatever the logic, a run begins
+-- the report with every scan, or with the last n alone: whatever the logic, a run begins
 abbrev pub report_observed : Option ℕ → Observed
 report_observed last = record { written = report_written last; begins = λ logic. true }
 
@@ -57,7 +57,7 @@ AnswersPrinting o plate log text next answer = IsAnswer o plate (Some (first_log
 abbrev pub AnswersLog : PlateData → LogOf → Text → Option Text → JobAnswer → Type 0
 AnswersLog plate log text next answer = answer ≡ run_answer plate (first_logic text next) log
 
--- the file of the next program, where there is one, is judged as the program's is, before any row
+-- the file of the next program, if there is one, is checked as the program's is, before any row
 abbrev pub AnswersNextFile : Option (List ℕ) → (Option Text → JobAnswer → Type 0) → JobAnswer → Type 0
 AnswersNextFile None rest answer = rest None answer
 AnswersNextFile (Some next) rest answer = AnswersFile next (AnswersProgram next (λ text. rest (Some text))) answer

@@ -1,7 +1,7 @@
--- The headline, told of the definitions: the meaning of the text, its bound, and the report. (The
--- profile's own.)
+-- The headline, stated of the definitions: the meaning of the text, its bound, and the report.
+-- (The profile's own.)
 use Rattle.std.specs.Prelude.{◌≡◌, ◌≤◌, ℕ, List, length, reverse, Option, None}
-use Rattle.wc_instrument_laws.specs.Changes.{HasNoChange}
+use Rattle.wc_laws_instrument.specs.Changes.{HasNoChange}
 use Rattle.wc_model.specs.Instrument.Independence.{IsFreeOfPrograms}
 use Rattle.wc_model.specs.Language.Loading.{IsLoaded, IsNextLoaded}
 use Rattle.wc_model.specs.Language.Meaning.{Outcome, Done, Stuck}
@@ -17,7 +17,7 @@ use Rattle.wc_model.specs.Say.Report.{ScanResult}
 use Rattle.wc_model.specs.Language.Tree.{Text}
 use Rattle.wc_controller.specs.Turns.{AreLoaded, Turns, first_turn, in_turn, turns_after}
 
--- the outcome is done, in at most so many items
+-- the outcome is done, in at most n items
 abbrev pub EndsWithin : ℕ → Outcome → Type 0
 EndsWithin bound (Done result store trace) = length trace ≤ bound
 EndsWithin bound (Stuck reason) = ⊥
@@ -29,15 +29,15 @@ ShowsOutcome logic (Done result store trace) shown =
     (shown.steps ≡ length trace) × (shown.outputs ≡ outputs_of store) × (shown.after ≡ record { text = logic.text; store = store; next = logic.next })
 ShowsOutcome logic (Stuck reason) shown = ⊥
 
--- the store behind rows, from that of the declarations on
+-- the store after rows, from that of the declarations on
 abbrev pub store_behind : PlateData → Text → Past → Store
 store_behind plate text past = (logic_behind plate (first_logic text None) past).store
 
--- the outcome of a logic's scan at a moment, behind rows
+-- the outcome of a logic's scan at a moment, after rows
 abbrev pub outcome_of : PlateData → Logic → Past → ℕ → Outcome
 outcome_of plate logic past ms = scan_of logic.text logic.store (image_after plate past) ms
 
--- Of a program beside a scale, behind whatever rows have come (newest first), none of which changes
+-- Of a program with a scale, after whatever rows have come (newest first), none of which changes
 -- the program:
 --     scan     the scan of the next moment ends within the bound
 --     shown    its line shows what that scan means
@@ -49,7 +49,7 @@ pub record KeepsToItself (plate : PlateData) (text : Text) (bound : ℕ) : Type 
       (programs.scan (record { text = text; store = store_behind plate text past; next = None }) (image_after plate past) ms)
   pub line : (rows : List LogRow) → HasNoChange rows → IsFreeOfPrograms plate programs (first_logic text None) rows
 
--- The same of a program that has a next one, behind whatever rows have come that are run, with the
+-- Likewise for a program that has a next one, after whatever rows have come that are run, with the
 -- change to the next one among them or not. The text is the one that runs at that scan, and the bound
 -- its own.
 pub record KeepsOverAChange (plate : PlateData) (text : Text) (next : Option Text) : Type 0 where
@@ -60,7 +60,7 @@ pub record KeepsOverAChange (plate : PlateData) (text : Text) (next : Option Tex
       (programs.scan (logic_behind plate (first_logic text next) past) (image_after plate past) ms)
   pub line : (rows : List LogRow) → AreRun next rows → IsFreeOfPrograms plate programs (first_logic text next) rows
 
--- The same of a program that others follow, as many as there are: after whatever rows, in whatever
+-- Likewise for a program that others follow, as many as there are: after whatever rows, in whatever
 -- order scans and changes come, the next scan of the text that runs then ends within its bound, and
 -- the answers are those of a run with no program.
 pub record KeepsInTurn (plate : PlateData) (first : Turns) : Type 0 where
@@ -68,7 +68,7 @@ pub record KeepsInTurn (plate : PlateData) (first : Turns) : Type 0 where
       EndsWithin bound (scan_of (turns_after plate first past).text (turns_after plate first past).store (image_after plate past) ms)
   pub line : (rows : List LogRow) → IsFreeOfPrograms plate in_turn first rows
 
--- Each loaded text has a bound, and with it keeps to itself beside every plate; and so it does over a
+-- Each loaded text has a bound, and with it keeps to itself with every plate; and so it does over a
 -- change to whatever next text is loaded, and over as many changes as one likes.
 pub record HasTheHeadline (plate : PlateData) (text : Text) : Type 0 where
   pub bound : ℕ

@@ -4,7 +4,7 @@ use Rattle.wc_controller.specs.Files.{Observed}
 use Rattle.wc_model.specs.Say.ProgramReport.{Logic}
 use Rattle.wc_run.specs.Observing.{Plan, text_in_all}
 
--- a reader: the bytes that it is going to give, where they are known; its calls that failed; the bytes that it gave and its
+-- a reader: the bytes that it is going to give, if they are known; its calls that failed; the bytes that it gave and its
 -- calls, counted together
 pub record Reader : Type 0 where
   pub bytes : Option (List ℕ)
@@ -16,12 +16,12 @@ abbrev pub reader_of : {R : Type 0} → (R → Option (List ℕ)) → (R → ℕ
 reader_of bytes_left failure_count spent_count reader =
     record { bytes = bytes_left reader; failures = failure_count reader; spent = spent_count reader }
 
--- the same of a reader that may be missing
+-- likewise for a reader that may be missing
 abbrev pub optional_of : {R : Type 0} → (R → Option (List ℕ)) → (R → ℕ) → (R → ℕ) → Option R → Option Reader
 optional_of bytes_left failure_count spent_count None = None
 optional_of bytes_left failure_count spent_count (Some reader) = Some (reader_of bytes_left failure_count spent_count reader)
 
--- a writer: the bytes that it took, where they are known, and its calls that failed
+-- a writer: the bytes that it took, if they are known, and its calls that failed
 pub record Writer : Type 0 where
   pub taken : Option (List ℕ)
   pub failures : ℕ

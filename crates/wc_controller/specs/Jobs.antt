@@ -12,7 +12,7 @@ use Rattle.wc_run.specs.Runs.{AppendsFront}
 abbrev pub Allows : List ℕ → JobAnswer → Type 0
 Allows bytes answer = AnswersJob table_read records_of bytes answer
 
--- the same of the sections of a job
+-- likewise for the sections of a job
 abbrev pub AllowsSections : Sections → JobAnswer → Type 0
 AllowsSections sections answer = AnswersPlate records_of sections (plate_of (table_read sections.plate)) answer
 
@@ -25,7 +25,7 @@ abbrev pub IsStatus : ℕ → Type 0
 IsStatus status = (status ≡ 0) ⊎ (status ≡ 1) ⊎ (status ≡ 3) ⊎ (status ≡ 4)
 
 -- An answer that is allowed was written whole, and the status is its own; or something failed, and
--- a front of such an answer was written, or nothing.
+-- a prefix of such an answer was written, or nothing.
 pub data Gives (allowed : JobAnswer → Type 0) (status : ℕ) (old new : Option (List ℕ)) : Type 0 where
   answered : (answer : JobAnswer) → allowed answer → status ≡ answer.status → Appends old new answer.output → Gives allowed status old new
   cut_short : (answer : JobAnswer) → allowed answer → IsFailure status → AppendsFront old new answer.output → Gives allowed status old new

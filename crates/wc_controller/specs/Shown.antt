@@ -1,9 +1,9 @@
--- How a run ends, once the line of a refusal is written behind it: as it ended, or with a fault of that line. (The profile's own.)
+-- How a run ends, once the line of a refusal is written after it: as it ended, or with a fault of that line. (The profile's own.)
 use Rattle.std.specs.Prelude.{◌≡◌, ◌⊎◌}
 use Rattle.wc_controller.specs.declared.ending.Ending.{Ending}
 use Rattle.wc_controller.specs.declared.ending.Ending.TheVariants as ended
 
--- with a fault of a write, or for want of memory
+-- with a fault of a write, or when out of memory
 abbrev pub IsFaulty : Ending → Type 0
 IsFaulty ending = (ending ≡ ended.WriteFault) ⊎ (ending ≡ ended.NoMemory)
 

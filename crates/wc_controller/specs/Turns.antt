@@ -1,4 +1,4 @@
--- Programs that follow one another beside a scale: as many changes as there are next texts. (The profile's own.)
+-- Programs that follow one another with a scale: as many changes as there are next texts. (The profile's own.)
 use Rattle.std.specs.Prelude.{⊤, ℕ, List, [], ◌∷◌}
 use Rattle.wc_model.specs.Instrument.Plates.{PlateData}
 use Rattle.wc_model.specs.Language.Carried.{carried}
@@ -30,7 +30,7 @@ abbrev pub change_in : Text → Store → List Text → Turns
 change_in text store [] = record { text = text; store = store; nexts = [] }
 change_in text store (new ∷ nexts) = record { text = new; store = carried text store new; nexts = nexts }
 
--- the programs in turn, beside a scale
+-- the programs in turn, with a scale
 abbrev pub in_turn : Program Turns
 in_turn = record {
   scan = λ turns image ms. with_store turns (scans_of turns.text turns.store image ms);

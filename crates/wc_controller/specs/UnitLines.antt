@@ -4,7 +4,7 @@ use Rattle.wc_model.specs.Language.Checks.{spots_of}
 use Rattle.wc_model.specs.Language.Tree.{Text}
 use Rattle.wc_model.specs.Say.UnitReport.{IsBoundAt, IsPathPart, unit_line}
 
--- the line of the worst path of the unit at this place, counted from 0, where paths are asked for
+-- the line of the worst path of the unit at this place, counted from 0, if paths are asked for
 abbrev pub IsPathPartAt : Bool → Text → ℕ → List ℕ → Type 0
 IsPathPartAt paths text place part = IfSome (slice_get (spots_of text) place) (λ spot. IsPathPart paths spot part)
 

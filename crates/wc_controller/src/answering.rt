@@ -24,7 +24,7 @@ use wc_plate::plate;
 use wc_record::RefusedRow;
 use wc_run::{Report, RunFault};
 
-/// What stopped a run of a log that lies in memory: to read it fails only for want of memory.
+/// What stopped a run of a log in memory: reading it fails only when out of memory.
 fn stopped_in_memory(stopped: Stopped) -> Stopped
     ensures input { result.input ≡ stopped.input }
     ensures fault { result.fault ≡ fault_in_memory stopped.fault }
@@ -152,12 +152,12 @@ fn answer_input<R: ByteIn, W: ByteOut>(
     }
 }
 
-/// Reads a job, of at most 1048576 bytes, and answers it: its plate, its program, its next program,
-/// if it has one, and its log are read, the log is run row by row, and each line is written as its row comes. Where something is
-/// refused, the refusal with its number and its place is written behind the lines of the rows
-/// before it, and a refused row of the log is told. A read fault comes where the reader failed in this call and only there, a write fault
-/// where the writer did; at such a fault, and for want of memory, a front of the output is written,
-/// or nothing.
+/// Reads a job, of at most 1048576 bytes, and answers it: its plate, its program, its next program, if it has one,
+/// and its log are read, the log is run row by row, and each line is written as its row comes. If something is
+/// refused, the refusal with its number and its place is written after the lines of the rows before it, and a
+/// refused row of the log is reported. A read fault comes if the reader failed in this call, and only then, a
+/// write fault if the writer did; at such a fault, and when out of memory, a prefix of the output is written, or
+/// nothing.
 pub fn answer_job<R: ByteIn, W: ByteOut>(
     alloc: Global,
     reader: &mut R,
@@ -182,8 +182,8 @@ pub fn answer_job<R: ByteIn, W: ByteOut>(
     end(alloc, answer, writer)
 }
 
-/// Answers a job as `answer_job` does. The status is 0 where all rows ran, 1 where something was
-/// refused, 3 where the reader or the writer failed in this call, and 4 for want of memory.
+/// Answers a job as `answer_job` does. The status is 0 if all rows ran, 1 if something was
+/// refused, 3 if the reader or the writer failed in this call, and 4 when out of memory.
 pub fn job<R: ByteIn, W: ByteOut>(alloc: Global, reader: &mut R, writer: &mut W) -> u8
     ensures gives { IfSome (R.bytes_left reader.old)
         (λ bytes.

@@ -33,10 +33,10 @@ fn write_report<W: ByteOut>(
 }
 
 /// Checks a program text, and writes for each unit, in the text's order, a line with its name and
-/// the number of steps that it takes at most; with `paths` the lines of its worst path behind it.
+/// the number of steps that it takes at most; with `paths` the lines of its worst path after it.
 /// `Refused` names the fault by which the text is not loaded, and nothing is written. `Write` comes
-/// only where the writer failed in this call; a front of the report is then written. `Memory` is
-/// want of memory, before anything is written. `Read` never comes.
+/// only if the writer failed in this call; a prefix of the report is then written. `Memory` means
+/// out of memory, before anything is written. `Read` never comes.
 pub fn check<W: ByteOut>(
     alloc: Global,
     text: &[u8],
@@ -79,9 +79,9 @@ fn check_input<T: ByteIn, W: ByteOut>(
     }
 }
 
-/// Checks a program as `check` does, and writes the line of its refusal. A read fault comes where
-/// the reader failed in this call and only there, a write fault where the writer did; a front of
-/// the output is then written, or nothing, as for want of memory.
+/// Checks a program as `check` does, and writes the line of its refusal. A read fault comes if
+/// the reader failed in this call, and only then, a write fault if the writer did; a prefix of
+/// the output is then written, or nothing, as when out of memory.
 pub fn check_file<T: ByteIn, W: ByteOut>(
     alloc: Global,
     paths: bool,

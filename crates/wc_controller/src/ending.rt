@@ -18,7 +18,7 @@ pub enum Ending {
         input: Input,
         /// The rule's number, by the list of refusals.
         number: u16,
-        /// The line or row that breaks it, counted from 1; 0 where no line does.
+        /// The line or row that breaks it, counted from 1; 0 if no line does.
         place: u32,
     },
     /// An input's reader failed, or as much of the log was read as may be.
@@ -54,8 +54,8 @@ impl Ending {
         }
     }
 
-    /// The exit status: 0 where all was done, 1 where something was refused, 3 where a device
-    /// failed, 4 for want of memory.
+    /// The exit status: 0 if all was done, 1 if something was refused, 3 if a device
+    /// failed, 4 when out of memory.
     pub fn status(&self) -> u8
         ensures { result ≡ status_of self.now }
     {
@@ -69,7 +69,7 @@ impl Ending {
     }
 }
 
-/// The ending of a refusal, whose line is written behind what stands.
+/// The ending of a refusal, whose line is written after what is there.
 fn end_refused<W: ByteOut>(
     alloc: Global,
     input: Input,
@@ -96,8 +96,8 @@ fn end_refused<W: ByteOut>(
     }
 }
 
-/// The ending of what was done, or of what stopped it: a refusal's line is written behind what
-/// stands.
+/// The ending of what was done, or of what stopped it: a refusal's line is written after what
+/// is there.
 pub fn end<W: ByteOut>(alloc: Global, answer: Result<(), Stopped>, writer: &mut W) -> Ending
     ensures ends { EndsBehind answer result (W.bytes_taken writer.old)
         (W.bytes_taken writer.new) }

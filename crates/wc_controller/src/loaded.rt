@@ -92,7 +92,7 @@ fn next_program<'l, 't>(
     }
 }
 
-/// The input that is named where an observer does not begin.
+/// The input that is named if an observer does not begin.
 fn begun_input(fault: RunFault) -> Input
     ensures { result ≡ begun_input fault }
 {
@@ -236,7 +236,7 @@ pub(crate) fn run_alone<W: ByteOut, O: Observer<SlotStore, W>, L: ByteIn>(
 }
 
 /// Loads the next program, if there is one, and runs a log with a program that is loaded. The log is
-/// not read where the next program is refused.
+/// not read if the next program is refused.
 pub(crate) fn run_loaded<W: ByteOut, O: Observer<SlotStore, W>, L: ByteIn>(
     alloc: Global,
     observer: &mut O,

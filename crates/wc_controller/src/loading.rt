@@ -14,7 +14,7 @@ use wc_verify::verify;
 
 /// Loads a program text in five passes: tokens, reading, declarations, bodies, cost. `Err(Refused)`
 /// has the number and the line of the first fault of the first pass that has one, by the list of
-/// refusals; there is no other, and the text is then loaded as nothing. `Err(Memory)` is want of
+/// refusals; there is no other, and the text is then loaded as nothing. `Err(Memory)` means out of
 /// memory. With what is loaded every scan ends, within the program's bound, and leaves the line as
 /// it is with no program.
 pub fn load<'a>(alloc: Global, text: &'a [u8]) -> Result<Loaded<'a>, Fault>

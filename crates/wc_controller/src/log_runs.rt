@@ -17,8 +17,8 @@ use wc_record::RefusedRow;
 use wc_run::{LastScans, Report, RunFault, Scale, judged};
 use wc_store::Store;
 
-/// The fault of a run that does not begin for want of memory: where the reader has failed already as often as can be counted,
-/// that is told.
+/// The fault of a run that is out of memory before it begins: if the reader has failed already as often as can be counted,
+/// that is reported.
 fn not_begun<R: ByteIn>(fault: RunFault, reader: &R) -> RunFault
     ensures judged { IsJudged fault result }
     ensures read { result ≡ RunFault.Read

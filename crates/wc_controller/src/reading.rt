@@ -81,7 +81,7 @@ pub(crate) fn read_optional<R: ByteIn>(
     }
 }
 
-/// The text that stands there, lent.
+/// The text that is there, borrowed.
 pub(crate) fn lent(text: &Option<Vec<u8>>) -> Option<&[u8]>
     ensures { option_map (λ lent. lent.now) result ≡ option_map (λ held. held.items) text.now }
 {

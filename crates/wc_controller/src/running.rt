@@ -80,7 +80,7 @@ pub fn run_inputs<
 /// `told` is given the fields of a row that is refused.
 ///
 /// The first input that breaks a rule is refused, after what is written of the rows before, and what
-/// follows it is not read. A row that changes the program takes the next one; where none is left it
+/// follows it is not read. A row that changes the program takes the next one; if none is left it
 /// is refused. A read fault names the input whose reader failed in this call, or the log if as much
 /// was read as may be; a write fault comes if the observer's writer failed in this call, and only
 /// then. After such a fault, and out of memory, a prefix of the output was written, or nothing.
@@ -120,7 +120,7 @@ pub fn report_files<P: ByteIn, T: ByteIn, N: ByteIn, L: ByteIn, W: ByteOut>(
 }
 
 /// Runs a log as `run_files` does, and writes its report, with the lines of the last `last` scans
-/// alone, 1 to 1000: the answers of the line as their rows come, and those scans behind them.
+/// alone, 1 to 1000: the answers of the line as their rows come, and those scans after them.
 pub fn last_files<P: ByteIn, T: ByteIn, N: ByteIn, L: ByteIn, W: ByteOut>(
     alloc: Global,
     last: u16,

@@ -8,7 +8,7 @@ use wc_cost::Loaded;
 use wc_report::{path_line, unit_line};
 use wc_run::RunFault;
 
-/// The line of the worst path of a unit by its place, where paths are asked for.
+/// The line of the worst path of a unit by its place, if paths are asked for.
 fn path_at(
     alloc: Global,
     loaded: &Loaded<'_>,

@@ -3,9 +3,9 @@ use Rattle.std.proofs.Common.{◌≡◌, ℕ, ◌<◌, List, length, Option, Som
 use Rattle.std.proofs.lemmas.Option.{get_or_from_slice_get, slice_get-map, slice_get_within}
 use Rattle.std.specs.Option.{option_map}
 use Rattle.std.specs.Prelude.{IfSome}
-use Rattle.wc_flat.proofs.UnitPaths.{flat_code_has_the_worst_path}
-use Rattle.wc_flat.specs.Laid.{AreLaid}
-use Rattle.wc_flat.specs.Laws.{AreBoundsBelow}
+use Rattle.wc_text_flat.proofs.UnitPaths.{flat_code_has_the_worst_path}
+use Rattle.wc_text_flat.specs.Laid.{AreLaid}
+use Rattle.wc_text_flat.specs.Laws.{AreBoundsBelow}
 use Rattle.wc_model.specs.Language.Checks.{Spot, spots_of}
 use Rattle.wc_model.specs.Language.Frames.{scope_of_spot, scopes_of}
 use Rattle.wc_model.specs.Language.Paths.{IsLongest}

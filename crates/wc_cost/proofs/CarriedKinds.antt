@@ -1,7 +1,7 @@
 -- A place keeps the value of a place of its own kind.
 use Rattle.std.proofs.Common.{◌≡◌, ℕ, Bool, true, false, Option, Some, None, option_map, refl, sym, ap, ◌∙◌}
 use Rattle.std.specs.Prelude.{IfSome, if◌then◌else◌, option_and_then, slice_get}
-use Rattle.wc_flat.proofs.Images.{first_numbers_are_contents}
+use Rattle.wc_text_flat.proofs.Images.{first_numbers_are_contents}
 use Rattle.wc_model.specs.Language.Carried.{keeps}
 use Rattle.wc_model.specs.Language.CarriedPlaces.{carried_number, frame_of_text, number_if_kept}
 use Rattle.wc_model.specs.Language.Frames.{place_number, slot_kind_of, slot_kinds}
@@ -11,10 +11,10 @@ use Rattle.wc_model.specs.Language.Tree.{Text}
 use Rattle.wc_model.specs.Text.Grammar.{IsProgramLast}
 use Rattle.wc_model.specs.declared.place.Place.{Place}
 use Rattle.wc_model.specs.declared.value.Value.TheVariants.{Bool as Truth}
-use Rattle.wc_soundness.proofs.Carrying.{first_holds, kept_leads, one_fits}
-use Rattle.wc_soundness.specs.Typing.{slot_of}
+use Rattle.wc_laws_soundness.proofs.Carrying.{first_holds, kept_leads, one_fits}
+use Rattle.wc_laws_soundness.specs.Typing.{slot_of}
 
--- the two ways to tell the kind of a content
+-- the two ways to determine the kind of a content
 pub slots_alike : (o : Option Content) → option_map slot_kind_of o ≡ option_map slot_of o
 slots_alike None = refl
 slots_alike (Some (Plain (Truth b))) = refl
@@ -40,7 +40,7 @@ kind_kept old new old_last new_last n own k e = by (slice_get (frame_of_text new
     by None there e = cc
     by (Some entry) there e = chosen entry (keeps old new entry.0) (own entry there) refl e
 
--- the same of an answer
+-- likewise for an answer
 pub kind_answered : (old new : Text) (n : ℕ) (result : Option Place) → ((k : ℕ) → carried_number old new n ≡ Some k → slice_get (slot_kinds (frame_of_text new)) n ≡ slice_get (slot_kinds (frame_of_text old)) k) → option_map (λ p. p.0) result ≡ carried_number old new n →
     IfSome result (λ p. slice_get (slot_kinds (frame_of_text new)) n ≡ slice_get (slot_kinds (frame_of_text old)) p.0)
 kind_answered old new n None kind is = tt

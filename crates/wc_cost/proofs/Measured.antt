@@ -1,14 +1,14 @@
--- Units that are laid flat and measured one after the other.
+-- Units that are lowered and measured one after the other.
 use Rattle.std.proofs.Common.{◌≡◌, ℕ, zero, suc, ◌+◌, ◌≤◌, List, [], ◌∷◌, ◌++◌, length, Option, Some, None, Err, append_assoc, refl, sym, ap, subst, ◌∙◌, arith, length-append, inl, inr}
 use Rattle.std.proofs.lemmas.List.{append-nil, length-map, map-append}
 use Rattle.std.specs.Prelude.{slice_index}
 use Rattle.wc_names.specs.StandsFor.{onto}
-use Rattle.wc_flat.proofs.FlatPaths.{BlocksMeasured, MeasuredAs}
-use Rattle.wc_flat.proofs.UnitPaths.{AreBoundsBehind, blocks_step, measured_is_worst, measured_path, unit_measured}
-use Rattle.wc_flat.specs.FlatPaths.{sources_of, worst_of}
-use Rattle.wc_flat.specs.Laid.{AreLaidBehind, IsLaid}
-use Rattle.wc_flat.specs.Laws.{AreBoundsBelow}
-use Rattle.wc_language_laws.proofs.Longest.{Found, best_block, best_path}
+use Rattle.wc_text_flat.proofs.FlatPaths.{BlocksMeasured, MeasuredAs}
+use Rattle.wc_text_flat.proofs.UnitPaths.{AreBoundsBehind, blocks_step, measured_is_worst, measured_path, unit_measured}
+use Rattle.wc_text_flat.specs.FlatPaths.{sources_of, worst_of}
+use Rattle.wc_text_flat.specs.Laid.{AreLaidBehind, IsLaid}
+use Rattle.wc_text_flat.specs.Laws.{AreBoundsBelow}
+use Rattle.wc_laws_language.proofs.Longest.{Found, best_block, best_path}
 use Rattle.wc_model.specs.Language.Checks.{Refusal, spots_behind}
 use Rattle.wc_model.specs.Language.Faults.{FirstTooLong, IsShortEnough, MOST_STEPS}
 use Rattle.wc_model.specs.Language.Scopes.{Scope}
@@ -17,14 +17,14 @@ use Rattle.wc_model.specs.Language.Tree.{ProgramUnit}
 use Rattle.wc_model.specs.declared.code.Code.{Code}
 use Rattle.wc_model.specs.declared.fault.Fault.{Fault}
 use Rattle.wc_model.specs.declared.fault.Fault.TheVariants.{Refused, Memory}
-use Rattle.wc_soundness.proofs.Places.{Some-same}
-use Rattle.wc_soundness.specs.Sound.{NestsSimply}
+use Rattle.wc_laws_soundness.proofs.Places.{Some-same}
+use Rattle.wc_laws_soundness.specs.Sound.{NestsSimply}
 use Rattle.wc_cost.specs.Faultless.{AreLoaded, IsMeasured, IsOverrun, LoadsUnits, MeasuresUnit}
 use Rattle.wc_cost.specs.LoadedInside.{AreLines, bounds_of, codes_of}
 use Rattle.wc_cost.specs.Ways.{AreSmall}
 use Rattle.wc_cost.specs.declared.laid.LaidUnit.{LaidUnit}
 
--- a unit that is laid flat, with the length of its longest path
+-- a unit that is lowered, with the length of its longest path
 pub record IsSound (scope : Scope) (laid : LaidUnit) : Type 0 where
   pub code : IsLaid scope scope.unit.body laid.code.items
   pub lines : laid.lines.items ≡ sources_of scope.unit.body
@@ -185,7 +185,7 @@ sound_bounds units laids s n k l scope code c d =
     ap (slice_index (bounds_of laids)) (let a : k ≡ 0 + k = omega arith in a)
     ∙ bounds_behind (bounds_of laids) [] units laids (λ name unit earlier e. cc) s (λ j. ap (slice_index (bounds_of laids)) (let a : 0 + j ≡ j = omega arith in a)) n k l scope code c d
 
--- a unit that is refused, and a text whose units are all laid
+-- a unit that is refused, and a text whose units are all lowered
 pub unit_refused : (text : List ProgramUnit) (before : List ProgramUnit) (done : List LaidUnit) (unit : ProgramUnit) (left : List ProgramUnit) (fault : Fault) → onto before (unit ∷ left) ≡ text → AreSoFar before done → NestsSimply unit.body →
     MeasuresUnit (bounds_of done) (record { before = before; unit = unit }) (Err fault) → LoadsUnits text (Err fault)
 unit_refused text before done unit left Memory e h simple m = tt

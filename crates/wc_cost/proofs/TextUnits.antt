@@ -5,8 +5,8 @@ use Rattle.std.specs.List.{flat_map}
 use Rattle.std.specs.Prelude.{slice_get}
 use Rattle.wc_names.specs.Numbered.{IsUnit}
 use Rattle.wc_names.specs.StandsFor.{onto}
-use Rattle.wc_flat.proofs.Shortness.{in_sequence, lines_short, tokens_fit}
-use Rattle.wc_flat.specs.Laid.{flat_length}
+use Rattle.wc_text_flat.proofs.Shortness.{in_sequence, lines_short, tokens_fit}
+use Rattle.wc_text_flat.specs.Laid.{flat_length}
 use Rattle.wc_model.specs.Language.BodyRules.{body_rules, text_body_checks}
 use Rattle.wc_model.specs.Language.Checks.{Check, Spot, spots_behind}
 use Rattle.wc_model.specs.Language.DeclarationRules.{body_name_checks, text_declaration_checks, unit_checks, unit_declaration_checks}
@@ -17,12 +17,12 @@ use Rattle.wc_model.specs.Text.Grammar.{InBody, line_ends, unit_of}
 use Rattle.wc_model.specs.Text.Languages.{each, ◌then◌}
 use Rattle.wc_model.specs.Text.Marks.{Mark}
 use Rattle.wc_model.specs.Text.Reading.{mark_of_token}
-use Rattle.wc_soundness.proofs.Places.{Some-same}
-use Rattle.wc_soundness.proofs.Spelled.{spelled_text_nests}
-use Rattle.wc_soundness.proofs.Steps.{clean_first, clean_second}
-use Rattle.wc_soundness.proofs.Texts.{none_broken}
-use Rattle.wc_soundness.specs.Laws.{UnitsNestSimply}
-use Rattle.wc_soundness.specs.Sound.{Clean, NestsSimply}
+use Rattle.wc_laws_soundness.proofs.Places.{Some-same}
+use Rattle.wc_laws_soundness.proofs.Spelled.{spelled_text_nests}
+use Rattle.wc_laws_soundness.proofs.Steps.{clean_first, clean_second}
+use Rattle.wc_laws_soundness.proofs.Texts.{none_broken}
+use Rattle.wc_laws_soundness.specs.Laws.{UnitsNestSimply}
+use Rattle.wc_laws_soundness.specs.Sound.{Clean, NestsSimply}
 use Rattle.wc_laying.proofs.LayableLines.{lines_layable}
 use Rattle.wc_cost.specs.Faultless.{IsFaultless, IsSpelled}
 use Rattle.wc_laying.specs.Layable.{IsLayable}
@@ -40,7 +40,7 @@ unit_clean rules before (unit ∷ units) c (suc k) scope e =
     let spot : Spot ProgramUnit = record { before = before; item = unit; behind = units } in
     unit_clean rules (unit ∷ before) units (clean_second (rules spot) (flat_map rules (spots_behind (unit ∷ before) units)) c) k scope e
 
--- how many stand before it
+-- the number before it
 count_before : (before units : List ProgramUnit) (k : ℕ) (scope : Scope) → slice_get (map scope_of_spot (spots_behind before units)) k ≡ Some scope → length scope.before < length before + length units
 count_before before [] k scope e = cc
 count_before before (unit ∷ units) zero scope e =
@@ -48,7 +48,7 @@ count_before before (unit ∷ units) zero scope e =
     subst (λ (s : Scope). length s.before < length before + length (unit ∷ units)) (sym (Some-same mine scope e)) (omega arith)
 count_before before (unit ∷ units) (suc k) scope e = let l = count_before (unit ∷ before) units k scope e in omega (arith, l)
 
--- how many flat lines it has, and what it nests
+-- the number of flat lines it has, and what it nests
 flat_short : (before units : List ProgramUnit) (tokens : List Mark) → each (λ unit. line_ends then unit_of unit) units tokens → (k : ℕ) (scope : Scope) → slice_get (map scope_of_spot (spots_behind before units)) k ≡ Some scope → flat_length scope.unit.body ≤ length tokens
 flat_short before [] tokens s k scope e = cc
 flat_short before (unit ∷ units) tokens s zero scope e =
@@ -101,7 +101,7 @@ unit_layable text h k scope is =
     let most = h.read.within_limits.units in
     lines_layable scope scope.unit.body [] (omega (arith, few, most)) (unit_short text h k scope is) own bodies.1
 
--- a unit between those before it and those behind
+-- a unit between those before it and those after
 at_split : (before units : List ProgramUnit) (k : ℕ) → slice_get (map scope_of_spot (spots_behind [] (onto before units))) (length before + k) ≡ slice_get (map scope_of_spot (spots_behind before units)) k
 at_split [] units k = ap (slice_get (map scope_of_spot (spots_behind [] units))) (let a : 0 + k ≡ k = omega arith in a)
 at_split (unit ∷ before) units k =

@@ -4,8 +4,8 @@ use Rattle.std.proofs.lemmas.List.{length-map}
 use Rattle.std.proofs.lemmas.Option.{slice_get-map}
 use Rattle.std.specs.Prelude.{slice_get}
 use Rattle.std.specs.Str.{IsAscii}
-use Rattle.wc_flat.proofs.Programs.{codes_length}
-use Rattle.wc_flat.specs.Laid.{AreLaid}
+use Rattle.wc_text_flat.proofs.Programs.{codes_length}
+use Rattle.wc_text_flat.specs.Laid.{AreLaid}
 use Rattle.wc_model.specs.Language.Tree.{ProgramUnit, Text}
 use Rattle.wc_model.specs.Language.Views.{text_view, unit_view}
 use Rattle.wc_model.specs.Text.Grammar.{IsNameOf, line_ends, unit_of}
@@ -15,8 +15,8 @@ use Rattle.wc_model.specs.Text.Reading.{IsRead, mark_of_token}
 use Rattle.wc_model.specs.declared.code.Code.{Code}
 use Rattle.wc_model.specs.declared.source.Source.{Source}
 use Rattle.wc_model.specs.declared.source.Unit.{Unit as CodeUnit}
-use Rattle.wc_soundness.proofs.Places.{Some-same}
-use Rattle.wc_token_laws.proofs.Ascii.{AreAscii, IsAsciiSymbol, ascii_parts, tokens_ascii}
+use Rattle.wc_laws_soundness.proofs.Places.{Some-same}
+use Rattle.wc_laws_tokens.proofs.Ascii.{AreAscii, IsAsciiSymbol, ascii_parts, tokens_ascii}
 
 -- the two parts of a sequence
 parts : {A B : List Mark → Type 0} (tokens : List Mark) (s : Sequence A B tokens) → AreAscii tokens → AreAscii s.front × AreAscii s.rest

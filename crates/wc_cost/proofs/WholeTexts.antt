@@ -5,10 +5,10 @@ use Rattle.std.specs.Prelude.{if◌then◌else◌, option_and_then, reverse, sli
 use Rattle.wc_names.specs.Numbered.{IsUnit}
 use Rattle.wc_names.specs.StandsFor.{AreTables, onto}
 use Rattle.wc_names.specs.declared.kept.Tables.{Tables}
-use Rattle.wc_flat.proofs.Programs.{codes_length}
-use Rattle.wc_flat.proofs.Texts.{newest}
-use Rattle.wc_flat.specs.Contents.{frame_of_reversed, frame_of_text}
-use Rattle.wc_flat.specs.Laid.{AreLaid}
+use Rattle.wc_text_flat.proofs.Programs.{codes_length}
+use Rattle.wc_text_flat.proofs.Texts.{newest}
+use Rattle.wc_text_flat.specs.Contents.{frame_of_reversed, frame_of_text}
+use Rattle.wc_text_flat.specs.Laid.{AreLaid}
 use Rattle.wc_model.specs.Language.Carried.{lead_from, path_lead, same_lead, direct_lead}
 use Rattle.wc_model.specs.Language.CarriedPlaces.{carried_number, carried_within, number_if_kept, number_if_kept_within}
 use Rattle.wc_model.specs.Language.Declarations.{is_block}
@@ -21,7 +21,7 @@ use Rattle.wc_model.specs.Text.Grammar.{IsProgramLast}
 use Rattle.wc_model.specs.declared.fault.Fault.{Fault}
 use Rattle.wc_model.specs.declared.fault.Fault.TheVariants.{Refused, Memory}
 use Rattle.wc_model.specs.declared.source.Source.{Source}
-use Rattle.wc_soundness.proofs.Texts.{turned}
+use Rattle.wc_laws_soundness.proofs.Texts.{turned}
 use Rattle.wc_cost.proofs.TextUnits.{unit_at}
 use Rattle.wc_cost.specs.Costs.{IsCosted}
 use Rattle.wc_cost.specs.Faultless.{IsFaultless, LoadsUnits}
@@ -38,7 +38,7 @@ pub refused : (source : Source) (fault : Fault) → LoadsUnits (text_view source
 refused source (Refused number place) h = h
 refused source Memory h = h
 
--- units turned round in front of others
+-- units turned round before others
 onto_reverse : (before units : List ProgramUnit) → onto before units ≡ reverse before ++ units
 onto_reverse [] units = refl
 onto_reverse (unit ∷ before) units = onto_reverse before (unit ∷ units) ∙ turned unit before units
@@ -66,11 +66,11 @@ last_unit text order n e =
       frame = ap (λ x. if x then map (λ p. (Path p.0, p.1)) (unit_places new.before new.program) else program_frame new.before new.program) new.no_block ∙ ap frame_of_reversed (sym are);
     }
 
--- as many units are laid as there are
+-- as many units are lowered as there are
 pub laid_count : (text : Text) (units : List LaidUnit) → AreLaid text (codes_of units) → length units ≡ length text
 laid_count text units h = sym (length-map units (λ (u : LaidUnit). u.code.items)) ∙ codes_length [] text (codes_of units) h
 
--- what a place keeps is told of the programs of two texts
+-- what a place keeps is defined for the programs of two texts
 kept_alike : (old new : Text) (o n : ℕ) (from : Last old o) (to : Last new n) (entry : Location × Content) → number_if_kept_within from.scope to.scope entry ≡ number_if_kept old new entry
 kept_alike old new o n from to (Direct v, content) = ap (λ frame. if same_lead (direct_lead v) (direct_lead v) then place_number frame (Direct v) else None) from.frame
 kept_alike old new o n from to (Path names, content) =

@@ -3,18 +3,18 @@ use Rattle.std.proofs.Common.{◌≡◌, ℕ, zero, suc, ◌<◌, ◌≤◌, Lis
 use Rattle.std.proofs.lemmas.Option.{slice_get-map, slice_get_within}
 use Rattle.std.specs.Option.{option_map}
 use Rattle.std.specs.Prelude.{IfSome, slice_get}
-use Rattle.wc_flat.proofs.Shortness.{flat_code_is_short}
-use Rattle.wc_flat.proofs.UnitPaths.{flat_code_has_the_worst_path}
-use Rattle.wc_flat.specs.FlatPaths.{sources_of, worst_of}
-use Rattle.wc_flat.specs.Laid.{AreLaid}
-use Rattle.wc_flat.specs.Laws.{AreBoundsBelow}
+use Rattle.wc_text_flat.proofs.Shortness.{flat_code_is_short}
+use Rattle.wc_text_flat.proofs.UnitPaths.{flat_code_has_the_worst_path}
+use Rattle.wc_text_flat.specs.FlatPaths.{sources_of, worst_of}
+use Rattle.wc_text_flat.specs.Laid.{AreLaid}
+use Rattle.wc_text_flat.specs.Laws.{AreBoundsBelow}
 use Rattle.wc_model.specs.Language.Checks.{spots_behind}
 use Rattle.wc_model.specs.Language.Frames.{scope_of_spot, scopes_of}
 use Rattle.wc_model.specs.Language.Scopes.{Scope}
 use Rattle.wc_model.specs.Language.Tree.{ProgramUnit, Text}
 use Rattle.wc_model.specs.Language.WorstPaths.{AreWorstLines}
 use Rattle.wc_model.specs.Text.Reading.{IsRead}
-use Rattle.wc_soundness.proofs.Places.{Some-same}
+use Rattle.wc_laws_soundness.proofs.Places.{Some-same}
 use Rattle.wc_cost.specs.LoadedInside.{AreLines, bounds_of, codes_of}
 use Rattle.wc_cost.specs.LoadedTexts.{AreWorstAt}
 use Rattle.wc_cost.specs.declared.laid.LaidUnit.{LaidUnit}

@@ -1,8 +1,8 @@
--- The worst ways through flat code, computed from the last line to the first.
+-- The worst paths through flat code, computed from the last line to the first.
 use Rattle.std.proofs.Common.{◌≡◌, ℕ, zero, suc, ◌+◌, ◌*◌, ◌<◌, ◌≤◌, Bool, true, false, List, [], ◌∷◌, ◌++◌, length, drop, get_or, set, append_assoc, refl, sym, ap, subst, ◌∙◌, arith}
 use Rattle.std.proofs.lemmas.List.{drop-set, get_or-drop, length-map, length-drop}
 use Rattle.std.specs.Prelude.{if◌then◌else◌, nat_lt, slice_index}
-use Rattle.wc_flat.specs.FlatPaths.{Worst, from_line, line_worst, no_more, one_more, preceded, turned, worse, worst_from, worst_of}
+use Rattle.wc_text_flat.specs.FlatPaths.{Worst, from_line, line_worst, no_more, one_more, preceded, turned, worse, worst_from, worst_of}
 use Rattle.wc_model.specs.Language.Faults.{MOST_STEPS}
 use Rattle.wc_model.specs.declared.code.Code.{Code}
 use Rattle.wc_model.specs.declared.code.Code.TheVariants.{Not, Jump, Return, Call, ArgumentNumber, Body}
@@ -11,7 +11,7 @@ use Rattle.wc_model.specs.declared.operator.Condition.TheVariants.{Always, IfTru
 use Rattle.wc_names.proofs.Lists.{from_index, from_index_or}
 use Rattle.wc_cost.specs.Ways.{AreBehind, AreSmall, AreWays, and_then, own_source, own_steps, steps_of}
 
--- the length of the way from one of the lines behind
+-- the length of the path from one of the lines after
 steps_at : (rest : List Worst) (k : ℕ) → (from_line rest k).steps ≡ slice_index (steps_of rest) k
 steps_at [] k = refl
 steps_at (way ∷ rest) zero = refl
@@ -20,7 +20,7 @@ steps_at (way ∷ rest) (suc k) = steps_at rest k
 pub way_behind : (ways : List ℕ) (next : ℕ) (rest : List Worst) → AreBehind ways next rest → (k : ℕ) → (from_line rest k).steps ≡ slice_index ways (next + k)
 way_behind ways next rest are k = steps_at rest k ∙ ap (λ xs. slice_index xs k) (sym are) ∙ get_or-drop next ways k 0
 
--- behind the last line there is nothing
+-- after the last line there is nothing
 pub past : (rest : List Worst) (k : ℕ) → length rest ≤ k → from_line rest k ≡ no_more
 past [] k l = refl
 past (way ∷ rest) zero l = absurd (omega (arith, l))
@@ -32,7 +32,7 @@ chosen b w a p e is = e ∙ ap (λ x. if x then a else p) is
 pub other : (b : Bool) (w a p : Worst) → w ≡ (if b then a else p) → b ≡ false → w ≡ p
 other b w a p e is = e ∙ ap (λ x. if x then a else p) is
 
--- a line's own steps, and then a way
+-- a line's own steps, and then a path
 pub then_steps : (bounds : List ℕ) (source : ℕ) (line : Code) (way : Worst) → (and_then bounds source line way).steps ≡ own_steps bounds line + way.steps
 then_steps bounds source (Body unit at) way = refl
 then_steps bounds source line way = refl
@@ -56,7 +56,7 @@ other_way bounds source rest (Return condition) j r c = absurd (r condition refl
 other_way bounds source rest (Call condition skip) j r c = absurd (c condition skip refl)
 other_way bounds source rest line j r c = refl
 
--- whatever line it is, some way goes on behind it
+-- whatever line it is, some path goes on after it
 abbrev SomeWay : List ℕ → ℕ → List Worst → Code → Type 0
 SomeWay bounds source rest line = (k : ℕ) × (line_worst bounds source rest line ≡ and_then bounds source line (from_line rest k))
 
@@ -84,7 +84,7 @@ own_small : (bounds : List ℕ) → AreSmall bounds → (line : Code) → own_st
 own_small bounds small (Body unit at) = small unit
 own_small bounds small line = omega arith
 
--- no way is longer than its lines allow
+-- no path is longer than its lines allow
 one_small : (bounds : List ℕ) → AreSmall bounds → (source : ℕ) (rest : List Worst) (line : Code) (n : ℕ) → ((k : ℕ) → (from_line rest k).steps ≤ n * 1000000) → (line_worst bounds source rest line).steps ≤ suc n * 1000000
 one_small bounds small source rest line n each =
     let w = some_way bounds source rest line in
@@ -100,14 +100,14 @@ ways_small bounds small (line ∷ code) (source ∷ sources) zero = one_small bo
 ways_small bounds small (line ∷ code) [] (suc k) = let a = ways_small bounds small code [] k in omega (arith, a)
 ways_small bounds small (line ∷ code) (source ∷ sources) (suc k) = let a = ways_small bounds small code sources k in omega (arith, a)
 
--- a line in front of others, at its line of the text
+-- a line before others, at its line of the text
 pub worst_in_front : (bounds : List ℕ) (line : Code) (code : List Code) (i : ℕ) (sources : List ℕ) → (source : ℕ) × (worst_from bounds (line ∷ code) (drop i sources) ≡ preceded bounds source line (worst_from bounds code (drop (suc i) sources)))
 worst_in_front bounds line code zero [] = (0, refl)
 worst_in_front bounds line code zero (source ∷ sources) = (source, refl)
 worst_in_front bounds line code (suc i) [] = (0, refl)
 worst_in_front bounds line code (suc i) (source ∷ sources) = worst_in_front bounds line code i sources
 
--- the way from one more line is written in front of those behind it
+-- the path from one more line is written before those after it
 pub one_more_way : (bounds : List ℕ) → AreSmall bounds → (code : List Code) (ways : List ℕ) (i : ℕ) (line : Code) (sources : List ℕ) (steps : ℕ) → length code ≤ 65536 → i < length code → line ≡ get_or code i line → length ways ≡ length code →
     drop (i + 1) ways ≡ steps_of (worst_from bounds (drop (i + 1) code) (drop (i + 1) sources)) →
     ((source : ℕ) (rest : List Worst) → AreBehind ways (i + 1) rest → (line_worst bounds source rest line).steps ≤ 18446744073709551615 → steps ≡ (line_worst bounds source rest line).steps) →
@@ -122,12 +122,12 @@ one_more_way bounds small code ways i line sources steps few below is count behi
     let there : i < length ways = omega (arith, below, count) in
     drop-set ways i steps there ∙ (λ j. way front.0 rest behind (omega (arith, most, short, few)) j ∷ behind j) ∙ sym (ap steps_of whole)
 
--- the lines of the text on a line's way
+-- the lines of the text on a line's path
 pub then_lines : (bounds : List ℕ) (source : ℕ) (line : Code) (way : Worst) → (and_then bounds source line way).lines ≡ own_source line source ++ way.lines
 then_lines bounds source (ArgumentNumber target n) way = refl
 then_lines bounds source another way = refl
 
--- the ways from a line on
+-- the paths from a line on
 none_left : (n : ℕ) → (let none : List ℕ = [] in drop n none ≡ none)
 none_left zero = refl
 none_left (suc n) = refl
@@ -146,14 +146,14 @@ drop_steps (suc i) (way ∷ ways) = drop_steps i ways
 pub behind_all : (bounds : List ℕ) (code : List Code) (ways : List ℕ) → AreWays bounds code ways → (sources : List ℕ) (i : ℕ) → AreBehind ways i (worst_from bounds (drop i code) (drop i sources))
 behind_all bounds code ways are sources i = ap (λ xs. drop i xs) (are sources) ∙ drop_steps i (worst_from bounds code sources) ∙ ap steps_of (drop_worst bounds i code sources)
 
--- a line at its line of the text, in front of others
+-- a line at its line of the text, before others
 worst_source : (bounds : List ℕ) (line : Code) (code : List Code) (i : ℕ) (sources : List ℕ) → worst_from bounds (line ∷ code) (drop i sources) ≡ preceded bounds (slice_index sources i) line (worst_from bounds code (drop (suc i) sources))
 worst_source bounds line code zero [] = refl
 worst_source bounds line code zero (source ∷ sources) = refl
 worst_source bounds line code (suc i) [] = refl
 worst_source bounds line code (suc i) (source ∷ sources) = worst_source bounds line code i sources
 
--- the lines listed so far, and those of the way that is left, which passes over some lines
+-- the lines listed so far, and those of the path that is left, which passes over some lines
 abbrev pub Lists : List ℕ → List Code → List ℕ → ℕ → ℕ → List ℕ → Type 0
 Lists bounds code sources i left lines = lines ++ (from_line (worst_from bounds (drop i code) (drop i sources)) left).lines ≡ (worst_of bounds code sources).lines
 

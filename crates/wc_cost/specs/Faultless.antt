@@ -1,9 +1,9 @@
 -- A text that the passes before this one accept, and what this one says of it. (No rule of the language.)
 use Rattle.std.specs.Prelude.{◌≡◌, ℕ, ◌<◌, ◌≤◌, List, length, None, Some, Result, Ok, Err}
 use Rattle.std.proofs.Common.{Vec, Global}
-use Rattle.wc_flat.specs.FlatPaths.{sources_of, worst_of}
-use Rattle.wc_flat.specs.Laid.{AreLaid, IsLaid}
-use Rattle.wc_flat.specs.Laws.{AreBoundsBelow}
+use Rattle.wc_text_flat.specs.FlatPaths.{sources_of, worst_of}
+use Rattle.wc_text_flat.specs.Laid.{AreLaid, IsLaid}
+use Rattle.wc_text_flat.specs.Laws.{AreBoundsBelow}
 use Rattle.wc_model.specs.Language.Faults.{MOST_STEPS, IsCostFault, body_fault, declaration_fault}
 use Rattle.wc_model.specs.Language.Scopes.{Scope}
 use Rattle.wc_model.specs.Language.Tree.{Text}
@@ -31,14 +31,14 @@ pub record IsFaultless (text : Text) : Type 0 where
   pub declared : declaration_fault text ≡ None
   pub sound : body_fault text ≡ None
 
--- a unit is laid flat, and its bound is the length of its worst way
+-- a unit is lowered, and its bound is the length of its worst path
 pub record IsMeasured (bounds : List ℕ) (scope : Scope) (laid : LaidUnit) : Type 0 where
   pub code : IsLaid scope scope.unit.body laid.code.items
   pub lines : laid.lines.items ≡ sources_of scope.unit.body
   pub bound : laid.bound ≡ (worst_of bounds laid.code.items (sources_of scope.unit.body)).steps
   pub small : laid.bound ≤ MOST_STEPS
 
--- or its worst way is too long
+-- or its worst path is too long
 pub record IsOverrun (bounds : List ℕ) (scope : Scope) (number place : ℕ) : Type 0 where
   pub code : List Code
   pub laid : IsLaid scope scope.unit.body code
@@ -51,7 +51,7 @@ MeasuresUnit bounds scope (Ok laid) = IsMeasured bounds scope laid
 MeasuresUnit bounds scope (Err (Refused number place)) = IsOverrun bounds scope number place
 MeasuresUnit bounds scope (Err Memory) = Unit {0}
 
--- the units of a text are laid flat, and no path is too long
+-- the units of a text are lowered, and no path is too long
 pub record AreLoaded (text : Text) (units : List LaidUnit) : Type 0 where
   pub laid : AreLaid text (codes_of units)
   pub lines : AreLines text units

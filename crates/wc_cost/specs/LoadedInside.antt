@@ -1,19 +1,19 @@
 -- What a loaded text holds in its fields. (No rule of the language.)
 use Rattle.std.specs.Prelude.{◌≡◌, ◌≤◌, ℕ, List, [], ◌∷◌, map, length}
-use Rattle.wc_flat.specs.Contents.{frame_of_text}
-use Rattle.wc_flat.specs.FlatPaths.{sources_of}
-use Rattle.wc_flat.specs.Laws.{AreBoundsBelow}
+use Rattle.wc_text_flat.specs.Contents.{frame_of_text}
+use Rattle.wc_text_flat.specs.FlatPaths.{sources_of}
+use Rattle.wc_text_flat.specs.Laws.{AreBoundsBelow}
 use Rattle.wc_model.specs.Language.Frames.{first_numbers, slot_kinds}
 use Rattle.wc_model.specs.Language.Tree.{Text}
 use Rattle.wc_model.specs.Language.Views.{text_view}
 use Rattle.wc_model.specs.declared.code.Code.{Code}
-use Rattle.wc_soundness.specs.FirstNumbers.{AreFirst}
+use Rattle.wc_laws_soundness.specs.FirstNumbers.{AreFirst}
 use Rattle.wc_cost.specs.LoadedTexts.{LoadedText, IsLoadedSound}
 use Rattle.wc_cost.specs.Ways.{AreSmall}
 use Rattle.wc_cost.specs.declared.laid.LaidUnit.{LaidUnit}
 use Rattle.wc_cost.specs.declared.loaded.Loaded.TheInside.{Inside as LoadedFields}
 
--- the codes and the bounds of laid units
+-- the codes and the bounds of lowered units
 abbrev pub codes_of : List LaidUnit → List (List Code)
 codes_of units = map (λ u. u.code.items) units
 
@@ -24,7 +24,7 @@ bounds_of units = map (λ u. u.bound) units
 abbrev pub loaded_view : LoadedFields → LoadedText
 loaded_view a = record { source = a.checked.source; codes = codes_of a.units.items }
 
--- the lines at which flat lines stand are those of the units' bodies
+-- the lines of the flat lines are those of the units' bodies
 abbrev pub AreLines : Text → List LaidUnit → Type 0
 AreLines [] [] = Unit {0}
 AreLines (unit ∷ text) (laid ∷ units) = (laid.lines.items ≡ sources_of unit.body) × AreLines text units

@@ -1,6 +1,6 @@
 -- A text that every pass accepts, with its flat code. (No rule of the language.)
 use Rattle.std.specs.Prelude.{◌≡◌, ℕ, ◌-◌, List, length, None, Some, IfSome, slice_get}
-use Rattle.wc_flat.specs.Laid.{AreLaid}
+use Rattle.wc_text_flat.specs.Laid.{AreLaid}
 use Rattle.wc_model.specs.Language.Faults.{body_fault}
 use Rattle.wc_model.specs.Language.Frames.{scopes_of}
 use Rattle.wc_model.specs.Language.Scopes.{Scope}
@@ -16,7 +16,7 @@ pub record LoadedText : Type 0 where
   pub source : Source
   pub codes : List (List Code)
 
--- the text was read, it breaks no rule on bodies, and the codes are its bodies laid flat
+-- the text was read, it breaks no rule on bodies, and the codes are its lowered bodies
 pub record IsLoadedSound (loaded : LoadedText) : Type 0 where
   pub read : WasRead (text_view loaded.source)
   pub sound : body_fault (text_view loaded.source) ≡ None

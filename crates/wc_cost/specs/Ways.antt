@@ -1,19 +1,19 @@
--- The worst ways through flat code, as they are computed. (No rule of the language.)
+-- The worst paths through flat code, as they are computed. (No rule of the language.)
 use Rattle.std.specs.Prelude.{◌≡◌, ℕ, ◌≤◌, Bool, true, false, if◌then◌else◌, List, [], ◌∷◌, drop, map, slice_index}
-use Rattle.wc_flat.specs.FlatPaths.{Worst, one_more, some_more, worst_from}
+use Rattle.wc_text_flat.specs.FlatPaths.{Worst, one_more, some_more, worst_from}
 use Rattle.wc_model.specs.declared.code.Code.{Code}
 use Rattle.wc_model.specs.declared.code.Code.TheVariants.{ArgumentNumber, ArgumentPlace, Standard, Body}
 use Rattle.wc_model.specs.Language.Faults.{MOST_STEPS}
 
--- the lengths of ways
+-- the lengths of paths
 abbrev pub steps_of : List Worst → List ℕ
 steps_of ways = map (λ way. way.steps) ways
 
--- the ways behind a place of a list are these
+-- the paths after a place of a list are these
 abbrev pub AreBehind : List ℕ → ℕ → List Worst → Type 0
 AreBehind ways next rest = drop next ways ≡ steps_of rest
 
--- the lengths of the worst ways from each flat line
+-- the lengths of the worst paths from each flat line
 abbrev pub AreWays : List ℕ → List Code → List ℕ → Type 0
 AreWays bounds code ways = (sources : List ℕ) → ways ≡ steps_of (worst_from bounds code sources)
 
@@ -21,7 +21,7 @@ AreWays bounds code ways = (sources : List ℕ) → ways ≡ steps_of (worst_fro
 abbrev pub AreSmall : List ℕ → Type 0
 AreSmall bounds = (unit : ℕ) → slice_index bounds unit ≤ MOST_STEPS
 
--- a line of the body itself, executed: arguments and what is called are none
+-- a line of the body itself, executed: arguments and what is called are not
 abbrev pub is_own : Code → Bool
 is_own (ArgumentNumber target n) = false
 is_own (ArgumentPlace place target) = false
@@ -29,12 +29,12 @@ is_own (Standard block at) = false
 is_own (Body unit at) = false
 is_own line = true
 
--- how many steps a line takes itself
+-- the number of steps a line takes itself
 abbrev pub own_steps : List ℕ → Code → ℕ
 own_steps bounds (Body unit at) = slice_index bounds unit
 own_steps bounds line = 1
 
--- a line at a line of the text, and then a way
+-- a line at a line of the text, and then a path
 abbrev pub and_then : List ℕ → ℕ → Code → Worst → Worst
 and_then bounds source (ArgumentNumber target n) way = some_more 1 way
 and_then bounds source (ArgumentPlace place target) way = some_more 1 way

@@ -12,7 +12,7 @@ use wc_verify::Checked;
 
 /// Measures the units of a text that breaks no rule on declarations and bodies: 411 at the first unit
 /// that may take more than 1000000 steps, at the line of its first keyword. The lines of the text are
-/// handed on alone, so they may be places as well.
+/// passed on alone, so they may be places as well.
 pub fn measure<'a>(alloc: Global, source: &Source<'a>, tables: &Tables<'a>) -> Result<(), Fault>
     ensures { AreTables tables.now (text_view source.now) → IsFaultless (text_view source.now)
         → Measures (text_view source.now) result }
@@ -21,8 +21,8 @@ pub fn measure<'a>(alloc: Global, source: &Source<'a>, tables: &Tables<'a>) -> R
     Ok(())
 }
 
-/// Lays a verified text flat, and measures each unit. 411 at the first unit that may take more than
-/// 1000000 steps, at the line of its first keyword; `Memory` where a growth is refused.
+/// Lowers a verified text, and measures each unit. 411 at the first unit that may take more than
+/// 1000000 steps, at the line of its first keyword; `Memory` if an allocation is refused.
 pub fn cost<'a>(alloc: Global, checked: Checked<'a>) -> Result<Loaded<'a>, Fault>
     ensures { IsCosted (text_view checked.entry.source) checked.entry.source result }
 {

@@ -1,11 +1,11 @@
 use wc_model::Code;
 
-/// A unit's body laid flat.
+/// A unit's lowered body.
 #[derive(Drop)]
 pub(crate) struct LaidUnit {
     /// Its flat lines.
     pub(crate) code: Vec<Code>,
-    /// The line of the text at which each of them stands.
+    /// The line of the text at which each of them is.
     pub(crate) lines: Vec<u32>,
     /// The length of the unit's longest path.
     pub(crate) bound: u32,

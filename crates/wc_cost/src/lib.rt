@@ -1,4 +1,4 @@
-//! The length of each unit's longest path, on its body laid flat, and the worst path (411).
+//! The length of each unit's longest path, over its lowered body, and the worst path (411).
 #![tactic(auto)]
 
 mod costing;

@@ -4,9 +4,9 @@ ghost use Rattle.wc_model.specs.Language.Frames.{first_numbers, number_of_path, 
 ghost use Rattle.wc_model.specs.Language.Scopes.{Scope};
 ghost use Rattle.wc_model.specs.Language.Views.{text_view};
 ghost use Rattle.wc_model.specs.Say.UnitReport.{IsBoundAt};
-ghost use Rattle.wc_soundness.specs.FirstNumbers.{AreFirst};
-ghost use Rattle.wc_flat.specs.Contents.{frame_of_text};
-ghost use Rattle.wc_flat.specs.FlatPaths.{sources_of};
+ghost use Rattle.wc_laws_soundness.specs.FirstNumbers.{AreFirst};
+ghost use Rattle.wc_text_flat.specs.Contents.{frame_of_text};
+ghost use Rattle.wc_text_flat.specs.FlatPaths.{sources_of};
 ghost use Rattle.wc_cost.specs.LoadedTexts.{AreWorstAt, IsLoadedSound, IsProgramOf};
 
 use crate::laid::LaidUnit;
@@ -52,7 +52,7 @@ impl<'a> Loaded<'a> {
         &self.checked
     }
 
-    /// How many units the text has. Units are counted in text order from 0; the program is the last.
+    /// The number of units the text has. Units are counted in text order from 0; the program is the last.
     pub fn units(&self) -> usize
         ensures count { result ≡ length (text_view self.now.source) }
         ensures codes { result ≡ length self.now.codes }
@@ -84,8 +84,8 @@ impl<'a> Loaded<'a> {
         self.units[unit].code.as_slice()
     }
 
-    /// The lines of the text at which the flat lines of a unit's body stand, one for each. What stands behind a call's own line,
-    /// up to its last output, stands at the line of the call.
+    /// The lines of the text at which the flat lines of a unit's body are, one for each. What follows a call's own line,
+    /// up to its last output, is at the line of the call.
     pub fn lines(&self, unit: usize) -> &[u32]
         requires { unit < length self.now.codes }
         ensures { slice_get (map (λ u. sources_of u.body) (text_view self.now.source)) unit
@@ -94,7 +94,7 @@ impl<'a> Loaded<'a> {
         self.units[unit].lines.as_slice()
     }
 
-    /// How many steps a unit takes at most: the length of its longest path.
+    /// The number of steps a unit takes at most: the length of its longest path.
     pub fn bound(&self, unit: usize) -> u32
         requires { unit < length self.now.codes }
         ensures { IsBoundAt (text_view self.now.source) unit result }
@@ -103,7 +103,7 @@ impl<'a> Loaded<'a> {
     }
 
     /// The lines of a unit's own body on its worst path, in order: the one that goes on to the next
-    /// line of the text where ways are equally long. `Memory` is its only fault.
+    /// line of the text if paths are equally long. `Memory` is its only fault.
     pub fn worst_path(&self, alloc: Global, unit: usize) -> Result<Vec<u32>, Fault>
         requires { unit < length self.now.codes }
         ensures worst { IfOk result
@@ -126,7 +126,7 @@ impl<'a> Loaded<'a> {
         self.checked.tables().place(last, path)
     }
 
-    /// How many places the program's frame has.
+    /// The number of places the program's frame has.
     pub fn size(&self) -> usize
         ensures { result ≡ length (frame_of_text (text_view self.now.source)) }
     {
@@ -134,7 +134,7 @@ impl<'a> Loaded<'a> {
     }
 
     /// The place of the old text's program whose value a place of this text's program keeps at a change from that
-    /// text to this one; `None` where the place begins with its first value. It looks up each name of the place's
+    /// text to this one; `None` if the place begins with its first value. It looks up each name of the place's
     /// path once, and takes no memory.
     pub fn carry(&self, old: &Loaded<'_>, place: Place) -> Option<Place>
         requires { place.0 < length (frame_of_text (text_view self.now.source)) }
@@ -165,7 +165,7 @@ impl<'a> Loaded<'a> {
     /// What the places hold at first, in the same order: BOOL is 0 or 1, TIME is milliseconds.
     pub fn initials(&self) -> &[i64]
         ensures numbers { result.now ≡ first_numbers (frame_of_text (text_view self.now.source)) }
-        // Each is in the range of its slot's kind, and no timer has begun.
+        // Each is in the range of its slot's kind, and no timer has started.
         ensures first { AreFirst (slot_kinds (frame_of_text (text_view self.now.source)))
             result.now }
     {

@@ -1,5 +1,5 @@
 ghost use Rattle.std.specs.Prelude.{◌≡◌, ℕ, ◌++◌, List, IfOk, OnOk, IsOkUnless, slice_index};
-ghost use Rattle.wc_flat.specs.FlatPaths.{worst_of};
+ghost use Rattle.wc_text_flat.specs.FlatPaths.{worst_of};
 ghost use Rattle.wc_cost.specs.Ways.{AreWays, is_own, own_source};
 
 use crate::ways::lines_passed;
@@ -29,7 +29,7 @@ fn source_at(sources: &[u32], index: usize) -> u32
     }
 }
 
-/// Adds the line of the text of a flat line, where that is one of the body itself.
+/// Adds the line of the text of a flat line, if that is one of the body itself.
 fn list(lines: &mut Vec<u32>, line: &Code, source: u32) -> Result<(), Fault>
     ensures listed { OnOk result (lines.new.items ≡ lines.old.items ++ own_source line.now source) }
     ensures memory { IsOkUnless result Fault.Memory }
@@ -41,7 +41,7 @@ fn list(lines: &mut Vec<u32>, line: &Code, source: u32) -> Result<(), Fault>
     Ok(())
 }
 
-/// The lines of the text on the worst way through a body, in order, from the lengths of its ways.
+/// The lines of the text on the worst path through a body, in order, from the lengths of its paths.
 pub(crate) fn worst_lines(
     alloc: Global,
     ways: &[u64],

@@ -1,7 +1,7 @@
 ghost use Rattle.std.specs.Prelude.{◌≡◌, ℕ, ◌≤◌, List, IfErr, IfOk, IsOkUnless, length};
 ghost use Rattle.wc_names.specs.StandsFor.{AreTables};
-ghost use Rattle.wc_flat.specs.FlatPaths.{sources_of, worst_of};
-ghost use Rattle.wc_flat.specs.Laid.{IsLaid, flat_length};
+ghost use Rattle.wc_text_flat.specs.FlatPaths.{sources_of, worst_of};
+ghost use Rattle.wc_text_flat.specs.Laid.{IsLaid, flat_length};
 ghost use Rattle.wc_model.specs.Language.Scopes.{Scope};
 ghost use Rattle.wc_model.specs.Language.Views.{text_view, unit_view};
 ghost use Rattle.wc_cost.specs.Faultless.{IsFaultless, LoadsUnits, MeasuresUnit};
@@ -17,7 +17,7 @@ use wc_laying::flat_body;
 use wc_model::{Code, Fault, MOST_STEPS, Source, Unit};
 use wc_names::Tables;
 
-/// The length of the worst way through a body.
+/// The length of the worst path through a body.
 fn longest(alloc: Global, units: &[LaidUnit], code: &[Code]) -> Result<u64, Fault>
     ensures longest { IfOk result
         (λ steps. AreSmall (bounds_of units.now) → length code.now ≤ 65536 → (sources : List ℕ)
@@ -31,13 +31,13 @@ fn longest(alloc: Global, units: &[LaidUnit], code: &[Code]) -> Result<u64, Faul
     }
 }
 
-/// A laid body with its bound, or 411 at the unit's line.
+/// A lowered body with its bound, or 411 at the unit's line.
 fn with_bound(code: Vec<Code>, lines: Vec<u32>, steps: u64, line: u32) -> Result<LaidUnit, Fault>
     ensures measured { (bounds : List ℕ) (scope : Scope) → IsLaid scope scope.unit.body code.items
         → lines.items ≡ sources_of scope.unit.body
         → steps ≡ (worst_of bounds code.items (sources_of scope.unit.body)).steps
         → line ≡ scope.unit.line → MeasuresUnit bounds scope result }
-    // It takes no memory, so a refusal is not told as want of it.
+    // It takes no memory, so a refusal is not reported as out of memory.
     ensures refuses { IfErr result (λ fault. fault ≡ Fault.Memory → ⊥) }
 {
     if steps > MOST_STEPS {
@@ -53,7 +53,7 @@ fn with_bound(code: Vec<Code>, lines: Vec<u32>, steps: u64, line: u32) -> Result
     })
 }
 
-/// A unit laid flat and measured behind those before it, or 411.
+/// A unit lowered and measured after those before it, or 411.
 fn lay_unit<'a>(
     alloc: Global,
     tables: &Tables<'a>,
@@ -71,7 +71,7 @@ fn lay_unit<'a>(
     with_bound(code, lines, steps, unit.line)
 }
 
-/// The units of a text laid flat and measured one after the other, or 411 at the first that is too
+/// The units of a text lowered and measured one after the other, or 411 at the first that is too
 /// long.
 pub(crate) fn lay_units<'a>(
     alloc: Global,

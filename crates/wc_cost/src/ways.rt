@@ -1,5 +1,5 @@
 ghost use Rattle.std.specs.Prelude.{◌≡◌, ℕ, ◌+◌, ◌≤◌, List, IfOk, IsOkUnless, if◌then◌else◌, length, slice_index};
-ghost use Rattle.wc_flat.specs.FlatPaths.{Worst, from_line, line_worst, turned};
+ghost use Rattle.wc_text_flat.specs.FlatPaths.{Worst, from_line, line_worst, turned};
 ghost use Rattle.wc_cost.specs.LoadedInside.{bounds_of};
 ghost use Rattle.wc_cost.specs.Ways.{AreBehind, AreSmall, AreWays, and_then, own_steps};
 
@@ -7,7 +7,7 @@ use crate::laid::LaidUnit;
 use std::alloc::Global;
 use wc_model::{Code, Condition, Fault, or_memory};
 
-/// The length of the way from the line of that number among those behind a place.
+/// The length of the path from the line of that number among those after a place.
 fn way_from(ways: &[u64], next: usize, number: usize) -> u64
     ensures { result ≡ slice_index ways.now (next + number) }
 {
@@ -20,7 +20,7 @@ fn way_from(ways: &[u64], next: usize, number: usize) -> u64
     }
 }
 
-/// Whether the way on which a conditional acts is the worst one; where it is no longer than the
+/// Whether the path on which a conditional acts is the worst one; if it is no longer than the
 /// other, it is not.
 fn acts(condition: Condition, acting: u64, passing: u64) -> bool
     ensures { (a p : Worst) → a.steps ≡ acting → p.steps ≡ passing
@@ -33,8 +33,8 @@ fn acts(condition: Condition, acting: u64, passing: u64) -> bool
     }
 }
 
-/// How many lines the worst way of a conditional passes over: so many where it acts, so many where
-/// it goes on to the next line of the text.
+/// The number of lines the worst path of a conditional passes over: one number if it acts, another
+/// if it goes on to the next line of the text.
 fn choose(ways: &[u64], next: usize, condition: Condition, acting: usize, passing: usize) -> usize
     ensures { (rest : List Worst) → AreBehind ways.now next rest
         → turned condition (from_line rest acting) (from_line rest passing)
@@ -48,7 +48,7 @@ fn choose(ways: &[u64], next: usize, condition: Condition, acting: usize, passin
     if act { acting } else { passing }
 }
 
-/// How many of the lines behind a line its worst way passes over.
+/// The number of lines after a line that its worst path passes over.
 pub(crate) fn lines_passed(ways: &[u64], next: usize, line: &Code) -> usize
     ensures { (bounds : List ℕ) (source : ℕ) (rest : List Worst) → AreBehind ways.now next rest
         → line_worst bounds source rest line.now
@@ -62,7 +62,7 @@ pub(crate) fn lines_passed(ways: &[u64], next: usize, line: &Code) -> usize
     }
 }
 
-/// How many steps a line takes itself: what is called takes its unit's.
+/// The number of steps a line takes itself: what is called takes its unit's.
 fn cost(units: &[LaidUnit], line: &Code) -> u64
     ensures { result ≡ own_steps (bounds_of units.now) line.now }
 {
@@ -75,7 +75,7 @@ fn cost(units: &[LaidUnit], line: &Code) -> u64
     }
 }
 
-/// The length of the worst way from a line, from those behind it.
+/// The length of the worst path from a line, from those after it.
 fn way(units: &[LaidUnit], ways: &[u64], next: usize, line: &Code) -> u64
     ensures { (source : ℕ) (rest : List Worst) → AreBehind ways.now next rest
         → (line_worst (bounds_of units.now) source rest line.now).steps
@@ -86,7 +86,7 @@ fn way(units: &[LaidUnit], ways: &[u64], next: usize, line: &Code) -> u64
     cost(units, line).saturating_add(way_from(ways, next, skip))
 }
 
-/// The length of the worst way from each flat line to the end of its body.
+/// The length of the worst path from each flat line to the end of its body.
 pub(crate) fn ways(alloc: Global, units: &[LaidUnit], code: &[Code]) -> Result<Vec<u64>, Fault>
     ensures ways { IfOk result
         (λ ways. AreSmall (bounds_of units.now) → length code.now ≤ 65536

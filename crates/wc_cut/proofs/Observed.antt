@@ -7,7 +7,7 @@ use Rattle.wc_cut.specs.Cuts.{end_written, opening_text, row_written}
 use Rattle.wc_cut.specs.Keeping.{HasSeenBy, IsBefore, kept_rows}
 use Rattle.wc_cut.specs.RowTexts.{heading_text, lines_of, row_text}
 use Rattle.wc_cut.specs.declared.cutter.Cutter.{Cutter}
-use Rattle.wc_instrument_laws.specs.Preludes.{past_after, prelude_of, scale_state}
+use Rattle.wc_laws_instrument.specs.Preludes.{past_after, prelude_of, scale_state}
 use Rattle.wc_model.specs.Instrument.Plates.{PlateData}
 use Rattle.wc_model.specs.Run.Log.{LogRefusal}
 use Rattle.wc_model.specs.Run.Rows.{LogRow, Past}

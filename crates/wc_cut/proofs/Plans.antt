@@ -6,7 +6,7 @@ use Rattle.std.specs.Prelude.{Option, Some, None, nat_lt, if◌then◌else◌}
 use Rattle.wc_controller.specs.Files.{Observed}
 use Rattle.wc_cut.specs.Cuts.{cut_log, cut_observed, cut_plan, cut_written, opening_text, row_written}
 use Rattle.wc_cut.specs.RowTexts.{row_text, rows_text}
-use Rattle.wc_instrument_laws.specs.Preludes.{past_after}
+use Rattle.wc_laws_instrument.specs.Preludes.{past_after}
 use Rattle.wc_model.specs.Instrument.Plates.{PlateData}
 use Rattle.wc_model.specs.Run.Log.{LogRefusal}
 use Rattle.wc_model.specs.Run.Rows.{LogRow, Past}
@@ -63,7 +63,7 @@ module _ (count : ℕ) (plate : PlateData) (logic : Option Logic) where
       (λ i. written_at past row here i ++ text_after (row ∷ past) rows (omega (arith, here)) i)
       ∙ append_assoc (opening_text plate past) (row_text row) (rows_text rows)
 
-  -- so many rows before it
+  -- n rows before it
   text_before : (k : ℕ) (past : Past) (rows : List LogRow) → length past + k ≡ count →
       text_coming (cut_plan count) plate logic past rows ≡ coming_text (past_after past (take k rows)) (drop k rows)
   text_before zero past rows there = text_at past rows (omega (arith, there))
@@ -113,7 +113,7 @@ module _ (count : ℕ) (plate : PlateData) (logic : Option Logic) where
 pub plan_is_cut : (count : ℕ) → text_in_all (cut_plan count) ≡ cut_written count
 plan_is_cut count = λ i plate logic refusal rows. text_whole count plate logic rows refusal i
 
--- whoever cuts after so many rows
+-- whoever cuts after n rows
 abbrev observed_with : Written → Observed
 observed_with written = record { written = written; begins = λ logic. true }
 

@@ -3,8 +3,8 @@ use Rattle.std.proofs.Common.{◌≡◌, ℕ, ◌<◌, List, [], ◌∷◌, ◌+
 use Rattle.wc_cut.specs.RowTexts.{heading_text, line_of, lines_of, row_text, rows_text}
 use Rattle.wc_cut.specs.Cuts.{time_of}
 use Rattle.wc_cut.specs.Replays.{GoesOnFromTheCut, prelude_rows, row_at_time}
-use Rattle.wc_instrument_laws.proofs.CutLogs.{can_be_cut}
-use Rattle.wc_instrument_laws.specs.Preludes.{brought_by, past_after, prelude_of, scale_state}
+use Rattle.wc_laws_instrument.proofs.CutLogs.{can_be_cut}
+use Rattle.wc_laws_instrument.specs.Preludes.{brought_by, past_after, prelude_of, scale_state}
 use Rattle.wc_model.specs.Instrument.Plates.{PlateData}
 use Rattle.wc_model.specs.Run.Rows.{LogRow, Past, RowData}
 

@@ -2,7 +2,7 @@
 use Rattle.std.specs.Prelude.{ℕ, true, List, [], ◌∷◌, ◌++◌, length, drop, take, nat_lt, nat_le, Option, Some, None, if◌then◌else◌}
 use Rattle.wc_controller.specs.Files.{Observed}
 use Rattle.wc_cut.specs.RowTexts.{heading_text, lines_of, row_text, rows_text}
-use Rattle.wc_instrument_laws.specs.Preludes.{past_after, prelude_of, scale_state}
+use Rattle.wc_laws_instrument.specs.Preludes.{past_after, prelude_of, scale_state}
 use Rattle.wc_model.specs.Instrument.Plates.{PlateData}
 use Rattle.wc_model.specs.Run.Log.{LogRefusal}
 use Rattle.wc_model.specs.Run.Rows.{LogRow, Past}
@@ -18,7 +18,7 @@ time_of (row ∷ past) = row.ms
 abbrev pub opening_text : PlateData → Past → List ℕ
 opening_text plate past = heading_text ++ lines_of (time_of past) (prelude_of plate.window (scale_state plate past))
 
--- The log that goes on after so many rows: the heading, the prelude of those rows, and the other rows.
+-- The log that goes on after n rows: the heading, the prelude of those rows, and the other rows.
 abbrev pub cut_log : ℕ → PlateData → List LogRow → List ℕ
 cut_log count plate rows = opening_text plate (past_after [] (take count rows)) ++ rows_text (drop count rows)
 

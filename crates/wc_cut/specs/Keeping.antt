@@ -2,7 +2,7 @@
 use Rattle.std.specs.Prelude.{◌≡◌, ◌+◌, ◌<◌, Bool, true, false, List, [], length, Option, Some, None}
 use Rattle.wc_cut.specs.Cuts.{time_of}
 use Rattle.wc_cut.specs.declared.cutter.Cutter.{Cutter}
-use Rattle.wc_instrument_laws.specs.Preludes.{prelude_of, scale_state}
+use Rattle.wc_laws_instrument.specs.Preludes.{prelude_of, scale_state}
 use Rattle.wc_model.specs.Instrument.Plates.{PlateData}
 use Rattle.wc_model.specs.Run.Rows.{Past, RowData}
 use Rattle.wc_open_scale.specs.States.{state_view}
@@ -13,7 +13,7 @@ abbrev pub kept_rows : Option Prelude → List RowData
 kept_rows None = []
 kept_rows (Some prelude) = prelude_of prelude.window (state_view prelude)
 
--- before the cut: how many rows are still to come before it, and what is kept of those so far
+-- before the cut: the number of rows still to come before it, and what is kept of those so far
 pub record IsBefore (cutter : Cutter) (plate : PlateData) (past : Past) : Type 0 where
   pub left : cutter.left + length past ≡ cutter.count
   pub rows : kept_rows cutter.prelude ≡ prelude_of plate.window (scale_state plate past)

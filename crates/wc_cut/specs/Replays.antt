@@ -2,7 +2,7 @@
 use Rattle.std.specs.Prelude.{◌≡◌, ℕ, List, [], ◌++◌, drop, map, take}
 use Rattle.wc_cut.specs.Cuts.{cut_log, time_of}
 use Rattle.wc_cut.specs.RowTexts.{heading_text, rows_text}
-use Rattle.wc_instrument_laws.specs.Preludes.{GoesOnAlike, past_after, prelude_of, scale_state}
+use Rattle.wc_laws_instrument.specs.Preludes.{GoesOnAlike, past_after, prelude_of, scale_state}
 use Rattle.wc_model.specs.Instrument.Plates.{PlateData}
 use Rattle.wc_model.specs.Run.Rows.{LogRow, Past, RowData}
 

@@ -22,7 +22,7 @@ pub(crate) struct Cutter {
 }
 
 impl Cutter {
-    /// Before the first row, where so many rows stand before the cut. It takes no memory.
+    /// Before the first row, with n rows before the cut. It takes no memory.
     pub(crate) fn new(alloc: Global, count: u64) -> Cutter
         ensures count { result.count ≡ count }
         ensures new { IsNew result }

@@ -1,4 +1,4 @@
-//! A log is cut: the rows before the cut are left out, and in their place stand the few rows that
+//! A log is cut: the rows before the cut are left out, and in their place are the few rows that
 //! bring a new scale to the state that they left.
 #![tactic(auto)]
 

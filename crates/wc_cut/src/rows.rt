@@ -1,7 +1,7 @@
 ghost use Rattle.std.specs.Prelude.{◌≡◌, ◌++◌, ◌/◌, ◌%◌, ◌∷◌};
 ghost use Rattle.std.specs.Prelude.{[], IsOkUnless, OnOk, map, option_map, replicate};
 ghost use Rattle.wc_cut.specs.RowTexts.{data_text, line_of, lines_of};
-ghost use Rattle.wc_instrument_laws.specs.Preludes.{input_rows, load_rows, prelude_of, request_rows};
+ghost use Rattle.wc_laws_instrument.specs.Preludes.{input_rows, load_rows, prelude_of, request_rows};
 ghost use Rattle.wc_model.specs.Run.Rows.{Counts};
 ghost use Rattle.wc_open_scale.specs.States.{state_view};
 ghost use Rattle.wc_record.specs.Views.{head_data_view};

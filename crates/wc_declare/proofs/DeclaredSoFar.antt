@@ -33,7 +33,7 @@ or_turned true false = refl
 or_turned false true = refl
 or_turned false false = refl
 
--- the names of more words, behind a list or in front of others
+-- the names of more words, after a list or before others
 more_names : (own known new : List Name) → SameNames own known → SameNames (own ++ new) (new ++ known)
 more_names own known new same = λ name.
     list_any-append (same_name name) own new ∙ or_turned (is_among own name) (is_among new name) ∙ ap (λ b. is_among new name || b) (same name)
@@ -43,11 +43,11 @@ names_of_declared : (d : Declaration) (words : List Word) → map (λ v. v.name)
 names_of_declared d [] = refl
 names_of_declared d (w ∷ words) = ap (λ xs. w.name ∷ xs) (names_of_declared d words)
 
--- the rules of each declaration behind others
+-- the rules of each declaration after others
 abbrev pub asked_of : Text → List ProgramUnit → Taken → Spot Declaration → List Check
 asked_of text before t spot = declaration_checks text before (names_declared spot.before) (taken_by before t spot.before) spot.item
 
--- what stands behind the declarations so far
+-- what follows the declarations so far
 pub record Declares (text : Text) (before : List ProgramUnit) (unit : ProgramUnit) (own : UnitTable) (all left : List Declaration) : Type 0 where
   pub passed : List Declaration
   pub vs : List Variable

@@ -1,4 +1,4 @@
--- What is found first, piece by piece.
+-- What is found first, part by part.
 use Rattle.std.proofs.Common.{◌≡◌, ℕ, Bool, true, false, List, ◌∷◌, ◌++◌, Option, Some, Result, Ok, Err, append_assoc, refl, subst, ap, ◌∙◌}
 use Rattle.std.specs.Prelude.{OnOk}
 use Rattle.std.specs.Result.{IsErr, IsErrAnd}
@@ -17,12 +17,12 @@ judges_same found other rest (Ok x) e h = e ∙ h
 judges_same found other rest (Err (Refused number place)) e h = e ∙ h
 judges_same found other rest (Err Memory) e h = tt
 
--- the fault of a piece, behind what is found before it
+-- the fault of a part, after what is found before it
 pub judges_err : (X Y : Type 0) (found other rest behind : Option Refusal) (fault : Fault) → found ≡ other → Judges {X = X} other rest (Err fault) → Judges {X = Y} found behind (Err fault)
 judges_err X Y found other rest behind (Refused number place) e h = e ∙ h
 judges_err X Y found other rest behind Memory e h = tt
 
--- a fault that is handed on
+-- a fault that is propagated
 pub judges_on : (X Y : Type 0) (found other rest behind : Option Refusal) (fault : Fault) (result : Result Y Fault) → IsErr result × IsErrAnd result (λ e. e ≡ fault) → found ≡ other → Judges {X = X} other rest (Err fault) → Judges found behind result
 judges_on X Y found other rest behind fault result gives e h = handed_on (λ r. Judges {X = Y} found behind r) fault result gives (judges_err X Y found other rest behind fault e h)
 
@@ -36,7 +36,7 @@ passed number line holds checks e = rw e refl
 pub broken : (number line : ℕ) (holds : Bool) (checks : List Check) → holds ≡ false → first_broken (asks number line holds ∷ checks) ≡ Some (record { number = number; line = line })
 broken number line holds checks e = rw e refl
 
--- the pieces of a declaration's rules, one behind the other
+-- the parts of a declaration's rules, one after the other
 pub regrouped : (a b c d e : List Check) → (((a ++ b) ++ c) ++ d) ++ e ≡ a ++ (b ++ (c ++ (d ++ e)))
 regrouped a b c d e = simp append_assoc
 
@@ -46,7 +46,7 @@ pub pieces : (text : Text) (before : List ProgramUnit) (names : List Name) (t : 
 pieces text before names t d rest =
     ap first_broken (regrouped (names_are_new names d.names) (type_checks text before d) (initial_checks before d) (room_checks t (places_of_type before d.type_name.name) d.names) rest)
 
--- what is so where a call succeeds
+-- what is so if a call succeeds
 pub on_ok : {X E P Q : Type 0} (r : Result X E) → OnOk r P → (P → Q) → OnOk r Q
 on_ok (Ok x) h f = f h
 on_ok (Err e) h f = tt

@@ -17,7 +17,7 @@ use Rattle.wc_model.specs.declared.tree.Instr.TheVariants as instrs
 use Rattle.wc_model.specs.declared.tree.Line.{Line, fold_out-Line, the_lemmas}
 use Rattle.wc_declare.proofs.Judging.{regrouped}
 
--- the pieces of a line's rules, one behind the other
+-- the parts of a line's rules, one after the other
 three : (a b c d : List Check) → ((a ++ b) ++ c) ++ d ≡ a ++ (b ++ (c ++ d))
 three a b c d = simp append_assoc
 
@@ -43,7 +43,7 @@ bare_found unit (Some word) others rest = refl
 abbrev Opened : Type 0
 Opened = Instr-F (Option Word → Lines → Lines) (Lines → Lines)
 
--- whatever stands behind a label, its rules come first
+-- whatever follows a label, its rules come first
 pub record LabelFirst (unit : ProgramUnit) (seen : Lines) (label : Option Word) (rest : List Check) : Type 0 where
   pub behind : List Check
   pub is : first_broken (body_name_checks unit seen ++ rest) ≡ first_broken (label_checks label ++ behind)

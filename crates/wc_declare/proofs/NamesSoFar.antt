@@ -18,7 +18,7 @@ or_last true false = refl
 or_last false true = refl
 or_last false false = refl
 
--- one more name, behind those of a list or in front of others
+-- one more name, after those of a list or before others
 pub one_more : (own known : List Name) (new : Name) → SameNames own known → SameNames (own ++ new ∷ []) (new ∷ known)
 one_more own known new same = λ name.
     list_any-append (same_name name) own (new ∷ []) ∙ or_last (is_among own name) (same_name name new) ∙ ap (λ b. same_name name new || b) (same name)
@@ -39,11 +39,11 @@ still_different (x ∷ own) new h e =
       still_different own new h.1 parts.1,
     )
 
--- the rules of each name behind others
+-- the rules of each name after others
 abbrev pub name_checks : List Name → Spot Word → List Check
 name_checks names spot = not_reserved spot.item ∷ is_new (map name_of_word spot.before ++ names) spot.item ∷ []
 
--- what stands behind the names so far, newest first: what is found first is found in the words that are left, the names so far
+-- what follows the names so far, newest first: what is found first is found in the words that are left, the names so far
 -- are held, and with those that are left they are all
 pub record StandsBehind (start own : List Name) (all left : List Word) : Type 0 where
   pub before : List Word

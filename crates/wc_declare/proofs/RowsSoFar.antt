@@ -1,4 +1,4 @@
--- The rows of a table, one behind the other.
+-- The rows of a table, one after the other.
 use Rattle.std.proofs.Common.{◌≡◌, ℕ, true, ◌+◌, ◌*◌, ◌≤◌, List, [], ◌∷◌, ◌++◌, map, length, Option, Some, option_map, append_assoc, refl, sym, ap, subst, ◌∙◌, arith, length-append}
 use Rattle.std.proofs.lemmas.List.{append-nil}
 use Rattle.wc_model.specs.Language.Checks.{Check, Spot, asks, first_broken, spots_behind}
@@ -59,14 +59,14 @@ as_variable d w = record { name = w.name; line = w.line; section = d.section; ty
 abbrev pub room_of : Taken → ℕ → Spot Word → Check
 room_of t width spot = asks 306 spot.item.line (has_room (and_more t (length spot.before + 1) width))
 
--- one more than so many
+-- one more than n
 pub one_further : (t : Taken) (n width : ℕ) → and_more t (n + 1) width ≡ and_more (and_more t n width) 1 width
 one_further t n width =
     let a : t.variables + (n + 1) ≡ (t.variables + n) + 1 = omega arith in
     let b : t.places + (n + 1) * width ≡ (t.places + n * width) + 1 * width = omega arith in
     λ i. record { variables = a i; places = b i }
 
--- what stands behind the variables so far
+-- what follows the variables so far
 pub record RoomBehind (start own : UnitTable) (d : Declaration) (declared : DeclaredType) (width : ℕ) (all left : List Word) : Type 0 where
   pub before : List Word
   pub done : List Variable

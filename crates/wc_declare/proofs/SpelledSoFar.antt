@@ -1,4 +1,4 @@
--- The names of plain variables, as they are spelled, while declarations are judged.
+-- The names of plain variables, as they are spelled, while declarations are checked.
 use Rattle.std.proofs.Common.{◌≡◌, ℕ, Bool, true, false, List, [], ◌∷◌, ◌++◌, refl, ap, sym, ◌∙◌, append_assoc, append-nil}
 use Rattle.wc_model.specs.declared.operand.Word.{Word}
 use Rattle.wc_names.specs.Spelled.{spelled_where}
@@ -7,7 +7,7 @@ use Rattle.wc_names.specs.Spelled.{spelled_where}
 abbrev pub AreSpelledOn : (old now left all : List (List ℕ)) → Type 0
 AreSpelledOn old now left all = now ++ left ≡ old ++ all
 
--- the first of those that are left come behind the names
+-- the first of those that are left come after the names
 pub spelled_on : (old now new front left all : List (List ℕ)) → AreSpelledOn old now (front ++ left) all → new ≡ now ++ front → AreSpelledOn old new left all
 spelled_on old now new front left all h e = ap (λ xs. xs ++ left) e ∙ append_assoc now front left ∙ h
 
@@ -15,7 +15,7 @@ spelled_on old now new front left all h e = ap (λ xs. xs ++ left) e ∙ append_
 pub spelled_all : (old now left all : List (List ℕ)) → left ≡ [] → AreSpelledOn old now left all → now ≡ old ++ all
 spelled_all old now left all none h = sym (append-nil now) ∙ ap (λ xs. now ++ xs) (sym none) ∙ h
 
--- a word, and the words behind it
+-- a word, and the words after it
 pub where_more : (plain : Bool) (word : Word) (words : List Word) → spelled_where plain (word ∷ words) ≡ spelled_where plain (word ∷ []) ++ spelled_where plain words
 where_more true word words = refl
 where_more false word words = refl
@@ -25,7 +25,7 @@ pub where_none : (plain : Bool) → spelled_where plain [] ≡ []
 where_none true = refl
 where_none false = refl
 
--- the same of the names of units
+-- likewise for the names of units
 abbrev pub AreNamedOn : (old now left all : List (List (List ℕ))) → Type 0
 AreNamedOn old now left all = now ++ left ≡ old ++ all
 

@@ -58,7 +58,7 @@ pub usable_type : (before : List ProgramUnit) (section : Section) (name : Name) 
 usable_type before section name declared e =
     usable_is section (type_named before name) ∙ usable_case before (type_named before name) declared section (type_case before (type_named before name) declared e)
 
--- a type that has no number is none
+-- a type that has no number is not a type
 block_unknown : (before : List ProgramUnit) (section : Section) (name : Name) (found : Option (ProgramUnit × List ProgramUnit)) → block_named before name ≡ found →
     option_and_then (numbered_type before) (elim found as (λ x. Option VariableType) [ Some f ↦ Some (Block name) | None ↦ None ]) ≡ None → usable section (elim found as (λ x. Option VariableType) [ Some f ↦ Some (Block name) | None ↦ None ]) ≡ false
 unfolding usable

@@ -1,4 +1,4 @@
--- The units that are judged so far.
+-- The units that are checked so far.
 use Rattle.std.proofs.Common.{◌≡◌, ℕ, ◌+◌, Bool, true, false, not, List, [], ◌∷◌, ◌++◌, Option, Some, None, cond, length, refl, sym, ap, subst, ◌∙◌, arith, length-append}
 use Rattle.std.proofs.lemmas.List.Folds.{list_any-append}
 use Rattle.std.specs.Prelude.{◌||◌, ◌&&◌, if◌then◌else◌}
@@ -17,11 +17,11 @@ use Rattle.std.proofs.lemmas.Slice.Eq.{bytes_eq-Decides}
 use Rattle.wc_declare.proofs.NamesSoFar.{neither, or_last}
 use Rattle.wc_names.proofs.Positions.{or_else}
 
--- a name is among the units' names where a unit has it
+-- a name is among the units' names if a unit has it
 pub among_more : (names : List Name) (new name : Name) → is_among (names ++ new ∷ []) name ≡ (same_name name new || is_among names name)
 among_more names new name = list_any-append (same_name name) names (new ∷ []) ∙ or_last (is_among names name) (same_name name new)
 
--- the number of one more name: that of the others, or how many there are
+-- the number of one more name: that of the others, or their number
 numbered_last : (p : Name → Bool) (i : ℕ) (xs : List Name) (x : Name) → position_from p i (xs ++ x ∷ []) ≡ or_else (position_from p i xs) (cond (p x) (Some (i + length xs)) None)
 numbered_last p i [] x = ap (λ n. cond (p x) (Some n) None) (let l : i ≡ i + 0 = omega arith in l)
 numbered_last p i (y ∷ xs) x = step (p y) (position_from p (i + 1) xs) (position_from p (i + 1) (xs ++ x ∷ [])) (numbered_last p (i + 1) xs x)
@@ -66,7 +66,7 @@ units_more text before unit old new table name h named fresh is blocks names tab
   tables = (old.tables.items, table, tables, is, h.tables);
 }
 
--- what stands behind the units so far
+-- what follows the units so far
 pub record Reads (text left : Text) (units : Units) : Type 0 where
   pub before : List ProgramUnit
   pub found : first_broken (text_declaration_checks text) ≡ first_broken (flat_map (λ spot. unit_checks text spot.before spot.item) (spots_behind before left))

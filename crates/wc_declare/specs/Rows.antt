@@ -1,4 +1,4 @@
--- What a table holds while a unit's declarations are judged. (No rule of the language.)
+-- What a table holds while a unit's declarations are checked. (No rule of the language.)
 use Rattle.std.specs.Prelude.{◌≡◌, ℕ, Bool, false, [], ◌∷◌, List, length, map, Some}
 use Rattle.wc_model.specs.Language.DeclarationRules.{Taken, is_among, suits_kind}
 use Rattle.wc_model.specs.Language.Declarations.{Variable, is_block}
@@ -14,7 +14,7 @@ use Rattle.wc_names.specs.declared.declared_type.DeclaredType.TheVariants.{Eleme
 use Rattle.wc_names.specs.declared.unit_table.UnitTable.{UnitTable}
 use Rattle.wc_names.specs.declared.variable.Variable.{Variable as Row}
 
--- so many variables and places are taken by the table's variables
+-- this many variables and places are taken by the table's variables
 pub record HasTaken (taken : Taken) (table : UnitTable) : Type 0 where
   pub variables : taken.variables ≡ length table.rows.items
   pub places : taken.places ≡ table.size
@@ -28,7 +28,7 @@ plain_as (Block number) name row = []
 abbrev pub plain_of : Spelled → Row → List PlainVariable
 plain_of word row = plain_as row.declared (name_of word.text.now) row
 
--- the same names stand in both
+-- the same names are in both
 abbrev pub SameNames : List Name → List Name → Type 0
 SameNames these those = (name : Name) → is_among these name ≡ is_among those name
 

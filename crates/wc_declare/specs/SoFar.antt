@@ -1,4 +1,4 @@
--- What is kept while a text is judged. (No rule of the language.)
+-- What is kept while a text is checked. (No rule of the language.)
 use Rattle.std.specs.Prelude.{◌≡◌, List, map, length}
 use Rattle.std.specs.List.{position_from}
 use Rattle.wc_model.specs.Language.DeclarationRules.{is_among, names_block_of}

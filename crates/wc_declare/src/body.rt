@@ -11,12 +11,12 @@ use crate::word::refusal;
 use wc_built_in::{is_reserved, variable_at};
 use wc_model::{Argument, Fault, Instr, Line, Operand, Word};
 
-/// Judges a label by 307.
+/// Checks a label by 307.
 fn judge_label<'a>(label: Option<Word<'a>>) -> Result<(), Fault>
     ensures judged { (rest : List Check)
         → Judges (first_broken (label_checks (option_map word_view label.entry) ++ rest))
         (first_broken rest) result }
-    // It takes no memory, so a refusal is not told as want of it.
+    // It takes no memory, so a refusal is not reported as out of memory.
     ensures refuses { IfErr result (λ fault. fault ≡ Fault.Memory → ⊥) }
 {
     match label {
@@ -31,12 +31,12 @@ fn judge_label<'a>(label: Option<Word<'a>>) -> Result<(), Fault>
     }
 }
 
-/// Judges an operand: an address by 305 in a block, by 304 elsewhere.
+/// Checks an operand: an address by 305 in a block, by 304 elsewhere.
 fn judge_operand<'a>(in_block: bool, operand: &Operand<'a>) -> Result<(), Fault>
     ensures judged { (unit : ProgramUnit) (rest : List Check) → in_block ≡ is_block unit
         → Judges (first_broken (term_checks unit (term_view operand.now) ++ rest))
         (first_broken rest) result }
-    // It takes no memory, so a refusal is not told as want of it.
+    // It takes no memory, so a refusal is not reported as out of memory.
     ensures refuses { IfErr result (λ fault. fault ≡ Fault.Memory → ⊥) }
 {
     let Operand::Address(word) = operand else {
@@ -51,14 +51,14 @@ fn judge_operand<'a>(in_block: bool, operand: &Operand<'a>) -> Result<(), Fault>
     }
 }
 
-/// Judges the values of a call's arguments.
+/// Checks the values of a call's arguments.
 fn judge_arguments<'a>(in_block: bool, arguments: &[Argument<'a>]) -> Result<(), Fault>
     ensures judged { (unit : ProgramUnit) (rest : List Check) → in_block ≡ is_block unit
         → Judges
         (first_broken
         (flat_map (λ a. term_checks unit a.actual) (map assignment_view arguments.now) ++ rest))
         (first_broken rest) result }
-    // It takes no memory, so a refusal is not told as want of it.
+    // It takes no memory, so a refusal is not reported as out of memory.
     ensures refuses { IfErr result (λ fault. fault ≡ Fault.Memory → ⊥) }
 {
     for argument in arguments {
@@ -67,12 +67,12 @@ fn judge_arguments<'a>(in_block: bool, arguments: &[Argument<'a>]) -> Result<(),
     Ok(())
 }
 
-/// Judges the operand of an opening line, where there is one.
+/// Checks the operand of an opening line, if there is one.
 fn judge_first<'a>(in_block: bool, operand: &Option<Operand<'a>>) -> Result<(), Fault>
     ensures judged { (unit : ProgramUnit) (rest : List Check) → in_block ≡ is_block unit
         → Judges (first_broken (operand_checks unit (option_map term_view operand.now) ++ rest))
         (first_broken rest) result }
-    // It takes no memory, so a refusal is not told as want of it.
+    // It takes no memory, so a refusal is not reported as out of memory.
     ensures refuses { IfErr result (λ fault. fault ≡ Fault.Memory → ⊥) }
 {
     match operand {
@@ -81,13 +81,13 @@ fn judge_first<'a>(in_block: bool, operand: &Option<Operand<'a>>) -> Result<(), 
     }
 }
 
-/// Judges a line with the lines inside it: each label and address.
+/// Checks a line with the lines inside it: each label and address.
 fn judge_line<'a>(in_block: bool, line: &Line<'a>) -> Result<(), Fault>
     ensures judged { (unit : ProgramUnit) (others : Lines) (rest : List Check)
         → in_block ≡ is_block unit
         → Judges (first_broken (body_name_checks unit (line_view line.now others) ++ rest))
         (first_broken (body_name_checks unit others ++ rest)) result }
-    // It takes no memory, so a refusal is not told as want of it.
+    // It takes no memory, so a refusal is not reported as out of memory.
     ensures refuses { IfErr result (λ fault. fault ≡ Fault.Memory → ⊥) }
 {
     judge_label(line.label)?;
@@ -114,12 +114,12 @@ fn judge_line<'a>(in_block: bool, line: &Line<'a>) -> Result<(), Fault>
     }
 }
 
-/// Judges the lines of a body: each label and address.
+/// Checks the lines of a body: each label and address.
 pub(crate) fn judge_body<'a>(in_block: bool, lines: &[Line<'a>]) -> Result<(), Fault>
     ensures judged { (unit : ProgramUnit) (rest : List Check) → in_block ≡ is_block unit
         → Judges (first_broken (body_name_checks unit (lines_view lines.now) ++ rest))
         (first_broken rest) result }
-    // It takes no memory, so a refusal is not told as want of it.
+    // It takes no memory, so a refusal is not reported as out of memory.
     ensures refuses { IfErr result (λ fault. fault ≡ Fault.Memory → ⊥) }
 {
     for line in lines {

@@ -20,7 +20,7 @@ use wc_built_in::{is_reserved, is_type_word};
 use wc_model::{Decl, Fault, Initial, Kind, Section, Unit, Value, Word};
 use wc_names::{DeclaredType, Names, UnitTable, Variable};
 
-/// Judges a name by 307 and 301, and adds it to those that are declared.
+/// Checks a name by 307 and 301, and adds it to those that are declared.
 pub(crate) fn declare_name<'a>(names: &mut Names<'a>, word: Word<'a>) -> Result<(), Fault>
     ensures judged { (known : List Name) (rest : List Check) → SameNames names.old known
         → Judges
@@ -29,7 +29,7 @@ pub(crate) fn declare_name<'a>(names: &mut Names<'a>, word: Word<'a>) -> Result<
         (first_broken rest) result }
     ensures added { OnOk result (names.new ≡ names.old ++ name_view word.entry ∷ []) }
     ensures new { OnOk result (is_among names.old (name_view word.entry) ≡ false) }
-    // Only a name that breaks neither rule takes memory, so no refusal is told as want of it.
+    // Only a name that breaks neither rule takes memory, so no refusal is reported as out of memory.
     ensures known { IfErr result
         (λ fault. fault ≡ Fault.Memory → is_among names.old (name_view word.entry) ≡ false) }
     ensures reserved { IfErr result
@@ -45,7 +45,7 @@ pub(crate) fn declare_name<'a>(names: &mut Names<'a>, word: Word<'a>) -> Result<
     }
 }
 
-/// Judges the names of a declaration by 307 and 301, and adds them to those that are declared.
+/// Checks the names of a declaration by 307 and 301, and adds them to those that are declared.
 fn declare_names<'a>(names: &mut Names<'a>, declaration: &Decl<'a>) -> Result<(), Fault>
     ensures judged { (known : List Name) (rest : List Check) → SameNames names.old known
         → Judges
@@ -61,7 +61,7 @@ fn declare_names<'a>(names: &mut Names<'a>, declaration: &Decl<'a>) -> Result<()
     Ok(())
 }
 
-/// Whether a name is no function block of the text that is not closed before.
+/// Whether a name is not a function block of the text that is not closed before.
 fn is_closed_before<'a>(units: &Units<'a>, name: &[u8]) -> bool
     ensures { (text : Text) (before : List ProgramUnit) → AreUnitsOf text before units.now
         → result ≡ is_closed_before text before (name_of name.now) }
@@ -75,7 +75,7 @@ fn is_closed_before<'a>(units: &Units<'a>, name: &[u8]) -> bool
     !units.blocks.contains(name)
 }
 
-/// Whether a variable of the type may stand in the section.
+/// Whether a variable of the type may be in the section.
 fn stands_in(section: Section, declared: DeclaredType) -> bool
     ensures { result ≡ stands_in section declared }
 {
@@ -88,7 +88,7 @@ fn stands_in(section: Section, declared: DeclaredType) -> bool
     }
 }
 
-/// Judges the type of a declaration by 308 and 302.
+/// Checks the type of a declaration by 308 and 302.
 fn judge_type<'a>(units: &Units<'a>, declaration: &Decl<'a>) -> Result<DeclaredType, Fault>
     ensures judged { (text : Text) (before : List ProgramUnit) (rest : List Check)
         → AreUnitsOf text before units.now
@@ -100,7 +100,7 @@ fn judge_type<'a>(units: &Units<'a>, declaration: &Decl<'a>) -> Result<DeclaredT
     ensures stands { IfOk result (λ declared. stands_in declaration.now.section declared ≡ true) }
     ensures plain { IfOk result
         (λ declared. is_elementary declared ≡ is_plain declaration.now.type_name) }
-    // It takes no memory, so a refusal is not told as want of it.
+    // It takes no memory, so a refusal is not reported as out of memory.
     ensures refuses { IfErr result (λ fault. fault ≡ Fault.Memory → ⊥) }
 {
     let word = declaration.type_name;
@@ -148,13 +148,13 @@ fn suits(declared: DeclaredType, value: Value) -> bool
     }
 }
 
-/// Judges the value after `:=` of a declaration by 303.
+/// Checks the value after `:=` of a declaration by 303.
 fn judge_initial<'a>(declaration: &Decl<'a>, declared: DeclaredType) -> Result<(), Fault>
     ensures judged { (before : List ProgramUnit) (rest : List Check)
         → type_at before (name_view declaration.now.type_name) ≡ Some declared
         → Judges (first_broken (initial_checks before (declaration_view declaration.now) ++ rest))
         (first_broken rest) result }
-    // It takes no memory, so a refusal is not told as want of it.
+    // It takes no memory, so a refusal is not reported as out of memory.
     ensures refuses { IfErr result (λ fault. fault ≡ Fault.Memory → ⊥) }
 {
     let Some(initial) = declaration.initial else {
@@ -167,7 +167,7 @@ fn judge_initial<'a>(declaration: &Decl<'a>, declared: DeclaredType) -> Result<(
     }
 }
 
-/// The literal after `:=`, where one is written.
+/// The literal after `:=`, if one is written.
 fn literal(initial: Option<Initial>) -> Option<Value>
     ensures { result ≡ option_map (λ i. i.value) initial }
 {
@@ -177,8 +177,8 @@ fn literal(initial: Option<Initial>) -> Option<Value>
     }
 }
 
-/// Adds the variables of a declaration, named already, behind the others: 306 at the first for which there is no
-/// room.
+/// Adds the variables of a declaration, named already, after the others: 306 at the first for which there is no
+/// space.
 fn declare_variables<'a>(
     table: &mut UnitTable<'a>,
     declaration: &Decl<'a>,
@@ -219,7 +219,7 @@ fn declare_variables<'a>(
     Ok(())
 }
 
-/// Judges a declaration behind what its unit's table holds so far, and adds its variables.
+/// Checks a declaration after what its unit's table holds so far, and adds its variables.
 fn judge_declaration<'a>(
     units: &Units<'a>,
     table: &mut UnitTable<'a>,
@@ -257,7 +257,7 @@ fn judge_declaration<'a>(
     declare_variables(table, declaration, declared, width(units, declared))
 }
 
-/// Judges the declarations of a unit, and collects its variables in its table.
+/// Checks the declarations of a unit, and collects its variables in its table.
 pub(crate) fn judge_declarations<'a>(
     units: &Units<'a>,
     table: &mut UnitTable<'a>,

@@ -15,7 +15,7 @@ use std::alloc::Global;
 use wc_model::{Fault, Source, Unit};
 use wc_names::{Names, Tables};
 
-/// Adds the name of a unit where it is a function block.
+/// Adds the name of a unit if it is a function block.
 fn add_block<'a>(names: &mut Names<'a>, unit: &Unit<'a>) -> Result<(), Fault>
     ensures added { OnOk result
         ((name : Name)
@@ -46,7 +46,7 @@ fn block_names<'a>(alloc: Global, source: &Source<'a>) -> Result<Names<'a>, Faul
     Ok(names)
 }
 
-/// Judges the units of a text one after the other, and keeps their tables.
+/// Checks the units of a text one after the other, and keeps their tables.
 fn judge_units<'a>(alloc: Global, units: &mut Units<'a>, source: &Source<'a>) -> Result<(), Fault>
     ensures judged { AreUnitsOf (text_view source.now) [] units.old
         → Judges (declaration_fault (text_view source.now)) None result }
@@ -65,7 +65,7 @@ fn judge_units<'a>(alloc: Global, units: &mut Units<'a>, source: &Source<'a>) ->
     Ok(())
 }
 
-/// What is kept before the first unit of a text is judged.
+/// What is kept before the first unit of a text is checked.
 fn no_units<'a>(alloc: Global, source: &Source<'a>) -> Result<Units<'a>, Fault>
     ensures units { IfOk result (λ units. AreUnitsOf (text_view source.now) [] units) }
     ensures none { IfOk result (λ units. units.tables.items ≡ []) }

@@ -10,7 +10,7 @@ use crate::word::refusal;
 use wc_model::{Fault, MOST_PLACES, MOST_VARIABLES, Place, Word};
 use wc_names::{DeclaredType, Field, UnitTable, Variable};
 
-/// Where the places end once a variable is added to so many of so many places, if there is room.
+/// Where the places end once a variable is added to this many variables and places, if there is space.
 fn room(variables: usize, size: u16, width: u16) -> Option<u16>
     ensures room { is_some result ≡ (nat_le (variables + 1) 256 && nat_le (size + width) 4096) }
     ensures end { IfSome result (λ end. end ≡ size + width) }
@@ -23,7 +23,7 @@ fn room(variables: usize, size: u16, width: u16) -> Option<u16>
     Some(end as u16)
 }
 
-/// Adds a variable to the plain ones where it is one.
+/// Adds a variable to the plain ones if it is one.
 fn push_field<'a>(
     fields: &mut Vec<Field<'a>>,
     word: Word<'a>,
@@ -50,7 +50,7 @@ fn push_field<'a>(
     Ok(())
 }
 
-/// Adds a variable, named already, behind the others: 306 where there is no room.
+/// Adds a variable, named already, after the others: 306 if there is no space.
 pub(crate) fn add_variable<'a>(
     table: &mut UnitTable<'a>,
     word: Word<'a>,
@@ -61,7 +61,7 @@ pub(crate) fn add_variable<'a>(
         → Judges
         (first_broken (asks 306 word.entry.line (has_room (and_more t 1 width)) ∷ rest))
         (first_broken rest) result }
-    // Only a variable for which there is room takes memory, so 306 is not told as want of it.
+    // Only a variable for which there is space takes memory, so 306 is not reported as out of memory.
     ensures refuses { (t : Taken) → HasTaken t table.old
         → IfErr result (λ fault. fault ≡ Fault.Memory → has_room (and_more t 1 width) ≡ true) }
     ensures rows { OnOk result (table.new.rows.items ≡ table.old.rows.items ++ variable ∷ []) }

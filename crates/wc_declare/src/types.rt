@@ -27,7 +27,7 @@ pub(crate) fn block<'a>(units: &Units<'a>, name: &[u8]) -> Option<usize>
     if table.is_block { Some(number) } else { None }
 }
 
-/// The type of that name behind the units so far.
+/// The type of that name after the units so far.
 pub(crate) fn type_at<'a>(units: &Units<'a>, name: &[u8]) -> Option<DeclaredType>
     ensures declared { (text : Text) (before : List ProgramUnit) → AreUnitsOf text before units.now
         → result ≡ type_at before (name_of name.now) }
@@ -47,14 +47,14 @@ pub(crate) fn type_at<'a>(units: &Units<'a>, name: &[u8]) -> Option<DeclaredType
     }
 }
 
-/// How many places an instance of a standard function block has.
+/// The number of places an instance of a standard function block has.
 pub(crate) fn standard_size(block: StandardBlock) -> u16
     ensures { result ≡ length (standard_fields block) }
 {
     standard_fields(block).len() as u16
 }
 
-/// How many places a variable of a type has.
+/// The number of places a variable of a type has.
 pub(crate) fn width<'a>(units: &Units<'a>, declared: DeclaredType) -> u16
     ensures { (text : Text) (before : List ProgramUnit) (name : Name)
         → AreUnitsOf text before units.now → type_at before name ≡ Some declared

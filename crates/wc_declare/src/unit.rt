@@ -30,7 +30,7 @@ pub(crate) fn is_block<'a>(unit: &Unit<'a>) -> bool
     }
 }
 
-/// Judges the name of a unit by 307 and 301.
+/// Checks the name of a unit by 307 and 301.
 fn judge_name<'a>(names: &Names<'a>, word: Word<'a>) -> Result<(), Fault>
     ensures judged { (known : List Name) (rest : List Check) → SameNames names.now known
         → Judges
@@ -38,7 +38,7 @@ fn judge_name<'a>(names: &Names<'a>, word: Word<'a>) -> Result<(), Fault>
         (not_reserved (word_view word.entry) ∷ is_new known (word_view word.entry) ∷ rest))
         (first_broken rest) result }
     ensures new { OnOk result (is_among names.now (name_view word.entry) ≡ false) }
-    // It takes no memory, so a refusal is not told as want of it.
+    // It takes no memory, so a refusal is not reported as out of memory.
     ensures refuses { IfErr result (λ fault. fault ≡ Fault.Memory → ⊥) }
 {
     if is_reserved(word.text) {
@@ -50,7 +50,7 @@ fn judge_name<'a>(names: &Names<'a>, word: Word<'a>) -> Result<(), Fault>
     Ok(())
 }
 
-/// Judges a unit behind those so far: its name, its declarations, its body. It gives the unit's table.
+/// Checks a unit after those so far: its name, its declarations, its body. It gives the unit's table.
 pub(crate) fn judge_unit<'a>(
     alloc: Global,
     units: &Units<'a>,
@@ -74,7 +74,7 @@ pub(crate) fn judge_unit<'a>(
     Ok(table)
 }
 
-/// Adds a unit, whose name is new, behind those so far.
+/// Adds a unit, whose name is new, after those so far.
 pub(crate) fn add_unit<'a>(
     units: &mut Units<'a>,
     name: Word<'a>,

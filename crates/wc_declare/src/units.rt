@@ -1,6 +1,6 @@
 use wc_names::{Names, UnitTable};
 
-/// What is kept while a text is judged.
+/// What is kept while a text is checked.
 #[derive(Drop)]
 pub(crate) struct Units<'a> {
     /// The names of all function blocks of the text.

@@ -2,14 +2,14 @@
 use Rattle.std.proofs.Common.{ℕ, List, [], ◌++◌, Option, Some, None, Result, Ok, Err, ap, sym, ◌∙◌, append_assoc, append-nil, take, drop, take-append-drop}
 use Rattle.std.specs.Io.KnownBytes.{Appends, Keeps, WriteAppends, append_known}
 
--- some of what is pending is handed on
+-- some of what is pending is passed on
 pub handed_on : (old new : Option (List ℕ)) (pending : List ℕ) (count : ℕ) → Appends old new (take count pending) → Keeps (append_known old pending) (append_known new (drop count pending))
 handed_on None new pending count wrote = tt
 handed_on (Some xs) None pending count wrote = absurd wrote
 handed_on (Some xs) (Some ys) pending count wrote =
     ap (λ bytes. bytes ++ drop count pending) wrote ∙ append_assoc xs (take count pending) (drop count pending) ∙ ap (λ bytes. xs ++ bytes) (take-append-drop count pending)
 
--- a piece goes on where nothing is pending
+-- a chunk is passed on if nothing is pending
 pub passed_on : {E : Type 0} (old new : Option (List ℕ)) (result : Result ℕ E) (piece : List ℕ) → WriteAppends old new result piece → WriteAppends (append_known old []) (append_known new []) result piece
 passed_on None new (Ok count) piece wrote = tt
 passed_on None new (Err error) piece wrote = tt

@@ -1,4 +1,4 @@
--- What stands inside these readers and writers, and what they keep beside it. (The profile's own.)
+-- What is inside these readers and writers, and what else they keep. (The profile's own.)
 use Rattle.std.specs.Prelude.{◌≡◌, ℕ, ◌-◌, Bool, List, ◌++◌, Option, Some, None, Result, Ok, Err, IsErrAnd, IsTrue, drop, length, take, vec_capacity, if◌then◌else◌}
 use Rattle.std.specs.Io.KnownBytes.{append_known}
 use Rattle.wc_devices.specs.declared.gathered.Gathering.{Gathering}
@@ -20,11 +20,11 @@ noted noting = noting.cause
 abbrev pub keeping_inner : {D : Type 0} → Keeping D → D
 keeping_inner keeping = keeping.inner
 
--- the bytes that were read, where memory was given for all of them
+-- the bytes that were read, if memory was given for all of them
 abbrev pub kept : {D : Type 0} → Keeping D → Option (List ℕ)
 kept keeping = if keeping.whole then Some keeping.kept.items else None
 
--- for how many more bytes memory is allocated
+-- the number of further bytes for which memory is allocated
 abbrev pub kept_space : {D : Type 0} → Keeping D → ℕ
 kept_space keeping = vec_capacity keeping.kept - length keeping.kept.items
 
@@ -39,7 +39,7 @@ Keeps (Some bytes) new (Err error) buffer = new ≡ Some bytes
 abbrev pub gathering_inner : {D : Type 0} → Gathering D → D
 gathering_inner gathering = gathering.inner
 
--- what is gathered and not handed on yet
+-- what is gathered and not passed on yet
 abbrev pub pending : {D : Type 0} → Gathering D → List ℕ
 pending gathering = drop gathering.given gathering.gathered.items
 
@@ -47,11 +47,11 @@ pending gathering = drop gathering.given gathering.gathered.items
 abbrev pub gathering_failed : {D : Type 0} → Gathering D → Bool
 gathering_failed gathering = gathering.failed
 
--- how many bytes it can gather
+-- the number of bytes it can gather
 abbrev pub gathering_size : {D : Type 0} → Gathering D → ℕ
 gathering_size gathering = gathering.room
 
--- how many more bytes it can gather before it has to hand some on
+-- the number of further bytes it can gather before it has to pass some on
 abbrev pub space_left : {D : Type 0} → Gathering D → ℕ
 space_left gathering = gathering.room - length gathering.gathered.items
 

@@ -1,6 +1,6 @@
 ghost use Rattle.std.specs.Prelude.{◌≤◌, length, vec_capacity};
 
-/// A writer that gathers what it takes, and hands it on when it is emptied or has no room for more. What it has taken is
+/// A writer that gathers what it takes, and passes it on when it is emptied or has no space for more. What it has taken is
 /// what the writer inside has, and then what is gathered. Once a call has failed, each later call fails and changes nothing.
 #[derive(Drop)]
 pub struct Gathering<D> {

@@ -10,7 +10,7 @@ use std::io;
 use std::io::{ErrorKind, Write};
 
 impl<D: Drop> Gathering<D> {
-    /// One with room for so many bytes, which has gathered nothing. The room is made here.
+    /// One with a buffer of n bytes, which has gathered nothing. The buffer is made here.
     pub fn new(alloc: Global, inner: D, room: usize) -> Result<Gathering<D>, AllocError>
         ensures inner { IfOk result (λ g. gathering_inner g ≡ inner) }
         ensures nothing { IfOk result (λ g. pending g ≡ []) }
@@ -37,7 +37,7 @@ impl<D> Gathering<D> {
         &self.inner
     }
 
-    /// How many more bytes can be gathered; an error if a call has failed.
+    /// The number of further bytes that can be gathered; an error if a call has failed.
     fn space(&self) -> io::Result<usize>
         ensures space { IfOk result (λ space. space ≡ space_left self.now) }
         ensures mark { is_err result ≡ gathering_failed self.now }
@@ -51,7 +51,7 @@ impl<D> Gathering<D> {
 }
 
 impl<D: Write> Gathering<D> {
-    /// Hands on some of what is gathered.
+    /// Passes on some of what is gathered.
     fn give_some(&mut self) -> io::Result<()>
         requires { self.old.given < length self.old.gathered.items }
         ensures bytes { Keeps (taken D.contents self.old) (taken D.contents self.new) }
@@ -69,7 +69,7 @@ impl<D: Write> Gathering<D> {
         Ok(())
     }
 
-    /// Hands on all that is gathered.
+    /// Passes on all that is gathered.
     fn give_all(&mut self) -> io::Result<()>
         requires { self.old.failed ≡ false }
         ensures bytes { Keeps (taken D.contents self.old) (taken D.contents self.new) }
@@ -86,7 +86,7 @@ impl<D: Write> Gathering<D> {
         Ok(())
     }
 
-    /// Hands on all that is gathered, so that nothing is pending; or it fails, now or before, and loses nothing of it.
+    /// Passes on all that is gathered, so that nothing is pending; or it fails, now or before, and loses nothing of it.
     pub fn empty(&mut self) -> io::Result<()>
         ensures bytes { Keeps (taken D.contents self.old) (taken D.contents self.new) }
         ensures none { OnOk result (pending self.new ≡ []) }
@@ -104,7 +104,7 @@ impl<D: Write> Gathering<D> {
         Ok(())
     }
 
-    /// Gathers a piece for which there is space, all of it.
+    /// Gathers a chunk for which there is space, all of it.
     fn keep(&mut self, piece: &[u8]) -> io::Result<usize>
         requires { length piece.now ≤ space_left self.old }
         ensures whole { result ≡ Ok (length piece.now) }
@@ -120,7 +120,7 @@ impl<D: Write> Gathering<D> {
         }
     }
 
-    /// Hands on a piece at once, after which nothing is gathered.
+    /// Passes on a chunk at once, after which nothing is gathered.
     fn pass(&mut self, piece: &[u8]) -> io::Result<usize>
         requires nothing { pending self.old ≡ [] }
         requires sound { self.old.failed ≡ false }
@@ -158,7 +158,7 @@ impl<D: Write> Write for Gathering<D> {
             return self.keep(piece);
         }
         self.empty()?;
-        // A piece that is larger than the room goes on as it is, so that none takes memory.
+        // A chunk that is larger than the buffer goes on as it is, so that none takes memory.
         if piece.len() > self.room {
             self.pass(piece)
         } else {

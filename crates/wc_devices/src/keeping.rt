@@ -35,7 +35,7 @@ impl<D> Keeping<D> {
         &self.inner
     }
 
-    /// All bytes that were read; nothing where memory for some of them was refused.
+    /// All bytes that were read; nothing if memory for some of them was refused.
     pub fn bytes_read(&self) -> Option<&[u8]>
         ensures { option_map (λ bytes. bytes.now) result ≡ kept self.now }
     {

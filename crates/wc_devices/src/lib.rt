@@ -1,4 +1,4 @@
-//! Readers and writers around others, which tell their bytes where those do: one that tries a call again after an
+//! Readers and writers around others, which give their bytes if those do: one that tries a call again after an
 //! interruption and keeps why it failed, one that keeps what it read, and one that gathers what is written.
 #![tactic(auto)]
 

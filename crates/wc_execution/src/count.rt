@@ -3,7 +3,7 @@ ghost use Rattle.wc_execution.specs.Courses.{course_view, line_at};
 
 use crate::course::{Course, next_line};
 
-/// How far a body is executed: how many steps are counted, and from where to where lines were executed one behind
+/// How far a body is executed: the number of steps counted, and from where to where lines were executed one after
 /// another since, each a step. So a line that goes on to the next one counts nothing.
 #[derive(Clone, Copy)]
 pub struct Count {
@@ -25,7 +25,7 @@ pub fn with_lines(steps: u32, from: usize, at: usize) -> u32
     steps + (at - from) as u32
 }
 
-/// The count behind a line that takes this course, where a body of `end` lines would go on at `at`.
+/// The count after a line that takes this course, if a body of `end` lines would go on at `at`.
 #[inline(always)]
 pub fn count_on(steps: u32, from: usize, at: usize, course: Course, end: usize) -> Count
     requires order { from ≤ at }

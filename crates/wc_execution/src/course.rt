@@ -1,13 +1,13 @@
 ghost use Rattle.std.specs.Prelude.{◌≡◌, ◌<◌, ◌≤◌, ◌^◌, true, false};
-ghost use Rattle.wc_flat.specs.FlatMeaning.{Ended as ended, Skips as skips};
+ghost use Rattle.wc_text_flat.specs.FlatMeaning.{Ended as ended, Skips as skips};
 ghost use Rattle.wc_execution.specs.Courses.{course_view, line_at};
 
-/// Where a body goes on behind a line.
+/// Where a body goes on after a line.
 #[derive(Clone, Copy)]
 pub enum Course {
     /// On, to the next line.
     On,
-    /// On, but so many lines are passed over.
+    /// On, but n lines are passed over.
     Skips(u32),
     /// Nowhere: it has ended.
     Ended,
@@ -16,7 +16,7 @@ pub enum Course {
 /// What a line leaves.
 #[derive(Clone, Copy)]
 pub struct Moved {
-    /// The result, whatever it was where there is none.
+    /// The result, whatever it was if there is none.
     pub current: i32,
     /// Where the body goes on.
     pub course: Course,
@@ -34,7 +34,7 @@ pub(crate) fn on(current: i32) -> Moved
     }
 }
 
-/// On, where some lines are passed over or none.
+/// On, if some lines are passed over or none.
 #[inline(always)]
 pub(crate) fn over(current: i32, passes: bool, skip: u32) -> Moved
     ensures current { result.current ≡ current }
@@ -63,7 +63,7 @@ pub(crate) fn out(current: i32, leaves: bool) -> Moved
     }
 }
 
-/// The line at which a body of `end` lines goes on, where the next one is `at`.
+/// The line at which a body of `end` lines goes on, if the next one is `at`.
 #[inline(always)]
 pub fn next_line(course: Course, at: usize, end: usize) -> usize
     requires { at < 2 ^ 63 }

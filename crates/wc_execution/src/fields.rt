@@ -1,5 +1,5 @@
 ghost use Rattle.std.specs.Prelude.{◌≡◌, ◌≤◌, ℕ, Some, pos, true, length};
-ghost use Rattle.wc_flat.specs.NumberBlocks.{is_slot, number_from};
+ghost use Rattle.wc_text_flat.specs.NumberBlocks.{is_slot, number_from};
 ghost use Rattle.std.specs.Prelude.{slice_get};
 ghost use Rattle.wc_execution.specs.Lines.{AreBefore};
 ghost use Rattle.wc_model.specs.Language.Frames.{bit_number};

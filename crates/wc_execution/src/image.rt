@@ -1,5 +1,5 @@
 ghost use Rattle.std.specs.Prelude.{◌≡◌, ◌+◌, ◌<◌, ◌≤◌, ℕ, ℤ, List, ◌++◌, map, drop, pos, length, slice_index_or};
-ghost use Rattle.wc_flat.specs.Contents.{with_image_numbers};
+ghost use Rattle.wc_text_flat.specs.Contents.{with_image_numbers};
 ghost use Rattle.wc_execution.specs.Lines.{AreAll, AreBefore};
 ghost use Rattle.wc_model.specs.Language.DirectVariables.{numbers_below};
 ghost use Rattle.wc_model.specs.Language.Frames.{bit_number};

@@ -1,5 +1,5 @@
 //! Flat code over a store of plain numbers: what one line of a body does to it, a call of a standard block over its places, the
-//! process image that goes to the inputs, and what stands at the outputs. It knows no text and no other body.
+//! process image that goes to the inputs, and what is at the outputs. It knows no text and no other body.
 #![tactic(auto)]
 
 mod count;

@@ -1,14 +1,14 @@
 ghost use Rattle.std.specs.Prelude.{◌≡◌, ◌≤◌, [], length};
 ghost use Rattle.wc_execution.specs.Lines.{here_at, no_calls, state_of};
 ghost use Rattle.wc_execution.specs.Writing.{IsStorable, IsWritable};
-ghost use Rattle.wc_trace_laws.specs.FlatSeen.{number_stored, number_written};
+ghost use Rattle.wc_laws_trace.specs.FlatSeen.{number_stored, number_written};
 
 use crate::operators::truth;
 use crate::places::{flipped, read};
 use wc_model::{Code, Storing};
 use wc_store::Store;
 
-/// What ST, STN, S and R write of a result: S and R nothing where it is FALSE.
+/// What ST, STN, S and R write of a result: S and R nothing if it is FALSE.
 fn number_stored(storing: Storing, current: i32) -> Option<i32>
     requires { IsStorable storing current }
     ensures { result ≡ number_stored storing current }

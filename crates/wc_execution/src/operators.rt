@@ -1,5 +1,5 @@
 ghost use Rattle.std.specs.Prelude.{◌≡◌, Some, IsSome, false};
-ghost use Rattle.wc_flat.specs.NumberOperators.{bit_of, combined};
+ghost use Rattle.wc_text_flat.specs.NumberOperators.{bit_of, combined};
 ghost use Rattle.wc_execution.specs.Logic.{is_logic};
 ghost use Rattle.wc_model.specs.Language.Frames.{bit_number};
 

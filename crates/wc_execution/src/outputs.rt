@@ -17,7 +17,7 @@ fn is_on<S: Store>(store: &S, bit: u8) -> bool
     truth_at(store, 25 + usize::from(bit))
 }
 
-/// The output bits, bit i for `%QX0.i`, which stand at the places from 25 on.
+/// The output bits, bit i for `%QX0.i`, which are at the places from 25 on.
 fn bits<S: Store>(store: &S) -> u16
     requires slots { AreAll slots.Bool (S.slot_kinds store.now) 25 16 }
     requires room { length (S.slot_kinds store.now) ≤ 65536 }
@@ -44,7 +44,7 @@ fn word<S: Store>(store: &S, number: usize) -> i32
     count_at(store, 41 + number)
 }
 
-/// What stands at the outputs.
+/// What is at the outputs.
 pub fn read_outputs<S: Store>(store: &S) -> Outputs
     requires bits { AreAll slots.Bool (S.slot_kinds store.now) 25 16 }
     requires words { AreAll slots.Dint (S.slot_kinds store.now) 41 4 }

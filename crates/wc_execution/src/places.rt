@@ -1,5 +1,5 @@
 ghost use Rattle.std.specs.Prelude.{◌≡◌, ◌≤◌, ℕ, Some, IsSome, false, length, true};
-ghost use Rattle.wc_flat.specs.NumberOperators.{flipped};
+ghost use Rattle.wc_text_flat.specs.NumberOperators.{flipped};
 ghost use Rattle.wc_model.specs.declared.operator.Storing.TheVariants as stores;
 ghost use Rattle.wc_execution.specs.Lines.{held, loaded, negated_if, passed, stored, written, AreBefore};
 
@@ -109,7 +109,7 @@ pub(crate) fn put<S: Store>(
     }
 }
 
-/// An argument that stands at a place.
+/// An argument that is at a place.
 #[inline(always)]
 pub(crate) fn pass<S: Store>(store: &mut S, base: usize, place: Place, target: Place)
     requires room { length (S.slot_kinds store.old) ≤ 65536 }

@@ -1,5 +1,5 @@
 ghost use Rattle.std.specs.Prelude.{◌≡◌, Some, IsSome, reverse};
-ghost use Rattle.wc_flat.specs.NumberOperators.{acts};
+ghost use Rattle.wc_text_flat.specs.NumberOperators.{acts};
 ghost use Rattle.wc_execution.specs.Lines.{IsClosable, IsClosed};
 
 use crate::operators::{combined, truth};

@@ -1,5 +1,5 @@
 ghost use Rattle.std.specs.Prelude.{◌≡◌, ◌≤◌, Some, IsSome, length};
-ghost use Rattle.wc_flat.specs.NumberBlocks.{block_called};
+ghost use Rattle.wc_text_flat.specs.NumberBlocks.{block_called};
 ghost use Rattle.wc_execution.specs.Lines.{AreBefore};
 
 use crate::{ctu, r_trig, rs, sr, tof, ton, tp};

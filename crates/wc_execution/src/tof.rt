@@ -1,6 +1,6 @@
 ghost use Rattle.std.specs.Prelude.{◌≡◌, ◌+◌, ◌≤◌, ℕ, Some, drop, length};
 ghost use Rattle.wc_blocks.specs.Views.{tof_view};
-ghost use Rattle.wc_flat.specs.NumberBlocks.{block_called, field_numbers, with_numbers};
+ghost use Rattle.wc_text_flat.specs.NumberBlocks.{block_called, field_numbers, with_numbers};
 ghost use Rattle.wc_execution.specs.Lines.{AreBefore, AreSlots, slots_of};
 ghost use Rattle.wc_model.specs.Language.BlockCalls.{tof_contents};
 ghost use Rattle.wc_model.specs.Language.Blocks.{tof_step};

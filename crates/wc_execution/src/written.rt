@@ -1,5 +1,5 @@
 ghost use Rattle.std.specs.Prelude.{◌≡◌, ◌≤◌, ℕ, pos, true, length, slice_get, slice_set};
-ghost use Rattle.wc_flat.specs.NumberBlocks.{is_slot};
+ghost use Rattle.wc_text_flat.specs.NumberBlocks.{is_slot};
 ghost use Rattle.wc_execution.specs.Lines.{AreBefore};
 ghost use Rattle.wc_model.specs.Language.Frames.{bit_number};
 ghost use Rattle.wc_model.specs.declared.kind.SlotKind.TheVariants as slots;

@@ -4,7 +4,7 @@ use Rattle.wc_identity.specs.declared.constants.TheConstants.{DATA_PATH, LEGAL_P
 use Rattle.wc_identity.specs.declared.identity.Identity.{Identity}
 use Rattle.wc_identity.specs.Texts.{IsText}
 
--- the constants of this version, each in its room
+-- the constants of this version, each in its buffer
 abbrev pub IsThisVersion : Identity → Type 0
 IsThisVersion identity =
     IsText VERSION.now 16 identity.version × IsText TOOLCHAIN.now 48 identity.toolchain

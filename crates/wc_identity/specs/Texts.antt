@@ -1,4 +1,4 @@
--- Texts in rooms of a fixed size (the profile's own).
+-- Texts in buffers of a fixed size (the profile's own).
 
 use Rattle.std.specs.Prelude.{◌≡◌, ◌++◌, ◌-◌, List, length, replicate, ℕ}
 

@@ -6,8 +6,8 @@ macro_rules! with_constants {
         $macro!(
             "0.1.0",
             "rattle-kit-13 logic dac8208d650f15bf",
-            "4f000ccb436899dda6aac353b8b53ca61b795792c01af8c24045ebd8348a179c",
-            "c4959cf86e3e50cf0023dc49ff563c6f5da1c2700e610f8d772e50d9e234929e"
+            "5b95c92c9859778d61dee2e7d0ee3ad00f6bf4c083453fe47580aad129cbfa0c",
+            "d74389cb2bebf3bd5b8a92e75fd735d7e98f35090ef7087d9f0524ced5810a3f"
         )
     };
 }

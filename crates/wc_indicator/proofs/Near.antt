@@ -5,9 +5,9 @@ use Rattle.std.proofs.lemmas.Bool.{cases_lt}
 use Rattle.std.proofs.lemmas.Int.{ints}
 use Rattle.std.specs.Prelude.{ℤ, pos, negsuc, neg_ℤ, ◌<ℤ◌, ◌*ℤ◌, unsigned_abs}
 use Rattle.wc_model.specs.Instrument.Rounding.{nearest, nearest_above_zero}
-use Rattle.wc_instrument_laws.proofs.Rounding.{quotient_bounds}
+use Rattle.wc_laws_instrument.proofs.Rounding.{quotient_bounds}
 
--- no more intervals than counts, where an interval has a count or more
+-- no more intervals than counts, if an interval has a count or more
 pub no_more : (c n span : ℕ) → 0 < span → n ≤ span → nearest_above_zero (c * n) span ≤ c
 no_more c n span h l = elim (cases_lt c (nearest_above_zero (c * n) span)) [
   | inl more ↦

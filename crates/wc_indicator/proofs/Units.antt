@@ -58,7 +58,7 @@ difference_kept u z a b m n g h = omega (arith, ints)
 pub difference_range : (u z : ℤ) → IsCount u → IsCount z → IsDifference (to_z w32 (of_z w32 (to_z w32 (of_z w32 u) -ℤ to_z w32 (of_z w32 z))))
 difference_range u z m n = omega (arith, ints)
 
--- a value where there is one, else another
+-- a value if there is one, else another
 pub either_range : (o : Option ℤ) (z : ℤ) → IfSome o IsCount → IsCount z → IsCount (unwrap_or o z)
 either_range None z h m = m
 either_range (Some x) z h m = h

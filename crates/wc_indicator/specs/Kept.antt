@@ -1,5 +1,5 @@
--- What an indicator keeps, and the plate and the history for which it stands. What is kept is this crate's own choice; the
--- values that it tells are those of the profile on OIML R 76-1:2006.
+-- What an indicator keeps, and the plate and the history that it represents. What is kept is this crate's own choice; the
+-- values that it gives are those of the profile on OIML R 76-1:2006.
 use Rattle.std.specs.Prelude.{◌≡◌, ◌≤◌, ◌^◌, List, ℤ, Option, IfSome, unsigned_abs}
 use Rattle.wc_model.specs.Instrument.Plates.{PlateData, IsPlate}
 use Rattle.wc_model.specs.Instrument.WeighingHistories.{History, last_sample}
@@ -13,7 +13,7 @@ pub record IndicatorState : Type 0 where
   pub zero : ℤ
   pub tare : Option ℤ
 
--- the indicator stands for a plate and for all that has come to it
+-- the indicator represents a plate and all that has come to it
 pub record StandsForHistory (indicator : IndicatorState) (p : PlateData) (history : History) : Type 0 where
   pub same_plate : indicator.plate ≡ p
   pub same_latest : indicator.latest ≡ window_of p history
@@ -21,7 +21,7 @@ pub record StandsForHistory (indicator : IndicatorState) (p : PlateData) (histor
   pub same_zero : indicator.zero ≡ zero_point p history
   pub same_tare : indicator.tare ≡ active_tare p history
 
--- the answer is the value at each plate and history for which the indicator stands
+-- the answer is the value at each plate and history that the indicator represents
 abbrev pub Tells : {X : Type 0} → (PlateData → History → X) → IndicatorState → X → Type 0
 Tells value indicator answer = (p : PlateData) (history : History) → StandsForHistory indicator p history → answer ≡ value p history
 

@@ -39,7 +39,7 @@ impl Indicator {
         refused_unless(self.stable(), self.can_be_tared())
     }
 
-    /// Sets zero at the present load, and ends the tare. `Motion` where the scale is not stable, else `Range` where
+    /// Sets zero at the present load, and ends the tare. `Motion` if the scale is not stable, else `Range` if
     /// the load is farther than 2 % of the greatest load from the calibrated zero (OIML R 76-1:2006, 4.5.1 and 4.5.4).
     pub fn set_zero(&mut self) -> Result<(), Refused>
         ensures stands { (p : PlateData) (history : History) → StandsForHistory self.old p history
@@ -58,8 +58,8 @@ impl Indicator {
         }
     }
 
-    /// Takes the load above the zero point for the tare, unrounded, in place of any tare before. `Motion` where the
-    /// scale is not stable, else `Range` where the gross weight is below one interval or above the greatest load
+    /// Takes the load above the zero point for the tare, unrounded, in place of any tare before. `Motion` if the
+    /// scale is not stable, else `Range` if the gross weight is below one interval or above the greatest load
     /// (OIML R 76-1:2006, 4.6.4, 4.6.8 and 4.6.10).
     pub fn set_tare(&mut self) -> Result<(), Refused>
         ensures stands { (p : PlateData) (history : History) → StandsForHistory self.old p history

@@ -176,8 +176,8 @@ impl Indicator {
         self.last.is_some() && 4 * distance <= self.plate.span_counts() as u64
     }
 
-    /// Whether the load is at rest: as many samples as the window holds have come, and the last so many lie within
-    /// half an interval.
+    /// Whether the load is at rest: as many samples as the window holds have come, and that many of the last lie
+    /// within half an interval.
     pub fn stable(&self) -> bool
         ensures { Tells told.is_stable self.now result }
     {
@@ -186,7 +186,7 @@ impl Indicator {
             && 2 * spread * self.plate.n() as u64 <= self.plate.span_counts() as u64
     }
 
-    /// The gross weight, in units of the last decimal, where there is an indication.
+    /// The gross weight, in units of the last decimal, if there is an indication.
     pub fn gross(&self) -> Option<i32>
         ensures { Tells told.gross self.now result }
     {
@@ -194,7 +194,7 @@ impl Indicator {
         if self.valid() { Some(weight) } else { None }
     }
 
-    /// The net weight, in units of the last decimal, where there is an indication.
+    /// The net weight, in units of the last decimal, if there is an indication.
     pub fn net(&self) -> Option<i32>
         ensures { Tells told.net self.now result }
     {

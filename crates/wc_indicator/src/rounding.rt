@@ -1,7 +1,7 @@
 ghost use Rattle.std.specs.Prelude.{◌≡◌, ◌≤◌, ◌^◌, ◌<◌, ◌*ℤ◌, ◌*◌, pos, unsigned_abs};
 ghost use Rattle.wc_model.specs.Instrument.Rounding.{nearest, nearest_above_zero};
 
-/// How many spans `amount` comes to, to the nearest, a tie upward.
+/// The number of spans `amount` comes to, to the nearest, a tie upward.
 fn nearest_above_zero(amount: u64, span: u32) -> u64
     requires amount { amount < 2 ^ 60 }
     requires span { 0 < span }

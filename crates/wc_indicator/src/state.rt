@@ -1,4 +1,4 @@
-ghost use Rattle.wc_instrument_laws.specs.Preludes as prelude;
+ghost use Rattle.wc_laws_instrument.specs.Preludes as prelude;
 ghost use Rattle.wc_model.specs.Instrument.Indication as told;
 ghost use Rattle.wc_indicator.specs.Kept.{Tells};
 

@@ -11,7 +11,7 @@ length_on byte rest =
     elim (byte == 10) as (λ v. min (cond (not v) (1 + position_or_len (λ b. b == 10) rest) 0 + 1) (suc (length rest)) ≡ (if v then 1 else suc (line_length rest)))
     [ true ↦ omega arith | false ↦ omega arith ]
 
--- the lines of a text, cut behind so many bytes
+-- the lines of a text, cut after n bytes
 abbrev IsCutAt : ℕ → List ℕ → ℕ → Type 0
 IsCutAt byte rest count = whole_lines (byte ∷ rest) ≡ take count (byte ∷ rest) ∷ whole_lines (drop count (byte ∷ rest))
 

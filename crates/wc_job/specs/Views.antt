@@ -1,4 +1,4 @@
--- What the answers of this crate stand for.
+-- What the answers of this crate represent.
 use Rattle.std.specs.Prelude.{◌≡◌, ℕ, ◌+◌, ◌<◌, ◌==◌, min, List, [], ◌∷◌, length, codes, Option, Some, None, Result, Ok, Err, option_map}
 use Rattle.std.specs.List.{position_or_len}
 use Rattle.wc_job.specs.declared.headings.Heading.{Heading}
@@ -14,7 +14,7 @@ heading_view Program = codes "@program"
 heading_view Next = codes "@next"
 heading_view Log = codes "@log"
 
--- how many bytes the first line has, with its LF where it has one
+-- the number of bytes the first line has, with its LF if it has one
 abbrev pub line_length : List ℕ → ℕ
 line_length text = min (position_or_len (λ byte. byte == 10) text + 1) (length text)
 
@@ -37,7 +37,7 @@ sections_view sections = record {
   log = sections.log.now;
 }
 
--- the sections, where there are some
+-- the sections, if there are some
 abbrev pub found_view : Option answer.Sections → Option Sections
 found_view None = None
 found_view (Some sections) = Some (sections_view sections)

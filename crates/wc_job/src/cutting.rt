@@ -7,7 +7,7 @@ use crate::lines::first_line;
 use crate::parts::{Parting, Sections};
 use wc_model::LONGEST_JOB;
 
-/// What stands before and behind the first line that is this heading.
+/// What precedes and follows the first line that is this heading.
 fn part_at<'a>(heading: Heading, text: &'a [u8]) -> Option<Parting<'a>>
     ensures { parted_view result ≡ part_at (heading_view heading) (whole_lines text.now) }
 {
@@ -26,7 +26,7 @@ fn part_at<'a>(heading: Heading, text: &'a [u8]) -> Option<Parting<'a>>
     None
 }
 
-/// The sections of a plate, of what stands between the headings of program and log, and of a log.
+/// The sections of a plate, of what is between the headings of program and log, and of a log.
 fn with_programs<'a>(plate: &'a [u8], between: &'a [u8], log: &'a [u8]) -> Sections<'a>
     ensures { sections_view result ≡ sections_with_next plate.entry.now between.entry.now
         log.entry.now (part_at (codes "@next") (whole_lines between.entry.now)) }
@@ -47,7 +47,7 @@ fn with_programs<'a>(plate: &'a [u8], between: &'a [u8], log: &'a [u8]) -> Secti
     }
 }
 
-/// The sections behind the first heading.
+/// The sections after the first heading.
 fn sections_behind<'a>(text: &'a [u8]) -> Option<Sections<'a>>
     ensures { found_view result
         ≡ sections_with_program (part_at (codes "@program") (whole_lines text.now)) }
@@ -73,10 +73,10 @@ fn sections_in<'a>(text: &'a [u8]) -> Option<Sections<'a>>
     }
 }
 
-/// The sections of a job of at most 1048576 bytes: what stands between `@plate`, its first line, the first line `@program`
-/// behind it, the first line `@log` behind that one, and the end; and, where a line `@next` stands between `@program` and
-/// `@log`, the next program behind the first such line. A heading stands alone on its line and ends with LF or CRLF.
-/// 702 where the job is longer, 701 where a heading is missing. It takes no memory. (The form is the profile's own.)
+/// The sections of a job of at most 1048576 bytes: what is between `@plate`, its first line, the first line `@program`
+/// after it, the first line `@log` after that one, and the end; and, if a line `@next` is between `@program` and
+/// `@log`, the next program after the first such line. A heading is alone on its line and ends with LF or CRLF.
+/// 702 if the job is longer, 701 if a heading is missing. It takes no memory. (The form is the profile's own.)
 pub fn sections<'a>(bytes: &'a [u8]) -> Result<Sections<'a>, u16>
     ensures { result_view result ≡ sections_of bytes.now }
 {

@@ -18,7 +18,7 @@ fn is_either(text: &[u8], one: &[u8], other: &[u8]) -> bool
     text == one || text == other
 }
 
-/// The line is this heading: its word, then LF or CRLF, with nothing beside it.
+/// The line is this heading: its word, then LF or CRLF, and nothing else.
 pub(crate) fn is_heading(heading: Heading, line: &[u8]) -> bool
     ensures { result ≡ is_heading (heading_view heading) line.now }
 {

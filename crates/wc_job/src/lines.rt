@@ -2,7 +2,7 @@ ghost use Rattle.std.specs.Prelude.{◌≡◌, ◌≤◌, ◌==◌, ◌++◌, le
 ghost use Rattle.std.specs.List.{position_or_len};
 ghost use Rattle.wc_job.specs.Views.{BeginsWithLine, line_length};
 
-/// How many bytes stand before the first LF.
+/// The number of bytes before the first LF.
 fn length_before_end(text: &[u8]) -> usize
     ensures first { result ≡ position_or_len (λ byte. byte == 10) text.now }
     ensures within { result ≤ length text.now }
@@ -10,7 +10,7 @@ fn length_before_end(text: &[u8]) -> usize
     text.iter().take_while(|byte| **byte != b'\n').count()
 }
 
-/// How many bytes the first line has, with its LF where it has one.
+/// The number of bytes the first line has, with its LF if it has one.
 fn line_length(text: &[u8]) -> usize
     ensures longest { result ≡ line_length text.now }
     ensures within { result ≤ length text.now }
@@ -23,7 +23,7 @@ fn line_length(text: &[u8]) -> usize
     }
 }
 
-/// The first line with its LF, and what follows it. Both are empty only where the text is.
+/// The first line with its LF, and what follows it. Both are empty only if the text is.
 pub(crate) fn first_line(text: &[u8]) -> (&[u8], &[u8])
     ensures whole { text.now ≡ result.0.now ++ result.1.now }
     ensures line { BeginsWithLine text.now result.0.now result.1.now }

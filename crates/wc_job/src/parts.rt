@@ -5,13 +5,13 @@ pub struct Sections<'a> {
     pub plate: &'a [u8],
     /// The text of the program.
     pub program: &'a [u8],
-    /// The text of the next program, where it has its heading.
+    /// The text of the next program, if it has its heading.
     pub next: Option<&'a [u8]>,
     /// The bytes of the log.
     pub log: &'a [u8],
 }
 
-/// What stands before a heading and what stands behind it.
+/// What precedes a heading and what follows it.
 #[derive(Clone, Copy)]
 pub(crate) struct Parting<'a> {
     pub(crate) section: &'a [u8],

@@ -22,10 +22,10 @@ pub enum ReadFault {
     Memory,
 }
 
-/// How many bytes are read at once.
+/// The number of bytes read at once.
 const PIECE: usize = 4096;
 
-/// Reads into the front of the buffer, at most so many bytes.
+/// Reads into the start of the buffer, at most n bytes.
 fn read_up_to<R: ByteIn>(reader: &mut R, buffer: &mut [u8], most: usize) -> io::Result<usize>
     requires { most ≤ length buffer.old }
     ensures bytes { ReadsInto most (R.bytes_left reader.old)
@@ -56,8 +56,8 @@ fn read_more<R: ByteIn>(reader: &mut R, bytes: &mut Vec<u8>) -> Result<bool, Rea
     }
 }
 
-/// All bytes of a reader, where they are at most 1048576. `TooLong` where they are more, `Read` where a call of `read` failed
-/// (also one that was interrupted), `Memory` where memory is refused. It reads up to the end, the first fault, or byte 1048577.
+/// All bytes of a reader, if they are at most 1048576. `TooLong` if they are more, `Read` if a call of `read` failed
+/// (also one that was interrupted), `Memory` if memory is refused. It reads up to the end, the first fault, or byte 1048577.
 pub fn read_whole<R: ByteIn>(alloc: Global, reader: &mut R) -> Result<Vec<u8>, ReadFault>
     ensures whole { IfOk result (λ bytes. IsWhole (R.bytes_left reader.old) bytes.items) }
     ensures too_long { IfErr result (λ fault. IsOverTheLimit (R.bytes_left reader.old) fault) }

@@ -1,7 +1,7 @@
 -- The arguments of a call, one after the other from the last.
 use Rattle.std.proofs.Common.{◌≡◌, ℕ, zero, suc, Bool, true, false, not, List, [], ◌∷◌, map, drop, refl, ap, ◌∙◌}
 use Rattle.std.specs.Prelude.{if◌then◌else◌}
-use Rattle.wc_flat.specs.Laid.{IsArgument, IsOutput}
+use Rattle.wc_text_flat.specs.Laid.{IsArgument, IsOutput}
 use Rattle.wc_model.specs.Language.Names.{Name}
 use Rattle.wc_model.specs.Language.Scopes.{Scope}
 use Rattle.wc_model.specs.Language.Tree.{Assignment, Field, goes_in, inputs_of, outputs_of}
@@ -12,7 +12,7 @@ use Rattle.wc_laying.specs.FlatLines.{FlatLines, put_line}
 use Rattle.wc_laying.specs.Layable.{ArePassable, IsPassable, IsReadable, IsWritable}
 use Rattle.wc_laying.specs.Laying.{AddsArguments, AddsOutputs}
 
--- none yet, and one more in front
+-- none yet, and one more before them
 pub none_added : (scope : Scope) (instance : Name) (line : ℕ) (flat : FlatLines) → AddsArguments scope instance line [] flat flat
 none_added scope instance line flat = record { own = []; laid = tt; code = refl; places = refl }
 
@@ -37,7 +37,7 @@ one_given scope instance line output rest old so_far new code is h e = record {
   places = ap (λ (f : FlatLines). f.sources) e ∙ ap (λ s. line ∷ s) h.places;
 }
 
--- the inputs and the outputs of a list with one more in front
+-- the inputs and the outputs of a list with one more before it
 pub one_in : (a : Assignment) (rest : List Assignment) → goes_in a ≡ true → inputs_of (a ∷ rest) ≡ a ∷ inputs_of rest
 one_in a rest e = ap (λ b. if b then a ∷ inputs_of rest else inputs_of rest) e
 

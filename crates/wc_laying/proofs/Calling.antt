@@ -1,4 +1,4 @@
--- The body that a call stands before.
+-- The body that a call precedes.
 use Rattle.std.proofs.Common.{◌≡◌, ℕ, ◌+◌, ◌<◌, Bool, true, false, List, [], ◌∷◌, length, Option, Some, None, option_map, refl, sym, ap, subst, ◌∙◌, arith}
 use Rattle.std.specs.Prelude.{if◌then◌else◌, option_and_then}
 use Rattle.wc_model.specs.Language.DeclarationRules.{places_of_type}
@@ -17,7 +17,7 @@ use Rattle.wc_names.specs.Numbered.{numbered_type}
 use Rattle.wc_names.specs.StandsFor.{first_from, first_number}
 use Rattle.wc_names.specs.declared.declared_type.DeclaredType.{DeclaredType}
 use Rattle.wc_names.specs.declared.declared_type.DeclaredType.TheVariants as numbered
-use Rattle.wc_flat.specs.Laid.{IsBodyOf, IsUnitBody, first_of_all, first_place, places_before, size_of}
+use Rattle.wc_text_flat.specs.Laid.{IsBodyOf, IsUnitBody, first_of_all, first_place, places_before, size_of}
 use Rattle.wc_laying.specs.Layable.{IsCallable, IsKnownBlock}
 
 -- as many places, whatever they hold at first
@@ -66,7 +66,7 @@ body_unit scope name (Block word) number unit at e f n h = by (block_named scope
         let same : length found.1 ≡ number = cc in
         (at, f, ap (λ x. Body x at) (n (subst (λ x. x < 65536) same k) ∙ sym same))
 
--- a variable of an elementary type is no instance
+-- a variable of an elementary type is not an instance
 pub body_none : (scope : Scope) (name : Name) (type : VariableType) (kind : Kind) (line : Code) → numbered_type scope.before type ≡ Some (numbered.Elementary kind) → IsCallable scope (Some type) → IsBodyOf scope name (Some type) line
 body_none scope name (Elementary k) kind line e h = absurd h
 body_none scope name (StandardType b) kind line e h = cc

@@ -1,7 +1,7 @@
 -- The flat lines of a call.
 use Rattle.std.proofs.Common.{◌≡◌, ℕ, ◌+◌, List, ◌∷◌, ◌++◌, map, length, append_assoc, refl, sym, ap, ◌∙◌}
-use Rattle.wc_flat.specs.FlatPaths.{step_sources}
-use Rattle.wc_flat.specs.Laid.{IsBodyOf, IsStepLaid}
+use Rattle.wc_text_flat.specs.FlatPaths.{step_sources}
+use Rattle.wc_text_flat.specs.Laid.{IsBodyOf, IsStepLaid}
 use Rattle.wc_model.specs.Language.Names.{Name}
 use Rattle.wc_model.specs.Language.Scopes.{Scope, type_of}
 use Rattle.wc_model.specs.Language.Tree.{Assignment, inputs_of, outputs_of, Call as CallStep, Lines}

@@ -1,4 +1,4 @@
--- What holds where a call gives no fault.
+-- What holds if a call gives no fault.
 use Rattle.std.proofs.Common.{Result, Ok, Err}
 use Rattle.std.specs.Prelude.{OnOk}
 use Rattle.wc_model.specs.declared.fault.Fault.{Fault}

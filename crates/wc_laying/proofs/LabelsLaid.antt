@@ -1,8 +1,8 @@
--- The labels of a body that is laid flat from the last line to the first.
+-- The labels of a body that is lowered from the last line to the first.
 use Rattle.std.proofs.Common.{◌≡◌, ℕ, zero, suc, ◌+◌, ◌<◌, Bool, true, false, List, [], ◌∷◌, ◌++◌, length, drop, Option, Some, None, option_map, refl, sym, ap, subst, ◌∙◌, arith}
 use Rattle.std.specs.Prelude.{if◌then◌else◌}
-use Rattle.wc_flat.proofs.Bodies.{laid_length}
-use Rattle.wc_flat.specs.Laid.{flat_length, lines_ahead, step_length}
+use Rattle.wc_text_flat.proofs.Bodies.{laid_length}
+use Rattle.wc_text_flat.specs.Laid.{flat_length, lines_ahead, step_length}
 use Rattle.wc_model.specs.Language.Declarations.{named_in, same_name}
 use Rattle.wc_model.specs.Language.Kinds.{BodyLine, AloneLine, PlainLine, NestedLine}
 use Rattle.wc_model.specs.Language.Meaning.{carries}
@@ -20,7 +20,7 @@ use Rattle.wc_laying.specs.FlatLines.{FlatLines, no_lines}
 use Rattle.wc_laying.specs.Layable.{IsAhead, IsLayable, IsLineLayable, IsNear}
 use Rattle.wc_laying.specs.Laying.{AddsLine, HoldsLabels, IsFlat, IsKeptFlat, KeepsLabel, Stands}
 
--- what can be laid of a line can be laid of the same one
+-- what can be lowered of a line can be lowered of the same one
 pub as_near : (scope : Scope) (rest : Lines) (skip : ℕ) (a b : BodyLine) → a ≡ b → (IsLineLayable scope (IsNear rest) b → IsLineLayable scope (IsAhead rest skip) b) → IsLineLayable scope (IsNear rest) a → IsLineLayable scope (IsAhead rest skip) a
 as_near scope rest skip a b e h may = subst (IsLineLayable scope (IsAhead rest skip)) (sym e) (h (subst (IsLineLayable scope (IsNear rest)) e may))
 
@@ -33,7 +33,7 @@ found_ahead rest label o left count far stands e near go =
 pub not_ahead : (rest : Lines) (label : Name) (o : Option ℕ) (count : ℕ) → Stands (lines_ahead rest label) o count → o ≡ None → IsNear rest label → ⊥
 not_ahead rest label o count stands e near = subst (λ x. Stands x None count) near.1 (subst (λ x. Stands (lines_ahead rest label) x count) e stands)
 
--- how many flat lines a line has
+-- the number of flat lines a line has
 abbrev line_length : BodyLine → ℕ
 line_length (AloneLine label) = 0
 line_length (PlainLine label line step) = step_length step
@@ -54,7 +54,7 @@ put_length (AloneLine word) rest = let a : flat_length rest ≡ 0 + flat_length 
 put_length (PlainLine word line step) rest = refl
 put_length (NestedLine word line operator operand inside close) rest = refl
 
--- a line more in front
+-- one more line before
 shifted : (n count : ℕ) (o left : Option ℕ) → Stands o left count → Stands (option_map (λ k. n + k) o) left (n + count)
 shifted n count None None h = tt
 shifted n count None (Some left) h = h
@@ -93,7 +93,7 @@ label_kept scope rest None labels kept flat keeps h = (h.0, subst (λ (x : List 
 label_kept scope rest (Some word) labels kept flat keeps h =
     line_kept scope rest (AloneLine word) labels kept flat flat (record { own = []; laid = refl; code = refl; places = refl }) keeps h
 
--- what can be laid, line by line
+-- what can be lowered, line by line
 pub layable_put : (scope : Scope) (line : BodyLine) (rest : Lines) → IsLayable scope (put line rest) → IsLineLayable scope (IsNear rest) line × IsLayable scope rest
 layable_put scope (AloneLine label) rest h = (tt, h)
 layable_put scope (PlainLine label line step) rest h = h

@@ -1,9 +1,9 @@
--- What the rules on declarations and bodies let pass can be laid flat.
+-- What the rules on declarations and bodies let pass can be lowered.
 use Rattle.std.proofs.Common.{◌≡◌, ℕ, ◌+◌, ◌<◌, ◌≤◌, Bool, true, false, ◌||◌, ◌&&◌, List, [], ◌∷◌, ◌++◌, length, Option, Some, None, is_some, option_map, refl, sym, ap, subst, ◌∙◌, inl, inr, ⊎_elim, arith}
 use Rattle.std.proofs.lemmas.Bool.{and_parts}
 use Rattle.std.specs.List.{flat_map, list_any}
 use Rattle.std.specs.Prelude.{if◌then◌else◌}
-use Rattle.wc_flat.specs.Laid.{flat_length, lines_ahead, step_length}
+use Rattle.wc_text_flat.specs.Laid.{flat_length, lines_ahead, step_length}
 use Rattle.wc_model.specs.Language.BodyRules.{actual_checks, argument_checks, call_checks, closing_checks, condition_checks, formal_named, input_named, output_named, inside_rules, is_ahead, is_bit_literal, is_bool, is_instance, is_no_instance, is_of, is_readable, is_writable, label_rules, line_rules, members_called, opening_checks, opening_operand_checks, reading_checks, result_checks, divisor_checks, spot_rules, step_rules, store_checks, suits_input, suits_output, suits_result, suits_target, truth_checks, writing_checks}
 use Rattle.wc_model.specs.Language.Checks.{Spot, asks, spots_behind, spots_of}
 use Rattle.wc_model.specs.Language.DeclarationRules.{body_name_checks, label_checks, operand_checks, step_checks, term_checks}
@@ -22,12 +22,12 @@ use Rattle.wc_model.specs.declared.operator.Operator.{Operator}
 use Rattle.wc_model.specs.declared.operator.Storing.{Storing}
 use Rattle.wc_model.specs.declared.operator.Storing.TheVariants.{Result as StoreResult, Negation, Set, Reset}
 use Rattle.wc_model.specs.declared.value.Value.TheVariants.{Bool as Truth, Dint, Time}
-use Rattle.wc_soundness.proofs.CallSteps.{block_known, field_found, input_found, output_found, type_of-found}
-use Rattle.wc_soundness.proofs.Steps.{clean_first, clean_second, or-true, some_of}
-use Rattle.wc_soundness.proofs.Entities.{writable_is_stored}
-use Rattle.wc_soundness.proofs.Bodies.{nested_parts}
-use Rattle.wc_soundness.proofs.Programs.{three_parts}
-use Rattle.wc_soundness.specs.Sound.{Clean}
+use Rattle.wc_laws_soundness.proofs.CallSteps.{block_known, field_found, input_found, output_found, type_of-found}
+use Rattle.wc_laws_soundness.proofs.Steps.{clean_first, clean_second, or-true, some_of}
+use Rattle.wc_laws_soundness.proofs.Entities.{writable_is_stored}
+use Rattle.wc_laws_soundness.proofs.Bodies.{nested_parts}
+use Rattle.wc_laws_soundness.proofs.Programs.{three_parts}
+use Rattle.wc_laws_soundness.specs.Sound.{Clean}
 use Rattle.wc_laying.proofs.PlacesThere.{HasKind, readable, writable}
 use Rattle.wc_laying.specs.Layable.{ArePassable, IsCallable, IsInsideLayable, IsKnownBlock, IsLayable, IsLoadable, IsNear, IsOpenable, IsPassable, IsReadable, IsStepLayable, IsWritable, Nowhere}
 
@@ -167,7 +167,7 @@ passable scope line instance type e before (argument ∷ arguments) named c =
           writable scope argument.actual (writable_is_stored scope argument.actual own.0 own.1.0) named own.1.0 kinds.1,
         )
 
--- a block that is found stands before
+-- a block that is found comes before
 block_shorter : (before : List ProgramUnit) (name : Name) (found : ProgramUnit × List ProgramUnit) → block_named before name ≡ Some found → length found.1 < length before
 block_shorter [] name found e = cc
 block_shorter (unit ∷ before) name found e = by (same_name unit.name.name name) e (block_shorter before name found)

@@ -1,7 +1,7 @@
 -- The flat lines of lines, one after the other from the last.
 use Rattle.std.proofs.Common.{◌≡◌, ℕ, zero, suc, List, [], ◌∷◌, ◌++◌, drop, Option, Some, None, append_assoc, option_map, refl, sym, ap, subst, ◌∙◌}
-use Rattle.wc_flat.specs.FlatPaths.{sources_of}
-use Rattle.wc_flat.specs.Laid.{IsLaid, IsOpening}
+use Rattle.wc_text_flat.specs.FlatPaths.{sources_of}
+use Rattle.wc_text_flat.specs.Laid.{IsLaid, IsOpening}
 use Rattle.wc_model.specs.Language.Kinds.{BodyLine, AloneLine, PlainLine, NestedLine}
 use Rattle.wc_model.specs.Language.Names.{Name}
 use Rattle.wc_model.specs.Language.Scopes.{Scope}
@@ -32,7 +32,7 @@ nested_added scope rest label line operator operand inside close old first secon
   places = ap (λ (x : FlatLines). x.sources) f ∙ ap (λ c. line ∷ c) (h.places ∙ ap (λ c. sources_of inside ++ c) (ap (λ (x : FlatLines). x.sources) e) ∙ sym (append_assoc (sources_of inside) (close ∷ []) old.sources));
 }
 
--- a line in front of others
+-- a line before others
 nested_whole : (opening close : Code) (inner others code own : List Code) → own ≡ opening ∷ inner ++ close ∷ [] → code ≡ own ++ others → code ≡ opening ∷ inner ++ close ∷ others
 nested_whole opening close inner others code own e f = f ∙ ap (λ c. c ++ others) e ∙ ap (λ c. opening ∷ c) (append_assoc inner (close ∷ []) others)
 
@@ -55,7 +55,7 @@ line_added scope rest line first old new one h = record {
   places = one.places ∙ ap (λ c. line_sources line ++ c) h.places ∙ sym (append_assoc (line_sources line) (sources_of rest) first.sources) ∙ ap (λ c. c ++ first.sources) (sym (put_sources line rest));
 }
 
--- a label alone in front of others
+-- a label alone before others
 pub label_added : (scope : Scope) (label : Option Word) (rest : Lines) (first old : FlatLines) → AddsLines scope rest first old → AddsLines scope (label_view label rest) first old
 label_added scope (Some word) rest first old h = record { own = h.own; laid = h.laid; code = h.code; places = h.places }
 label_added scope None rest first old h = h
@@ -64,13 +64,13 @@ label_added scope None rest first old h = h
 pub no_lines_added : (scope : Scope) (flat : FlatLines) → AddsLines scope End flat flat
 no_lines_added scope flat = record { own = []; laid = refl; code = refl; places = refl }
 
--- what can be laid inside a parenthesis, line by line
+-- what can be lowered inside a parenthesis, line by line
 pub inside_put : (scope : Scope) (line : BodyLine) (rest : Lines) → IsInsideLayable scope (put line rest) → IsLineLayable scope Nowhere line × IsInsideLayable scope rest
 inside_put scope (AloneLine label) rest h = (tt, h)
 inside_put scope (PlainLine label line step) rest h = h
 inside_put scope (NestedLine label line operator operand inside close) rest h = h
 
--- where no jump stands, it does not matter where one would lead
+-- if there is no jump, it does not matter where one would lead
 pub step_anywhere : (scope : Scope) (reached : Name → Type 0) (step : Step) → IsStepLayable scope Nowhere step → IsStepLayable scope reached step
 step_anywhere scope reached (Load negated term) h = h
 step_anywhere scope reached (Store storing target) h = h
@@ -99,6 +99,6 @@ inside_from scope zero items h = h
 inside_from scope (suc i) [] h = tt
 inside_from scope (suc i) (line ∷ items) h = inside_from scope i items (inside_rest scope line (lines_view items) line.instr refl h)
 
--- what is laid of a line is laid of the same one
+-- what is lowered of a line is lowered of the same one
 pub as_line : (scope : Scope) (rest : Lines) (skip : ℕ) (a b : BodyLine) (old new : FlatLines) → a ≡ b → (IsLineLayable scope (IsAhead rest skip) b → AddsLine scope rest b old new) → IsLineLayable scope (IsAhead rest skip) a → AddsLine scope rest a old new
 as_line scope rest skip a b old new e h may = subst (λ x. AddsLine scope rest x old new) (sym e) (h (subst (IsLineLayable scope (IsAhead rest skip)) e may))

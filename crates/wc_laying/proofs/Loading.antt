@@ -1,6 +1,6 @@
 -- What LD and an opening line ask of their operands.
 use Rattle.std.proofs.Common.{◌≡◌, Bool, Option, Some, option_map, sym, subst}
-use Rattle.wc_flat.specs.Laid.{Operand, Number, At, IsOpening, IsOperand, IsStored}
+use Rattle.wc_text_flat.specs.Laid.{Operand, Number, At, IsOpening, IsOperand, IsStored}
 use Rattle.wc_model.specs.Language.Scopes.{Scope}
 use Rattle.wc_model.specs.Language.Tree.{Term, Constant, Address, Variable, Field}
 use Rattle.wc_model.specs.Language.Views.{term_view}

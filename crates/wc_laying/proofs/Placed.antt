@@ -1,7 +1,7 @@
--- The place of what an operand names, as the tables tell it.
+-- The place of what an operand names, as the tables give it.
 use Rattle.std.proofs.Common.{◌≡◌, ℕ, Bool, true, false, List, [], ◌∷◌, Option, Some, None, option_map, refl, sym, ap, subst, ◌∙◌}
 use Rattle.std.specs.Prelude.{option_and_then, if◌then◌else◌}
-use Rattle.wc_flat.specs.Laid.{IsPlaceOf}
+use Rattle.wc_text_flat.specs.Laid.{IsPlaceOf}
 use Rattle.wc_model.specs.Language.Frames.{frame_of, place_number}
 use Rattle.wc_model.specs.Language.Declarations.{Member, VariableType, member_named, members_of}
 use Rattle.wc_model.specs.Language.Names.{Name}
@@ -11,7 +11,7 @@ use Rattle.wc_model.specs.Language.Tree.{Field}
 use Rattle.wc_model.specs.declared.place.Place.{Place}
 use Rattle.wc_names.specs.Numbered.{numbered_entity}
 use Rattle.wc_names.specs.declared.entity.Entity.{Entity as Found}
-use Rattle.wc_soundness.proofs.Entities.{found_member_name}
+use Rattle.wc_laws_soundness.proofs.Entities.{found_member_name}
 use Rattle.wc_laying.specs.Layable.{HasPlace}
 
 -- the place of a location in the unit's frame

@@ -14,10 +14,10 @@ use Rattle.wc_model.specs.Language.Store.{Content, Location, Direct, Path, initi
 use Rattle.wc_model.specs.Language.Tree.{Term, Constant, Address, Variable as NameOf, Field, Word}
 use Rattle.wc_model.specs.declared.kind.Kind.{Kind}
 use Rattle.wc_model.specs.declared.kind.SlotKind.{SlotKind}
-use Rattle.wc_soundness.proofs.Entities.{EntityTyped, PlacedEntity, entity_placed, entity_typed, is_stored}
-use Rattle.wc_soundness.proofs.Programs.{behind_direct, first_store_fits}
-use Rattle.wc_soundness.specs.Sound.{Clean}
-use Rattle.wc_soundness.specs.Typing.{slot_of, slot_of_kind}
+use Rattle.wc_laws_soundness.proofs.Entities.{EntityTyped, PlacedEntity, entity_placed, entity_typed, is_stored}
+use Rattle.wc_laws_soundness.proofs.Programs.{behind_direct, first_store_fits}
+use Rattle.wc_laws_soundness.specs.Sound.{Clean}
+use Rattle.wc_laws_soundness.specs.Typing.{slot_of, slot_of_kind}
 use Rattle.wc_laying.proofs.Placed.{reached}
 use Rattle.wc_laying.specs.Layable.{HasPlace, IsReadable, IsWritable}
 
@@ -31,12 +31,12 @@ numbered start (entry ∷ entries) place content e = by (same_place entry.0 plac
     by true f go = (start, refl)
     by false f go = go f
 
--- a location that is no direct variable
+-- a location that is not a direct variable
 abbrev pub IsPath : Location → Type 0
 IsPath (Path names) = Unit {0}
 IsPath (Direct v) = ⊥
 
--- the place of the program's frame, which a block has too where it is a path
+-- the place of the program's frame, which a block has too if it is a path
 in_frame : (scope : Scope) (b : Bool) → is_block scope.unit ≡ b → (place : Location) (content : Content) → store_of (program_frame scope.before scope.unit) place ≡ Some content → (b ≡ true → IsPath place) → HasPlace scope (Some place)
 in_frame scope false e place content f path =
     let n = numbered 0 (program_frame scope.before scope.unit) place content f in

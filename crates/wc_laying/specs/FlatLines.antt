@@ -1,8 +1,8 @@
--- Flat lines with the lines of the text at which they stand. (No rule of the language.)
+-- Flat lines with the lines of the text at which they are. (No rule of the language.)
 use Rattle.std.specs.Prelude.{ℕ, List, [], ◌∷◌, reverse}
 use Rattle.wc_model.specs.declared.code.Code.{Code}
 
--- the flat lines, and beside each its line of the text
+-- the flat lines, and with each its line of the text
 pub record FlatLines : Type 0 where
   pub code : List Code
   pub sources : List ℕ
@@ -11,7 +11,7 @@ pub record FlatLines : Type 0 where
 abbrev pub no_lines : FlatLines
 no_lines = record { code = []; sources = [] }
 
--- one more in front
+-- one more before them
 abbrev pub put_line : Code → ℕ → FlatLines → FlatLines
 put_line line source behind = record { code = line ∷ behind.code; sources = source ∷ behind.sources }
 

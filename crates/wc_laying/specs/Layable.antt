@@ -1,6 +1,6 @@
--- What lines must name so that they can be laid flat: the rules on declarations and bodies see to it. (No rule of the language.)
+-- What lines must name so that they can be lowered: the rules on declarations and bodies see to it. (No rule of the language.)
 use Rattle.std.specs.Prelude.{◌≡◌, ℕ, ◌<◌, Bool, true, false, List, [], ◌∷◌, ◌⊎◌, Option, Some, None, length, ℤ, pos}
-use Rattle.wc_flat.specs.Laid.{Operand, Number, At, lines_ahead}
+use Rattle.wc_text_flat.specs.Laid.{Operand, Number, At, lines_ahead}
 use Rattle.wc_model.specs.Language.Declarations.{VariableType, Elementary, Standard, Block, block_named}
 use Rattle.wc_model.specs.Language.Frames.{content_number, frame_of, place_number}
 use Rattle.wc_model.specs.Language.Kinds.{BodyLine, AloneLine, PlainLine, NestedLine}
@@ -16,14 +16,14 @@ abbrev pub HasPlace : Scope → Option Location → Type 0
 HasPlace scope None = ⊥
 HasPlace scope (Some location) = (n : ℕ) × (place_number (frame_of scope) location ≡ Some n)
 
--- a literal, or what stands at a place and may be read from here
+-- a literal, or what is at a place and may be read from here
 abbrev pub IsReadable : Scope → Term → Type 0
 IsReadable scope (Constant value) = Unit {0}
 IsReadable scope (Address word) = HasPlace scope (readable_place scope (Address word))
 IsReadable scope (Variable name) = HasPlace scope (readable_place scope (Variable name))
 IsReadable scope (Field instance field) = HasPlace scope (readable_place scope (Field instance field))
 
--- what stands at a place and may be written from here
+-- what is at a place and may be written from here
 abbrev pub IsWritable : Scope → Term → Type 0
 IsWritable scope term = HasPlace scope (writable_place scope term)
 
@@ -42,7 +42,7 @@ IsLoadable negated (Address word) = Unit {0}
 IsLoadable negated (Variable name) = Unit {0}
 IsLoadable negated (Field instance field) = Unit {0}
 
--- an input takes what may be read, and an output goes where may be written
+-- an input takes what may be read, and an output goes where it may be written
 abbrev pub IsPassable : Scope → Name → Direction → Name → Term → Type 0
 IsPassable scope instance Into formal actual = IsReadable scope actual × IsWritable scope (Field instance formal)
 IsPassable scope instance OutOf formal actual = IsReadable scope (Field instance formal) × IsWritable scope actual
@@ -63,7 +63,7 @@ IsCallable scope (Some (Elementary kind)) = ⊥
 IsCallable scope (Some (Standard block)) = Unit {0}
 IsCallable scope (Some (Block name)) = IsKnownBlock (block_named scope.before name)
 
--- a step, where it is known to which labels a jump can be laid
+-- a step, if it is known to which labels a jump can be lowered
 abbrev pub IsStepLayable : Scope → (Name → Type 0) → Step → Type 0
 IsStepLayable scope reached (Load negated term) = IsReadable scope term × IsLoadable negated term
 IsStepLayable scope reached (Store storing target) = IsWritable scope target
@@ -79,7 +79,7 @@ abbrev pub IsOpenable : Scope → Option Term → Type 0
 IsOpenable scope None = Unit {0}
 IsOpenable scope (Some term) = IsReadable scope term
 
--- no jump stands inside a parenthesis
+-- no jump is inside a parenthesis
 abbrev pub Nowhere : Name → Type 0
 Nowhere label = ⊥
 
@@ -96,11 +96,11 @@ IsLineLayable scope reached (AloneLine label) = Unit {0}
 IsLineLayable scope reached (PlainLine label line step) = IsStepLayable scope reached step
 IsLineLayable scope reached (NestedLine label line operator operand inside close) = IsOpenable scope operand × IsInsideLayable scope inside
 
--- so many flat lines stand before the first line that carries the label
+-- n flat lines precede the first line that carries the label
 abbrev pub IsAhead : Lines → ℕ → Name → Type 0
 IsAhead rest skip label = lines_ahead rest label ≡ Some skip
 
--- a number of 32 bits says how many
+-- 32 bits are enough to count them
 abbrev pub IsNear : Lines → Name → Type 0
 IsNear rest label = (skip : ℕ) × IsAhead rest skip label × (skip < 4294967296)
 

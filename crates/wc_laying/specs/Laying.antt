@@ -1,7 +1,7 @@
--- What is laid flat so far, from the last line to the first. (No rule of the language.)
+-- What is lowered so far, from the last line to the first. (No rule of the language.)
 use Rattle.std.specs.Prelude.{◌≡◌, ℕ, ◌+◌, List, [], ◌∷◌, ◌++◌, length, map, Option, Some, None, if◌then◌else◌}
-use Rattle.wc_flat.specs.FlatPaths.{sources_of, step_sources}
-use Rattle.wc_flat.specs.Laid.{AreArguments, AreOutputs, IsLaid, IsOpening, IsStepLaid, lines_ahead}
+use Rattle.wc_text_flat.specs.FlatPaths.{sources_of, step_sources}
+use Rattle.wc_text_flat.specs.Laid.{AreArguments, AreOutputs, IsLaid, IsOpening, IsStepLaid, lines_ahead}
 use Rattle.wc_model.specs.Language.Declarations.{named_in, same_name}
 use Rattle.wc_model.specs.Language.Kinds.{BodyLine, AloneLine, PlainLine, NestedLine}
 use Rattle.wc_model.specs.Language.Names.{Name}
@@ -12,7 +12,7 @@ use Rattle.wc_model.specs.declared.code.Code.TheVariants.{Close}
 use Rattle.wc_model.specs.declared.operator.Operator.{Operator}
 use Rattle.wc_laying.specs.FlatLines.{FlatLines}
 
--- these flat lines, at these lines of the text, are put in front of what was there
+-- these flat lines, at these lines of the text, are put before what was there
 pub record Adds (is_laid : List Code → Type 0) (sources : List ℕ) (old new : FlatLines) : Type 0 where
   pub own : List Code
   pub laid : is_laid own
@@ -27,14 +27,14 @@ pub record IsParenthesis (opening_laid : Code → Type 0) (inside_laid : List Co
   pub opens : opening_laid opening
   pub inside : inside_laid inner
 
--- the flat lines of a line, behind which these lines stand
+-- the flat lines of a line, after which these lines are
 abbrev pub IsLineLaid : Scope → Lines → BodyLine → List Code → Type 0
 IsLineLaid scope rest (AloneLine label) code = code ≡ []
 IsLineLaid scope rest (PlainLine label line step) code = IsStepLaid scope rest step code
 IsLineLaid scope rest (NestedLine label line operator operand inside close) code =
     IsParenthesis (IsOpening scope operand) (IsLaid scope inside) operator code
 
--- and the lines of the text at which they stand
+-- and the lines of the text at which they are
 abbrev pub line_sources : BodyLine → List ℕ
 line_sources (AloneLine label) = []
 line_sources (PlainLine label line step) = step_sources line step
@@ -59,7 +59,7 @@ AddsOutputs scope instance line outputs old new =
 abbrev pub IsFlat : Scope → Lines → FlatLines → Type 0
 IsFlat scope lines flat = IsLaid scope lines flat.code × (flat.sources ≡ sources_of lines)
 
--- a label that stands so many flat lines ahead has so many flat lines from its own to the last
+-- a label that is m flat lines ahead has n flat lines from its own to the last
 abbrev pub Stands : Option ℕ → Option ℕ → ℕ → Type 0
 Stands None None count = Unit {0}
 Stands None (Some left) count = ⊥
@@ -75,6 +75,6 @@ abbrev pub KeepsLabel : Option Word → ℕ → List (Name × ℕ) → List (Nam
 KeepsLabel None count old new = new ≡ old
 KeepsLabel (Some word) count old new = (label : Name) → named_in new label ≡ (if same_name word.name label then Some count else named_in old label)
 
--- these lines are laid, and their labels kept
+-- these lines are lowered, and their labels kept
 abbrev pub IsKeptFlat : Scope → Lines → List (Name × ℕ) → FlatLines → Type 0
 IsKeptFlat scope lines labels flat = IsFlat scope lines flat × HoldsLabels labels lines (length flat.code)

@@ -1,5 +1,5 @@
--- What stands for an operand on a flat line. (No rule of the language.)
-use Rattle.wc_flat.specs.Laid.{Operand, Number, At}
+-- What represents an operand on a flat line. (No rule of the language.)
+use Rattle.wc_text_flat.specs.Laid.{Operand, Number, At}
 use Rattle.wc_laying.specs.declared.flat_operand.FlatOperand.{FlatOperand}
 use Rattle.wc_laying.specs.declared.flat_operand.FlatOperand.TheVariants as flat
 

@@ -1,5 +1,5 @@
 ghost use Rattle.std.specs.Prelude.{◌≡◌, OnOk, IsOkUnless, map};
-ghost use Rattle.wc_flat.specs.Laid.{IsArgument, IsOutput};
+ghost use Rattle.wc_text_flat.specs.Laid.{IsArgument, IsOutput};
 ghost use Rattle.wc_model.specs.Language.Names.{name_of};
 ghost use Rattle.wc_model.specs.Language.Scopes.{Scope};
 ghost use Rattle.wc_model.specs.Language.Tree.{Field, goes_in, inputs_of, outputs_of};
@@ -68,7 +68,7 @@ fn output_line<'a>(
     )
 }
 
-/// Puts the flat lines of the inputs that a call's list assigns in front of those that are there.
+/// Puts the flat lines of the inputs that a call's list assigns before those that are there.
 pub(crate) fn put_inputs<'a>(
     tables: &Tables<'a>,
     unit: usize,
@@ -97,7 +97,7 @@ pub(crate) fn put_inputs<'a>(
     Ok(())
 }
 
-/// Puts the flat lines of the outputs that a call's list gives out in front of those that are there.
+/// Puts the flat lines of the outputs that a call's list gives out before those that are there.
 pub(crate) fn put_outputs<'a>(
     tables: &Tables<'a>,
     unit: usize,

@@ -15,7 +15,7 @@ use std::alloc::Global;
 use wc_model::{Fault, Instr, Line, Word};
 use wc_names::Tables;
 
-/// How many of the flat lines that are there stand before a label.
+/// The number of the flat lines that are there before a label.
 fn lines_ahead<'a>(labels: &LabelCounts<'a>, label: &[u8], count: usize) -> u32
     ensures { (rest : Lines) → HoldsLabels labels.now rest count
         → IsNear rest (name_of label.now) → IsAhead rest result (name_of label.now) }
@@ -26,7 +26,7 @@ fn lines_ahead<'a>(labels: &LabelCounts<'a>, label: &[u8], count: usize) -> u32
     }
 }
 
-/// How far ahead an instruction's label is; 0 where it names none.
+/// How far ahead an instruction's label is; 0 if it names none.
 fn instr_ahead<'a>(labels: &LabelCounts<'a>, instr: &Instr<'a>, count: usize) -> u32
     ensures { (rest : Lines) (scope : Scope) (label : Option LabelWord)
         → HoldsLabels labels.now rest count
@@ -45,7 +45,7 @@ fn instr_ahead<'a>(labels: &LabelCounts<'a>, instr: &Instr<'a>, count: usize) ->
     }
 }
 
-/// How many lines stand before the last `left` of `count` lines.
+/// The number of lines before the last `left` of `count` lines.
 fn distance(left: usize, count: usize) -> u32
     ensures { (n : ℕ) → n + left ≡ count → n < 4294967296 → result ≡ n }
 {
@@ -55,7 +55,7 @@ fn distance(left: usize, count: usize) -> u32
     }
 }
 
-/// Keeps a line's label, where it has one.
+/// Keeps a line's label, if it has one.
 fn keep<'a>(
     labels: &mut LabelCounts<'a>,
     label: Option<Word<'a>>,
@@ -71,7 +71,7 @@ fn keep<'a>(
     }
 }
 
-/// Puts the flat lines of a line of a body in front of those that are there, and keeps its label.
+/// Puts the flat lines of a line of a body before those that are there, and keeps its label.
 fn put_line<'a>(
     tables: &Tables<'a>,
     unit: usize,
@@ -92,7 +92,7 @@ fn put_line<'a>(
     keep(labels, line.label, flat.len())
 }
 
-/// The lines of a body, laid flat.
+/// The lowered lines of a body.
 pub fn flat_body<'a>(
     alloc: Global,
     tables: &Tables<'a>,

@@ -1,7 +1,7 @@
 ghost use Rattle.std.specs.Prelude.{◌≡◌, ◌+◌, ◌<◌, Some, OnOk, IsOkUnless, length, map};
 ghost use Rattle.wc_names.specs.Numbered.{numbered_type};
-ghost use Rattle.wc_flat.specs.FlatPaths.{step_sources};
-ghost use Rattle.wc_flat.specs.Laid.{IsBodyOf, IsStepLaid, first_place};
+ghost use Rattle.wc_text_flat.specs.FlatPaths.{step_sources};
+ghost use Rattle.wc_text_flat.specs.Laid.{IsBodyOf, IsStepLaid, first_place};
 ghost use Rattle.wc_model.specs.Language.Declarations.{VariableType};
 ghost use Rattle.wc_model.specs.Language.Names.{Name, name_of};
 ghost use Rattle.wc_model.specs.Language.Scopes.{Scope, type_of};
@@ -26,7 +26,7 @@ fn unit_number(number: usize) -> u16
     }
 }
 
-/// How many flat lines stand behind a call's own, for its inputs, its body and its outputs.
+/// The number of flat lines after a call's own, for its inputs, its body and its outputs.
 fn call_length(arguments: usize) -> u32
     ensures { arguments < 65536 → result ≡ 1 + arguments }
 {
@@ -65,7 +65,7 @@ fn body_line<'a>(tables: &Tables<'a>, unit: usize, instance: &[u8]) -> Code
     }
 }
 
-/// Puts the flat lines of a call in front of those that are there.
+/// Puts the flat lines of a call before those that are there.
 pub(crate) fn put_call<'a>(
     tables: &Tables<'a>,
     unit: usize,

@@ -5,7 +5,7 @@ use std::alloc::Global;
 use std::marker::Model;
 use wc_model::{Code, Fault};
 
-/// Flat lines with the lines of the text at which they stand. They grow from the last line to the
+/// Flat lines with the lines of the text at which they are. They grow from the last line to the
 /// first.
 #[derive(Drop)]
 pub struct Flat {
@@ -30,14 +30,14 @@ impl Flat {
         }
     }
 
-    /// How many lines there are.
+    /// The number of lines.
     pub(crate) fn len(&self) -> usize
         ensures { result ≡ length self.now.code }
     {
         self.code.len()
     }
 
-    /// Puts a flat line, at a line of the text, in front of those that are there.
+    /// Puts a flat line, at a line of the text, before those that are there.
     pub(crate) fn put(&mut self, line: Code, source: u32) -> Result<(), Fault>
         ensures put { OnOk result (self.new ≡ put_line line source self.old) }
         ensures memory { IsOkUnless result Fault.Memory }

@@ -1,6 +1,6 @@
 use wc_model::Place;
 
-/// What stands for an operand on a flat line.
+/// What represents an operand on a flat line.
 #[derive(Clone, Copy)]
 pub(crate) enum FlatOperand {
     /// A literal's number.

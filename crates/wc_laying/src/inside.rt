@@ -15,7 +15,7 @@ use crate::steps::{apply, load, opening, store};
 use wc_model::{Code, Fault, Instr, Line, Operand, Operator};
 use wc_names::Tables;
 
-/// Puts the flat lines of a parenthesis in front of those that are there.
+/// Puts the flat lines of a parenthesis before those that are there.
 #[cycle(inside)]
 fn put_nested<'a>(
     tables: &Tables<'a>,
@@ -41,8 +41,8 @@ fn put_nested<'a>(
     flat.put(opening(tables, unit, operand), line)
 }
 
-/// Puts the flat lines of an instruction in front of those that are there; a jump passes over so
-/// many of them.
+/// Puts the flat lines of an instruction before those that are there; a jump passes over n
+/// of them.
 #[cycle(inside)]
 pub(crate) fn put_instr<'a>(
     tables: &Tables<'a>,
@@ -109,7 +109,7 @@ pub(crate) fn put_instr<'a>(
     }
 }
 
-/// Puts the flat lines of a line inside a parenthesis in front of those that are there.
+/// Puts the flat lines of a line inside a parenthesis before those that are there.
 #[cycle(inside)]
 fn put_inside_line<'a>(
     tables: &Tables<'a>,
@@ -130,7 +130,7 @@ fn put_inside_line<'a>(
     }
 }
 
-/// Puts the flat lines of the lines inside a parenthesis in front of those that are there.
+/// Puts the flat lines of the lines inside a parenthesis before those that are there.
 #[cycle(inside)]
 fn put_inside<'a>(
     tables: &Tables<'a>,

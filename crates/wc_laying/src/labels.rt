@@ -9,7 +9,7 @@ use std::marker::Model;
 use wc_model::Fault;
 use wc_names::Key;
 
-/// The labels of a body, with how many flat lines there are from each to the last.
+/// The labels of a body, with the number of flat lines from each to the last.
 #[derive(Drop)]
 pub(crate) struct LabelCounts<'a> {
     entries: IndexMap<Key<'a>, usize>,
@@ -31,7 +31,7 @@ impl<'a> LabelCounts<'a> {
         }
     }
 
-    /// How many flat lines there are from a label to the last.
+    /// The number of flat lines from a label to the last.
     pub(crate) fn get(&self, name: &[u8]) -> Option<usize>
         ensures { result ≡ named_in self.now (name_of name.now) }
     {

@@ -1,4 +1,4 @@
-//! The body of a unit laid flat: its lines with places and jumps as numbers, each beside the line of the text at which it stands.
+//! The lowered body of a unit: its lines with places and jumps as numbers, each with the line of the text at which it is.
 #![tactic(auto)]
 
 mod arguments;

@@ -1,5 +1,5 @@
 ghost use Rattle.std.specs.Prelude.{◌≡◌};
-ghost use Rattle.wc_flat.specs.Laid.{IsOperand, IsPlaceOf};
+ghost use Rattle.wc_text_flat.specs.Laid.{IsOperand, IsPlaceOf};
 ghost use Rattle.wc_model.specs.Language.Frames.{content_number};
 ghost use Rattle.wc_model.specs.Language.Scopes.{Scope, readable_place, writable_place};
 ghost use Rattle.wc_model.specs.Language.Store.{Plain};
@@ -24,7 +24,7 @@ fn number_of(value: Value) -> i32
     }
 }
 
-/// The place of what an operand names; where there is none, the first of the frame.
+/// The place of what an operand names; if there is none, the first of the frame.
 pub(crate) fn place_of<'a>(tables: &Tables<'a>, unit: usize, operand: &Operand<'_>) -> Place
     ensures read { (scope : Scope) → IsScope tables.now unit scope
         → HasPlace scope (readable_place scope (term_view operand.now))
@@ -42,7 +42,7 @@ pub(crate) fn place_of<'a>(tables: &Tables<'a>, unit: usize, operand: &Operand<'
     }
 }
 
-/// What stands for an operand on a flat line.
+/// What represents an operand on a flat line.
 pub(crate) fn flat_operand<'a>(
     tables: &Tables<'a>,
     unit: usize,

@@ -1,5 +1,5 @@
 ghost use Rattle.std.specs.Prelude.{◌≡◌, Option, [], ◌∷◌, option_map, if◌then◌else◌, pos, ◌-ℤ◌};
-ghost use Rattle.wc_flat.specs.Laid.{IsOpening, IsStepLaid, apply_line, argument_line, load_line, short_line};
+ghost use Rattle.wc_text_flat.specs.Laid.{IsOpening, IsStepLaid, apply_line, argument_line, load_line, short_line};
 ghost use Rattle.wc_model.specs.Language.Scopes.{Scope};
 ghost use Rattle.wc_model.specs.Language.Tree.{Apply, Lines, Load, Store};
 ghost use Rattle.wc_model.specs.Language.Views.{term_view};

@@ -1,9 +1,9 @@
--- What stands where a colon does.
+-- What is where a colon is.
 use Rattle.std.proofs.Common.{◌≡◌, ◌==◌, ℕ, ◌≤◌, Bool, true, false, cond, not, ◌||◌, List, [], ◌∷◌, length, drop, Option, Some, None, refl, sym, ap, ◌∙◌, subst, arith, true≢false}
 use Rattle.std.proofs.lemmas.Bool.{eqb-true}
 use Rattle.std.specs.Option.{option_map_or}
-use Rattle.wc_token_laws.proofs.Reach.{mark_passes}
-use Rattle.wc_token_laws.specs.Sights.{Take, sight, sight_by_reach}
+use Rattle.wc_laws_tokens.proofs.Reach.{mark_passes}
+use Rattle.wc_laws_tokens.specs.Sights.{Take, sight, sight_by_reach}
 use Rattle.wc_model.specs.Text.Characters.{begins}
 use Rattle.wc_model.specs.Text.Lexemes.{may_stand_before}
 use Rattle.wc_model.specs.Text.Shapes.{Assign, Colon, Shape, mark_of}
@@ -13,7 +13,7 @@ abbrev is_assign : List ℕ → Bool
 is_assign (b ∷ c ∷ []) = not (b == 58) || (c == 61)
 is_assign _ = true
 
--- a colon and another byte are no mark
+-- a colon and another byte are not a mark
 no_pair : (c : ℕ) → (c == 61) ≡ false → (found : Option Shape) → mark_of (58 ∷ c ∷ []) ≡ found → mark_of (58 ∷ c ∷ []) ≡ None
 no_pair c other None e = e
 no_pair c other (Some shape) e = absurd (true≢false (sym (mark_passes (λ p s. is_assign p) (58 ∷ c ∷ []) shape refl e) ∙ other))

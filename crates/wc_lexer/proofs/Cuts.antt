@@ -3,14 +3,14 @@ use Rattle.std.proofs.Common.{◌≡◌, ℕ, suc, ◌+◌, ◌-◌, ◌<◌, �
 use Rattle.std.proofs.lemmas.List.{take_all, drop-drop}
 use Rattle.std.specs.List.{after_first, before_first, list_any, position_or_len}
 
--- where the place is behind the list, no element passes
+-- if the place is after the list, no element passes
 pub none_passes : (p : ℕ → Bool) (xs : List ℕ) → length xs ≤ position_or_len p xs → list_any p xs ≡ false
 none_passes p [] h = refl
 none_passes p (x ∷ xs) h =
     elim (p x) as (λ v. suc (length xs) ≤ cond (not v) (1 + position_or_len p xs) 0 → (v || list_any p xs) ≡ false)
     [ true ↦ λ k. absurd (omega arith) | false ↦ λ k. none_passes p xs (omega arith) ] h
 
--- where the place is within the list, an element passes
+-- if the place is within the list, an element passes
 pub some_passes : (p : ℕ → Bool) (xs : List ℕ) → position_or_len p xs < length xs → list_any p xs ≡ true
 some_passes p [] h = absurd (omega arith)
 some_passes p (x ∷ xs) h =

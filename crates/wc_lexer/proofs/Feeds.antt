@@ -1,23 +1,23 @@
--- How many line feeds the pieces of a text hold.
+-- The number of line feeds the slices of a text hold.
 use Rattle.std.proofs.Common.{◌≡◌, ℕ, zero, suc, ◌≤◌, ◌<◌, Bool, true, false, cond, not, List, [], ◌∷◌, length, drop, take, count_by, length-take, refl, sym, ap, ◌∙◌, subst, arith, IsTrue, true≢false}
 use Rattle.std.proofs.lemmas.Bool.{and_from, and_parts, ne_eqb, not-true, not_from_false}
 use Rattle.std.proofs.lemmas.List.Folds.{list_all-append}
 use Rattle.std.proofs.lemmas.List.Sums.{count_by-le-length, sum_by-cons}
 use Rattle.std.specs.List.{list_all}
 use Rattle.wc_lexer.proofs.Steps.{holds_at, some_left}
-use Rattle.wc_token_laws.proofs.FoundTokens.{Holds}
-use Rattle.wc_token_laws.proofs.Reach.{mark_passes}
-use Rattle.wc_token_laws.specs.Sights.{Pass, Take, sight}
+use Rattle.wc_laws_tokens.proofs.FoundTokens.{Holds}
+use Rattle.wc_laws_tokens.proofs.Reach.{mark_passes}
+use Rattle.wc_laws_tokens.specs.Sights.{Pass, Take, sight}
 use Rattle.wc_model.specs.Text.Blanks.{Blank, Comment, Return, Space, Tab}
 use Rattle.wc_model.specs.Text.Characters.{begins, is_address_character, is_identifier_character, is_line_feed, is_minus, is_number_character, starts_identifier}
 use Rattle.wc_model.specs.Text.Lexemes.{Addressed, Lexeme, Marked, Run, Sign, Signed, Typed, Unsigned, is_literal_value, is_run, is_unsigned_run}
 use Rattle.wc_model.specs.Text.Shapes.{Shape}
 
--- the byte is no line feed
+-- the byte is not a line feed
 abbrev pub is_other : ℕ → Bool
 is_other b = not (is_line_feed b)
 
--- no line feed stands behind the first byte
+-- no line feed follows the first byte
 abbrev pub IsFirstAtMost : List ℕ → Type 0
 IsFirstAtMost piece = list_all is_other (drop 1 piece) ≡ true
 
@@ -29,7 +29,7 @@ none_counted (b ∷ xs) h =
     let feeds : Bool → ℕ = λ v. cond v 1 0 in
     omega (arith, sum_by-cons (λ x. cond (is_line_feed x) 1 0) b xs, ap feeds (not-true (is_line_feed b) both.0), none_counted xs both.1)
 
--- a piece whose line feed can be its first byte alone
+-- a slice whose line feed can be its first byte alone
 pub first_counted : (piece : List ℕ) → IsFirstAtMost piece → cond (begins is_line_feed piece) 1 0 ≡ count_by is_line_feed piece
 first_counted [] h = refl
 first_counted (b ∷ rest) h = omega (arith, sum_by-cons (λ x. cond (is_line_feed x) 1 0) b rest, none_counted rest h)
@@ -47,7 +47,7 @@ others_by p fails (b ∷ xs) h =
     let both = and_parts (p b) (list_all p xs) h in
     and_from _ _ (other_by p fails b both.0) (others_by p fails xs both.1)
 
--- what holds of all bytes holds behind the first
+-- what holds of all bytes holds after the first
 behind_first : (xs : List ℕ) → list_all is_other xs ≡ true → IsFirstAtMost xs
 behind_first [] h = refl
 behind_first (b ∷ xs) h = (and_parts (is_other b) (list_all is_other xs) h).1
@@ -60,7 +60,7 @@ run_others piece h = others_by is_identifier_character refl piece (and_parts (be
 unsigned_others : (piece : List ℕ) → IsTrue (is_unsigned_run piece) → list_all is_other piece ≡ true
 unsigned_others piece h = others_by is_number_character refl piece (and_parts _ (list_all is_number_character piece) h).1
 
--- what stands behind a `#`
+-- what follows a `#`
 value_others : (value : List ℕ) → IsTrue (is_literal_value value) → list_all is_other value ≡ true
 value_others [] h = refl
 value_others (b ∷ value) h = go (is_minus b) refl h
@@ -80,9 +80,9 @@ lexeme_feeds piece after (Sign sign e s) = subst IsFirstAtMost (sym e) refl
 lexeme_feeds piece after (Addressed address e a) = subst IsFirstAtMost (sym e) (others_by is_address_character refl address a)
 lexeme_feeds piece after (Marked shape found may) = mark_passes (λ p s. list_all is_other (drop 1 p)) piece shape refl found
 
--- ---- what stands at a place
+-- ---- what is at a place
 
--- a byte at the front is the first one
+-- a byte at the start is the first one
 front_begins : (count : ℕ) (rest : List ℕ) → 1 ≤ count → begins is_line_feed (take count rest) ≡ begins is_line_feed rest
 front_begins zero rest h = absurd (omega arith)
 front_begins (suc k) [] h = refl
@@ -116,7 +116,7 @@ space_feeds text rest n r h e =
 
 -- ---- what a step passes
 
--- a step from here passes so many bytes and so many line feeds
+-- a step from here passes n bytes and n line feeds
 abbrev pub IsStep : List ℕ → ℕ × ℕ → Type 0
 IsStep rest step = (1 ≤ step.0) × (step.0 ≤ length rest) × (step.1 ≡ count_by is_line_feed (take step.0 rest))
 

@@ -4,39 +4,39 @@ use Rattle.std.proofs.lemmas.Bool.{and_parts, cond-true, cond-false, not-true}
 use Rattle.std.proofs.lemmas.List.{append-nil}
 use Rattle.std.specs.Char.{is_ascii_alphabetic}
 use Rattle.std.specs.List.{list_all, prefix_len}
-use Rattle.wc_token_laws.proofs.Attained.{front_passes}
-use Rattle.wc_token_laws.proofs.DurationParts.{has_no_letter, part, first_part, onto_number}
+use Rattle.wc_laws_tokens.proofs.Attained.{front_passes}
+use Rattle.wc_laws_tokens.proofs.DurationParts.{has_no_letter, part, first_part, onto_number}
 use Rattle.wc_model.specs.Text.Characters.{begins}
 use Rattle.wc_model.specs.Text.Durations.{parts_of, onto_parts}
 
--- the byte is no letter
+-- the byte is not a letter
 abbrev pub is_no_letter : ℕ → Bool
 is_no_letter b = not (is_ascii_alphabetic b)
 
--- the front ends where an element fails
+-- the prefix ends where an element fails
 pub front_stops : (p : ℕ → Bool) (xs : List ℕ) → begins p (drop (prefix_len p xs) xs) ≡ false
 front_stops p [] = refl
 front_stops p (x ∷ xs) =
     elim (p x) as (λ v. p x ≡ v → begins p (drop (cond v (1 + prefix_len p xs) 0) (x ∷ xs)) ≡ false)
     [ true ↦ λ e. rw one-add (front_stops p xs) | false ↦ λ e. e ] refl
 
--- bytes that are no letters
+-- bytes that are not letters
 pub no_letters : (xs : List ℕ) → list_all is_no_letter xs ≡ true → has_no_letter xs ≡ true
 no_letters [] h = refl
 no_letters (x ∷ xs) h =
     let both = and_parts (is_no_letter x) (list_all is_no_letter xs) h in
     cond-false (is_ascii_alphabetic x) _ _ (not-true _ both.0) ∙ no_letters xs both.1
 
--- the first of bytes that are no letters is none
+-- the first of bytes that are not letters is not one
 pub first_no_letter : (b : ℕ) (rest : List ℕ) → has_no_letter (b ∷ rest) ≡ true → is_ascii_alphabetic b ≡ false
 first_no_letter b rest h =
     elim (is_ascii_alphabetic b) as (λ v. cond v false (has_no_letter rest) ≡ true → v ≡ false) [ true ↦ λ none. sym none | false ↦ λ none. refl ] h
 
--- the others are none
+-- the others are not
 pub later_no_letters : (b : ℕ) (rest : List ℕ) → has_no_letter (b ∷ rest) ≡ true → has_no_letter rest ≡ true
 later_no_letters b rest h = sym (cond-false (is_ascii_alphabetic b) false (has_no_letter rest) (first_no_letter b rest h)) ∙ h
 
--- bytes that are no letters are a part alone
+-- bytes that are not letters are a part alone
 pub number_alone : (b : ℕ) (number : List ℕ) → has_no_letter (b ∷ number) ≡ true → parts_of (b ∷ number) ≡ part (b ∷ number) [] ∷ []
 number_alone b [] h = cond-false (is_ascii_alphabetic b) _ _ (first_no_letter b [] h)
 number_alone b (c ∷ number) h = ap (onto_parts b) (number_alone c number (later_no_letters b (c ∷ number) h)) ∙ onto_number b (c ∷ number) [] [] (first_no_letter b (c ∷ number) h)
@@ -74,7 +74,7 @@ takes_some (b ∷ text) long n e m f =
       | false ↦ λ other some. omega arith
     ] refl e
 
--- the first part of a text, by its pieces
+-- the first part of a text, by its slices
 pub first_cut : (text : List ℕ) → 1 ≤ length text → (n : ℕ) → n ≡ prefix_len is_no_letter text → (number behind : List ℕ) → number ≡ take n text → behind ≡ drop n text → (m : ℕ) → m ≡ prefix_len is_ascii_alphabetic behind → (letters rest : List ℕ) → letters ≡ take m behind → rest ≡ drop m behind → parts_of text ≡ part number letters ∷ parts_of rest
 first_cut text long n e number behind front back m f letters rest some more =
     let all = text_parts text long n e m (f ∙ ap (prefix_len is_ascii_alphabetic) back) in

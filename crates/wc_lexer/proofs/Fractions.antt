@@ -1,4 +1,4 @@
--- Digits behind a point.
+-- Digits after a point.
 use Rattle.std.proofs.Common.{◌≡◌, ℕ, ◌-◌, ◌*◌, ◌^◌, ◌≤◌, Bool, true, not, ◌&&◌, List, [], ◌∷◌, length, filter, Option, Some, None, nat_le, refl, sym, ap, ◌∙◌, ⊎_elim, arith}
 use Rattle.std.proofs.lemmas.Bool.{and_from, and_parts, cases_lt, cond-true, le-leb, leb-true, not_from_false, ne_eqb}
 use Rattle.std.proofs.Math.Nat.{one-le-pow}

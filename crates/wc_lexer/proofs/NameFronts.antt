@@ -1,4 +1,4 @@
--- The front of a text that may be an identifier, byte by byte.
+-- The prefix of a text that may be an identifier, byte by byte.
 use Rattle.std.proofs.Common.{◌≡◌, ℕ, ◌+◌, Bool, true, false, cond, not, ◌&&◌, ◌||◌, List, [], ◌∷◌, ◌-◌, ◌≤◌, drop, length, slice_index, subst, take, take_all, refl, sym, ap, ◌∙◌, one-add, arith, true≢false}
 use Rattle.std.proofs.lemmas.Bool.{ne_eqb}
 use Rattle.std.specs.Char.{is_ascii_alphabetic, is_ascii_alphanumeric, is_ascii_digit}
@@ -7,24 +7,24 @@ use Rattle.std.specs.List.{prefix_len}
 use Rattle.wc_model.specs.Text.Characters.{begins, is_identifier_character, is_underscore}
 use Rattle.wc_model.specs.Text.Digits.{has_single_underscores}
 
--- the characters of an identifier at the front
+-- the characters of an identifier at the start
 abbrev pub name_front : List ℕ → List ℕ
 name_front text = take (prefix_len is_identifier_character text) text
 
--- a letter or a digit is no underscore
+-- a letter or a digit is not an underscore
 plain_is_other : (b : ℕ) → is_ascii_alphanumeric b ≡ true → is_underscore b ≡ false
 plain_is_other b h = ne_eqb b 95 (λ e. true≢false (sym h ∙ ap is_ascii_alphanumeric e))
 
--- so many and so judged characters stand before the rest
+-- this many characters, checked so, precede the rest
 pub record Passed (text rest : List ℕ) (count : ℕ) (single : Bool) : Type 0 where
   pub counted : count + prefix_len is_identifier_character rest ≡ prefix_len is_identifier_character text
   pub judged : (single && has_single_underscores (name_front rest)) ≡ has_single_underscores (name_front text)
 
--- the front goes on with a character of an identifier
+-- the prefix goes on with a character of an identifier
 front_goes_on : (b : ℕ) (rest : List ℕ) → is_identifier_character b ≡ true → name_front (b ∷ rest) ≡ b ∷ name_front rest
 front_goes_on b rest h = ap (λ v. take (cond v (1 + prefix_len is_identifier_character rest) 0) (b ∷ rest)) h ∙ ap (λ n. take n (b ∷ rest)) (one-add (prefix_len is_identifier_character rest))
 
--- the front of what follows starts with a letter or a digit, or not
+-- the prefix of what follows starts with a letter or a digit, or not
 front_starts_plain : (rest : List ℕ) → begins (λ b. not (is_underscore b)) (name_front rest) ≡ begins is_ascii_alphanumeric rest
 front_starts_plain [] = refl
 front_starts_plain (b ∷ rest) = go (is_ascii_alphanumeric b) (is_underscore b) refl refl
@@ -52,12 +52,12 @@ passed_more text rest b count single next h e passed = record {
   judged = ap (λ v. v && has_single_underscores (name_front rest)) e ∙ judged_more single b rest h ∙ passed.judged;
 }
 
--- behind any other they are as before
+-- after any other they are as before
 pub stays_single : (single loose : Bool) → loose ≡ false → single ≡ (single && not loose)
 stays_single true loose h = sym (ap not h)
 stays_single false loose h = refl
 
--- the first byte of the rest is passed, and its underscore is judged
+-- the first byte of the rest is passed, and its underscore is checked
 pub record Step (rest : List ℕ) (single next : Bool) : Type 0 where
   pub passes : is_identifier_character (slice_index rest 0) ≡ true
   pub judges : next ≡ (single && not (is_underscore (slice_index rest 0) && not (begins is_ascii_alphanumeric (take (length rest - 1) (drop 1 rest)))))

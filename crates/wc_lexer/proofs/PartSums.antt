@@ -1,4 +1,4 @@
--- What is told of a part, and of the parts behind it.
+-- What is reported about a part and the parts after it.
 use Rattle.std.proofs.Common.{◌≡◌, ℕ, ◌+◌, ◌-◌, ◌*◌, ◌^◌, ◌<◌, ◌≤◌, ◌/◌, ◌%◌, ◌==◌, Bool, true, false, cond, not, ◌&&◌, ◌||◌, List, [], ◌∷◌, ◌++◌, length, drop, take, map, Option, Some, None, option_map, is_some, nat_lt, nat_le, true≢false, length-drop, refl, sym, ap, ◌∙◌, subst, ⊎_elim, inl, inr, ◌⊎◌, arith, pos, neg_ℤ, count_by}
 use Rattle.std.proofs.lemmas.Bool.{and_from, cases_lt}
 use Rattle.std.proofs.lemmas.List.Sums.{sum_by-cons}
@@ -9,7 +9,7 @@ use Rattle.std.specs.Option.{option_and_then, option_map_or}
 use Rattle.std.specs.Str.Parse.{digits_value}
 use Rattle.wc_lexer.proofs.Cuts.{some_passes}
 use Rattle.wc_lexer.proofs.FirstParts.{is_no_letter, text_parts}
-use Rattle.wc_token_laws.proofs.DurationParts.{part}
+use Rattle.wc_laws_tokens.proofs.DurationParts.{part}
 use Rattle.wc_lexer.proofs.Fractions.{wide_product}
 use Rattle.wc_lexer.proofs.Widths.{from_wide, narrow, wide, wide_for_32_bits}
 use Rattle.wc_lexer.specs.Parts.{IsPartTold, IsSumTold, TellsPart, are_later, are_none, fraction_told, part_by}
@@ -62,7 +62,7 @@ fails_last true true c h = h
 fails_last true false c h = refl
 fails_last false b c h = refl
 
--- the billionths behind a part's point
+-- the billionths after a part's point
 abbrev pub fraction_value : Part → ℕ
 fraction_value part = digits_value 10 (fraction_digits part) * 10 ^ (9 - length (fraction_digits part))
 
@@ -96,7 +96,7 @@ told_by_width part unit h e form = ⊎_elim narrow_whole wide_case (cases_lt (wh
         (λ more. wide_told _ _ (omega arith) (inr (wide (fraction_value part) more)))
         (cases_lt (fraction_value part) (2 ^ 64))
 
--- a part without a whole number or without billionths is none
+-- a part without a whole number or without billionths is not one
 pub part_by_none : (part : Part) (unit : units.TimeUnit) (w f : Option ℕ) → is_part part ≡ false → (w ≡ None) ⊎ (f ≡ None) → IsPartTold part (part_by unit w f (has_point part))
 part_by_none part unit None f h none = inl h
 part_by_none part unit (Some w) None h none = inl h
@@ -109,7 +109,7 @@ told_by_form part unit h e true true f g = told_by_width part unit h e (and_from
 told_by_form part unit h e false fraction_form f g = part_by_none part unit None (option_and_then within_64_bits (then_some fraction_form (fraction_value part))) (fails_middle (is_some (unit_named part.letters)) (has_whole_form part) (has_fraction_form part) f) (inl refl)
 told_by_form part unit h e true false f g = part_by_none part unit (option_and_then within_64_bits (then_some true (whole_of part))) None (fails_last (is_some (unit_named part.letters)) (has_whole_form part) (has_fraction_form part) g) (inr refl)
 
--- what is told of a part
+-- what is reported about a part
 pub part_told : (part : Part) (unit : units.TimeUnit) (named : Option units.TimeUnit) (whole fraction : Option ℕ) (point : Bool) (answer : Option told.Part) → named ≡ option_map said_unit (unit_named part.letters) → named ≡ Some unit → 1 ≤ unit.milliseconds → whole ≡ option_and_then within_64_bits (then_some (has_whole_form part) (whole_of part)) → fraction ≡ option_and_then within_64_bits (then_some (has_fraction_form part) (fraction_value part)) → point ≡ has_point part → answer ≡ part_by unit whole fraction point → IsPartTold part answer
 part_told part unit named whole fraction point answer e is h w f p a =
     let all = told_by_form part unit h (sym e ∙ is) (has_whole_form part) (has_fraction_form part) refl refl in
@@ -122,34 +122,34 @@ pub empty : (xs : List ℕ) → length xs ≤ 0 → xs ≡ []
 empty [] h = refl
 empty (x ∷ xs) h = absurd (omega arith)
 
--- nothing stands behind a point that is not there
+-- nothing follows a point that is not there
 pub none_behind : (number : List ℕ) → list_any is_point number ≡ false → after_first is_point number ≡ []
 none_behind number h =
     ⊎_elim (λ less. absurd (true≢false (sym (some_passes is_point number less) ∙ h))) (λ more. empty (after_first is_point number) (omega (arith, length-drop (position_or_len is_point number + 1) number))) (cases_lt (position_or_len is_point number) (length number))
 
--- a fraction by what stands behind the point
+-- a fraction by what follows the point
 abbrev pub fraction_by : Bool → List ℕ → Option ℕ
 fraction_by point after = option_and_then within_64_bits (then_some (not point || (nat_le 1 (length after) && nat_le (length after) 9 && list_all is_ascii_digit after)) (digits_value 10 after * 10 ^ (9 - length after)))
 
--- where there is no point there are no billionths
+-- if there is no point, there are no billionths
 pub no_fraction : (number : List ℕ) → list_any is_point number ≡ false → Some 0 ≡ fraction_told number
 no_fraction number h = sym (ap (λ v. fraction_by v (after_first is_point number)) h ∙ ap (fraction_by false) (none_behind number h))
 
--- what is told of digits before a point
+-- what is reported about digits before a point
 abbrev pub whole_told : List ℕ → Option ℕ
 whole_told text = option_and_then within_64_bits (then_some (are_digits 10 text && nat_le (count_by (λ b. not (is_underscore b)) text) 12) (value_of_digits 10 text))
 
--- ---- the parts behind a part
+-- ---- the parts after a part
 
--- the part may stand behind a unit so long
+-- the part may follow a unit so long
 abbrev pub may_stand : told.Part → ℕ → Bool → Bool
 may_stand part above last = nat_lt part.whole part.below && nat_lt part.milliseconds above && (not part.has_point || last)
 
--- the form of a part and the parts behind it
+-- the form of a part and the parts after it
 abbrev pub form_of : Bool → (whole below milliseconds above : ℕ) → (point last later : Bool) → Bool
 form_of is whole below milliseconds above point last later = is && nat_lt whole below && nat_lt milliseconds above && (not point || last) && later
 
--- the form by what is told
+-- the form by what is reported
 pub told_form : (above : ℕ) (part : Part) (parts : List Part) (one : told.Part) → TellsPart part one → are_later above (part ∷ parts) ≡ (may_stand one above (are_none parts) && are_later one.milliseconds parts)
 told_form above part parts one tells =
     ap (λ v. form_of v (whole_of part) (unit_below part) (unit_milliseconds part) above (has_point part) (are_none parts) (are_later (unit_milliseconds part) parts)) tells.form
@@ -173,18 +173,18 @@ sum_told form whole one sum total first (Some more) answer f e all h a =
     (λ wider. subst (IsSumTold whole total) (sym (a ∙ ap within_64_bits same ∙ wide total wider)) (inr wider))
     (cases_lt total (2 ^ 64))
 
--- where a part may stand
+-- where a part may be
 pub later_sum : (above : ℕ) (part : Part) (parts : List Part) (one : told.Part) (later answer : Option ℕ) → TellsPart part one → may_stand one above (are_none parts) ≡ true → IsSumTold (are_later one.milliseconds parts) (billionths parts) later → answer ≡ option_and_then (λ more. within_64_bits (one.billionths + more)) later → IsSumTold (are_later above (part ∷ parts)) (billionths (part ∷ parts)) answer
 later_sum above part parts one later answer tells h told a =
     sum_told (are_later one.milliseconds parts) (are_later above (part ∷ parts)) one.billionths (billionths parts) (billionths (part ∷ parts)) (billionths_of part) later answer (told_form above part parts one tells ∙ ap (λ v. v && are_later one.milliseconds parts) h) tells.billionths (first_sum part parts) told a
 
 -- ---- all parts
 
--- the forms behind the first part
+-- the forms after the first part
 abbrev pub behind_form : Part → List Part → Bool
 behind_form first later = list_all is_later_part later && is_falling (map unit_milliseconds (first ∷ later)) && not (list_any has_point (take (length later) (first ∷ later)))
 
--- one part more, where it may stand
+-- one part more, where it may be
 regrouped : (a b c d e g x y : Bool) → (b && d && not g) ≡ (x && y) → ((a && b) && (c && d) && not (e || g)) ≡ ((not e || false) && (a && c && x && y))
 regrouped true b true d false g x y h = h
 regrouped true true true true true g x y h = refl
@@ -195,7 +195,7 @@ regrouped true false false d true g x y h = refl
 regrouped false b c d true g x y h = refl
 regrouped other another third fourth fifth g x y h = refl
 
--- the forms behind the first part, from part to part
+-- the forms after the first part, from part to part
 pub same_behind : (first : Part) (later : List Part) → behind_form first later ≡ ((not (has_point first) || are_none later) && are_later (unit_milliseconds first) later)
 same_behind first [] = elim (has_point first) as (λ v. true ≡ ((not v || true) && true)) [ true ↦ refl | false ↦ refl ]
 same_behind first (part ∷ parts) =
@@ -216,7 +216,7 @@ all_sum first parts one later answer tells h told a =
 
 -- ---- milliseconds
 
--- where no sum is told
+-- if no sum is reported
 pub no_milliseconds : (negative : Bool) (parts : List Part) → IsSumTold (are_duration_parts parts) (billionths parts) None → None ≡ milliseconds_of negative parts
 no_milliseconds negative parts (inl h) = sym (ap (λ v. cond (v && (billionths parts % 10 ^ 9 == 0)) (within_32_bits (cond negative (neg_ℤ (pos (billionths parts / 10 ^ 9))) (pos (billionths parts / 10 ^ 9)))) None) h)
 no_milliseconds negative parts (inr h) =
@@ -246,7 +246,7 @@ text_all text number letters rest last one later answer e tells l h told a =
     subst (λ ps. IsSumTold (are_duration_parts (separated ps)) (billionths (separated ps)) answer) (sym e)
     (all_sum (part number letters) (map without_separator (parts_of rest)) one later answer tells (ap (λ v. not one.has_point || v) (sym (l ∙ last_is rest)) ∙ h) told a)
 
--- a first part that may not stand
+-- a first part that may not be there
 pub text_unfit : (text number letters rest : List ℕ) (last : Bool) (one : told.Part) → parts_of text ≡ part number letters ∷ parts_of rest → TellsPart (part number letters) one → last ≡ is_empty rest → (not one.has_point || last) ≡ false → IsSumTold (are_duration_parts (duration_parts text)) (billionths (duration_parts text)) None
 text_unfit text number letters rest last one e tells l h =
     subst (λ ps. IsSumTold (are_duration_parts (separated ps)) (billionths (separated ps)) None) (sym e)

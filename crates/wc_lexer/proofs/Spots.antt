@@ -1,13 +1,13 @@
--- The piece at which a text can't be cut on is the one that its fault means.
+-- The slice at which a text can't be cut further is the one that its fault is about.
 use Rattle.std.proofs.Common.{◌≡◌, ◌≢◌, ℕ, zero, suc, ◌≤◌, ◌==◌, true, false, List, [], ◌∷◌, ◌++◌, length, take, refl, sym, ap, ◌∙◌, subst, arith, true≢false, if◌then◌else◌}
 use Rattle.std.proofs.lemmas.Bool.{and_parts, cond-false, eqb-true, ne_eqb}
 use Rattle.wc_lexer.specs.Refusals.{Names}
 use Rattle.wc_lexer.specs.Spots.{IsSpotAt, IsTokenSpot, NoPiece, Piece, StopsAt, piece_of, stuck_length}
-use Rattle.wc_token_laws.proofs.Attained.{attained, attained_longest}
-use Rattle.wc_token_laws.proofs.Reach.{within_reach}
-use Rattle.wc_token_laws.proofs.TokenSteps.{lexeme_is_filled, no_lexeme_at_comment}
-use Rattle.wc_token_laws.specs.Reaches.{reach}
-use Rattle.wc_token_laws.specs.Sights.{opens_comment}
+use Rattle.wc_laws_tokens.proofs.Attained.{attained, attained_longest}
+use Rattle.wc_laws_tokens.proofs.Reach.{within_reach}
+use Rattle.wc_laws_tokens.proofs.TokenSteps.{lexeme_is_filled, no_lexeme_at_comment}
+use Rattle.wc_laws_tokens.specs.Reaches.{reach}
+use Rattle.wc_laws_tokens.specs.Sights.{opens_comment}
 use Rattle.wc_model.specs.Text.Blanks.{comment_opening}
 use Rattle.wc_model.specs.Text.Characters.{is_star}
 use Rattle.wc_model.specs.Text.Lexemes.{IsLongestLexeme, Lexeme}
@@ -15,7 +15,7 @@ use Rattle.wc_model.specs.Text.Tokens.{Cuts, FaultAt, Faulty, Foreign, IsFirstTo
 use Rattle.wc_model.specs.declared.fault.Fault.{Fault}
 use Rattle.wc_model.specs.declared.fault.Fault.TheVariants.{Memory, Refused}
 
--- where a comment opens the text starts with its two bytes
+-- if a comment opens, the text starts with its two bytes
 opened : (rest : List ℕ) → opens_comment rest ≡ true → (inside : List ℕ) × (rest ≡ comment_opening ++ inside)
 opened [] h = absurd (cc)
 opened (b ∷ []) h = absurd (true≢false (sym (and_parts (b == 40) false h).1))
@@ -25,7 +25,7 @@ opened (b ∷ c ∷ inside) h =
     let second : c ≡ 42 = eqb-true c 42 both.1 in
     (inside, ap (λ x. x ∷ c ∷ inside) first ∙ ap (λ x. 40 ∷ x ∷ inside) second)
 
--- where none does, and the look ahead finds so many bytes
+-- if none does, and the look ahead finds n bytes
 outside : (rest : List ℕ) (n : ℕ) → ((inside : List ℕ) → rest ≢ comment_opening ++ inside) → (if reach rest == 0 then 1 else reach rest) ≡ n → stuck_length rest ≡ n
 outside rest n none e =
     elim (opens_comment rest) as (λ v. opens_comment rest ≡ v → (if v then 2 else if reach rest == 0 then 1 else reach rest) ≡ n) [
@@ -33,7 +33,7 @@ outside rest n none e =
       | false ↦ λ h. e
     ] refl
 
--- where no lexeme stands the look ahead finds none
+-- if there is no lexeme, the look ahead finds none
 none_found : (rest : List ℕ) → ((piece after : List ℕ) → piece ++ after ≡ rest → ¬ (Lexeme piece after)) → reach rest ≡ 0
 none_found [] none = refl
 none_found (b ∷ rest) none = go (reach (b ∷ rest)) refl
@@ -66,7 +66,7 @@ longest_found (b ∷ rest) piece after e longest =
 abbrev some_bytes : ℕ → ℕ
 some_bytes n = if n == 0 then 1 else n
 
--- the piece has so many bytes
+-- the slice has n bytes
 pub is_stuck_length : (rest : List ℕ) (number : ℕ) (fault : FaultAt rest number) → stuck_length rest ≡ length (piece_of rest number fault)
 is_stuck_length rest number (Foreign f) =
     outside rest (length (take 1 rest)) f.no_comment (ap some_bytes (none_found rest f.no_lexeme) ∙ one_byte rest f.more)
@@ -79,7 +79,7 @@ is_stuck_length rest number (Malformed piece after e longest judged) =
     filled : (n : ℕ) → 1 ≤ n → some_bytes n ≡ n
     filled n h = cond-false (n == 0) 1 n (ne_eqb n 0 (λ e. omega (arith, h, e)))
 
--- a cut up to a piece is one up to its fault
+-- a cut up to a slice is one up to its fault
 to_fault : (number line start count : ℕ) (before rest : List ℕ) (tokens : List Token) → Cuts (IsSpotAt number line start count) before rest tokens → Cuts (Faulty number line) before rest tokens
 to_fault number line start count before rest tokens (Nothing spot) = Nothing (record { fault = spot.fault; here = spot.here })
 to_fault number line start count before rest tokens (Skipped piece after e blank more) =

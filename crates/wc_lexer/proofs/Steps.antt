@@ -1,4 +1,4 @@
--- Piece by piece to the tokens of a text, or to its first fault.
+-- Slice by slice to the tokens of a text, or to its first fault.
 use Rattle.std.proofs.Common.{◌≡◌, ℕ, zero, suc, cond, ◌+◌, ◌≤◌, ◌<◌, List, [], ◌∷◌, ◌++◌, length, drop, take, count_by, Ok, refl, sym, ap, ◌∙◌, subst, subst₂, arith, append_assoc, take-append-drop, length-drop, length-take-le}
 use Rattle.std.proofs.Math.Seq.{take-add}
 use Rattle.std.proofs.lemmas.List.{append-nil, drop-drop}
@@ -7,9 +7,9 @@ use Rattle.wc_lexer.proofs.PartSums.{empty}
 use Rattle.wc_lexer.proofs.Spots.{is_stuck_length}
 use Rattle.wc_lexer.specs.Refusals.{AtToken, WantsRoom}
 use Rattle.wc_lexer.specs.Spots.{IsSpotAt, IsTokenSpot, Piece, stuck_length}
-use Rattle.wc_token_laws.specs.Sights.{Pass, Refuse, Sight, Take, sight}
-use Rattle.wc_token_laws.proofs.FoundTokens.{Holds, sight_holds}
-use Rattle.wc_token_laws.proofs.TokenSteps.{blank_is_filled, lexeme_is_filled}
+use Rattle.wc_laws_tokens.specs.Sights.{Pass, Refuse, Sight, Take, sight}
+use Rattle.wc_laws_tokens.proofs.FoundTokens.{Holds, sight_holds}
+use Rattle.wc_laws_tokens.proofs.TokenSteps.{blank_is_filled, lexeme_is_filled}
 use Rattle.wc_model.specs.Text.Blanks.{Blank}
 use Rattle.wc_model.specs.Text.Characters.{is_line_feed}
 use Rattle.wc_model.specs.Text.Lexemes.{IsLongestLexeme}
@@ -26,7 +26,7 @@ pub record Going (text : List ℕ) (n : ℕ) (tokens : List Token) : Type 0 wher
   pub at_token : Goes AtToken text n tokens
   pub at_fault : (number line start count : ℕ) → Goes (IsSpotAt number line start count) text n tokens
 
--- a cut from a later place is one from behind a piece
+-- a cut from a later place is one from after a slice
 pub moved : (Ends : List ℕ → List ℕ → Type 0) (text : List ℕ) (n count : ℕ) (more : List Token) → Cuts Ends (take (n + count) text) (drop (n + count) text) more → Cuts Ends (take n text ++ take count (drop n text)) (drop count (drop n text)) more
 moved Ends text n count more cuts = subst₂ (λ b r. Cuts Ends b r more) (take-add n count text) (sym (drop-drop count n text)) cuts
 
@@ -40,7 +40,7 @@ token_goes Ends text n count tokens shape longest h goes more cuts =
     subst (Cuts Ends [] text) (sym (append_assoc tokens (token_behind (take n text) shape (take count (drop n text)) ∷ []) more))
     (goes (token_behind (take n text) shape (take count (drop n text)) ∷ more) (Taken shape (take count (drop n text)) (drop count (drop n text)) (take-append-drop count (drop n text)) longest h (moved Ends text n count more cuts)))
 
--- what stands at a place, where something does
+-- what is at a place, if something does
 pub holds_at : (rest : List ℕ) (seen : Sight) → 1 ≤ length rest → seen ≡ sight rest → Holds rest seen
 holds_at [] seen long e = absurd (omega arith)
 holds_at (b ∷ rest) seen long e = subst (Holds (b ∷ rest)) (sym e) (sight_holds b rest)
@@ -77,7 +77,7 @@ pub cut_at_end : (text : List ℕ) (n : ℕ) (tokens : List Token) → length te
 cut_at_end text n tokens h going =
     subst (IsCut text) (append-nil tokens) (going.at_end [] (Nothing (empty (drop n text) (omega (arith, length-drop n text)))))
 
--- at a fault it is the first, and its piece stands here
+-- at a fault it is the first, and its slice is here
 pub fault_here : (text rest : List ℕ) (n number line count : ℕ) → count ≡ stuck_length rest → (tokens : List Token) → length text ≤ most_bytes → rest ≡ drop n text → n < length text → Refuse number ≡ sight rest → line ≡ line_after (take n text) → Going text n tokens → IsTokenSpot text number line n count
 fault_here text rest n number line count size tokens short r h e l going =
     let held : FaultAt (drop n text) number = holds_at (drop n text) (Refuse number) (some_left text n h) (e ∙ ap sight r) in
@@ -85,7 +85,7 @@ fault_here text rest n number line count size tokens short r h e l going =
     let counted = size ∙ ap stuck_length r ∙ is_stuck_length (drop n text) number held in
     Piece (tokens ++ []) short (going.at_fault number line n count [] (Nothing (record { fault = held; here = l; starts = started; counted = counted })))
 
--- at a token room is wanted
+-- at a token space is needed
 pub room_here : (text rest : List ℕ) (n count : ℕ) (shape : Shape) (tokens : List Token) → length text ≤ most_bytes → rest ≡ drop n text → n < length text → Take count shape ≡ sight rest → Going text n tokens → WantsRoom text
 room_here text rest n count shape tokens short r h e going =
     let held : Holds (drop n text) (Take count shape) = holds_at (drop n text) (Take count shape) (some_left text n h) (e ∙ ap sight r) in
@@ -95,7 +95,7 @@ room_here text rest n count shape tokens short r h e going =
       cut = going.at_token [] (Nothing (shape, take count (drop n text), drop count (drop n text), take-append-drop count (drop n text), held.0, held.1));
     }
 
--- a piece that is passed over has a byte
+-- a slice that is passed over has a byte
 pub pass_is_filled : (text rest : List ℕ) (n count : ℕ) → rest ≡ drop n text → n < length text → Pass count ≡ sight rest → 1 ≤ count
 pass_is_filled text rest n count r h e =
     let blank : Holds (drop n text) (Pass count) = holds_at (drop n text) (Pass count) (some_left text n h) (e ∙ ap sight r) in

@@ -14,7 +14,7 @@ use Rattle.wc_model.specs.Text.WholeNumbers.{within_32_bits}
 pub times : (base n : ℕ) → 1 ≤ base → n ≤ n * base
 times base n h = grind arith
 
--- digits behind a number make it no smaller
+-- digits after a number make it no smaller
 pub grows : (base n : ℕ) (ds : List ℕ) → 1 ≤ base → n ≤ digits_value_after base n ds
 grows base n [] h = le_refl n
 grows base n (d ∷ ds) h =
@@ -34,7 +34,7 @@ narrow n h = ap (λ v. then_some v n) (lt-ltb n (2 ^ 64) h)
 pub from_wide : (n : ℕ) → None ≡ within_64_bits n → 2 ^ 64 ≤ n
 from_wide n h = ⊎_elim (λ less. let e = narrow n less in cc) (λ more. more) (cases_lt n (2 ^ 64))
 
--- a number is too wide where its first digits are
+-- a number is too wide if its first digits are
 pub wide_digits : (base n : ℕ) (ds : List ℕ) → 1 ≤ base → None ≡ within_64_bits n → None ≡ within_64_bits (digits_value_after base n ds)
 wide_digits base n ds h e =
     let more = grows base n ds h in

@@ -1,13 +1,13 @@
--- What the look ahead finds where an identifier starts and no `#` follows it.
+-- What the look ahead finds if an identifier starts and no `#` follows it.
 use Rattle.std.proofs.Common.{◌≡◌, ℕ, zero, suc, ◌+◌, ◌≤◌, Bool, true, false, cond, ◌||◌, List, [], ◌∷◌, length, drop, take, refl, sym, ap, ◌∙◌, subst, arith, add-zero, length-take-le, true≢false, Result, Ok, Err, if◌then◌else◌}
 use Rattle.std.proofs.lemmas.Bool.{and_parts, cond-false, cond-true, ne_eqb}
 use Rattle.std.proofs.lemmas.List.Sums.{prefix_len-le-length}
 use Rattle.std.specs.List.{list_all, list_any, prefix_len}
 use Rattle.wc_lexer.specs.Views.{is_name_so}
-use Rattle.wc_token_laws.proofs.Attained.{front_passes, front_starts, start_goes_on}
-use Rattle.wc_token_laws.proofs.Reach.{reach_word}
-use Rattle.wc_token_laws.specs.Reaches.{hash_reach, reach}
-use Rattle.wc_token_laws.specs.Sights.{Take, sight_by_reach, sight_of_lexeme}
+use Rattle.wc_laws_tokens.proofs.Attained.{front_passes, front_starts, start_goes_on}
+use Rattle.wc_laws_tokens.proofs.Reach.{reach_word}
+use Rattle.wc_laws_tokens.specs.Reaches.{hash_reach, reach}
+use Rattle.wc_laws_tokens.specs.Sights.{Take, sight_by_reach, sight_of_lexeme}
 use Rattle.wc_model.specs.Text.Characters.{begins, is_hash, is_identifier_character, starts_identifier}
 use Rattle.wc_model.specs.Text.Digits.{has_single_underscores}
 use Rattle.wc_model.specs.Text.Shapes.{Identifier, Shape, shape_of}
@@ -52,7 +52,7 @@ word_sight (b ∷ text) rest n single h e r f s =
     let some : 1 ≤ n = omega (arith, e, goes) in
     ap (λ v. sight_of_lexeme n (judged n v)) s ∙ ap (sight_of_lexeme n) (sym (identifier_shape_is b text h n e)) ∙ sym (by_shape n (b ∷ text) some) ∙ ap (λ k. sight_by_reach k (b ∷ text)) (sym reached)
 
--- where it is a name
+-- if it is a name
 pub name_sight : (text rest : List ℕ) (n : ℕ) (single : Bool) → begins starts_identifier text ≡ true → n ≡ prefix_len is_identifier_character text → rest ≡ drop n text → begins is_hash rest ≡ false → single ≡ has_single_underscores (take n text) → is_name_so n single ≡ true → Take n Identifier ≡ sight_by_reach (reach text) text
 name_sight text rest n single h e r f s name =
     sym (ap (λ v. sight_of_lexeme n (if v then Ok Identifier else Err 104)) name) ∙ word_sight text rest n single h e r f s

@@ -16,18 +16,18 @@ pub record TellsPart (part : durations.Part) (told : Part) : Type 0 where
   pub point : told.has_point ≡ durations.has_point part
   pub billionths : told.billionths ≡ durations.billionths_of part
 
--- a part that tells nothing has a wrong form or is too long for 64 bits
+-- a part that gives nothing has a wrong form or is too long for 64 bits
 abbrev pub IsPartTold : durations.Part → Option Part → Type 0
 IsPartTold part None = (durations.is_part part ≡ false) ⊎ (2 ^ 64 ≤ durations.billionths_of part)
 IsPartTold part (Some told) = TellsPart part told
 
--- a part by its unit and its numbers, where its length has 64 bits
+-- a part by its unit and its numbers, if its length has 64 bits
 abbrev pub part_by : TimeUnit → Option ℕ → Option ℕ → Bool → Option Part
 part_by unit None fraction has_point = None
 part_by unit (Some whole) None has_point = None
 part_by unit (Some whole) (Some fraction) has_point = option_map (λ n. record { milliseconds = unit.milliseconds; below = unit.below; whole = whole; has_point = has_point; billionths = n }) (within_64_bits ((whole * 10 ^ 9 + fraction) * unit.milliseconds))
 
--- the billionths behind the point of a number, where its form is right and they have 64 bits
+-- the billionths after the point of a number, if its form is right and they have 64 bits
 abbrev pub fraction_told : List ℕ → Option ℕ
 fraction_told number =
     let part : durations.Part = record { number = number; letters = [] } in
@@ -38,12 +38,12 @@ abbrev pub are_none : List durations.Part → Bool
 are_none [] = true
 are_none (part ∷ parts) = false
 
--- the parts may stand behind a unit so long: units fall, and none but the last has a point
+-- the parts may follow a unit so long: units fall, and none but the last has a point
 abbrev pub are_later : ℕ → List durations.Part → Bool
 are_later above [] = true
 are_later above (part ∷ parts) = durations.is_later_part part && nat_lt (durations.unit_milliseconds part) above && (not (durations.has_point part) || are_none parts) && are_later (durations.unit_milliseconds part) parts
 
--- the sum, where the form is right; no sum is told where the form is wrong or the sum is too long
+-- the sum, if the form is right; no sum is reported if the form is wrong or the sum is too long
 -- for 64 bits
 abbrev pub IsSumTold : Bool → ℕ → Option ℕ → Type 0
 IsSumTold form sum None = (form ≡ false) ⊎ (2 ^ 64 ≤ sum)

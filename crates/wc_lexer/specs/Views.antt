@@ -7,7 +7,7 @@ use Rattle.wc_lexer.specs.declared.shape.Token.{Token}
 use Rattle.wc_model.specs.Text.Shapes as shapes
 use Rattle.wc_model.specs.Text.Tokens as tokens
 
--- the shape that a value of the lexer stands for
+-- the shape that a value of the lexer represents
 abbrev pub shape_view : Shape → shapes.Shape
 shape_view Identifier = shapes.Identifier
 shape_view (Whole value) = shapes.Whole value
@@ -31,7 +31,7 @@ abbrev pub judgement_view : Result Shape ℕ → Result shapes.Shape ℕ
 judgement_view (Ok shape) = Ok (shape_view shape)
 judgement_view (Err number) = Err number
 
--- the token that a token of the lexer stands for
+-- the token that a token of the lexer represents
 abbrev pub token_view : Token → tokens.Token
 token_view token = record { shape = shape_view token.shape; text = token.text.now; start = token.start; line = token.line }
 

@@ -18,7 +18,7 @@ use wc_model::is_word;
 struct TimeUnit {
     /// How long it is.
     milliseconds: u64,
-    /// Below what number it counts behind a greater unit.
+    /// Below what number it counts after a greater unit.
     below: u64,
 }
 
@@ -27,7 +27,7 @@ struct TimeUnit {
 struct Part {
     /// How long its unit is.
     milliseconds: u64,
-    /// Below what number its unit counts behind a greater one.
+    /// Below what number its unit counts after a greater one.
     below: u64,
     /// Its whole number.
     whole: u64,
@@ -74,14 +74,14 @@ fn unit_named(letters: &[u8]) -> Option<TimeUnit>
     }
 }
 
-/// How many characters the digits have, without underscores.
+/// The number of characters the digits have, without underscores.
 fn digit_count(text: &[u8]) -> usize
     ensures { result ≡ count_by (λ byte. not (is_underscore byte)) text.now }
 {
     text.iter().filter(|byte| **byte != b'_').count()
 }
 
-/// The whole number of a part, where it has 64 bits.
+/// The whole number of a part, if it has 64 bits.
 fn whole(text: &[u8]) -> Option<u64>
     ensures { result
         ≡ option_and_then within_64_bits
@@ -96,7 +96,7 @@ fn whole(text: &[u8]) -> Option<u64>
     }
 }
 
-/// How many billionths the last of so many digits behind a point counts.
+/// The number of billionths the last of n digits after a point counts for.
 fn last_digit_billionths(count: usize) -> u64
     requires { count ≤ 9 }
     ensures { result ≡ 10 ^ (9 - count) }
@@ -122,21 +122,21 @@ fn has_digits_alone(text: &[u8]) -> bool
     text.iter().all(|byte| byte.is_ascii_digit())
 }
 
-/// The product, where it has 64 bits.
+/// The product, if it has 64 bits.
 fn product(number: u64, times: u64) -> Option<u64>
     ensures { result ≡ within_64_bits (number * times) }
 {
     number.checked_mul(times)
 }
 
-/// The sum, where it has 64 bits.
+/// The sum, if it has 64 bits.
 fn sum(number: u64, more: u64) -> Option<u64>
     ensures { result ≡ within_64_bits (number + more) }
 {
     number.checked_add(more)
 }
 
-/// The billionths that the digits behind a point write, where they have 64 bits.
+/// The billionths that the digits after a point write, if they have 64 bits.
 fn fraction(text: &[u8]) -> Option<u64>
     ensures { result
         ≡ option_and_then within_64_bits
@@ -155,7 +155,7 @@ fn fraction(text: &[u8]) -> Option<u64>
     }
 }
 
-/// A duration's first part, as its number and its letters, and what stands behind it.
+/// A duration's first part, as its number and its letters, and what follows it.
 fn first_part(text: &[u8]) -> (&[u8], &[u8], &[u8])
     requires { 1 ≤ length text.now }
     ensures first { parts_of text.now
@@ -167,7 +167,7 @@ fn first_part(text: &[u8]) -> (&[u8], &[u8], &[u8])
     (number, letters, rest)
 }
 
-/// How long so many units and billionths of one are, in billionths of a millisecond, where the
+/// How long n units and billionths of one are, in billionths of a millisecond, if the
 /// number has 64 bits.
 fn billionths(whole: u64, fraction: u64, milliseconds: u64) -> Option<u64>
     requires { 1 ≤ milliseconds }
@@ -214,7 +214,7 @@ fn has_point(number: &[u8]) -> bool
     number.iter().any(|byte| *byte == b'.')
 }
 
-/// What stands before the point, all where there is none.
+/// What precedes the point, all if there is none.
 fn before_point(number: &[u8]) -> &[u8]
     ensures { result.now ≡ before_first is_point number.now }
 {
@@ -222,7 +222,7 @@ fn before_point(number: &[u8]) -> &[u8]
     before
 }
 
-/// What stands behind the point, nothing where there is none.
+/// What follows the point, nothing if there is none.
 fn after_point(number: &[u8]) -> &[u8]
     ensures { result.now ≡ after_first is_point number.now }
 {
@@ -230,7 +230,7 @@ fn after_point(number: &[u8]) -> &[u8]
     behind_first(rest)
 }
 
-/// The billionths behind the point, none where there is no point.
+/// The billionths after the point, none if there is no point.
 fn fraction_of(number: &[u8]) -> Option<u64>
     ensures { result ≡ fraction_told number.now }
 {
@@ -276,7 +276,7 @@ fn is_last(rest: &[u8]) -> bool
     }
 }
 
-/// The part may stand behind a part with a unit so long.
+/// The part may follow a part with a unit so long.
 fn may_stand_behind(part: Part, above: u64, is_last: bool) -> bool
     ensures { result
         ≡
@@ -286,14 +286,14 @@ fn may_stand_behind(part: Part, above: u64, is_last: bool) -> bool
     part.whole < part.below && part.milliseconds < above && (!part.has_point || is_last)
 }
 
-/// The first part may stand before others, or is the last.
+/// The first part may precede others, or is the last.
 fn may_stand_first(part: Part, is_last: bool) -> bool
     ensures { result ≡ (not part.has_point || is_last) }
 {
     !part.has_point || is_last
 }
 
-/// The sum of a part and the later ones, where they have one and it has 64 bits.
+/// The sum of a part and the later ones, if they have one and it has 64 bits.
 fn with_part(first: u64, later: Option<u64>) -> Option<u64>
     ensures { result ≡ option_and_then (λ more. within_64_bits (first + more)) later }
 {
@@ -303,7 +303,7 @@ fn with_part(first: u64, later: Option<u64>) -> Option<u64>
     }
 }
 
-/// The billionths of the parts behind a part with a unit so long.
+/// The billionths of the parts after a part with a unit so long.
 fn later_billionths(text: &[u8], above: u64) -> Option<u64>
     ensures { IsSumTold (are_later above (map without_separator (parts_of text.now)))
         (billionths (map without_separator (parts_of text.now))) result }
@@ -353,7 +353,7 @@ fn milliseconds(negative: bool, text: &[u8]) -> Option<i32>
     }
 }
 
-/// The milliseconds of a duration, as it stands behind its `#`.
+/// The milliseconds of a duration, as it is written after its `#`.
 pub(crate) fn duration(text: &[u8]) -> Option<i32>
     ensures { result ≡ duration_of text.now }
 {

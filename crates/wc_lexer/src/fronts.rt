@@ -5,7 +5,7 @@ ghost use Rattle.wc_model.specs.Text.Characters.{begins, is_address_character, i
 
 use crate::characters::{is_address_character, is_identifier_character, is_number_character};
 
-/// How many characters of an identifier stand at the front.
+/// The number of characters of an identifier at the start.
 pub(crate) fn identifier_length(text: &[u8]) -> usize
     ensures longest { result ≡ prefix_len is_identifier_character text.now }
     ensures within { result ≤ length text.now }
@@ -15,7 +15,7 @@ pub(crate) fn identifier_length(text: &[u8]) -> usize
         .count()
 }
 
-/// How many characters of a number stand at the front.
+/// The number of characters of a number at the start.
 pub(crate) fn number_length(text: &[u8]) -> usize
     ensures longest { result ≡ prefix_len is_number_character text.now }
     ensures within { result ≤ length text.now }
@@ -25,7 +25,7 @@ pub(crate) fn number_length(text: &[u8]) -> usize
         .count()
 }
 
-/// How many characters of an address stand at the front.
+/// The number of characters of an address at the start.
 pub(crate) fn address_length(text: &[u8]) -> usize
     ensures longest { result ≡ prefix_len is_address_character text.now }
     ensures within { result ≤ length text.now }
@@ -35,7 +35,7 @@ pub(crate) fn address_length(text: &[u8]) -> usize
         .count()
 }
 
-/// How many letters stand at the front.
+/// The number of letters at the start.
 pub(crate) fn letters_length(text: &[u8]) -> usize
     ensures longest { result ≡ prefix_len is_ascii_alphabetic text.now }
     ensures within { result ≤ length text.now }
@@ -45,7 +45,7 @@ pub(crate) fn letters_length(text: &[u8]) -> usize
         .count()
 }
 
-/// How many bytes that are no letters stand at the front.
+/// The number of bytes that are not letters at the start.
 pub(crate) fn letterless_length(text: &[u8]) -> usize
     ensures longest { result ≡ prefix_len (λ byte. not (is_ascii_alphabetic byte)) text.now }
     ensures within { result ≤ length text.now }
@@ -55,7 +55,7 @@ pub(crate) fn letterless_length(text: &[u8]) -> usize
         .count()
 }
 
-/// How many bytes stand before the first such byte.
+/// The number of bytes before the first such byte.
 pub(crate) fn length_before(text: &[u8], mark: u8) -> usize
     ensures first { result ≡ position_or_len (λ byte. byte == mark) text.now }
     ensures within { result ≤ length text.now }
@@ -64,7 +64,7 @@ pub(crate) fn length_before(text: &[u8], mark: u8) -> usize
 }
 
 #[tactic(auto, using(crate::proofs::Cuts::cut_none, crate::proofs::Cuts::cut_some))]
-/// What stands before the first such byte and what stands behind it, where there is one.
+/// What precedes the first such byte and what follows it, if there is one.
 pub(crate) fn cut_at(text: &[u8], mark: u8) -> Option<(&[u8], &[u8])>
     ensures { MatchOption result (list_any (λ byte. byte == mark) text.now ≡ false)
         (λ cut. (list_any (λ byte. byte == mark) text.now ≡ true)
@@ -88,7 +88,7 @@ pub(crate) fn begins_with(text: &[u8], mark: u8) -> bool
     }
 }
 
-/// What stands behind the first byte.
+/// What follows the first byte.
 pub(crate) fn behind_first(text: &[u8]) -> &[u8]
     ensures { result.now ≡ drop 1 text.now }
 {

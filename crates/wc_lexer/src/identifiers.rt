@@ -4,7 +4,7 @@ ghost use Rattle.std.specs.List.{prefix_len};
 ghost use Rattle.wc_model.specs.Text.Characters.{begins, is_identifier_character};
 ghost use Rattle.wc_model.specs.Text.Digits.{has_single_underscores};
 
-/// A letter or a digit stands here.
+/// A letter or a digit is here.
 #[inline(always)]
 fn begins_plain(text: &[u8]) -> bool
     ensures { result ≡ begins is_ascii_alphanumeric text.now }
@@ -15,7 +15,7 @@ fn begins_plain(text: &[u8]) -> bool
     }
 }
 
-/// How many characters of an identifier stand at the front, and whether their underscores are
+/// The number of characters of an identifier at the start, and whether their underscores are
 /// single.
 #[inline(always)]
 pub(crate) fn identifier_front(text: &[u8]) -> (usize, bool)

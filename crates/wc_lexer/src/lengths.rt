@@ -1,5 +1,5 @@
 ghost use Rattle.std.specs.Prelude.{◌≡◌, ◌+◌, ◌≤◌, length};
-ghost use Rattle.wc_token_laws.specs.Reaches.{hash_reach, is_mark_before, reach, signed_reach, value_reach, word_reach};
+ghost use Rattle.wc_laws_tokens.specs.Reaches.{hash_reach, is_mark_before, reach, signed_reach, value_reach, word_reach};
 ghost use Rattle.wc_lexer.specs.Sights.{mark_reach_of};
 
 use crate::Shape;
@@ -18,7 +18,7 @@ fn value_length(text: &[u8]) -> usize
     }
 }
 
-/// How long a `#` and what it takes are, where one stands here.
+/// How long a `#` and what it takes are, if one is here.
 fn hash_length(text: &[u8]) -> usize
     ensures longest { result ≡ hash_reach text.now }
     ensures within { result ≤ length text.now }
@@ -38,7 +38,7 @@ fn word_length(text: &[u8]) -> usize
     run.len() + hash_length(rest)
 }
 
-/// How long a sign with the number behind it is.
+/// How long a sign with the number after it is.
 fn signed_length(after: &[u8]) -> usize
     ensures longest { result ≡ signed_reach after.now }
     ensures within { result ≤ length after.now + 1 }
@@ -49,7 +49,7 @@ fn signed_length(after: &[u8]) -> usize
     }
 }
 
-/// The bytes are a mark that may stand before the rest.
+/// The bytes are a mark that may precede the rest.
 fn is_mark_before(spelling: &[u8], after: &[u8]) -> bool
     ensures { result ≡ is_mark_before spelling.now after.now }
 {
@@ -59,7 +59,7 @@ fn is_mark_before(spelling: &[u8], after: &[u8]) -> bool
     }
 }
 
-/// How long the mark is that stands here.
+/// The length of the mark that is here.
 fn mark_length(text: &[u8]) -> usize
     ensures longest { result ≡ mark_reach_of text.now }
     ensures within { result ≤ length text.now }
@@ -71,7 +71,7 @@ fn mark_length(text: &[u8]) -> usize
     }
 }
 
-/// How long the longest lexeme is that stands here, 0 where there is none.
+/// The length of the longest lexeme that is here, 0 if there is none.
 pub(crate) fn lexeme_length(text: &[u8]) -> usize
     ensures longest { result ≡ reach text.now }
     ensures within { result ≤ length text.now }

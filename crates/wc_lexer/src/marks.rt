@@ -26,7 +26,7 @@ pub(crate) fn mark(spelling: &[u8]) -> Option<Shape>
     }
 }
 
-/// `&N` ends where no character of an identifier follows, and `(` before `*` opens a comment.
+/// `&N` ends if no character of an identifier follows, and `(` before `*` opens a comment.
 pub(crate) fn may_stand_before(shape: Shape, after: &[u8]) -> bool
     ensures { result ≡ may_stand_before (shape_view shape) after.now }
 {

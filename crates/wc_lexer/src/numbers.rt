@@ -27,7 +27,7 @@ fn is_digit(byte: u8, base: u64) -> bool
     digit_value(byte) < base
 }
 
-/// Behind each underscore stands another character.
+/// After each underscore comes another character.
 pub(crate) fn has_single_underscores(text: &[u8]) -> bool
     ensures { result ≡ has_single_underscores text.now }
 {
@@ -66,14 +66,14 @@ pub(crate) fn are_digits(base: u64, text: &[u8]) -> bool
     begins_with_digit(base, text) && has_only_digits(base, text) && has_single_underscores(text)
 }
 
-/// The number with one digit more, where it has 64 bits.
+/// The number with one digit more, if it has 64 bits.
 fn with_digit(number: u64, base: u64, digit: u8) -> Option<u64>
     ensures { result ≡ within_64_bits (number * base + digit_value digit) }
 {
     number.checked_mul(base)?.checked_add(digit_value(digit))
 }
 
-/// The number that the digits write, where it has 64 bits; underscores say nothing.
+/// The number that the digits write, if it has 64 bits; underscores say nothing.
 pub(crate) fn value_of_digits(base: u64, text: &[u8]) -> Option<u64>
     requires { 1 ≤ base }
     ensures { result ≡ within_64_bits (value_of_digits base text.now) }
@@ -92,7 +92,7 @@ pub(crate) fn value_of_digits(base: u64, text: &[u8]) -> Option<u64>
     Some(value)
 }
 
-/// The number that such digits write, where it has 64 bits.
+/// The number that such digits write, if it has 64 bits.
 pub(crate) fn digits(base: u64, text: &[u8]) -> Option<u64>
     requires { 1 ≤ base }
     ensures { result ≡ option_and_then within_64_bits (digits_of base text.now) }
@@ -104,7 +104,7 @@ pub(crate) fn digits(base: u64, text: &[u8]) -> Option<u64>
     }
 }
 
-/// The base that stands before a `#`.
+/// The base that precedes a `#`.
 fn base(text: &[u8]) -> Option<u64>
     ensures { result ≡ base_of text.now }
 {
@@ -116,7 +116,7 @@ fn base(text: &[u8]) -> Option<u64>
     }
 }
 
-/// The value of a number without a sign, where it has 64 bits.
+/// The value of a number without a sign, if it has 64 bits.
 fn unsigned(text: &[u8]) -> Option<u64>
     ensures { result ≡ option_and_then within_64_bits (unsigned_of text.now) }
 {
@@ -129,7 +129,7 @@ fn unsigned(text: &[u8]) -> Option<u64>
     }
 }
 
-/// The number of that size and sign, where it has 32 bits.
+/// The number of that size and sign, if it has 32 bits.
 pub(crate) fn signed(negative: bool, size: u64) -> Option<i32>
     ensures { result ≡ within_32_bits (if negative then neg_ℤ (pos size) else pos size) }
 {
@@ -143,7 +143,7 @@ pub(crate) fn signed(negative: bool, size: u64) -> Option<i32>
     }
 }
 
-/// The number of that size and sign, where there is one and it has 32 bits.
+/// The number of that size and sign, if there is one and it has 32 bits.
 pub(crate) fn number_in_32_bits(negative: bool, size: Option<u64>) -> Option<i32>
     ensures { result
         ≡ option_and_then

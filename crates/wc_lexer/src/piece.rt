@@ -1,7 +1,7 @@
 ghost use Rattle.std.specs.Prelude.{◌≡◌, ◌+◌, ◌≤◌, ◌==◌, length, true};
 ghost use Rattle.wc_lexer.specs.Sights.{IsWithin, said_sight};
-ghost use Rattle.wc_token_laws.specs.Sights.{sight, sight_by_reach, sight_in_comment};
-ghost use Rattle.wc_token_laws.specs.Reaches.{reach};
+ghost use Rattle.wc_laws_tokens.specs.Sights.{sight, sight_by_reach, sight_in_comment};
+ghost use Rattle.wc_laws_tokens.specs.Reaches.{reach};
 ghost use Rattle.wc_model.specs.Text.Blanks.{from_bracket};
 ghost use Rattle.wc_model.specs.Text.Characters.{begins, starts_identifier};
 
@@ -12,7 +12,7 @@ use crate::lengths::lexeme_length;
 use crate::shapes::{is_name, shape};
 use crate::spaces::{from_bracket, opens_comment, starts_space};
 
-/// What stands at a place of a text.
+/// What is at a place of a text.
 #[derive(Clone, Copy, PartialEq, Eq)]
 pub(crate) enum Piece {
     /// A space, a tab, or a CR before LF.
@@ -37,7 +37,7 @@ fn comment(inside: &[u8]) -> Piece
     }
 }
 
-/// The longest lexeme that stands here, by its length and its shape.
+/// The longest lexeme that is here, by its length and its shape.
 #[inline(never)]
 fn any_lexeme(text: &[u8]) -> Piece
     ensures stands { said_sight result ≡ sight_by_reach (reach text.now) text.now }
@@ -53,7 +53,7 @@ fn any_lexeme(text: &[u8]) -> Piece
     }
 }
 
-/// The same, with room of its own for the answer, which is then not made ready where it is not
+/// The same, outlined: the space for its answer is then not prepared unless it is
 /// called.
 #[inline(always)]
 fn other_lexeme(text: &[u8]) -> Piece
@@ -64,7 +64,7 @@ fn other_lexeme(text: &[u8]) -> Piece
     found
 }
 
-/// The identifier or the typed literal that stands here.
+/// The identifier or the typed literal that is here.
 #[inline(always)]
 fn word(text: &[u8]) -> Piece
     requires { begins starts_identifier text.now ≡ true }
@@ -82,7 +82,7 @@ fn word(text: &[u8]) -> Piece
     Piece::Lexeme(count, Shape::Identifier)
 }
 
-/// What stands here, whatever it is.
+/// What is here, whatever it is.
 #[inline(never)]
 fn any_piece(text: &[u8]) -> Piece
     requires { 1 ≤ length text.now }
@@ -98,7 +98,7 @@ fn any_piece(text: &[u8]) -> Piece
     }
 }
 
-/// The same, with room of its own for the answer, which is then not made ready where it is not
+/// The same, outlined: the space for its answer is then not prepared unless it is
 /// called.
 #[inline(always)]
 fn other_piece(text: &[u8]) -> Piece
@@ -125,7 +125,7 @@ fn colon(text: &[u8]) -> Piece
     }
 }
 
-/// What stands here. The first byte decides most of it at once.
+/// What is here. The first byte decides most of it at once.
 #[inline(always)]
 pub(crate) fn first_piece(text: &[u8]) -> Piece
     requires { 1 ≤ length text.now }

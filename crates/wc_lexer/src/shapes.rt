@@ -53,7 +53,7 @@ fn truth_shape(value: &[u8]) -> Result<Shape, u16>
     }
 }
 
-/// `T#` and `TIME#` stand before durations.
+/// `T#` and `TIME#` precede durations.
 fn duration_shape(value: &[u8]) -> Result<Shape, u16>
     ensures { judgement_view result ≡ duration_shape value.now }
 {
@@ -63,7 +63,7 @@ fn duration_shape(value: &[u8]) -> Result<Shape, u16>
     }
 }
 
-/// A literal by its type's name and what stands behind the `#`.
+/// A literal by its type's name and what follows the `#`.
 fn typed_shape(name: &[u8], value: &[u8]) -> Result<Shape, u16>
     ensures { judgement_view result ≡ typed_shape (name_of name.now) value.now }
 {
@@ -76,7 +76,7 @@ fn typed_shape(name: &[u8], value: &[u8]) -> Result<Shape, u16>
     }
 }
 
-/// An identifier, or a typed literal where it holds a `#`.
+/// An identifier, or a typed literal if it holds a `#`.
 fn word_shape(lexeme: &[u8]) -> Result<Shape, u16>
     ensures { judgement_view result
         ≡

@@ -1,5 +1,5 @@
 ghost use Rattle.std.specs.Prelude.{◌≡◌, ◌≤◌, count_by, if◌then◌else◌, length};
-ghost use Rattle.wc_token_laws.specs.Sights.{opens_comment, starts_space};
+ghost use Rattle.wc_laws_tokens.specs.Sights.{opens_comment, starts_space};
 ghost use Rattle.wc_model.specs.Text.Blanks.{from_bracket, starts_with_bracket};
 ghost use Rattle.wc_model.specs.Text.Characters.{begins, is_line_feed};
 
@@ -12,14 +12,14 @@ pub(crate) fn opens_comment(text: &[u8]) -> bool
     matches!(text, [b'(', b'*', ..])
 }
 
-/// A space, a tab, or a CR before LF stands here.
+/// A space, a tab, or a CR before LF is here.
 pub(crate) fn starts_space(text: &[u8]) -> bool
     ensures { result ≡ starts_space text.now }
 {
     matches!(text, [b' ' | b'\t', ..] | [b'\r', b'\n', ..])
 }
 
-/// What opens or closes a comment stands here.
+/// What opens or closes a comment is here.
 fn starts_with_bracket(text: &[u8]) -> bool
     ensures { result ≡ starts_with_bracket text.now }
 {
@@ -56,7 +56,7 @@ pub(crate) fn from_bracket(text: &[u8]) -> &[u8]
     rest
 }
 
-/// How many line feeds stand at the front, 1 or none.
+/// The number of line feeds at the start, 1 or none.
 #[inline(always)]
 pub(crate) fn first_feeds(text: &[u8]) -> usize
     ensures { result ≡ (if begins is_line_feed text.now then 1 else 0) }
@@ -67,7 +67,7 @@ pub(crate) fn first_feeds(text: &[u8]) -> usize
     }
 }
 
-/// How many line feeds the text has.
+/// The number of line feeds the text has.
 pub(crate) fn line_feeds(text: &[u8]) -> usize
     ensures counted { result ≡ count_by is_line_feed text.now }
     ensures within { result ≤ length text.now }

@@ -11,7 +11,7 @@ use crate::{Stop, Token};
 use std::alloc::Global;
 use wc_model::{Fault, MOST_BYTES};
 
-/// How many bytes the piece has at which a text can't be cut on.
+/// The number of bytes of the slice at which a text can't be cut further.
 fn stuck_length(text: &[u8]) -> usize
     ensures counted { result ≡ stuck_length text.now }
     ensures within { result ≤ length text.now + 2 }
@@ -23,7 +23,7 @@ fn stuck_length(text: &[u8]) -> usize
     if count == 0 { 1 } else { count }
 }
 
-/// The fault of that number on that line, with the piece at which a text can't be cut on.
+/// The fault of that number on that line, with the slice at which a text can't be cut further.
 fn stop_at(number: u16, line: u32, place: usize, rest: &[u8]) -> Stop
     requires { place + length rest.now ≤ most_bytes }
     ensures { result ≡ record {
@@ -42,7 +42,7 @@ fn stop_at(number: u16, line: u32, place: usize, rest: &[u8]) -> Stop
     }
 }
 
-/// Want of memory, which no piece is the cause of.
+/// Out of memory, which no slice causes.
 fn stop_for_memory() -> Stop
     ensures { result ≡ record { fault = Fault.Memory; start = 0; length = 0 } }
 {
@@ -53,8 +53,8 @@ fn stop_for_memory() -> Stop
     }
 }
 
-/// The tokens of a text, or its first fault with the piece at which it stands: the byte that belongs
-/// to nothing, the opening of the comment, or the lexeme of no allowed form.
+/// The tokens of a text, or its first fault with the slice at which it is: the byte that belongs
+/// to nothing, the opening of the comment, or the malformed lexeme.
 pub fn tokens_or_stop<'a>(alloc: Global, text: &'a [u8]) -> Result<Vec<Token<'a>>, Stop>
     ensures cut { IfOk result
         (λ tokens. (length text.now ≤ most_bytes) × IsCut text.now (map token_view tokens.items)) }
@@ -102,8 +102,8 @@ pub fn tokens_or_stop<'a>(alloc: Global, text: &'a [u8]) -> Result<Vec<Token<'a>
     Ok(tokens)
 }
 
-/// The tokens of a text, or its first fault. `Err(Memory)` is want of memory: no text that is too
-/// long is told so, and none that has no token before its first fault.
+/// The tokens of a text, or its first fault. `Err(Memory)` means out of memory: no text that is
+/// too long is reported so, and none that has no token before its first fault.
 pub fn tokens<'a>(alloc: Global, text: &'a [u8]) -> Result<Vec<Token<'a>>, Fault>
     ensures cut { IfOk result
         (λ tokens. (length text.now ≤ most_bytes) × IsCut text.now (map token_view tokens.items)) }

@@ -6,9 +6,9 @@ use Rattle.std.proofs.lemmas.Option.{slice_get_within}
 use Rattle.std.specs.List.{position_from}
 use Rattle.std.specs.Prelude.{if◌then◌else◌, option_and_then, reverse, slice_get, slice_set}
 use Rattle.wc_cost.proofs.CarriedKinds.{slots_alike}
-use Rattle.wc_flat.proofs.Images.{first_numbers_are_contents}
-use Rattle.wc_flat.proofs.PlaceNumbers.{set_elsewhere, set_here, there_is}
-use Rattle.wc_flat.specs.Contents.{AreContents, frame_of_reversed, frame_of_text}
+use Rattle.wc_text_flat.proofs.Images.{first_numbers_are_contents}
+use Rattle.wc_text_flat.proofs.PlaceNumbers.{set_elsewhere, set_here, there_is}
+use Rattle.wc_text_flat.specs.Contents.{AreContents, frame_of_reversed, frame_of_text}
 use Rattle.wc_execution.proofs.Moments.{written_moment}
 use Rattle.wc_machine.specs.Carrying.{AreCarried, number_carried}
 use Rattle.wc_execution.specs.Lines.{AreBefore}
@@ -20,9 +20,9 @@ use Rattle.wc_model.specs.Language.Store.{Location, Content, Store, same_place, 
 use Rattle.wc_model.specs.Language.Tree.{ProgramUnit, Text}
 use Rattle.wc_model.specs.Text.Grammar.{IsProgramLast}
 use Rattle.wc_model.specs.declared.kind.SlotKind.{SlotKind}
-use Rattle.wc_soundness.proofs.Carrying.{carried_holds, first_holds, kept_leads}
-use Rattle.wc_soundness.proofs.FramePlaces.{number_within, place_found}
-use Rattle.wc_soundness.specs.Typing.{SameSlots, slot_of}
+use Rattle.wc_laws_soundness.proofs.Carrying.{carried_holds, first_holds, kept_leads}
+use Rattle.wc_laws_soundness.proofs.FramePlaces.{number_within, place_found}
+use Rattle.wc_laws_soundness.specs.Typing.{SameSlots, slot_of}
 
 -- what has no number holds nothing
 lost : (entries : List (Location × Content)) (place : Location) (i : ℕ) → position_from (λ (e : Location × Content). same_place e.0 place) i entries ≡ None → store_of entries place ≡ None
@@ -77,7 +77,7 @@ contents_carried old new old_last new_last store same numbers contents all are =
             ap (λ (o : Option ℕ). elim o as (λ x. Option ℤ) [ Some j ↦ slice_get numbers j | None ↦ slice_get (first_numbers (frame_of_text new)) k ]) from.1 ∙ contents.each place from.0 from.1
         by false kept = first.each place k e
 
--- the numbers so far, and the first ones behind them
+-- the numbers so far, and the first ones after them
 pub record AreCarriedTo (old new : Text) (numbers first now : List ℤ) (at : ℕ) : Type 0 where
   pub count : length now ≡ length first
   pub done : (n : ℕ) → n < at → slice_get now n ≡ number_carried old new numbers first n

@@ -3,10 +3,10 @@ use Rattle.std.proofs.Common.{◌≡◌, ℕ, zero, suc, ◌+◌, ◌<◌, ◌�
 use Rattle.std.proofs.lemmas.Bool.{and_parts}
 use Rattle.std.proofs.lemmas.List.{reverse-append, append-nil}
 use Rattle.std.specs.Prelude.{slice_get}
-use Rattle.wc_flat.proofs.Held.{below_next}
-use Rattle.wc_flat.proofs.Texts.{Newest, newest}
-use Rattle.wc_flat.specs.Contents.{frame_of_reversed, frame_of_text}
-use Rattle.wc_flat.specs.NumberBlocks.{is_slot}
+use Rattle.wc_text_flat.proofs.Held.{below_next}
+use Rattle.wc_text_flat.proofs.Texts.{Newest, newest}
+use Rattle.wc_text_flat.specs.Contents.{frame_of_reversed, frame_of_text}
+use Rattle.wc_text_flat.specs.NumberBlocks.{is_slot}
 use Rattle.wc_execution.specs.Lines.{AreAll}
 use Rattle.wc_model.specs.Language.Checks.{Spot, spots_of, spots_behind}
 use Rattle.wc_model.specs.Language.DirectVariables.{direct_variables, kind_of_direct}
@@ -28,13 +28,13 @@ direct_slots = map (λ v. slot_kind_of (zero_of (kind_of_direct v))) direct_vari
 begins_with : (before : List ProgramUnit) (program : ProgramUnit) → (others : List SlotKind) × (slot_kinds (program_frame before program) ≡ direct_slots ++ others)
 begins_with before program = (slot_kinds (map (λ p. (Path p.0, p.1)) (unit_places before program)), refl)
 
--- what stands in front is found in the whole
+-- what comes first is found in the whole
 found_in_front : {A : Type 0} (front rest : List A) (k : ℕ) → k < length front → slice_get (front ++ rest) k ≡ slice_get front k
 found_in_front [] rest k below = absurd (omega (arith, below))
 found_in_front (x ∷ xs) rest zero below = refl
 found_in_front (x ∷ xs) rest (suc k) below = found_in_front xs rest k (omega (arith, below))
 
--- each of so many is of the kind, by a test
+-- each of n is of the kind, by a test
 abbrev every : SlotKind → List SlotKind → ℕ → ℕ → Bool
 every kind front first zero = true
 every kind front first (suc n) = is_slot kind (slice_get front (first + n)) && every kind front first n
@@ -78,7 +78,7 @@ first_places bytes text read =
     let begun = begins_with new.before new.program in
     subst (λ units. AreFirst (slot_kinds (frame_of_reversed units))) (sym new.are) (subst AreFirst (sym begun.1) (first_in_front begun.0))
 
--- the last of the spots of a list
+-- the last of the positions of a list
 record LastSpot {X : Type 0} (before : List X) (x : X) (xs : List X) : Type 0 where
   spot : Spot X
   is : slice_get (spots_behind before (x ∷ xs)) (length xs) ≡ Some spot

@@ -1,6 +1,6 @@
 -- The numbers that are carried over to another text. (No rule of the language.)
 use Rattle.std.specs.Prelude.{◌≡◌, ℕ, ◌<◌, List, length, Option, Some, None, ℤ, slice_get}
-use Rattle.wc_flat.specs.Contents.{frame_of_text}
+use Rattle.wc_text_flat.specs.Contents.{frame_of_text}
 use Rattle.wc_model.specs.Language.CarriedPlaces.{carried_number}
 use Rattle.wc_model.specs.Language.Tree.{Text}
 

@@ -1,5 +1,5 @@
 ghost use Rattle.std.specs.Prelude.{◌≡◌, ◌≤◌, ℕ, length};
-ghost use Rattle.wc_flat.specs.Contents.{frame_of_text};
+ghost use Rattle.wc_text_flat.specs.Contents.{frame_of_text};
 ghost use Rattle.wc_machine.specs.Carrying.{AreCarried};
 ghost use Rattle.wc_execution.specs.Lines.{AreBefore};
 ghost use Rattle.wc_model.specs.Language.Frames.{slot_kinds};

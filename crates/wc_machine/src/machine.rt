@@ -1,5 +1,5 @@
 ghost use Rattle.std.specs.Prelude.{◌≡◌, ◌≤◌, ◌<◌, ℕ, Some, IfErr, IfOk, IsOkUnless};
-ghost use Rattle.wc_flat.specs.Contents.{frame_of_text, number_in};
+ghost use Rattle.wc_text_flat.specs.Contents.{frame_of_text, number_in};
 ghost use Rattle.wc_machine.specs.Machines.{text_of, Leaves, StandsFor};
 ghost use Rattle.wc_machine.specs.Seeing.{IsSeen};
 ghost use Rattle.wc_model.specs.Language.Carried.{carried};
@@ -72,7 +72,7 @@ impl<'a, S: Store> Machine<'a, S> {
         })
     }
 
-    /// The machine with another text between two scans. A place keeps its number where the same names or the same
+    /// The machine with another text between two scans. A place keeps its number if the same names or the same
     /// address lead to a place of the same kind in both texts, and into the same standard function block or into none;
     /// every other place begins with its first number. The moment of the last scan stays. `Memory` is the only fault,
     /// and then the machine is handed back as it was.
@@ -126,8 +126,8 @@ impl<'a, S: Store> Machine<'a, S> {
     }
 
     /// One scan as `scan` does it, with its steps, and what was seen of each item that it counts, in the order of execution:
-    /// which flat line, at which line of the text and how many calls deep, what it wrote, and the result behind it. Where memory
-    /// is refused for what was seen the scan is done all the same, and `Memory` stands in place of the lines.
+    /// which flat line, at which line of the text and at what depth of calls, what it wrote, and the result after it. If memory
+    /// is refused for what was seen the scan is done all the same, and `Memory` is in place of the lines.
     pub fn trace(
         &mut self,
         alloc: Global,
@@ -168,7 +168,7 @@ impl<'a, S: Store> Machine<'a, S> {
         read_outputs(&self.store)
     }
 
-    /// The number of what stands at a place of the program's frame: 0 or 1, a DINT, or milliseconds. There is none where the
+    /// The number of what is at a place of the program's frame: 0 or 1, a DINT, or milliseconds. There is none if the
     /// frame has no such place.
     pub fn number(&self, place: Place) -> Option<i64>
         ensures { (text : Text) (store : Contents) (location : Location)
@@ -193,7 +193,7 @@ impl<'a, S: Store> Machine<'a, S> {
         self.last
     }
 
-    /// How many steps a scan takes at most: the length of the program's longest path.
+    /// The number of steps a scan takes at most: the length of the program's longest path.
     pub fn bound(&self) -> u32
         ensures { IsProgramBound (text_of self.now) result }
     {

@@ -4,21 +4,21 @@ ghost use Rattle.wc_machine.specs.Seeing.{Keeps};
 use std::alloc::Global;
 use wc_model::{Code, Fault};
 
-/// A flat line that a scan executed, with what it wrote and the result behind it. Numbers are as a store keeps them: BOOL is 0
+/// A flat line that a scan executed, with what it wrote and the result after it. Numbers are as a store keeps them: BOOL is 0
 /// or 1, TIME milliseconds.
 #[derive(Clone, Copy)]
 pub struct SeenLine {
-    /// How many calls deep it was executed; 0 in the program itself.
+    /// At what depth of calls it was executed; 0 in the program itself.
     pub depth: u32,
-    /// The line of the text at which it stands; a part of a call stands at the call's.
+    /// The line of the text at which it is; a part of a call is at the call's.
     pub source: u32,
     /// The flat line.
     pub line: Code,
     /// The first place of its instance in the program's frame.
     pub base: usize,
-    /// The number that it wrote to the place that it names, where it did.
+    /// The number that it wrote to the place that it names, if it did.
     pub written: Option<i32>,
-    /// The current result behind it, where there is one.
+    /// The current result after it, if there is one.
     pub result: Option<i32>,
 }
 
@@ -56,7 +56,7 @@ impl Sight {
         }
     }
 
-    /// The lines, where none is lost; else `Memory`.
+    /// The lines, if none is lost; else `Memory`.
     pub(crate) fn into_lines(self) -> Result<Vec<SeenLine>, Fault>
         ensures lines { IfOk result
             (λ lines. (self.lost ≡ false) × (lines.items ≡ self.lines.items)) }

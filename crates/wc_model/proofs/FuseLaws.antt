@@ -1,4 +1,4 @@
--- What pieces of nothing come to.
+-- What chunks of nothing come to.
 use Rattle.std.proofs.Common.{◌≡◌, ℕ, zero, suc, [], refl}
 use Rattle.wc_model.specs.Run.Fuses.{repeated}
 

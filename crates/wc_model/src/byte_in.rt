@@ -7,16 +7,16 @@ use std::io;
 
 /// A reader that counts what it did. `read` is that of `std::io::Read`.
 pub trait ByteIn {
-    /// The bytes that reads will give from here on, where they are known.
+    /// The bytes that reads will give from here on, if they are known.
     ghost bytes_left: { Self → Option (List ℕ) } = { λ _. None };
 
-    /// How many calls of `read` failed, up to the greatest number of 64 bits.
+    /// The number of calls of `read` that failed, up to the greatest number of 64 bits.
     ghost failure_count: { Self → ℕ };
 
     /// The bytes given and the calls of `read`, up to the greatest number of 64 bits.
     ghost spent_count: { Self → ℕ };
 
-    /// Reads into the front of `buffer`, and answers how many bytes. 0 is the end, or no room.
+    /// Reads into the start of `buffer`, and returns the number of bytes. 0 is the end, or no space.
     fn read(&mut self, buffer: &mut [u8]) -> io::Result<usize>
         ensures bound { ReadsAtMost result buffer.new }
         // A failed call takes none.
@@ -25,7 +25,7 @@ pub trait ByteIn {
             ≡ failures_after_read (failure_count self.old) result }
         ensures spent { spent_count self.new ≡ spent_after_read (spent_count self.old) result };
 
-    /// How many calls of `read` failed. It stops at the greatest value.
+    /// The number of calls of `read` that failed. It stops at the greatest value.
     fn failures(&self) -> u64
         ensures { result ≡ failure_count self.now };
 

@@ -7,14 +7,14 @@ use std::io;
 
 /// A writer that counts what failed. `write` is that of `std::io::Write`.
 pub trait ByteOut {
-    /// The bytes that the writer took so far, where they are known.
+    /// The bytes that the writer took so far, if they are known.
     ghost bytes_taken: { Self → Option (List ℕ) } = { λ _. None };
 
-    /// How many calls of `write` failed, up to the greatest number of 64 bits.
+    /// The number of calls of `write` that failed, up to the greatest number of 64 bits.
     ghost failure_count: { Self → ℕ };
 
-    /// Takes a front of `piece`, and answers how many bytes. To take none of a piece that has some is
-    /// a failed call, as is an error.
+    /// Takes a prefix of `piece`, and returns the number of bytes. To take none of a chunk that has
+    /// some is a failed call, as is an error.
     fn write(&mut self, piece: &[u8]) -> io::Result<usize>
         ensures bound { WritesAtMost result piece.now }
         // A failed call takes none.
@@ -23,7 +23,7 @@ pub trait ByteOut {
         ensures failures { failure_count self.new
             ≡ failures_after_write (failure_count self.old) result piece.now };
 
-    /// How many calls of `write` failed. It stops at the greatest value.
+    /// The number of calls of `write` that failed. It stops at the greatest value.
     fn failures(&self) -> u64
         ensures { result ≡ failure_count self.now };
 }

@@ -14,9 +14,9 @@ pub enum Code {
         /// What is loaded.
         number: i32,
     },
-    /// LD, or LDN where negated, of a place.
+    /// LD, or LDN if negated, of a place.
     LoadPlace {
-        /// Whether what stands there is negated.
+        /// Whether what is there is negated.
         negated: bool,
         /// What is loaded.
         place: Place,
@@ -39,7 +39,7 @@ pub enum Code {
     ApplyPlace {
         /// The operator.
         operator: Operator,
-        /// Where the second operand stands.
+        /// Where the second operand is.
         place: Place,
     },
     /// NOT.
@@ -51,7 +51,7 @@ pub enum Code {
         /// What is loaded.
         number: i32,
     },
-    /// The same in the short form, with what stands at a place as the new result.
+    /// The same in the short form, with what is at a place as the new result.
     OpenPlace {
         /// What is loaded.
         place: Place,
@@ -65,7 +65,7 @@ pub enum Code {
     Jump {
         /// When it acts.
         condition: Condition,
-        /// How many flat lines it passes over.
+        /// The number of flat lines it passes over.
         skip: u32,
     },
     /// The end of the body.
@@ -73,21 +73,21 @@ pub enum Code {
         /// When it acts.
         condition: Condition,
     },
-    /// A call: its arguments and its block's body stand behind it.
+    /// A call: its arguments and its block's body follow it.
     Call {
         /// When it is made.
         condition: Condition,
-        /// How many flat lines are passed over where it is not made.
+        /// The number of flat lines passed over if it is not made.
         skip: u32,
     },
     /// A literal as an argument of the call that is being made.
     ArgumentNumber {
-        /// The input's place. It stands before the number, so that a line takes 8 bytes.
+        /// The input's place. It precedes the number, so that a line takes 8 bytes.
         target: Place,
         /// What is assigned.
         number: i32,
     },
-    /// What stands at a place as an argument of the call that is being made.
+    /// What is at a place as an argument of the call that is being made.
     ArgumentPlace {
         /// What is assigned.
         place: Place,

@@ -1,7 +1,7 @@
 ghost use Rattle.std.specs.Prelude.{◌≡◌};
 ghost use Rattle.wc_model.specs.Run.Devices.{device_inner, device_failures, device_spent};
 
-/// A reader or a writer of std that counts what failed and what was spent. Its bytes are known where
+/// A reader or a writer of std that counts what failed and what was spent. Its bytes are known if
 /// those of the inner one are.
 #[derive(Drop)]
 pub struct Device<D> {

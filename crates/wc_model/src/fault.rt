@@ -8,10 +8,10 @@ pub enum Fault {
     Refused {
         /// The rule's number, by the list of refusals.
         number: u16,
-        /// The line or row that breaks it, counted from 1; 0 where no line does.
+        /// The line or row that breaks it, counted from 1; 0 if no line does.
         place: u32,
     },
-    /// A growth was refused for want of memory.
+    /// An allocation was refused: out of memory.
     #[error("want of memory")]
     Memory,
 }

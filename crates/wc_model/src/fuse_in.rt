@@ -5,7 +5,7 @@ use crate::byte_in::ByteIn;
 use std::io;
 use std::io::Read;
 
-/// A reader for tests: it hands out a head, then a piece so many times, one in each read that has room for
+/// A reader for tests: it hands out a head, then a chunk n times, one in each read that has space for
 /// it, and then ends or fails at each call.
 #[derive(Drop)]
 pub struct FuseIn<'t> {
@@ -18,7 +18,7 @@ pub struct FuseIn<'t> {
 }
 
 impl<'t> FuseIn<'t> {
-    /// A reader of `head` and then `piece` so many `times`; where `fails`, each read behind them is an error,
+    /// A reader of `head` and then `piece`, `times` times; if `fails`, each read after them is an error,
     /// else they end there.
     pub fn new(head: &'t [u8], piece: &'t [u8], times: u32, fails: bool) -> Self
         ensures bytes { fuse_bytes result ≡ head.entry.now ++ repeated piece.entry.now times }
@@ -36,7 +36,7 @@ impl<'t> FuseIn<'t> {
         }
     }
 
-    /// Takes up the next piece where nothing is left of the one before.
+    /// Takes up the next chunk if nothing is left of the one before.
     fn take_up(&mut self)
         ensures bytes { fuse_bytes self.new ≡ fuse_bytes self.old }
         ensures counts { (self.new.failures ≡ self.old.failures)

@@ -2,7 +2,7 @@ ghost use Rattle.std.specs.Prelude.{◌≤◌, length};
 
 use std::alloc::Global;
 
-/// A writer for tests: it takes at most so many bytes in a call and so many in all, and then fails. It takes
+/// A writer for tests: it takes at most n bytes in a call and m in all, and then fails. It takes
 /// no memory once it is made.
 #[derive(Drop)]
 pub struct FuseOut {

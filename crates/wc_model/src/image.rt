@@ -18,6 +18,6 @@ pub struct Outputs {
     pub words: [i32; 4],
 }
 
-/// How many items a scan executed.
+/// The number of items a scan executed.
 #[derive(Clone, Copy, PartialEq, Eq)]
 pub struct Steps(pub u32);

@@ -1,4 +1,4 @@
-//! The limits of the profile. Each stands here alone; the definitions state them as numbers.
+//! The limits of the profile. Each is given here alone; the definitions state them as numbers.
 
 /// The greatest length of a program text, in bytes (107).
 pub const MOST_BYTES: usize = 65536;

@@ -1,6 +1,6 @@
 use crate::value::Value;
 
-/// A piece of the text, and the line of its token.
+/// A slice of the text, and the line of its token.
 #[derive(Clone, Copy)]
 pub struct Word<'a> {
     /// As it is spelled.
@@ -12,7 +12,7 @@ pub struct Word<'a> {
 /// What an instruction works on (IEC 61131-3:2003, 3.2.2).
 #[derive(Clone, Copy)]
 pub enum Operand<'a> {
-    /// A literal. A whole number is a `Dint`, also where it serves as a BOOL.
+    /// A literal. A whole number is a `Dint`, also if it serves as a BOOL.
     Literal(Value),
     /// A directly represented variable.
     Address(Word<'a>),

@@ -49,13 +49,13 @@ pub enum Condition {
     IfFalse,
 }
 
-/// Which way a value goes where a block is called (IEC 61131-3:2003, annex B.3.1,
+/// Which way a value goes when a block is called (IEC 61131-3:2003, annex B.3.1,
 /// il_param_assignment and il_param_out_assignment).
 #[derive(Clone, Copy, PartialEq, Eq)]
 pub enum Direction {
     /// `:=`, from an operand to an input, before the block's body.
     Into,
-    /// `=>`, from an output to a target, behind the block's body.
+    /// `=>`, from an output to a target, after the block's body.
     OutOf,
 }
 
@@ -66,8 +66,8 @@ pub enum Storing {
     Result,
     /// STN: its negation.
     Negation,
-    /// S: TRUE where the result is TRUE, else nothing.
+    /// S: TRUE if the result is TRUE, else nothing.
     Set,
-    /// R: FALSE where the result is TRUE, else nothing.
+    /// R: FALSE if the result is TRUE, else nothing.
     Reset,
 }

@@ -48,7 +48,7 @@ pub enum Section {
 /// A declaration: names of one type, with a value that they have at first.
 #[derive(Drop)]
 pub struct Decl<'a> {
-    /// The section in which it stands.
+    /// The section in which it is.
     pub section: Section,
     /// The names in text order.
     pub names: Vec<Word<'a>, Global>,
@@ -61,7 +61,7 @@ pub struct Decl<'a> {
 /// The value after `:=` in a declaration.
 #[derive(Clone, Copy)]
 pub struct Initial {
-    /// The literal. A whole number is a `Dint`, also where it serves as a BOOL.
+    /// The literal. A whole number is a `Dint`, also if it serves as a BOOL.
     pub value: Value,
     /// The line of its token.
     pub line: u32,

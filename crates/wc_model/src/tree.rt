@@ -16,7 +16,7 @@ pub struct Line<'a> {
 #[cycle(tree)]
 #[derive(Drop)]
 pub enum Instr<'a> {
-    /// LD, or LDN where negated.
+    /// LD, or LDN if negated.
     Load {
         /// Whether the operand is negated.
         negated: bool,

@@ -10,7 +10,7 @@ use thiserror::Error;
 #[error("write fault")]
 pub struct WriteFault;
 
-/// Has the writer take a front of a piece that has bytes, and answers how many.
+/// Has the writer take a prefix of a chunk that has bytes, and returns their number.
 fn write_some<W: ByteOut>(writer: &mut W, piece: &[u8]) -> Result<usize, WriteFault>
     requires { 0 < length piece.now }
     ensures some { IfOk result (λ n. (0 < n) × (n ≤ length piece.now)) }
@@ -28,8 +28,8 @@ fn write_some<W: ByteOut>(writer: &mut W, piece: &[u8]) -> Result<usize, WriteFa
     }
 }
 
-/// Has the writer take all of a text, in as many calls as it needs. `WriteFault` comes where a call failed; the writer has
-/// then taken a front of the text, not all of it, and is asked no further. It takes no memory.
+/// Has the writer take all of a text, in as many calls as it needs. `WriteFault` comes if a call failed; the writer has
+/// then taken a prefix of the text, not all of it, and is asked no further. It takes no memory.
 pub fn write_whole<W: ByteOut>(writer: &mut W, text: &[u8]) -> Result<(), WriteFault>
     ensures whole { IfOk result
         (λ done. Appends (W.bytes_taken writer.old) (W.bytes_taken writer.new) text.now) }

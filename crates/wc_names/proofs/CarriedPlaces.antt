@@ -25,13 +25,13 @@ use Rattle.wc_names.proofs.Positions.{position_on}
 use Rattle.wc_names.proofs.Lists.{found_within}
 use Rattle.wc_names.proofs.ScopeTables.{address_in_program, all_below, as_entry, directs, frame_path}
 use Rattle.wc_names.proofs.VariablePlaces.{front_item, later_item}
-use Rattle.wc_soundness.proofs.Tests.{same_direct-sound}
+use Rattle.wc_laws_soundness.proofs.Tests.{same_direct-sound}
 
 -- a program's frame, as a list in two parts
 program_is : (scope : Scope) → is_block scope.unit ≡ false → frame_of scope ≡ directs ++ map as_entry (unit_places scope.before scope.unit)
 program_is scope e = ap (λ b. if b then map (λ p. (Path p.0, p.1)) (unit_places scope.before scope.unit) else program_frame scope.before scope.unit) e
 
--- the directly represented variable of a number stands there, by a test of each number
+-- the directly represented variable of a number is there, by a test of each number
 stands_at : ℕ → Option DirectVariable → Bool
 stands_at n (Some v) = same_direct v (direct_at n)
 stands_at n None = false
@@ -53,7 +53,7 @@ one_kind KindBool = refl
 one_kind KindDint = refl
 one_kind KindTime = refl
 
--- what stands at an address's number
+-- what is at an address's number
 address_there : (scope : Scope) (n : ℕ) → is_block scope.unit ≡ false → n < 45 → slice_get (frame_of scope) n ≡ Some (Direct (direct_at n), zero_of (kind_of_direct (direct_at n)))
 address_there scope n program below =
     ap (λ frame. slice_get frame n) (program_is scope program)
@@ -70,7 +70,7 @@ address_kept scope old n program old_program below =
     address_in_program old n (Some v) old_program below refl ∙ sym (ap (λ b. if b then place_number (frame_of old) (Direct v) else None) same)
     ∙ sym (ap (option_and_then (number_if_kept_within old scope)) (address_there scope n program below))
 
--- the path with a number behind the addresses
+-- the path with a number after the addresses
 pub record PathAt (scope : Scope) (n : ℕ) : Type 0 where
   pub entry : List Name × Content
   pub there : slice_get (unit_places scope.before scope.unit) (n - first_place scope.unit) ≡ Some entry
@@ -99,7 +99,7 @@ path_kept scope old n at =
     sym (ap (λ o. if same_lead (lead_from at.entry.0 old.before old.unit) (lead_from at.entry.0 scope.before scope.unit) then o else None) (frame_path old at.entry.0))
     ∙ sym (ap (option_and_then (number_if_kept_within old scope)) at.framed)
 
--- each place of a program's frame stands at its own number
+-- each place of a program's frame is at its own number
 pub own_frame : (units : List UnitTable) (scope : Scope) → Stands units scope.before scope.unit → is_block scope.unit ≡ false → (n : ℕ) (entry : Location × Content) → slice_get (frame_of scope) n ≡ Some entry → place_number (frame_of scope) entry.0 ≡ Some n
 own_frame units scope h program n entry there = by (cases_lt n 45)
   where

@@ -5,7 +5,7 @@ use Rattle.wc_model.specs.declared.kind.SlotKind.{SlotKind}
 use Rattle.wc_model.specs.declared.kind.SlotKind.TheVariants as slots
 use Rattle.wc_model.specs.Language.Frames.{content_number, slot_kind_of}
 use Rattle.wc_built_in.specs.Fields.{zero_content}
-use Rattle.wc_soundness.specs.FirstNumbers.{AreFirst, IsFirst}
+use Rattle.wc_laws_soundness.specs.FirstNumbers.{AreFirst, IsFirst}
 
 -- each may hold 0
 pub zero_is_first : (kind : SlotKind) → IsFirst kind (pos 0)
@@ -35,7 +35,7 @@ pub first_added : (kinds more : List SlotKind) (numbers others : List ℤ) (kind
 first_added kinds more numbers others kind n e f first h =
     subst (λ ks. AreFirst ks others) (sym e) (subst (λ ns. AreFirst (kinds ++ kind ∷ []) ns) (sym f) (one_more kinds numbers kind n h first))
 
--- the slots of one frame behind those of another
+-- the slots of one frame after those of another
 joined : (kinds more : List SlotKind) (numbers others : List ℤ) → AreFirst kinds numbers → AreFirst more others → AreFirst (kinds ++ more) (numbers ++ others)
 joined [] more [] others h first = first
 joined [] more (m ∷ numbers) others h first = absurd h

@@ -33,7 +33,7 @@ use Rattle.wc_names.proofs.Places.{TypeCase, of_block, of_elementary, of_standar
 abbrev pub as_formal : Direction → Option Member → Option Member
 as_formal d o = elim o as (λ x. Option Member) [ Some m ↦ (if passes d m.section then Some m else None) | None ↦ None ]
 
--- no member is no input
+-- what is not a member is not an input
 pub no_member : (d : Direction) (before : List ProgramUnit) (type : VariableType) (o : Option Member) → None ≡ option_map member_seen o → None ≡ option_and_then (numbered_formal before type) (as_formal d o)
 no_member d before type None e = refl
 no_member d before type (Some m) e = cc
@@ -45,7 +45,7 @@ no_input d before type (Some m) seen e i =
     let not_in : passes d m.section ≡ false = sym (ap (λ (s : Seen). passes d s.section) same) ∙ i in
     sym (ap (λ b. option_and_then (numbered_formal before type) (if b then Some m else None)) not_in)
 
--- an instance is no numbered input
+-- an instance is not a numbered input
 pub no_kind : (d : Direction) (before : List ProgramUnit) (type : VariableType) (o : Option Member) (seen : Seen) → Some seen ≡ option_map member_seen o → passes d seen.section ≡ true → seen.kind ≡ None → None ≡ option_and_then (numbered_formal before type) (as_formal d o)
 no_kind d before type None seen e i k = cc
 no_kind d before type (Some m) seen e i k =

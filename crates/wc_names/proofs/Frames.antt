@@ -1,4 +1,4 @@
--- Where a path stands in a unit's frame.
+-- Where a path is in a unit's frame.
 use Rattle.std.proofs.Common.{◌≡◌, ℕ, suc, ◌+◌, ◌≤◌, Bool, true, false, ◌&&◌, List, [], ◌∷◌, Option, Some, None, cond, map, length, option_map, refl, sym, ap, subst, ◌∙◌, arith}
 use Rattle.std.proofs.lemmas.List.{length-map}
 use Rattle.std.proofs.lemmas.Slice.Eq.{bytes_eq-Decides}
@@ -36,7 +36,7 @@ or_none : (o : Option ℕ) → or_else o None ≡ o
 or_none None = refl
 or_none (Some n) = refl
 
--- where none has the name, the path leads nowhere
+-- if none has the name, the path leads nowhere
 pub nowhere : (before : List ProgramUnit) (first : ℕ) (vs : List Variable) (name : Name) (ns : List Name) → is_among (map (λ v. v.name) vs) name ≡ false → position_from (λ e. same_path e.0 (name ∷ ns)) first (places_of before vs) ≡ None
 nowhere before first [] name ns e = refl
 nowhere before first (v ∷ vs) name ns e =
@@ -55,12 +55,12 @@ end_least : (before : List ProgramUnit) (first : ℕ) (vs : List Variable) → f
 end_least before first [] = omega arith
 end_least before first (v ∷ vs) = let h = end_least before (first + places_of_type before v.type_name) vs in omega (arith, h)
 
--- a variable beside its row
+-- a variable with its row
 pub record Beside (before : List ProgramUnit) (v : Variable) (row : Row) : Type 0 where
   pub first : ℕ
   pub is : IsRow before first v row
 
--- where a variable has the name, the path leads into it
+-- if a variable has the name, the path leads into it
 pub data Leads (before : List ProgramUnit) (vs : List Variable) (end : ℕ) (name : Name) (ns : List Name) (found : Option Row) (at : Option ℕ) : Type 0 where
   nothing : found ≡ None → at ≡ None → is_among (map (λ v. v.name) vs) name ≡ false → find (λ v. same_name v.name name) vs ≡ None → Leads before vs end name ns found at
   into : (v : Variable) (row : Row) → found ≡ Some row → Beside before v row → v.name ≡ name → at ≡ option_map (λ n. row.first + n) (position_from (λ e. same_path e.0 ns) 0 (own_places before v)) → row.first + length (own_places before v) ≤ end → find (λ w. same_name w.name name) vs ≡ Some v → Leads before vs end name ns found at

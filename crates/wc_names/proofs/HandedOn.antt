@@ -1,4 +1,4 @@
--- What is so of a fault is so of it where it is handed on.
+-- What is so of a fault is so of it if it is propagated.
 use Rattle.std.proofs.Common.{◌≡◌, Result, Ok, Err, sym, subst}
 use Rattle.std.specs.Prelude.{OnOk}
 use Rattle.std.specs.Result.{IsErr, IsErrAnd}
@@ -8,12 +8,12 @@ pub handed_on : {X : Type 0} (holds : Result X Fault → Type 0) (fault : Fault)
 handed_on holds fault (Ok x) gives h = absurd gives.1
 handed_on holds fault (Err f) gives h = subst (λ x. holds (Err x)) (sym gives.1) h
 
--- what a call promises where it succeeds leads to what is wanted there
+-- what a call promises if it succeeds leads to what is wanted there
 pub on_ok : {X E P Q : Type 0} (r : Result X E) → (P → Q) → OnOk r P → OnOk r Q
 on_ok (Ok x) go h = go h
 on_ok (Err e) go h = tt
 
--- the same of two such promises
+-- likewise for two such promises
 pub both_ok : {X E P Q R : Type 0} (r : Result X E) → (P → Q → R) → OnOk r P → OnOk r Q → OnOk r R
 both_ok (Ok x) go h k = go h k
 both_ok (Err e) go h k = tt

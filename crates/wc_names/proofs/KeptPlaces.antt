@@ -1,4 +1,4 @@
--- Where a place that keeps its value stands in an old unit's frame, variable by variable.
+-- Where a place that keeps its value is in an old unit's frame, variable by variable.
 use Rattle.std.proofs.Common.{◌≡◌, ℕ, zero, suc, ◌+◌, ◌-◌, ◌<◌, Bool, true, false, cond, ◌||◌, List, [], ◌∷◌, map, length, Option, Some, None, option_map, refl, sym, ap, ◌∙◌, arith}
 use Rattle.std.proofs.lemmas.Option.{slice_get_within, slice_get-map}
 use Rattle.std.specs.List.{list_any, position_from}
@@ -24,14 +24,14 @@ use Rattle.wc_names.proofs.Lookups.{field_of_one, from_row, has_room, place_from
 use Rattle.wc_names.proofs.Places.{TypeCase, found_block, of_block, of_elementary, of_standard, stands_more, units_length}
 use Rattle.wc_names.proofs.Positions.{position_on}
 use Rattle.wc_names.proofs.VariablePlaces.{other_name}
-use Rattle.wc_soundness.proofs.Carrying.{at_once, is_field, one_block}
+use Rattle.wc_laws_soundness.proofs.Carrying.{at_once, is_field, one_block}
 
--- where a place of a variable of one type stands among those of a variable of another, where it keeps its value
+-- where a place of a variable of one type is among those of a variable of another, if it keeps its value
 abbrev pub kept_within : List ProgramUnit → Option VariableType → List ProgramUnit → Option VariableType → Option Initial → List Name → Option ℕ
 kept_within before type old_before old_type initial ns =
     if same_lead (lead_by (lead_from ns) old_before old_type ns) (lead_by (lead_from ns) before type ns) then position_from (λ e. same_path e.0 ns) 0 (variable_places (block_places old_before) old_type initial) else None
 
--- behind the first place of the old variable
+-- after the first place of the old variable
 pub kept_in : (before : List ProgramUnit) (u : ProgramUnit) (old_before : List ProgramUnit) (old : ProgramUnit) (name : Name) (ns : List Name) (v w : Variable) (first : ℕ) → variable_named u name ≡ Some v → variable_named old name ≡ Some w →
     place_from old_before old (name ∷ ns) ≡ option_map (λ n. first + n) (position_from (λ e. same_path e.0 ns) 0 (own_places old_before w)) →
     kept_from before u old_before old (name ∷ ns) ≡ option_map (λ n. first + n) (kept_within before (type_named before v.type_name) old_before (type_named old_before w.type_name) w.initial ns)
@@ -45,7 +45,7 @@ kept_in before u old_before old name ns v w first named old_named at =
     by true = at
     by false = refl
 
--- nowhere, where the old unit has no variable of the name
+-- nowhere, if the old unit has no variable of the name
 pub kept_nowhere : (before : List ProgramUnit) (u : ProgramUnit) (old_before : List ProgramUnit) (old : ProgramUnit) (names : List Name) → place_from old_before old names ≡ None → None ≡ kept_from before u old_before old names
 kept_nowhere before u old_before old names at = by (same_lead (lead_from names old_before old) (lead_from names before u))
   where
@@ -53,7 +53,7 @@ kept_nowhere before u old_before old names at = by (same_lead (lead_from names o
     by true = sym at
     by false = refl
 
--- what leads to no field is no field
+-- what leads to no field is not a field
 not_field : (lead : Option Lead) (block : StandardBlock) → ((b : StandardBlock) → lead ≡ Some (ToField b) → ⊥) → (same_lead lead (Some (ToField block)) ≡ false) × (same_lead (Some (ToField block)) lead ≡ false)
 not_field None block never = (refl, refl)
 not_field (Some (ToPlace kind)) block never = (refl, refl)
@@ -132,7 +132,7 @@ field_of block m inner e = by (slice_get (standard_fields block) m) refl (sym (s
     by None there e = absurd (cc)
     by (Some f) there e = let same : (f.0 ∷ [], f.1) ≡ inner = cc in record { field = f; there = there; names = ap (λ (p : List Name × Content). p.0) same }
 
--- where it stands in another standard block
+-- where it is in another standard block
 field_in : (block b : StandardBlock) (m : ℕ) (field : Name × Content) → slice_get (standard_fields block) m ≡ Some field →
     (if same_block b block then Some m else None) ≡ (if same_lead (field_lead b (field.0 ∷ [])) (field_lead block (field.0 ∷ [])) then position_from (λ (e : List Name × Content). same_path e.0 (field.0 ∷ [])) 0 (map (λ f. (f.0 ∷ [], f.1)) (standard_fields b)) else None)
 field_in block b m field there =
@@ -213,7 +213,7 @@ block_kept units old_units before old_before type old_type initial old_initial n
     ∙ ap (λ l. if same_lead (lead_by (lead_from ns) old_before old_type ns) l then position_from (λ e. same_path e.0 ns) 0 (unit_places o.earlier o.unit) else None) (sym (b.lead ns))
     ∙ ap (λ places. if same_lead (lead_by (lead_from ns) old_before old_type ns) (lead_by (lead_from ns) before type ns) then position_from (λ e. same_path e.0 ns) 0 places else None) (sym o.places)
 
--- and in what is no block of the old text
+-- and in what is not a block of the old text
 pub unlike_block : (units : List UnitTable) (before old_before : List ProgramUnit) (type old_type : Option VariableType) (initial old_initial : Option Initial) (number : ℕ) (declared : DeclaredType) (b : InBlock units before type initial number) → TypeCase old_before old_type declared → ((n : ℕ) → declared ≡ numbered.Block n → ⊥) → (ns : List Name) → None ≡ kept_within before type old_before old_type old_initial ns
 unlike_block units before old_before type old_type initial old_initial number declared b old no_block ns =
     by old ns ∙ ap (λ l. if same_lead (lead_by (lead_from ns) old_before old_type ns) l then position_from (λ e. same_path e.0 ns) 0 (variable_places (block_places old_before) old_type old_initial) else None) (sym (b.lead ns))
@@ -242,7 +242,7 @@ unlike_block units before old_before type old_type initial old_initial number de
         ∙ ap (λ x. if same_lead (lead_by (lead_from ns) old_before x ns) (lead_from ns b.earlier b.unit) then position_from (λ e. same_path e.0 ns) 0 (variable_places (block_places old_before) x old_initial) else None) (sym t)
     by (of_block n u us t f d) ns = absurd (no_block (length us) d)
 
--- there is room for it
+-- there is space for it
 pub kept_room : (before : List ProgramUnit) (type : Option VariableType) (old_before : List ProgramUnit) (w : Variable) (ns : List Name) (first : ℕ) → ((n : ℕ) → position_from (λ e. same_path e.0 ns) 0 (own_places old_before w) ≡ Some n → first + n < 65536) →
     (n : ℕ) → kept_within before type old_before (type_named old_before w.type_name) w.initial ns ≡ Some n → first + n < 65536
 kept_room before type old_before w ns first room n e = by (same_lead (lead_by (lead_from ns) old_before (type_named old_before w.type_name) ns) (lead_by (lead_from ns) before type ns)) e

@@ -3,13 +3,13 @@ use Rattle.std.proofs.Common.{◌≡◌, ℕ, zero, suc, ◌+◌, ◌<◌, ◌�
 use Rattle.std.proofs.lemmas.Option.{slice_get_read, slice_get_past}
 use Rattle.std.specs.Prelude.{slice_get}
 
--- what stands in a list stands there with more behind it
+-- what is in a list is there with more after it
 pub get_more : {X : Type 0} (xs ys : List X) (k : ℕ) (x : X) → slice_get xs k ≡ Some x → slice_get (xs ++ ys) k ≡ Some x
 get_more [] ys k x e = cc
 get_more (y ∷ xs) ys zero x e = e
 get_more (y ∷ xs) ys (suc k) x e = get_more xs ys k x e
 
--- the item behind a list
+-- the item after a list
 pub get_last : {X : Type 0} (xs : List X) (x : X) → slice_get (xs ++ x ∷ []) (length xs) ≡ Some x
 get_last [] x = refl
 get_last (y ∷ xs) x = get_last xs x
@@ -25,7 +25,7 @@ from_index_or items i x below = let next : i + 1 ≡ suc i = add-one i in drop-c
 pub got_some : {X : Type 0} (xs : List X) (i : ℕ) (x : X) → i < length xs → x ≡ get_or xs i x → slice_get xs i ≡ Some x
 got_some xs i x below is = slice_get_read xs (length xs) i x refl below is
 
--- nothing is found where something is
+-- nothing is found if something is
 pub not_past : {X : Type 0} (xs ys : List X) (i : ℕ) (x : X) → xs ≡ ys → slice_get ys i ≡ Some x → length xs ≤ i → ⊥
 not_past xs ys i x same e past = let n : None ≡ Some x = sym (slice_get_past xs i past) ∙ ap (λ zs. slice_get zs i) same ∙ e in cc
 
@@ -39,7 +39,7 @@ found_within [] i below = absurd (omega (arith, below))
 found_within (x ∷ xs) zero below = (x, refl)
 found_within (x ∷ xs) (suc i) below = found_within xs i (omega (arith, below))
 
--- what stands in a list with one more item is one of the others, or that
+-- what is in a list with one more item is one of the others, or that
 pub data LastOr {X : Type 0} (xs : List X) (more : X) (i : ℕ) (x : X) : Type 0 where
   among : slice_get xs i ≡ Some x → LastOr xs more i x
   last : i ≡ length xs → x ≡ more → LastOr xs more i x
@@ -54,7 +54,7 @@ last_or (y ∷ xs) more (suc i) x e = on (last_or xs more i x e)
     on (among there) = among there
     on (last at is) = last (let n : suc i ≡ length (y ∷ xs) = omega (arith, at) in n) is
 
--- nothing stands in an empty list
+-- nothing is in an empty list
 pub nothing : {X : Type 0} (xs : List X) (x : X) (i : ℕ) → xs ≡ [] → slice_get xs i ≡ Some x → ⊥
 nothing xs x i none there = let e : slice_get [] i ≡ Some x = ap (λ ys. slice_get ys i) (sym none) ∙ there in by i e
   where

@@ -85,7 +85,7 @@ from_row units before u h name ns row e = by (leads_from units before u h name n
         let same : r ≡ row = cc in
         subst (λ x. Into before u name x ns (place_from before u (name ∷ ns)) h.table.size) same (record { v = v; declared = b.is.declared; at_is = a; room = l; named = q; spelled = n; section = b.is.section; stands = ap (λ x. stands_in x r.declared) b.is.section ∙ b.is.stands })
 
--- there is room for what is found within a variable
+-- there is space for what is found within a variable
 pub has_room : (first : ℕ) (own : List (List Name × Content)) (ns : List Name) (size : ℕ) → first + length own ≤ size → size ≤ 4096 → (n : ℕ) → position_from (λ e. same_path e.0 ns) 0 own ≡ Some n → first + n < 65536
 has_room first own ns size room small n e = let l = position_within (λ e. same_path e.0 ns) 0 own n e in omega (arith, l, room, small)
 

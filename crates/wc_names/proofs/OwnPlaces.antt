@@ -1,4 +1,4 @@
--- No two places of a frame have one path: each stands at its own number.
+-- No two places of a frame have one path: each is at its own number.
 use Rattle.std.proofs.Common.{◌≡◌, ℕ, zero, suc, ◌+◌, ◌-◌, ◌<◌, ◌≤◌, ◌⊎◌, inl, inr, Bool, true, false, cond, List, [], ◌∷◌, map, length, Option, Some, None, option_map, refl, sym, ap, subst, ◌∙◌, arith}
 use Rattle.std.proofs.lemmas.Bool.{cases_lt}
 use Rattle.std.proofs.lemmas.Slice.Eq.{bytes_eq-Decides}
@@ -17,7 +17,7 @@ use Rattle.wc_names.proofs.KeptPlaces.{field_of, fields_differ, own_number}
 use Rattle.wc_names.proofs.Lookups.{field_of_one, no_name}
 use Rattle.wc_names.proofs.Positions.{or_else, position_append, position_on}
 use Rattle.wc_names.proofs.VariablePlaces.{front_item, item_below, later_item}
-use Rattle.wc_soundness.proofs.Tests.{same_name-refl}
+use Rattle.wc_laws_soundness.proofs.Tests.{same_name-refl}
 
 -- each entry is the first with its path
 abbrev pub HaveOwnNumbers : List (List Name × Content) → Type 0
@@ -81,7 +81,7 @@ variables_own before (v ∷ vs) different own k entry e = by (cases_lt k (length
         let found = rest (k - size) entry there in
         behind (k - size) split found (named_there before vs entry.0 (k - size) found)
 
--- the places of a variable, where those of instances of blocks have their own numbers
+-- the places of a variable, if those of instances of blocks have their own numbers
 type_own : (places : Name → List (List Name × Content)) (type : Option VariableType) (initial : Option Initial) → ((name : Name) → HaveOwnNumbers (places name)) → HaveOwnNumbers (variable_places places type initial)
 type_own places None initial own zero entry e = cc
 type_own places None initial own (suc k) entry e = cc

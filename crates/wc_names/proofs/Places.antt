@@ -1,4 +1,4 @@
--- How many places variables have.
+-- The number of places variables have.
 use Rattle.std.proofs.Common.{◌≡◌, ℕ, ◌+◌, Bool, true, false, List, [], ◌∷◌, ◌++◌, length, Option, Some, None, option_map, refl, sym, ap, subst, ◌∙◌, arith, length-append}
 use Rattle.std.proofs.lemmas.List.{length-map}
 use Rattle.std.specs.Prelude.{option_and_then, if◌then◌else◌, slice_get}
@@ -18,14 +18,14 @@ use Rattle.wc_names.specs.declared.declared_type.DeclaredType.TheVariants as num
 use Rattle.wc_names.specs.declared.unit_table.UnitTable.{UnitTable}
 use Rattle.wc_names.proofs.Lists.{get_more, get_last}
 
--- how many places a variable has does not depend on its first value
+-- the number of places a variable has does not depend on its first value
 pub same_count : (places : Name → List (List Name × Content)) (type : Option VariableType) (initial : Option Initial) → length (variable_places places type initial) ≡ length (variable_places places type None)
 same_count places None initial = refl
 same_count places (Some (Elementary kind)) initial = refl
 same_count places (Some (Standard block)) initial = refl
 same_count places (Some (Block name)) initial = refl
 
--- the places of variables end behind as many as they have
+-- the places of variables end after as many as they have
 pub places_end : (before : List ProgramUnit) (first : ℕ) (vs : List Variable) →
     first + length (flat_map (λ v. below v.name (variable_places (block_places before) (type_named before v.type_name) v.initial)) vs) ≡ end_of before first vs
 places_end before first [] = omega arith
@@ -44,7 +44,7 @@ pub units_length : (before : List ProgramUnit) (tables : List UnitTable) → Are
 units_length [] tables h = ap length h
 units_length (unit ∷ before) tables h = ap length h.2 ∙ (let e : length (h.0 ++ h.1 ∷ []) ≡ length h.0 + length (h.1 ∷ []) = length-append h.0 (h.1 ∷ []) in let f : length h.0 ≡ length before = units_length before h.0 h.4 in omega (arith, e, f))
 
--- the table of the unit in front
+-- the table of the first unit
 pub front_table : (unit : ProgramUnit) (before : List ProgramUnit) (tables : List UnitTable) (h : AreUnits (unit ∷ before) tables) → slice_get tables (length before) ≡ Some h.1
 front_table unit before tables h =
     ap (λ ts. slice_get ts (length before)) h.2 ∙ ap (λ n. slice_get (h.0 ++ h.1 ∷ []) n) (sym (units_length before h.0 h.4)) ∙ get_last h.0 h.1
@@ -155,7 +155,7 @@ type_case before (Some (Elementary kind)) declared e = of_elementary kind refl (
 type_case before (Some (Standard b)) declared e = of_standard b refl (cc)
 type_case before (Some (Block name)) declared e = block_case before declared name (block_named before name) refl e
 
--- how many places a type has
+-- the number of places a type has
 standard_width : (b : StandardBlock) (places : Name → List (List Name × Content)) → length (variable_places places (Some (Standard b)) None) ≡ length (standard_fields b)
 standard_width b places = length-map (standard_fields b) (λ f. (f.0 ∷ [], f.1))
 
@@ -198,7 +198,7 @@ block_type_width before tables name n h e = by (type_case before (type_named bef
           block_size before tables m u us found ∙ ap (λ x. length (variable_places (block_places before) x None)) (sym t),
         )
 
--- a type of the text, where the name is no other type
+-- a type of the text, if the name is no other type
 numbered_block : (before : List ProgramUnit) (name : Name) (found : Option (ProgramUnit × List ProgramUnit)) → block_named before name ≡ found →
     option_and_then (numbered_type before) (elim found as (λ x. Option VariableType) [ Some f ↦ Some (Block name) | None ↦ None ]) ≡ option_map (λ f. numbered.Block (length f.1)) found
 numbered_block before name None e = refl

@@ -27,7 +27,7 @@ plain_here scope first v (Some (Elementary kind)) h = λ i. record { name = v.na
 plain_here scope first v (Some (Standard block)) h = refl
 plain_here scope first v (Some (Block name)) h = refl
 
--- a name among the places of a variable and those behind it
+-- a name among the places of a variable and those after it
 cut : (before : List ProgramUnit) (first : ℕ) (v : Variable) (vs : List Variable) (name : Name) (same : Bool) → same_name v.name name ≡ same →
     position_from (λ e. same_path e.0 (name ∷ [])) first (places_of before (v ∷ vs))
     ≡ or_else (cond same (position_from (λ e. same_path e.0 []) first (own_places before v)) None) (position_from (λ e. same_path e.0 (name ∷ [])) (first + places_of_type before v.type_name) (places_of before vs))
@@ -43,7 +43,7 @@ to_first before first v vs kind t =
     cut before first v vs v.name true ((bytes_eq-Decides v.name v.name).1 refl)
     ∙ ap (λ x. or_else (position_from (λ e. same_path e.0 []) first (variable_places (block_places before) x v.initial)) (position_from (λ e. same_path e.0 (v.name ∷ [])) (first + places_of_type before v.type_name) (places_of before vs))) t
 
--- no name of those behind is that of a variable
+-- no name of those after is that of a variable
 another : (names : List Name) (own name : Name) → is_among names own ≡ false → is_among names name ≡ true → same_name own name ≡ false
 another names own name d a = by (same_name own name) refl
   where

@@ -1,4 +1,4 @@
--- Where the first item that passes a test stands.
+-- Where the first item that passes a test is.
 use Rattle.std.proofs.Common.{◌≡◌, ℕ, ◌+◌, ◌<◌, Bool, true, false, List, [], ◌∷◌, ◌++◌, Option, Some, None, cond, length, option_map, refl, ap, ◌∙◌, arith}
 use Rattle.std.specs.List.{position_from}
 
@@ -39,7 +39,7 @@ pub position_alike : {X : Type 0} (p q : X → Bool) (i : ℕ) (xs : List X) →
 position_alike p q i [] same = refl
 position_alike p q i (x ∷ xs) same = λ k. cond (same x k) (Some i) (position_alike p q (i + 1) xs same k)
 
--- what is found stands within the list
+-- what is found is within the list
 pub position_within : {X : Type 0} (p : X → Bool) (i : ℕ) (xs : List X) (n : ℕ) → position_from p i xs ≡ Some n → n < i + length xs
 position_within p i [] n e = cc
 position_within p i (x ∷ xs) n e = step (p x) (position_from p (i + 1) xs) e (position_within p (i + 1) xs n)
@@ -48,7 +48,7 @@ position_within p i (x ∷ xs) n e = step (p x) (position_from p (i + 1) xs) e (
     step true more q h = let m : i ≡ n = cc in omega (arith, m)
     step false more q h = let l = h q in omega (arith, l)
 
--- a number behind others, where there is room
+-- a number after others, if there is space
 pub behind_is : (first : ℕ) (inner result at : Option ℕ) → ((n : ℕ) → inner ≡ Some n → first + n < 65536 → result ≡ Some (first + n)) → (inner ≡ None → result ≡ None) → inner ≡ at → ((n : ℕ) → at ≡ Some n → first + n < 65536) →
     result ≡ option_map (λ n. first + n) at
 behind_is first inner result None some none e room = none e

@@ -21,7 +21,7 @@ use Rattle.wc_names.proofs.Lookups.{place_from}
 use Rattle.wc_names.proofs.Places.{places_end, stands_front, stands_more}
 use Rattle.wc_names.proofs.Positions.{or_else, position_append, position_none}
 
--- the tables of the units in front
+-- the tables of the first units
 peel : (xs : Text) (b : List ProgramUnit) (ts : List UnitTable) → AreUnits (onto xs b) ts → (others : List UnitTable) × AreUnits b others × ((k : ℕ) (t : UnitTable) → slice_get others k ≡ Some t → slice_get ts k ≡ Some t)
 peel [] b ts h = (ts, h, λ k t e. e)
 peel (x ∷ xs) b ts h =
@@ -29,7 +29,7 @@ peel (x ∷ xs) b ts h =
     let g = r.1 in
     (g.0, g.4, λ k t e. r.2 k t (ap (λ zs. slice_get zs k) g.2 ∙ get_more g.0 (g.1 ∷ []) k t e))
 
--- counted from 0, a number is what is behind
+-- counted from 0, a number is the count of what follows
 pub from_0 : {n m : ℕ} → 0 + n ≡ m → n ≡ m
 from_0 {n} {m} e = omega (arith, e)
 

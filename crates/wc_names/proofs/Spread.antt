@@ -23,7 +23,7 @@ use Rattle.wc_names.proofs.Frames.{own_places, places_of}
 use Rattle.wc_names.proofs.Lists.{LastOr, among, found_within, from_index_or, last, last_or, nothing}
 use Rattle.wc_names.proofs.Places.{TypeCase, found_block, of_block, of_elementary, of_standard, stands_more, type_case, units_length}
 
--- a list that goes on is the whole; a piece of what follows is added
+-- a list that goes on is the whole; a part of what follows is added
 pub piece_added : {X : Type 0} (old new own rest whole : List X) → old ++ (own ++ rest) ≡ whole → new ≡ old ++ own → new ++ rest ≡ whole
 piece_added old new own rest whole on e = ap (λ xs. xs ++ rest) e ∙ (append_assoc old own rest ∙ on)
 
@@ -38,14 +38,14 @@ contents_next before v vs =
     map-append (λ (p : List Name × Content). p.1) (below v.name (own_places before v)) (places_of before vs)
     ∙ ap (λ cs. cs ++ contents_of (places_of before vs)) (contents_below v.name (own_places before v))
 
--- the same of what is told of contents
+-- likewise for what is said of contents
 pub told_next : {X : Type 0} (f : Content → X) (before : List ProgramUnit) (v : Variable) (vs : List Variable) (own : List Content) → contents_of (own_places before v) ≡ own →
     map f (contents_of (places_of before (v ∷ vs))) ≡ map f own ++ map f (contents_of (places_of before vs))
 told_next f before v vs own e =
     ap (map f) (contents_next before v vs)
     ∙ (map-append f (contents_of (own_places before v)) (contents_of (places_of before vs)) ∙ ap (λ cs. map f cs ++ map f (contents_of (places_of before vs))) e)
 
--- behind a frame that is begun stand the slots of the variables left, whose rows these are
+-- after a frame that is started come the slots of the variables left, whose rows these are
 pub record SpreadsOn (before : List ProgramUnit) (u : ProgramUnit) (old now : Frame) (rows : List Row) : Type 0 where
   pub first : ℕ
   pub left : List Variable
@@ -198,7 +198,7 @@ none_finished units frames none = record {
 pub none_first : (frames : List Frame) → frames ≡ [] → EachHoldsFirst frames
 none_first frames none = λ k frame there. absurd (nothing frames frame k none there)
 
--- the whole frame, from one that is begun
+-- the whole frame, from one that is started
 pub frame_spread : (scope : Scope) (begun new : Frame) → IsBegun (is_block scope.unit) begun → IsGrown begun new (contents_of (unit_places scope.before scope.unit)) →
     (new.kinds.items ≡ slot_kinds (frame_of scope)) × (new.initials.items ≡ first_numbers (frame_of scope))
 frame_spread scope begun new begins grown = by (is_block scope.unit) begins

@@ -28,7 +28,7 @@ rows_least before first (v ∷ vs) (r ∷ rows) h (suc k) d l =
     let least = rows_least before (first + places_of_type before v.type_name) vs rows h.1 k d (omega (arith, l)) in
     omega (arith, least)
 
--- and stand in the order of their places
+-- and are in the order of their places
 pub rows_rise : (before : List ProgramUnit) (first : ℕ) (vs : List Variable) (rows : List Row) → AreRows before first vs rows → IsNonDecreasingBy (λ (row : Row). row.first) rows
 rows_rise before first [] [] h i j d le l = absurd (omega (arith, l))
 rows_rise before first [] (r ∷ rows) h i j d le l = absurd h
@@ -41,7 +41,7 @@ rows_rise before first (v ∷ vs) (r ∷ rows) h zero (suc j) d le l =
     omega (arith, least, b)
 rows_rise before first (v ∷ vs) (r ∷ rows) h (suc i) (suc j) d le l = rows_rise before (first + places_of_type before v.type_name) vs rows h.1 i j d (omega (arith, le)) (omega (arith, l))
 
--- an item of the front of a list, and one behind it
+-- an item of the prefix of a list, and one after it
 pub front_item : {X : Type 0} (xs ys : List X) (k : ℕ) → k < length xs → slice_get (xs ++ ys) k ≡ slice_get xs k
 front_item [] ys k l = absurd (omega (arith, l))
 front_item (x ∷ xs) ys zero l = refl
@@ -58,7 +58,7 @@ item_below name [] (suc k) = refl
 item_below name (p ∷ places) zero = refl
 item_below name (p ∷ places) (suc k) = item_below name places k
 
--- a name that is not among others is none of them
+-- a name that is not among others is not one of them
 pub other_name : (names : List Name) (name other : Name) (k : ℕ) → is_among names name ≡ false → slice_get names k ≡ Some other → same_name name other ≡ false
 other_name [] name other zero none there = cc
 other_name [] name other (suc k) none there = cc
@@ -72,7 +72,7 @@ other_name (n ∷ names) name other k none there = by k there (both (same_name n
     by zero there parts onward = let same : n ≡ other = cc in ap (same_name name) (sym same) ∙ parts.0
     by (suc k) there parts onward = onward k parts.1 there
 
--- the variable with this number among others, beside its row, and the entry at the number of a place
+-- the variable with this number among others, with its row, and the entry at the number of a place
 pub record Located (before : List ProgramUnit) (first : ℕ) (vs : List Variable) (rows : List Row) (number : ℕ) (entry : List Name × Content) (k : ℕ) : Type 0 where
   pub v : Variable
   pub row : Row
@@ -156,7 +156,7 @@ located before first (v ∷ vs) (row ∷ rows) number entry h different least th
       entry_is = r.entry_is;
     }
 
--- where no variable begins at the number or before, no place has it
+-- if no variable begins at the number or before, no place has it
 pub none_begun : (before : List ProgramUnit) (first : ℕ) (vs : List Variable) (rows : List Row) (number : ℕ) (entry : List Name × Content) → AreRows before first vs rows → first ≤ number → slice_get (places_of before vs) (number - first) ≡ Some entry → ((j : ℕ) (d : Row) → j < length rows → number < (slice_index_or rows j d).first) → ⊥
 none_begun before first [] [] number entry h least there behind = let l = slice_get_within (places_of before []) (number - first) entry there in omega (arith, l)
 none_begun before first [] (r ∷ rows) number entry h least there behind = absurd h

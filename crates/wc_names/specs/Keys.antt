@@ -33,7 +33,7 @@ mix number word = rotate_left w64 ((bit_xor number word * 0x9e3779b97f4a7c15) % 
 abbrev pub word_of : List ℕ → ℕ
 word_of bytes = from_le_bytes w64 (map caseless bytes)
 
--- the number of a name behind another number: eight bytes are one word, and each of the last ones is one
+-- the number of a name after another number: eight bytes are one word, and each of the last ones is one
 abbrev pub number_behind : ℕ → Name → ℕ
 number_behind number (a ∷ b ∷ c ∷ d ∷ e ∷ f ∷ g ∷ h ∷ name) = number_behind (mix number (word_of (a ∷ b ∷ c ∷ d ∷ e ∷ f ∷ g ∷ h ∷ []))) name
 number_behind number name = fold (λ n byte. mix n (caseless byte)) number name

@@ -1,4 +1,4 @@
--- Units and types by their numbers, and what names stand for by numbers. (No rule of the language.)
+-- Units and types by their numbers, and what names represent by numbers. (No rule of the language.)
 use Rattle.std.specs.Prelude.{◌≡◌, ℕ, Bool, true, ◌+◌, List, [], ◌∷◌, Option, Some, None, option_map, option_and_then, slice_get, length}
 use Rattle.std.specs.List.{position_from}
 use Rattle.wc_model.specs.Language.DeclarationRules.{is_own}
@@ -20,13 +20,13 @@ use Rattle.wc_names.specs.declared.formal.Formal.{Formal}
 abbrev pub IsUnit : Text → ℕ → Scope → Type 0
 IsUnit text unit scope = slice_get (scopes_of text) unit ≡ Some scope
 
--- a type by the number of its block: how many units stand before the block
+-- a type by the number of its block: the number of units before the block
 abbrev pub numbered_type : List ProgramUnit → VariableType → Option DeclaredType
 numbered_type before (Elementary kind) = Some (numbered.Elementary kind)
 numbered_type before (Standard block) = Some (numbered.Standard block)
 numbered_type before (Block name) = option_map (λ found. numbered.Block (length found.1)) (block_named before name)
 
--- a variable of the type may stand in the section
+-- a variable of the type may be in the section
 abbrev pub stands_in : Section → DeclaredType → Bool
 stands_in section (numbered.Elementary kind) = true
 stands_in section (numbered.Standard block) = is_own section
@@ -49,7 +49,7 @@ numbered_entity scope e = record {
   place = option_map (λ n. record { 0 = n }) (option_and_then (place_number (frame_of scope)) e.place);
 }
 
--- the places of a variable of this type stand in the unit's frame from this number on, in the order of the type's own
+-- the places of a variable of this type are in the unit's frame from this number on, in the order of the type's own
 abbrev pub StandsFrom : Scope → Name → VariableType → ℕ → Type 0
 StandsFrom scope name type first =
     (names : List Name) → place_number (frame_of scope) (Path (name ∷ names)) ≡ option_map (λ n. first + n) (number_within scope.before type names)

@@ -1,11 +1,11 @@
--- The slots of a frame, piece by piece. (No rule of the language.)
+-- The slots of a frame, part by part. (No rule of the language.)
 use Rattle.std.specs.Prelude.{◌≡◌, ℕ, Bool, true, false, List, [], ◌++◌, length, map, Some, slice_get}
 use Rattle.wc_model.specs.Language.DirectVariables.{direct_variables, kind_of_direct}
 use Rattle.wc_model.specs.Language.Frames.{content_number, slot_kind_of}
 use Rattle.wc_model.specs.Language.Names.{Name}
 use Rattle.wc_model.specs.Language.Store.{Content, unit_places, zero_of}
 use Rattle.wc_model.specs.Language.Tree.{ProgramUnit}
-use Rattle.wc_soundness.specs.FirstNumbers.{AreFirst}
+use Rattle.wc_laws_soundness.specs.FirstNumbers.{AreFirst}
 use Rattle.wc_names.specs.StandsFor.{Stands}
 use Rattle.wc_names.specs.declared.frame.Frame.{Frame}
 use Rattle.wc_names.specs.declared.unit_table.UnitTable.{UnitTable}
@@ -32,7 +32,7 @@ pub record IsBegun (is_block : Bool) (frame : Frame) : Type 0 where
   pub kinds : frame.kinds.items ≡ map slot_kind_of (begun_contents is_block)
   pub initials : frame.initials.items ≡ map content_number (begun_contents is_block)
 
--- the slots of an instance of each of the first so many units, in text order
+-- the slots of an instance of each of the first n units, in text order
 pub record AreFinished (units : List UnitTable) (count : ℕ) (frames : List Frame) : Type 0 where
   pub counted : length frames ≡ count
   pub kinds : (before : List ProgramUnit) (u : ProgramUnit) (frame : Frame) → Stands units before u → slice_get frames (length before) ≡ Some frame → frame.kinds.items ≡ map slot_kind_of (contents_of (unit_places before u))

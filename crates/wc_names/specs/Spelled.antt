@@ -1,5 +1,5 @@
--- The names of plain variables as they are spelled, told over the code's own tree: the view of a text folds letter case.
--- (No rule of the language.)
+-- The names of plain variables as they are spelled, defined over the code's own tree: the view of a text folds letter
+-- case. (No rule of the language.)
 use Rattle.std.specs.Prelude.{◌≡◌, ℕ, Bool, true, false, List, [], map, is_some, if◌then◌else◌}
 use Rattle.std.specs.List.{flat_map}
 use Rattle.wc_model.specs.Language.Declarations.{elementary_types, named_in}
@@ -24,7 +24,7 @@ is_elementary (Elementary kind) = true
 is_elementary (Standard block) = false
 is_elementary (Block number) = false
 
--- words as they are spelled, where they are names of plain variables
+-- words as they are spelled, if they are names of plain variables
 abbrev pub spelled_where : Bool → List Word → List (List ℕ)
 spelled_where plain words = if plain then map (λ word. word.text.now) words else []
 

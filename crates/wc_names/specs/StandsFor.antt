@@ -1,4 +1,4 @@
--- The text for which tables stand.
+-- The text that tables represent.
 use Rattle.std.specs.Prelude.{◌≡◌, ℕ, ◌+◌, ◌≤◌, true, false, List, [], ◌∷◌, ◌++◌, map, length, Option, Some, None, if◌then◌else◌, option_map, option_and_then, slice_get}
 use Rattle.wc_model.specs.Language.DeclarationRules.{is_among, places_of_type, taken_at_first}
 use Rattle.wc_model.specs.Language.Declarations.{Variable, VariableType, Elementary, Standard, Block, is_block, same_name, type_named, variables_of}
@@ -12,7 +12,7 @@ use Rattle.wc_names.specs.declared.kept.Tables.{Tables}
 use Rattle.wc_names.specs.declared.unit_table.UnitTable.{UnitTable}
 use Rattle.wc_names.specs.declared.variable.Variable.{Variable as Row}
 
--- the type of that name behind these units, by its number
+-- the type of that name after these units, by its number
 abbrev pub type_at : List ProgramUnit → Name → Option DeclaredType
 type_at before name = option_and_then (numbered_type before) (type_named before name)
 
@@ -47,7 +47,7 @@ abbrev pub plain_from : List ProgramUnit → ℕ → List Variable → List Plai
 plain_from before first [] = []
 plain_from before first (v ∷ vs) = plain_at first v (type_named before v.type_name) ++ plain_from before (first + places_of_type before v.type_name) vs
 
--- no name stands twice
+-- no name occurs twice
 abbrev pub AreDifferent : List Name → Type 0
 AreDifferent [] = Unit {0}
 AreDifferent (name ∷ names) = (is_among names name ≡ false) × AreDifferent names
@@ -56,7 +56,7 @@ AreDifferent (name ∷ names) = (is_among names name ≡ false) × AreDifferent 
 abbrev pub first_place : ProgramUnit → ℕ
 first_place unit = (taken_at_first unit).places
 
--- where the places of the first variable of that name begin, where those of all variables begin with this number
+-- where the places of the first variable of that name begin, if those of all variables begin with this number
 abbrev pub first_from : List ProgramUnit → ℕ → List Variable → Name → Option ℕ
 first_from before first [] name = None
 first_from before first (v ∷ vs) name = if same_name v.name name then Some first else first_from before (first + places_of_type before v.type_name) vs name
@@ -64,7 +64,7 @@ first_from before first (v ∷ vs) name = if same_name v.name name then Some fir
 abbrev pub first_number : Scope → Name → Option ℕ
 first_number scope name = first_from scope.before (first_place scope.unit) (variables_of scope.unit) name
 
--- the table of a unit behind these
+-- the table of a unit after these
 pub record IsTableOf (before : List ProgramUnit) (unit : ProgramUnit) (table : UnitTable) : Type 0 where
   pub is_block : table.is_block ≡ is_block unit
   pub names : table.names ≡ map (λ v. v.name) (variables_of unit)
@@ -88,7 +88,7 @@ pub record Stands (tables : List UnitTable) (before : List ProgramUnit) (unit : 
   pub earlier : AreUnits before others
   pub front : (k : ℕ) (t : UnitTable) → slice_get others k ≡ Some t → slice_get tables k ≡ Some t
 
--- the row of a name, beside it
+-- the row of a name, next to it
 abbrev pub row_named : List Name → List Row → Name → Option Row
 row_named [] rows name = None
 row_named (n ∷ names) [] name = None
@@ -103,7 +103,7 @@ onto (x ∷ xs) behind = onto xs (x ∷ behind)
 abbrev pub AreTables : Tables → Text → Type 0
 AreTables tables text = AreUnits (onto text []) tables.units.items
 
--- the number of the unit of that name: how many stand before it
+-- the number of the unit of that name: the number of units before it
 abbrev pub number_named : List ProgramUnit → Name → Option ℕ
 number_named [] name = None
 number_named (unit ∷ before) name = elim (same_name unit.name.name name) [ true ↦ Some (length before) | false ↦ number_named before name ]

@@ -22,7 +22,7 @@ struct Named<'a> {
     row: Variable,
 }
 
-/// How many of some variables begin at a place or before it, where they stand in the order of their places.
+/// The number of those variables that begin at a place or before it, if they are in the order of their places.
 fn count_begun(rows: &[Variable], number: u16) -> usize
     ensures before { IsNonDecreasingBy (λ (row : Row). row.first) rows.now
         → (k : ℕ) (d : Row) → k < result → (slice_index_or rows.now k d).first ≤ number }
@@ -54,7 +54,7 @@ fn variable_with<'a>(table: &UnitTable<'a>, number: u16) -> Option<Named<'a>>
     }
 }
 
-/// The number of a plain variable's place among those of a variable of a type, where it keeps its value.
+/// The number of a plain variable's place among those of a variable of a type, if it keeps its value.
 fn plain_within(kind: Kind, declared: DeclaredType) -> Option<u16>
     ensures { result ≡ plain_within kind declared }
 {
@@ -64,7 +64,7 @@ fn plain_within(kind: Kind, declared: DeclaredType) -> Option<u16>
     }
 }
 
-/// The same of the field with this number of a standard function block.
+/// Likewise for the field with this number of a standard function block.
 fn field_within(block: StandardBlock, number: u16, declared: DeclaredType) -> Option<u16>
     ensures { result ≡ field_within block number declared }
 {
@@ -108,7 +108,7 @@ pub(crate) fn kept_number<'a, 'o>(
         }
         DeclaredType::Block(block) => match old.declared {
             DeclaredType::Block(other) => {
-                // A block stands before the unit that has its instance, so this is always so.
+                // A block precedes the unit that has its instance, so this is always so.
                 if block < unit {
                     behind(
                         old.first,

@@ -81,7 +81,7 @@ fn push_unit<'a>(
     Ok(())
 }
 
-/// Finishes the slots of an instance of the unit behind those that are finished.
+/// Finishes the slots of an instance of the unit after those that are finished.
 fn finish<'a>(
     alloc: Global,
     finished: &mut Vec<Frame>,
@@ -102,7 +102,7 @@ fn finish<'a>(
 }
 
 /// The slots of an instance of each unit before one. Each unit's are put together once, from those of the units
-/// before it, so that the work is that of all units' variables and places, however instances stand in one another.
+/// before it, so that the work is that of all units' variables and places, however instances are nested.
 fn finish_before<'a>(
     alloc: Global,
     units: &[UnitTable<'a>],
@@ -119,7 +119,7 @@ fn finish_before<'a>(
     Ok(finished)
 }
 
-/// The slots that stand before those of a unit's variables.
+/// The slots that precede those of a unit's variables.
 fn first_slots(alloc: Global, is_block: bool) -> Result<Frame, Fault>
     ensures begins { IfOk result (IsBegun is_block) }
     ensures first { IfOk result HoldsFirst }

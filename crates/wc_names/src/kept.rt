@@ -8,7 +8,7 @@ ghost use Rattle.wc_model.specs.Language.Scopes.{Scope, entity_of, type_of};
 ghost use Rattle.wc_model.specs.Language.Store.{Content, Location};
 ghost use Rattle.wc_model.specs.Language.Tree.{Text};
 ghost use Rattle.wc_model.specs.Language.Views.{term_view};
-ghost use Rattle.wc_soundness.specs.FirstNumbers.{AreFirst};
+ghost use Rattle.wc_laws_soundness.specs.FirstNumbers.{AreFirst};
 ghost use Rattle.wc_names.specs.StandsFor.{AreTables, first_number};
 ghost use Rattle.wc_model.specs.declared.source.Source.{Source};
 ghost use Rattle.wc_names.specs.Spelled.{AreSpelledAs, spelled, spelled_of_unit};
@@ -28,7 +28,7 @@ use crate::unit_table::{DIRECT_VARIABLES, UnitTable};
 use std::alloc::Global;
 use wc_model::{Direction, Fault, Operand, Path, Place};
 
-/// The names of a text with what they stand for. They borrow the text, not its tree.
+/// The names of a text with what they represent. They borrow the text, not its tree.
 #[derive(Drop)]
 pub struct Tables<'a> {
     units: Vec<UnitTable<'a>>,
@@ -143,7 +143,7 @@ impl<'a> Tables<'a> {
         table.fields.as_slice()
     }
 
-    /// How many places a unit's frame has.
+    /// The number of places a unit's frame has.
     pub fn size(&self, unit: usize) -> usize
         ensures { (text : Text) (scope : Scope) → AreTables self.now text → IsUnit text unit scope
             → result ≡ length (frame_of scope) }
@@ -168,7 +168,7 @@ impl<'a> Tables<'a> {
             → AreTables old.now old_text → IsUnit old_text old_unit old_scope
             → is_block old_scope.unit ≡ false → place.0 < length (frame_of scope)
             → option_map (λ p. p.0) result ≡ carried_within old_scope scope place.0 }
-        // No place of the program stands at two numbers.
+        // No place of the program is at two numbers.
         ensures own { (text : Text) (scope : Scope) (entry : Location × Content)
             → AreTables self.now text → IsUnit text unit scope → is_block scope.unit ≡ false
             → slice_get (frame_of scope) place.0 ≡ Some entry
@@ -191,7 +191,7 @@ impl<'a> Tables<'a> {
         ensures few { (text : Text) (scope : Scope) → AreTables self.now text
             → IsUnit text unit scope
             → IfOk result (λ frame. length frame.kinds.items ≤ 4096) }
-        // Each is in the range of its slot's kind, and no timer has begun.
+        // Each is in the range of its slot's kind, and no timer has started.
         ensures first { IfOk result
             (λ frame. AreFirst frame.kinds.items frame.initials.items) }
         ensures memory { IsOkUnless result Fault.Memory }

@@ -1,4 +1,4 @@
-//! Names of a text and what they stand for, by numbers: the tables of its units, the places of their frames, and what
+//! Names of a text and what they represent, by numbers: the tables of its units, the places of their frames, and what
 //! the slots of a frame hold at first.
 #![tactic(auto)]
 

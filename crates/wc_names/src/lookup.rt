@@ -66,7 +66,7 @@ fn plain_at(names: &[&[u8]]) -> Option<u16>
     if names.is_empty() { Some(0) } else { None }
 }
 
-/// A number behind others.
+/// A number after others.
 pub(crate) fn behind(first: u16, inner: Option<u16>) -> Option<u16>
     ensures some { (n : ℕ) → inner ≡ Some n → first + n < 65536
         → result ≡ Some (first + n) }
@@ -97,7 +97,7 @@ pub(crate) fn number<'a>(units: &[UnitTable<'a>], unit: usize, names: &[&[u8]]) 
     number_behind(units, row, rest)
 }
 
-/// The number of the place to which the rest of a path leads, behind the variable that its first name names.
+/// The number of the place to which the rest of a path leads, after the variable that its first name names.
 #[cycle(numbers)]
 pub(crate) fn number_behind<'a>(
     units: &[UnitTable<'a>],

@@ -15,7 +15,7 @@ use crate::unit_table::UnitTable;
 use wc_built_in::field_named;
 use wc_model::{Kind, Section, SlotKind, StandardBlock};
 
-/// A name that can stand behind an instance and a dot.
+/// A name that can follow an instance and a dot.
 #[derive(Clone, Copy)]
 pub(crate) struct Member {
     /// The section in which its block declares it.
@@ -48,7 +48,7 @@ fn value_kind(slot: SlotKind) -> Option<Kind>
     }
 }
 
-/// Whether a text can name a field of a standard function block that stands in this section.
+/// Whether a text can name a field of a standard function block that is in this section.
 fn is_named(section: Section) -> bool
     ensures { result ≡ is_named section }
 {

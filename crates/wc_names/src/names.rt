@@ -33,14 +33,14 @@ impl<'a> Names<'a> {
         }
     }
 
-    /// The number of a name, from 0; `None` where it is not among them.
+    /// The number of a name, from 0; `None` if it is not among them.
     pub fn number(&self, name: &[u8]) -> Option<usize>
         ensures { result ≡ position_from (λ n. same_name n (name_of name.now)) 0 self.now }
     {
         self.keys.get_index_of(&Key { text: name })
     }
 
-    /// The name of a number, as it is spelled; `None` where there is none.
+    /// The name of a number, as it is spelled; `None` if there is none.
     pub fn at(&self, number: usize) -> Option<&'a [u8]>
         ensures { option_map (λ name. name_of name.now) result ≡ slice_get self.now number }
     {
@@ -57,13 +57,13 @@ impl<'a> Names<'a> {
         self.keys.contains(&Key { text: name })
     }
 
-    /// Adds a name where it is new, and says whether it is. Its only fault is `Fault::Memory`.
+    /// Adds a name if it is new, and says whether it is. Its only fault is `Fault::Memory`.
     pub fn add(&mut self, name: &'a [u8]) -> Result<bool, Fault>
         ensures new { IfOk result (λ new. new ≡ not (is_among self.old (name_of name.now))) }
         ensures names { IfOk result
             (λ new. self.new ≡ (if new then self.old ++ name_of name.now ∷ [] else self.old)) }
         ensures memory { IsOkUnless result Fault.Memory }
-        // A name that is there takes no memory, so want of it is told of a new one alone.
+        // A name that is there takes no memory, so out of memory is reported for a new one alone.
         ensures fails { OnErr result (is_among self.old (name_of name.now) ≡ false) }
     {
         match self.keys.insert(Key { text: name }) {

@@ -5,7 +5,7 @@ use crate::names::Names;
 use crate::variable::Variable;
 use std::alloc::Global;
 
-/// The names of a unit's variables, with what they stand for.
+/// The names of a unit's variables, with what they represent.
 #[derive(Drop)]
 pub struct UnitTable<'a> {
     /// Whether the unit is a function block.
@@ -16,11 +16,11 @@ pub struct UnitTable<'a> {
     pub rows: Vec<Variable>,
     /// The plain ones.
     pub fields: Vec<Field<'a>>,
-    /// How many places the unit's frame has.
+    /// The number of places the unit's frame has.
     pub size: u16,
 }
 
-/// How many directly represented variables there are, with which a program's frame begins.
+/// The number of directly represented variables, with which a program's frame begins.
 pub(crate) const DIRECT_VARIABLES: u16 = 45;
 
 impl<'a> UnitTable<'a> {

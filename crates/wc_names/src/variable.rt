@@ -10,6 +10,6 @@ pub struct Variable {
     pub declared: DeclaredType,
     /// Its place in the unit's frame, or the first one of an instance.
     pub first: u16,
-    /// The literal that it has at first, where one is written.
+    /// The literal that it has at first, if one is written.
     pub initial: Option<Value>,
 }

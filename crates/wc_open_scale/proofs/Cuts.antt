@@ -1,13 +1,13 @@
 -- Bytes on the line bring the same, however they are cut.
 use Rattle.std.proofs.Common.{◌≡◌, ℕ, List, ◌++◌, ap, sym, ◌∙◌, append_assoc}
-use Rattle.wc_instrument_laws.proofs.Answers.{after_more_requests}
-use Rattle.wc_instrument_laws.proofs.Requests.{requests_in_again}
+use Rattle.wc_laws_instrument.proofs.Answers.{after_more_requests}
+use Rattle.wc_laws_instrument.proofs.Requests.{requests_in_again}
 use Rattle.wc_model.specs.Instrument.Answers.{after_requests}
 use Rattle.wc_model.specs.Instrument.Requests.{requests_in}
 use Rattle.wc_model.specs.Instrument.WeighingHistories.{History}
 use Rattle.wc_open_scale.specs.Rows.{BytesAreCutAnywhere}
 
--- the requests of the second piece act after those of the first
+-- the requests of the second chunk act after those of the first
 same_history : (before first second : List ℕ) (history : History) →
     after_requests (requests_in (before ++ first) second) (after_requests (requests_in before first) history) ≡ after_requests (requests_in before (first ++ second)) history
 same_history before first second history =

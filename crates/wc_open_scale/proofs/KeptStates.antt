@@ -1,7 +1,7 @@
 -- What is kept of all that has come brings it back.
 use Rattle.std.proofs.Common.{◌≡◌, ℕ, arith, subst, sym}
-use Rattle.wc_instrument_laws.proofs.CutLogs.{can_be_cut}
-use Rattle.wc_instrument_laws.specs.Preludes.{BringsBack, ScaleState, prelude_of, scale_state}
+use Rattle.wc_laws_instrument.proofs.CutLogs.{can_be_cut}
+use Rattle.wc_laws_instrument.specs.Preludes.{BringsBack, ScaleState, prelude_of, scale_state}
 use Rattle.wc_model.specs.Instrument.Plates.{PlateData, IsPlate}
 use Rattle.wc_model.specs.Run.Rows.{Past}
 

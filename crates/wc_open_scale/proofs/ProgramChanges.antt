@@ -1,4 +1,4 @@
--- A change of the machine inside is a change of what the scale stands for.
+-- A change of the machine inside is a change of what the scale represents.
 use Rattle.std.proofs.Common.{◌≡◌, ◌≤◌, IfSome, sym, subst, Some}
 use Rattle.wc_cost.specs.LoadedTexts.{LoadedText}
 use Rattle.wc_machine.specs.Machines.{MachineState, StandsFor}

@@ -1,4 +1,4 @@
--- A scan of the machine inside is the scan of what the scale stands for.
+-- A scan of the machine inside is the scan of what the scale represents.
 use Rattle.std.proofs.Common.{◌≡◌, ◌≤◌, ℕ, sym, ◌∙◌, ap, subst, IfOk, Result, Some, Vec, Global}
 use Rattle.wc_indicator.specs.Kept.{Tells}
 use Rattle.wc_machine.specs.Machines.{Leaves, MachineState, StandsFor, text_of}
@@ -20,7 +20,7 @@ use Rattle.wc_open_scale.specs.Standing.{Came, IsRunning, Running, Stands}
 use Rattle.wc_open_scale.specs.declared.open_scale.OpenScale.{OpenScale}
 use Rattle.wc_record.specs.declared.last_scans.Record.{Record}
 
--- a scan after which the machine stands for a store is done
+-- a scan after which the machine represents a store is done
 pub leaves_done : (machine : MachineState) (text : Text) (steps : ℕ) (outcome : Outcome) → Leaves machine text steps outcome → IsDone outcome
 leaves_done machine text steps (Done result store trace) leaves = tt
 leaves_done machine text steps (Stuck reason) leaves = leaves
@@ -30,7 +30,7 @@ seen_image : {S : Type 0} (old : OpenScale S) (image : Image) (plate : PlateData
     Tells (λ p history. image_with p old.inputs history) old.indicator image → Stands old plate came → image ≡ image_of plate came
 seen_image old image plate came told stands = told plate came.history stands.indicator ∙ ap (λ inputs. image_with plate inputs came.history) stands.inputs
 
--- the machine stands for the program
+-- the machine represents the program
 machine_stands : {S : Type 0} (old : OpenScale S) (machine : MachineState) (plate : PlateData) (came : Came) (running : Running) → old.machine ≡ Some machine →
     came.program ≡ Some running → Stands old plate came → StandsFor machine running.text running.store
 machine_stands old machine plate came running is loaded stands =

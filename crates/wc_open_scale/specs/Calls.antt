@@ -1,4 +1,4 @@
--- What bytes on the line come to, for whatever plate and whatever has come the scale stands for. (The profile's own.)
+-- What bytes on the line come to, for whatever plate and whatever has come the scale represents. (The profile's own.)
 use Rattle.std.specs.Io.KnownBytes.{Appends}
 use Rattle.std.specs.Prelude.{◌≡◌, ℕ, List, Option}
 use Rattle.wc_model.specs.Instrument.Answers.{answers_to}

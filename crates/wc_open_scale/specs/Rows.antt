@@ -5,7 +5,7 @@ use Rattle.wc_model.specs.Run.Rows.{Bytes, Change, Counts, Inputs, Past, RowData
 use Rattle.wc_open_scale.specs.Coming.{with_bytes, with_inputs, with_sample}
 use Rattle.wc_open_scale.specs.Standing.{Came, Running}
 
--- what rows have brought, beside a program or none
+-- what rows have brought, with a program or none
 abbrev pub came_by : Past → Option Running → Came
 came_by past program = record { history = history_of past; bytes = line_bytes past; inputs = inputs_of past; program = program }
 

@@ -28,7 +28,7 @@ IsDone (Stuck reason) = ⊥
 abbrev pub record_of : ℕ → ScanResult Store → Record
 record_of ms result = record { ms = ms; steps = result.steps; outputs = result.outputs }
 
--- the machine stands for the store that a scan leaves
+-- the machine represents the store that a scan leaves
 abbrev pub LeavesScan : MachineState → MachineState → ℕ → Image → Type 0
 LeavesScan old new ms image = (text : Text) (store : Store) → StandsFor old text store → StandsFor new text (scans_of text store image ms).after
 
@@ -55,7 +55,7 @@ pub record IsScanned {S : Type 0} (new : OpenScale S) (plate : PlateData) (came 
   pub stands : Stands new plate (with_program (scanned_program plate came running ms) came)
   pub within : (n : ℕ) → IsProgramBound running.text n → scanned.steps ≤ n
 
--- for whatever plate, whatever has come and whatever program the scale stands for
+-- for whatever plate, whatever has come and whatever program the scale represents
 abbrev pub Scans : {S : Type 0} → OpenScale S → OpenScale S → ℕ → Record → Type 0
 Scans old new ms scanned =
     (plate : PlateData) (came : Came) (running : Running) → came.program ≡ Some running → Stands old plate came → IsScanned new plate came running ms scanned

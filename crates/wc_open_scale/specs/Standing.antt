@@ -1,4 +1,4 @@
--- What an open scale stands for: its plate, and all that has come to it. (The profile's own.)
+-- What an open scale represents: its plate, and all that has come to it. (The profile's own.)
 use Rattle.std.specs.Prelude.{◌≡◌, ⊤, ℕ, ◌≤◌, List, [], Option, Some, None, IfSome}
 use Rattle.wc_indicator.specs.Kept.{StandsForHistory}
 use Rattle.wc_machine.specs.Machines.{MachineState, StandsFor}
@@ -34,14 +34,14 @@ only_program program = record { history = []; bytes = []; inputs = 0; program = 
 abbrev pub nothing_yet : Came
 nothing_yet = only_program None
 
--- a machine stands for a program, and no machine for none
+-- a machine represents a program, and no machine represents none
 abbrev pub IsRunning : Option MachineState → Option Running → Type 0
 IsRunning None None = ⊤
 IsRunning None (Some running) = ⊥
 IsRunning (Some machine) None = ⊥
 IsRunning (Some machine) (Some running) = StandsFor machine running.text running.store
 
--- the scale stands for a plate and for what has come
+-- the scale represents a plate and what has come
 pub record Stands {S : Type 0} (scale : OpenScale S) (plate : PlateData) (came : Came) : Type 0 where
   pub is_plate : IsPlate plate
   pub indicator : StandsForHistory scale.indicator plate came.history
@@ -49,7 +49,7 @@ pub record Stands {S : Type 0} (scale : OpenScale S) (plate : PlateData) (came :
   pub inputs : scale.inputs ≡ came.inputs
   pub program : IsRunning scale.machine came.program
 
--- for whatever the scale stood, it stands for what this makes of it
+-- whatever the scale represented, it then represents what this makes of it
 abbrev pub Goes : {S : Type 0} → OpenScale S → OpenScale S → (Came → Came) → Type 0
 Goes old new step = (plate : PlateData) (came : Came) → Stands old plate came → Stands new plate (step came)
 

@@ -1,6 +1,6 @@
 -- What a prelude holds. (The profile's own.)
 use Rattle.std.specs.Prelude.{option_map}
-use Rattle.wc_instrument_laws.specs.Preludes.{ScaleState}
+use Rattle.wc_laws_instrument.specs.Preludes.{ScaleState}
 use Rattle.wc_open_scale.specs.declared.preludes.Prelude.{Prelude}
 
 -- the state of a scale

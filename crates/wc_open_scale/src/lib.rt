@@ -1,4 +1,4 @@
-//! A scale that is open: its indicator, its line, its digital inputs and the program beside it in one value. Each call does
+//! A scale that is open: its indicator, its line, its digital inputs and the program with it in one value. Each call does
 //! what a row of a log does to a run.
 #![tactic(auto)]
 

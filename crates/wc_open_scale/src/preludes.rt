@@ -1,5 +1,5 @@
 ghost use Rattle.std.specs.Prelude.{◌≡◌, Option};
-ghost use Rattle.wc_instrument_laws.specs.Preludes.{BringsBack, prelude_of, state_of};
+ghost use Rattle.wc_laws_instrument.specs.Preludes.{BringsBack, prelude_of, state_of};
 ghost use Rattle.wc_model.specs.Instrument.Plates.{PlateData};
 ghost use Rattle.wc_model.specs.Run.Rows.{Past};
 ghost use Rattle.wc_open_scale.specs.Rows.{came_by};
@@ -14,7 +14,7 @@ use wc_store::Store;
 /// samples, the digital inputs and the open request. It has no part of a program.
 #[derive(Drop)]
 pub struct Prelude {
-    /// How many samples the window holds, 2 to 16.
+    /// The number of samples the window holds, 2 to 16.
     pub window: usize,
     /// The sample at which zero is set, if the zero point is not the calibrated zero: as many of it
     /// as the window holds, and a `Z` request.

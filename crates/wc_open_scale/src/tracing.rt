@@ -45,7 +45,7 @@ fn trace_at<S: Store>(
 
 impl<'a, S: Store> OpenScale<'a, S> {
     /// Scans as `scan` does, and gives with the record what was seen of each item that the scan executed, in order. If there is no
-    /// memory for what was seen, the scan is done all the same, and `Memory` stands in place of the lines.
+    /// memory for what was seen, the scan is done all the same, and `Memory` is in place of the lines.
     pub fn trace(
         &mut self,
         alloc: Global,

@@ -24,7 +24,7 @@ found_at Equal false l d rest more e h = absurd (cc)
 found_at Greater true l d rest more e h = absurd (cc)
 found_at Greater false l d rest more e h = h
 
--- what stands behind a key
+-- the value of a key
 pub entry_found : (key : List ℕ) (ms : Members) → entry_at (entries_of ms) key ≡ option_map entry_of (get_member key ms)
 entry_found key no_members = refl
 entry_found key (member l d ms) =
@@ -53,11 +53,11 @@ number_both (Some (datetime t)) = refl
 number_both (Some (array ds)) = refl
 number_both (Some (table ms)) = refl
 
--- the text behind a key
+-- the text of a key
 pub text_found : (key : List ℕ) (ms : Members) → text_at (entries_of ms) key ≡ option_and_then as_str (get_member key ms)
 text_found key ms = ap (option_and_then text_in) (entry_found key ms) ∙ text_both (get_member key ms)
 
--- the whole number behind a key
+-- the whole number of a key
 pub number_found : (key : List ℕ) (ms : Members) → number_at (entries_of ms) key ≡ option_and_then as_integer (get_member key ms)
 number_found key ms = ap (option_and_then number_in) (entry_found key ms) ∙ number_both (get_member key ms)
 
@@ -67,7 +67,7 @@ pub same_keys : (entries : List (String Global × Value)) →
 same_keys [] = refl
 same_keys (x ∷ xs) = ap (λ b. list_any (bytes_eq (string_bytes x.0)) plate_keys && b) (same_keys xs)
 
--- a key that stands in a map stands in its table
+-- a key that is in a map is in its table
 pub keys_there : (entries : List (String Global × Value)) (wanted : List ℕ) → list_any (λ key. bytes_eq (string_bytes key) wanted) (keys_of entries) ≡ true
     → is_some (entry_at (entries_of (members_view entries)) wanted) ≡ true
 keys_there [] wanted h = absurd (cc)
@@ -79,10 +79,10 @@ keys_there (x ∷ xs) wanted h = by_key (bytes_eq (string_bytes x.0) wanted) ref
     by_key true e later h = rw e refl
     by_key false e later h = rw e (later h)
 
--- a key that is there has something behind it
+-- a key that is there has a value
 pub there : (key : List ℕ) (ms : Members) (d : Data) → Some d ≡ get_member key ms → is_some (entry_at (entries_of ms) key) ≡ true
 there key ms d found = ap is_some (entry_found key ms) ∙ ap (λ o. is_some (option_map entry_of o)) (sym found)
 
--- behind a key that is not there stands nothing
+-- a key that is not there has no value
 pub not_there : (key : List ℕ) (ms : Members) → None ≡ get_member key ms → entry_at (entries_of ms) key ≡ None
 not_there key ms found = entry_found key ms ∙ ap (option_map entry_of) (sym found)

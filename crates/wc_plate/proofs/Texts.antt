@@ -1,4 +1,4 @@
--- The table that a text gives, where it was read and where it was refused.
+-- The table that a text gives, if it was read, and if it was refused.
 use Rattle.std.proofs.Common.{◌≡◌, ℕ, List, inl, inr}
 use Rattle.std.proofs.lemmas.Bool.{cases_Bool}
 use Rattle.std.proofs.lemmas.Str.{IsUtf8-from_is_utf8, is_utf8-from_IsUtf8}

@@ -1,5 +1,5 @@
--- Which rule on the values of a plate is broken, and with which values it was judged. That a rule is told with these is
--- the profile's own.
+-- Which rule on the values of a plate is broken, and with which values it was checked. That a rule is reported with
+-- these is the profile's own.
 use Rattle.std.specs.Prelude.{◌≡◌, ℕ, ◌*ℤ◌, pos, int_div, false, Some, None, Result, Ok, Err}
 use Rattle.wc_model.specs.Instrument.Plates.{PlateData, least_sample, greatest_sample}
 use Rattle.wc_model.specs.Instrument.PlateTable.{Written, is_between, is_count, is_interval, judged, line_unit}

@@ -1,4 +1,4 @@
--- The plate that the fields of a `Plate` stand for.
+-- The plate that the fields of a `Plate` represent.
 use Rattle.wc_model.specs.Instrument.Plates.{PlateData, IsPlate}
 use Rattle.wc_plate.specs.declared.kept.Plate.TheInside.{Inside}
 

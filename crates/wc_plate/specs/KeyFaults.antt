@@ -1,4 +1,4 @@
--- Which key of a plate is meant where its keys are not the seven in their kinds. That one is told is the profile's own.
+-- Which key of a plate is named if its keys are not the seven in their kinds. That one is reported is the profile's own.
 use Rattle.std.specs.Prelude.{◌≡◌, ℕ, Bool, true, false, List, Some, None, Result, Ok, Err, codes, IfSome, is_some, if◌then◌else◌}
 use Rattle.std.specs.List.{list_any}
 use Rattle.std.specs.Str.{bytes_eq}
@@ -13,11 +13,11 @@ use Rattle.wc_plate.specs.declared.broken.BrokenRule.TheVariants.{UnknownKey, Mi
 abbrev pub is_plate_key : List ℕ → Bool
 is_plate_key key = list_any (bytes_eq key) plate_keys
 
--- what stands behind a key has its kind: a text behind `unit`, a whole number behind the others
+-- the value of a key has its kind: a text for `unit`, a whole number for the others
 abbrev pub has_its_kind : Table → List ℕ → Bool
 has_its_kind table key = if bytes_eq key (codes "unit") then is_some (text_at table key) else is_some (number_at table key)
 
--- a key of the table that is none of the seven
+-- a key of the table that is not one of the seven
 pub record HasOther (table : Table) (key : List ℕ) : Type 0 where
   pub refused : has_no_other_key table ≡ false
   pub there : is_some (entry_at table key) ≡ true
@@ -47,22 +47,22 @@ IsKeyFault table ZeroCounts = ⊥
 IsKeyFault table (SpanCounts n) = ⊥
 IsKeyFault table Window = ⊥
 
--- there is no text behind a key; where the key is `unit`, this is wrong with it
+-- a key has no text; if the key is `unit`, this is wrong with it
 pub record BlamesText (table : Table) (key : List ℕ) (rule : BrokenRule) : Type 0 where
   pub none : text_at table key ≡ None
   pub fault : key ≡ codes "unit" → IsKeyFault table rule
 
--- there is no whole number behind a key; where the key is one of the other six, this is wrong with it
+-- a key has no whole number; if the key is one of the other six, this is wrong with it
 pub record BlamesNumber (table : Table) (key : List ℕ) (rule : BrokenRule) : Type 0 where
   pub none : number_at table key ≡ None
   pub fault : is_plate_key key ≡ true → bytes_eq key (codes "unit") ≡ false → IsKeyFault table rule
 
--- what stands behind the seven keys, or what is wrong with the first of them with which something is
+-- the values of the seven keys, or what is wrong with the first of them with which something is
 abbrev pub ReadsEach : Table → Result Written BrokenRule → Type 0
 ReadsEach table (Ok written) = plate.each_key table ≡ Some (written_seen written)
 ReadsEach table (Err rule) = (plate.each_key table ≡ None) × IsKeyFault table rule
 
--- the same, where there is no other key
+-- the same, if there is no other key
 abbrev pub ReadsKeys : Table → Result Written BrokenRule → Type 0
 ReadsKeys table (Ok written) = plate.written_of table ≡ Some (written_seen written)
 ReadsKeys table (Err rule) = (plate.written_of table ≡ None) × IsKeyFault table rule

@@ -1,4 +1,4 @@
--- What stands behind the seven keys, as the rules see it.
+-- The values of the seven keys, as the rules see them.
 use Rattle.wc_model.specs.Instrument.PlateTable as plate
 use Rattle.wc_plate.specs.declared.keys.Written.{Written}
 

@@ -6,7 +6,7 @@ use Rattle.toml.specs.Data.{Data, string, integer, float, boolean, datetime, arr
 use Rattle.toml.specs.Parse.{parse_document}
 use Rattle.wc_model.specs.Instrument.PlateTable.{Entry, Text, Whole, Other, Table}
 
--- what stands behind a key: a text, a whole number or another kind
+-- the value of a key: a text, a whole number or another kind
 abbrev pub entry_of : Data → Entry
 entry_of (string text) = Text text
 entry_of (integer number) = Whole number
@@ -16,7 +16,7 @@ entry_of (datetime moment) = Other
 entry_of (array items) = Other
 entry_of (table inner) = Other
 
--- the members of a TOML table, each with what stands behind its key
+-- the members of a TOML table, each with its value
 abbrev pub entries_of : Members → Table
 entries_of no_members = []
 entries_of (member key value rest) = (key, entry_of value) ∷ entries_of rest

@@ -1,10 +1,10 @@
 ghost use Rattle.std.specs.Prelude.{◌≡◌};
 ghost use Rattle.wc_plate.specs.Broken as broken;
 
-/// Which rule a table of keys breaks first, with what the rule was judged by.
+/// Which rule a table of keys breaks first, with what the rule was checked by.
 #[derive(Clone, Copy)]
 pub enum BrokenRule<'t> {
-    /// A key that is none of the seven, and one of these that is missing, if one is: it may be that one, spelled otherwise.
+    /// A key that is not one of the seven, and one of these that is missing, if one is: it may be that one, spelled otherwise.
     UnknownKey {
         key: &'t str,
         missing: Option<&'static str>,
@@ -17,7 +17,7 @@ pub enum BrokenRule<'t> {
     WrongKind {
         key: &'static str,
     },
-    /// The unit is none.
+    /// The unit is not valid.
     Unit,
     /// The number of decimals is out of range.
     Decimals,
@@ -32,7 +32,7 @@ pub enum BrokenRule<'t> {
     },
     /// The sample at no load is out of range.
     ZeroCounts,
-    /// The counts to the greatest load are out of range, which is so many scale intervals.
+    /// The counts to the greatest load are out of range, which is n scale intervals.
     SpanCounts {
         n: u32,
     },

@@ -60,7 +60,7 @@ fn is_allowed(decimals: u32, e: i64) -> bool
     }
 }
 
-/// A scale interval in grams, where 1 is one of the unit.
+/// A scale interval in grams, with 1 as one of the unit.
 fn grams_in(unit: [u8; 3], e: i64) -> i64
     requires { (pos 0 ≤ℤ e) × (e ≤ℤ pos 50) }
     ensures { result ≡ e *ℤ pos (grams_of unit) }
@@ -85,15 +85,15 @@ fn interval(unit: [u8; 3], decimals: u32, e: i64) -> Option<u32>
     }
 }
 
-/// Whether a scale interval is allowed with a unit, as the line writes it, and so many decimals, 3 at most.
+/// Whether a scale interval is allowed with a unit, as the line writes it, and n decimals, 3 at most.
 pub fn allows_interval(unit: [u8; 3], decimals: u32, e: i64) -> bool
     ensures { result ≡ (nat_le decimals 3 && plate.is_interval unit decimals e) }
 {
     decimals <= 3 && interval(unit, decimals, e).is_some()
 }
 
-/// How many intervals the greatest load is, where it is a whole number of them and in range. A load below zero
-/// fails the range.
+/// The number of intervals the greatest load is, if it is a whole number of them and in range. A load below
+/// zero fails the range.
 fn count(max: i64, e: u32) -> Option<u32>
     requires { 1 ≤ e }
     ensures fits { is_some result ≡ plate.is_count max (pos e) }

@@ -39,7 +39,7 @@ impl Plate {
         self.unit
     }
 
-    /// The number of digits behind the point.
+    /// The number of digits after the point.
     pub fn decimals(&self) -> i32
         ensures decimals { result ≡ pos self.now.decimals }
         ensures ranges { IsPlate self.now }
@@ -87,7 +87,7 @@ impl Plate {
         self.span_counts as i32
     }
 
-    /// How many samples stability looks at.
+    /// The number of samples stability looks at.
     pub fn window(&self) -> i32
         ensures window { result ≡ pos self.now.window }
         ensures ranges { IsPlate self.now }

@@ -9,7 +9,7 @@ ghost use Rattle.wc_plate.specs.TomlTable.{entries_of};
 use crate::broken::BrokenRule;
 use toml::Table;
 
-/// What stands behind the seven keys, before it is judged.
+/// The values of the seven keys, before they are checked.
 #[derive(Drop)]
 pub(crate) struct Written<'t> {
     pub(crate) unit: &'t str,
@@ -31,7 +31,7 @@ fn is_plate_key(key: &str) -> bool
     )
 }
 
-/// The first key of the table beside the seven.
+/// The first key of the table besides the seven.
 #[tactic(auto, using(crate::proofs::Lookups::same_keys, crate::proofs::Lookups::keys_there))]
 fn other_key(table: &Table) -> Option<&str>
     ensures { MatchOption result
@@ -46,7 +46,7 @@ fn other_key(table: &Table) -> Option<&str>
     None
 }
 
-/// The text behind a key.
+/// The text of a key.
 fn text_at<'t>(table: &'t Table, key: &'static str) -> Result<&'t str, BrokenRule<'static>>
     ensures text { IfOk result
         (λ text. plate.text_at (entries_of (table_view table.now)) key.now ≡ Some text.now) }
@@ -61,7 +61,7 @@ fn text_at<'t>(table: &'t Table, key: &'static str) -> Result<&'t str, BrokenRul
     }
 }
 
-/// The whole number behind a key.
+/// The whole number of a key.
 fn number_at(table: &Table, key: &'static str) -> Result<i64, BrokenRule<'static>>
     ensures number { IfOk result
         (λ number. plate.number_at (entries_of (table_view table.now)) key.now ≡ Some number) }
@@ -76,7 +76,7 @@ fn number_at(table: &Table, key: &'static str) -> Result<i64, BrokenRule<'static
     }
 }
 
-/// What stands behind the seven keys, or the first of them that is missing or not of its kind.
+/// The values of the seven keys, or the first of them that is missing or not of its kind.
 fn each_key(table: &Table) -> Result<Written<'_>, BrokenRule<'static>>
     ensures { ReadsEach (entries_of (table_view table.now)) result }
 {
@@ -98,7 +98,7 @@ fn each_key(table: &Table) -> Result<Written<'_>, BrokenRule<'static>>
     })
 }
 
-/// One of the seven keys that is missing, where none before it is of a wrong kind.
+/// One of the seven keys that is missing, if none before it is of a wrong kind.
 fn missing_key(table: &Table) -> Option<&'static str>
     ensures { IfSome result (λ key. Lacks (entries_of (table_view table.now)) key.now) }
 {
@@ -108,7 +108,7 @@ fn missing_key(table: &Table) -> Option<&'static str>
     }
 }
 
-/// What stands behind the seven keys, where each is there in its kind and there is no other.
+/// The values of the seven keys, if each is there in its kind and there is no other.
 pub(crate) fn written_in(table: &Table) -> Result<Written<'_>, BrokenRule<'_>>
     ensures { ReadsKeys (entries_of (table_view table.now)) result }
 {

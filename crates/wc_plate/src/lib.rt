@@ -1,5 +1,5 @@
-//! The plate of an instrument: a TOML text with seven keys, read and judged by the rules for a class III
-//! instrument with a single range (OIML R 76-1:2006).
+//! The plate of an instrument: a TOML text with seven keys, read and checked by the rules for a class
+//! III instrument with a single range (OIML R 76-1:2006).
 #![tactic(auto)]
 
 mod broken;

@@ -12,7 +12,7 @@ use std::alloc::Global;
 use toml::Table;
 use wc_model::Fault;
 
-/// The plate of a table, or the first rule that it breaks, with the key that is meant and what it was judged by.
+/// The plate of a table, or the first rule that it breaks, with the key at fault and what it was checked by.
 pub fn plate_of(table: &Table) -> Result<Plate, BrokenRule<'_>>
     ensures { JudgesTable (entries_of (table_view table.now)) result }
 {
@@ -20,9 +20,9 @@ pub fn plate_of(table: &Table) -> Result<Plate, BrokenRule<'_>>
     judge_written(&written)
 }
 
-/// Reads a plate. A text that is no TOML is refused by 501, keys that are not the seven by 502, and by 503 to 508
-/// what breaks a rule on their values; the place of a refusal is 0. `Memory` comes only where a growth was refused,
-/// so never for a text of blanks.
+/// Reads a plate. A text that is not TOML is refused by 501, keys that are not the seven by 502, and by 503 to 508
+/// what breaks a rule on their values; the place of a refusal is 0. `Memory` comes only if an allocation was
+/// refused, so never for a text of blanks.
 pub fn plate(alloc: Global, text: &[u8]) -> Result<Plate, Fault>
     ensures verdict { IsVerdictOn text.now result }
     ensures memory { IsErrOf result Fault.Memory → ¬ IsBlank text.now }

@@ -2,7 +2,7 @@
 use Rattle.std.proofs.Common.{◌≡◌, List, [], ◌∷◌, map, refl, ap}
 use Rattle.std.specs.List.{list_any}
 use Rattle.std.specs.Prelude.{◌||◌}
-use Rattle.wc_grammar_laws.specs.Moves.{has_program}
+use Rattle.wc_laws_grammar.specs.Moves.{has_program}
 use Rattle.wc_model.specs.Language.Views.{unit_view}
 use Rattle.wc_model.specs.declared.source.Unit.{Unit as CodeUnit}
 use Rattle.wc_reader.specs.Programs.{is_program}

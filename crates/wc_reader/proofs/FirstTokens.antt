@@ -1,7 +1,7 @@
--- The first token of a line, where it is none of those that a case apart is for.
+-- The first token of a line, if it is none of those that have a case of their own.
 use Rattle.std.proofs.Common.{◌≡◌, ℕ, Bool, false, List, refl}
-use Rattle.wc_grammar_laws.specs.LineMoves.{Start, line_move}
-use Rattle.wc_grammar_laws.specs.Moves.{begun_line, body_move, inside_move}
+use Rattle.wc_laws_grammar.specs.LineMoves.{Start, line_move}
+use Rattle.wc_laws_grammar.specs.Moves.{begun_line, body_move, inside_move}
 use Rattle.wc_lexer.specs.Views.{shape_view}
 use Rattle.wc_lexer.specs.declared.shape.Shape.{Shape}
 use Rattle.wc_lexer.specs.declared.shape.Shape.TheVariants.{Identifier, Whole, Duration, Truth, Address, And, AndNot, Opening, Closing, Comma}

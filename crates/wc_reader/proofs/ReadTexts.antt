@@ -1,10 +1,10 @@
 -- What the walk over a text's tokens says of the text.
 use Rattle.std.proofs.Common.{◌≡◌, ◌≤◌, ◌<◌, ℕ, List, [], map, length, refl, subst, sym, inl, inr, arith}
 use Rattle.std.specs.Prelude.{Ok, Err, Result, IfOk, IfErr}
-use Rattle.wc_grammar_laws.specs.Moves.{Met, at_first, reading}
-use Rattle.wc_grammar_laws.proofs.Readings.{read_is_spelled, refused_is_first, refused_spells_nothing}
+use Rattle.wc_laws_grammar.specs.Moves.{Met, at_first, reading}
+use Rattle.wc_laws_grammar.proofs.Readings.{read_is_spelled, refused_is_first, refused_spells_nothing}
 use Rattle.wc_lexer.specs.Refusals.{AtToken, Names, WantsRoom}
-use Rattle.wc_token_laws.proofs.TokenLaws.{cut_has_no_fault, cut_is_unique}
+use Rattle.wc_laws_tokens.proofs.TokenLaws.{cut_has_no_fault, cut_is_unique}
 use Rattle.wc_model.specs.Text.Grammar.{Spells}
 use Rattle.wc_model.specs.Text.Marks.{Mark}
 use Rattle.wc_model.specs.Text.Reading.{IsMisread, IsRead, last_line, mark_of_token}
@@ -16,8 +16,8 @@ use Rattle.wc_reader.specs.ReadTexts.{IsRefusedAs, IsUnread}
 use Rattle.wc_model.specs.Language.Views.{text_view}
 use Rattle.wc_model.specs.declared.source.Source.{Source}
 use Rattle.wc_reader.specs.Told.{IsMetAs, TellsReading, TellsFault}
-use Rattle.wc_short_lines.proofs.WalkSteps.{walk_tells}
-use Rattle.wc_short_lines.specs.Walks.{walk}
+use Rattle.wc_text_short_lines.proofs.WalkSteps.{walk_tells}
+use Rattle.wc_text_short_lines.specs.Walks.{walk}
 
 -- what the walk reads is what the bytes are read as
 pub read_as : (bytes : List ℕ) (tokens : List Token) (text : Text) → length bytes ≤ most_bytes → IsCut bytes tokens → reading at_first (map mark_of_token tokens) (last_line bytes) ≡ Ok text → IsRead bytes text
@@ -52,7 +52,7 @@ first_stands (Nothing e) some = absurd (omega (arith, some))
 first_stands (Skipped piece after e blank more) some = Skipped piece after e blank (first_stands more some)
 first_stands (Taken shape piece after e longest s more) some = Nothing (shape, piece, after, e, longest, s)
 
--- room is wanted for the tokens of a text that has some
+-- space is needed for the tokens of a text that has some
 pub wants_room : (bytes : List ℕ) (tokens : List Token) → length bytes ≤ most_bytes → IsCut bytes tokens → 0 < length tokens → WantsRoom bytes
 wants_room bytes tokens short cut some = record { short = short; tokens = []; cut = first_stands cut some }
 

@@ -1,16 +1,16 @@
--- What is told at a token of the walk.
+-- What is reported at a token of the walk.
 use Rattle.std.proofs.Common.{◌≡◌, ℕ, Bool, false, List, ◌∷◌, Option, Some, None, option_map, refl, ap, ◌∙◌}
-use Rattle.wc_grammar_laws.specs.Moves.{Met, State, colon_next, judge, move}
+use Rattle.wc_laws_grammar.specs.Moves.{Met, State, colon_next, judge, move}
 use Rattle.wc_model.specs.Text.Marks.{Mark}
 use Rattle.wc_model.specs.Text.ReadingFaults.{UnexpectedToken}
 use Rattle.wc_model.specs.declared.fault.Fault.{Fault}
 use Rattle.wc_model.specs.declared.fault.Fault.TheVariants.{Memory, Refused}
-use Rattle.wc_bodies.specs.BodyViews.{fault_of}
+use Rattle.wc_text_bodies.specs.BodyViews.{fault_of}
 use Rattle.wc_reader.specs.Told.{IsUnexpected, StopsWith, TellsFault}
-use Rattle.wc_short_lines.specs.Walks.{Stopping, walk}
-use Rattle.wc_short_lines.proofs.WalkSteps.{behind_judgement, behind_move, step, unjudged}
+use Rattle.wc_text_short_lines.specs.Walks.{Stopping, walk}
+use Rattle.wc_text_short_lines.proofs.WalkSteps.{behind_judgement, behind_move, step, unjudged}
 
--- a judgement is told as the fault that it is
+-- a detected fault is reported as such
 judged : (state : State) (mark : Mark) (behind : List Mark) (colon : Bool) (fault : Fault) (met : Option Met) → colon_next behind false ≡ colon → judge state mark.symbol mark.line colon ≡ met
     → Some fault ≡ option_map fault_of met → StopsWith state (mark ∷ behind) fault
 judged state mark behind colon fault None e j h = cc
@@ -42,7 +42,7 @@ at_unexpected state mark behind colon (Refused number place) e h k = record {
   place_is = k.2;
 }
 
--- what stops the walk is what it tells
+-- what stops the walk is what it reports
 pub stopped_as : (state : State) (marks : List Mark) (last : ℕ) (fault : Fault) → StopsWith state marks fault → TellsFault (walk state marks last).told fault
 stopped_as state marks last Memory h = tt
 stopped_as state marks last (Refused number place) h = record { met = h.met; outcome_is = ap (λ (s : Stopping). s.told) (h.stops last); number_is = h.number_is; place_is = h.place_is }

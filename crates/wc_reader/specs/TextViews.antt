@@ -1,15 +1,15 @@
--- What the reader's states in a text stand for.
+-- What the reader's states in a text represent.
 use Rattle.std.specs.Prelude.{◌≡◌, List, map}
-use Rattle.wc_grammar_laws.specs.Moves as moves
-use Rattle.wc_grammar_laws.specs.Moves.{State}
+use Rattle.wc_laws_grammar.specs.Moves as moves
+use Rattle.wc_laws_grammar.specs.Moves.{State}
 use Rattle.wc_model.specs.Language.Tree.{ProgramUnit}
 use Rattle.wc_model.specs.Text.Positions.{Position}
 use Rattle.wc_model.specs.Language.Views.{unit_view}
 use Rattle.wc_model.specs.declared.source.Section.{Section}
-use Rattle.wc_bodies.specs.BodyViews.{IsCounted, position_view}
-use Rattle.wc_bodies.specs.SectionViews.{declaring_view}
-use Rattle.wc_bodies.specs.declared.declarations.DeclarationState.TheVariants.{Undeclared}
-use Rattle.wc_lines.specs.LineViews.{line_state_view}
+use Rattle.wc_text_bodies.specs.BodyViews.{IsCounted, position_view}
+use Rattle.wc_text_bodies.specs.SectionViews.{declaring_view}
+use Rattle.wc_text_bodies.specs.declared.declarations.DeclarationState.TheVariants.{Undeclared}
+use Rattle.wc_text_lines.specs.LineViews.{line_state_view}
 use Rattle.wc_reader.specs.declared.text_state.TextState.{TextState}
 use Rattle.wc_reader.specs.declared.text_state.TextState.TheVariants.{Outside, Unnamed, Declaring, InBody}
 use Rattle.wc_reader.specs.declared.text_state.BodyPlace.{BodyPlace}
@@ -24,13 +24,13 @@ line_place_view p AtLine = moves.AtLine p
 line_place_view p (OnLine line) = moves.OnLine p (line_state_view line)
 line_place_view p Closed = moves.Closed p
 
--- where a token of a body leads, with the body behind it
+-- where a token of a body leads, with the body after it
 abbrev pub place_view : Position → BodyPlace → State
 place_view p (Within place) = line_place_view p place
 place_view p (InSection section) = moves.Declaring p.before p.unit section moves.Undeclared
 place_view p BehindUnit = moves.behind_unit p
 
--- how far a text has been read behind these units
+-- how far a text has been read after these units
 abbrev pub state_view : List ProgramUnit → TextState → State
 state_view units Outside = moves.Outside units
 state_view units (Unnamed kind line) = moves.Unnamed units kind line
@@ -46,7 +46,7 @@ abbrev pub IsStateCounted : TextState → Type 0
 IsStateCounted (InBody body place) = IsCounted body
 IsStateCounted _ = Unit {0}
 
--- the state stands in that section, before a declaration
+-- the state is in that section, before a declaration
 abbrev pub IsUndeclared : TextState → Section → Type 0
 IsUndeclared (Declaring unit section Undeclared) expected = section ≡ expected
 IsUndeclared state expected = ⊥

@@ -1,6 +1,6 @@
 -- What a result of the reader says.
 use Rattle.std.specs.Prelude.{◌≡◌, ℕ, List, Option, None, Result, Ok, Err}
-use Rattle.wc_grammar_laws.specs.Moves.{Met, State}
+use Rattle.wc_laws_grammar.specs.Moves.{Met, State}
 use Rattle.wc_model.specs.Text.ReadingFaults.{number_of}
 use Rattle.wc_model.specs.Language.Tree.{Text}
 use Rattle.wc_model.specs.Language.Views.{text_view}
@@ -8,26 +8,26 @@ use Rattle.wc_model.specs.declared.fault.Fault.{Fault}
 use Rattle.wc_model.specs.declared.fault.Fault.TheVariants.{Memory, Refused}
 use Rattle.wc_model.specs.declared.source.Source.{Source}
 use Rattle.wc_model.specs.Text.Marks.{Mark}
-use Rattle.wc_short_lines.specs.Walks.{walk}
+use Rattle.wc_text_short_lines.specs.Walks.{walk}
 
--- what was met, by its number and its line
+-- what was found, by its number and its line
 pub record IsMetAs (outcome : Result Text Met) (number place : ℕ) : Type 0 where
   pub met : Met
   pub outcome_is : outcome ≡ Err met
   pub number_is : number ≡ number_of met.fault
   pub place_is : place ≡ met.line
 
--- the fault is what was met; want of memory says nothing
+-- the fault is what was found; out of memory says nothing
 abbrev pub TellsFault : Result Text Met → Fault → Type 0
 TellsFault outcome Memory = Unit {0}
 TellsFault outcome (Refused number place) = IsMetAs outcome number place
 
--- the source is the text, or the fault is what was met
+-- the source is the text, or the fault is what was found
 abbrev pub TellsReading : Result Text Met → Result Source Fault → Type 0
 TellsReading outcome (Ok source) = outcome ≡ Ok (text_view source)
 TellsReading outcome (Err fault) = TellsFault outcome fault
 
--- the fault says that nothing stands behind a token of that line; want of memory says nothing
+-- the fault says that nothing follows a token of that line; out of memory says nothing
 abbrev pub IsUnexpected : Option State → (line : ℕ) → Fault → Type 0
 IsUnexpected next line Memory = Unit {0}
 IsUnexpected next line (Refused number place) = (next ≡ None) × (number ≡ 201) × (place ≡ line)
@@ -36,14 +36,14 @@ IsUnexpected next line (Refused number place) = (next ≡ None) × (number ≡ 2
 abbrev pub IsUnexpectedAt : (line : ℕ) → Fault → Type 0
 IsUnexpectedAt line fault = fault ≡ Refused 201 line
 
--- A walk that stands at that state stops there at the next token: what it meets has this number and line.
+-- A walk that is at that state stops there at the next token: what it meets has this number and line.
 pub record IsStoppedAt (state : State) (marks : List Mark) (number place : ℕ) : Type 0 where
   pub met : Met
   pub stops : (last : ℕ) → walk state marks last ≡ record { state = state; told = Err met }
   pub number_is : number ≡ number_of met.fault
   pub place_is : place ≡ met.line
 
--- the fault is what stops the walk at the next token; want of memory says nothing
+-- the fault is what stops the walk at the next token; out of memory says nothing
 abbrev pub StopsWith : State → List Mark → Fault → Type 0
 StopsWith state marks Memory = Unit {0}
 StopsWith state marks (Refused number place) = IsStoppedAt state marks number place

@@ -1,22 +1,22 @@
 ghost use Rattle.std.specs.Prelude.{◌≡◌, ◌∷◌, [], ℕ, Bool, IfOk, IfSome, List, OnOk, Some, option_map};
-ghost use Rattle.wc_grammar_laws.specs.Moves as moves;
+ghost use Rattle.wc_laws_grammar.specs.Moves as moves;
 ghost use Rattle.wc_model.specs.Text.Marks as marks;
 ghost use Rattle.wc_model.specs.Language.Names.{name_of};
 ghost use Rattle.wc_model.specs.Text.Positions as positions;
 ghost use Rattle.wc_model.specs.Language.Tree.{ProgramUnit};
 ghost use Rattle.wc_model.specs.Language.Views.{lines_view};
-ghost use Rattle.wc_lines.specs.LineViews.{begun_view, in_line_view, line_state_view};
-ghost use Rattle.wc_bodies.specs.BodyViews.{IsCounted, position_view};
+ghost use Rattle.wc_text_lines.specs.LineViews.{begun_view, in_line_view, line_state_view};
+ghost use Rattle.wc_text_bodies.specs.BodyViews.{IsCounted, position_view};
 ghost use Rattle.wc_reader.specs.TextViews.{line_place_view, place_view};
-ghost use Rattle.wc_lines.specs.Words.{symbol_view};
+ghost use Rattle.wc_text_lines.specs.Words.{symbol_view};
 
 use crate::text_state::{BodyPlace, LinePlace};
 use std::alloc::{AllocError, Global};
-use wc_bodies::{Body, add_form, add_label, close, section_begun};
 use wc_lexer::{Shape, Token};
-use wc_lines::{Begun, InLine, LineState, at_start, at_start_inside, ends_unit, line_move};
+use wc_text_bodies::{Body, add_form, add_label, close, section_begun};
+use wc_text_lines::{Begun, InLine, LineState, at_start, at_start_inside, ends_unit, line_move};
 
-/// On the line of an instruction, or behind its end.
+/// On the line of an instruction, or after its end.
 #[inline(always)]
 fn in_line_place<'a>(
     alloc: Global,
@@ -41,7 +41,7 @@ fn in_line_place<'a>(
     }
 }
 
-/// On a line, or behind its end.
+/// On a line, or after its end.
 #[inline(always)]
 fn line_place<'a>(
     alloc: Global,
@@ -65,7 +65,7 @@ fn line_place<'a>(
     }
 }
 
-/// On a line, or behind its end, where a line goes on so.
+/// On a line, or after its end, if a line goes on so.
 #[inline(always)]
 fn on_line<'a>(
     alloc: Global,
@@ -89,7 +89,7 @@ fn on_line<'a>(
     }
 }
 
-/// Behind the first word of a line of a body with no parenthesis open, which does not end the unit
+/// After the first word of a line of a body with no parenthesis open, which does not end the unit
 /// and which no colon follows.
 #[inline(always)]
 fn at_word<'a>(
@@ -113,7 +113,7 @@ fn at_word<'a>(
     }
 }
 
-/// Behind the first word of a line of a body with no parenthesis open, which no colon follows: it
+/// After the first word of a line of a body with no parenthesis open, which no colon follows: it
 /// may end the unit.
 #[inline(always)]
 fn at_body_word<'a>(
@@ -137,7 +137,7 @@ fn at_body_word<'a>(
     }
 }
 
-/// Behind the first identifier of a line of a body with no parenthesis open.
+/// After the first identifier of a line of a body with no parenthesis open.
 #[inline(always)]
 fn at_body_identifier<'a>(
     alloc: Global,
@@ -161,7 +161,7 @@ fn at_body_identifier<'a>(
     }
 }
 
-/// Behind the first token of a line of a body with no parenthesis open, other than a line end.
+/// After the first token of a line of a body with no parenthesis open, other than a line end.
 #[inline(always)]
 fn at_body_line<'a>(
     alloc: Global,
@@ -183,7 +183,7 @@ fn at_body_line<'a>(
     }
 }
 
-/// Behind a `)` at the start of a line.
+/// After a `)` at the start of a line.
 #[inline(always)]
 fn at_closing<'a>(body: &mut Body<'a>, line: u32) -> Result<Option<BodyPlace<'a>>, AllocError>
     requires { IsCounted body.old }
@@ -202,7 +202,7 @@ fn at_closing<'a>(body: &mut Body<'a>, line: u32) -> Result<Option<BodyPlace<'a>
     }
 }
 
-/// Behind the first token of a line in parentheses, other than a line end.
+/// After the first token of a line in parentheses, other than a line end.
 #[inline(always)]
 fn at_inside_line<'a>(
     alloc: Global,
@@ -225,7 +225,7 @@ fn at_inside_line<'a>(
     }
 }
 
-/// Behind the first token of a line, other than a line end.
+/// After the first token of a line, other than a line end.
 #[inline(always)]
 fn at_line_start<'a>(
     alloc: Global,
@@ -248,7 +248,7 @@ fn at_line_start<'a>(
     }
 }
 
-/// Behind one more token at the start of a line.
+/// After one more token at the start of a line.
 #[inline(always)]
 fn at_line<'a>(
     alloc: Global,
@@ -270,7 +270,7 @@ fn at_line<'a>(
     }
 }
 
-/// Behind one more token of a line that has begun.
+/// After one more token of a line that has started.
 #[inline(always)]
 fn along_line<'a>(
     alloc: Global,
@@ -290,7 +290,7 @@ fn along_line<'a>(
     on_line(alloc, body, line)
 }
 
-/// Behind the token after a `)`: the line's end.
+/// After the token that follows a `)`: the line's end.
 fn behind_closing<'a>(token: Token<'a>) -> Option<BodyPlace<'a>>
     ensures { (p : positions.Position) (line : ℕ) (colon : Bool)
         → option_map (place_view p) result
@@ -302,7 +302,7 @@ fn behind_closing<'a>(token: Token<'a>) -> Option<BodyPlace<'a>>
     }
 }
 
-/// Behind one more token of a body; none where no body goes on so. `colon` says whether a colon
+/// After one more token of a body; none if no body goes on so. `colon` says whether a colon
 /// follows it.
 #[inline(always)]
 pub(crate) fn place_move<'a>(

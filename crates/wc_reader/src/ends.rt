@@ -1,8 +1,8 @@
 ghost use Rattle.std.specs.Prelude.{◌≡◌, ℕ, IfErr, IfSome, List, MatchOption, Some, map};
-ghost use Rattle.wc_grammar_laws.specs.Moves as moves;
+ghost use Rattle.wc_laws_grammar.specs.Moves as moves;
 ghost use Rattle.wc_model.specs.Language.Tree.{ProgramUnit};
 ghost use Rattle.wc_model.specs.Language.Views.{unit_view};
-ghost use Rattle.wc_bodies.specs.BodyViews.{position_view};
+ghost use Rattle.wc_text_bodies.specs.BodyViews.{position_view};
 ghost use Rattle.wc_reader.specs.TextViews.{line_place_view, reading_view, state_view};
 ghost use Rattle.wc_reader.specs.Told.{TellsFault, TellsReading};
 
@@ -10,14 +10,14 @@ use crate::faults::has_program;
 use crate::text_state::{LinePlace, Reading, TextState};
 use std::alloc::Global;
 use std::mem;
-use wc_bodies::{Body, open_in, open_on};
 use wc_model::{Fault, Source, Unit};
+use wc_text_bodies::{Body, open_in, open_on};
 
 /// Whole units at the text's end: one is a program, or none.
 fn whole_text<'a>(units: Vec<Unit<'a>, Global>, last_line: u32) -> Result<Source<'a>, Fault>
     ensures told { TellsReading
         (moves.at_end (moves.Outside (map unit_view units.entry.items)) last_line) result }
-    // It takes no memory, so a refusal is not told as want of it.
+    // It takes no memory, so a refusal is not reported as out of memory.
     ensures refuses { IfErr result (λ fault. fault ≡ Fault.Memory → ⊥) }
 {
     if has_program(&units) {
@@ -45,7 +45,7 @@ fn open_in_body<'a>(body: &Body<'a>, place: &LinePlace<'a>) -> Fault
     ensures told { (units : List ProgramUnit) (last : ℕ)
         → TellsFault (moves.at_end (line_place_view (position_view units body.now) place.now) last)
         result }
-    // It takes no memory, so a refusal is not told as want of it.
+    // It takes no memory, so a refusal is not reported as out of memory.
     ensures refuses { result ≡ Fault.Memory → ⊥ }
 {
     match place {
@@ -60,7 +60,7 @@ fn open_at_end<'a>(state: &TextState<'a>) -> Option<Fault>
         → MatchOption result
         (moves.at_end (state_view units state.now) last ≡ moves.at_end (moves.Outside units) last)
         (λ fault. TellsFault (moves.at_end (state_view units state.now) last) fault) }
-    // It takes no memory, so a refusal is not told as want of it.
+    // It takes no memory, so a refusal is not reported as out of memory.
     ensures refuses { IfSome result (λ fault. fault ≡ Fault.Memory → ⊥) }
 {
     match state {
@@ -78,7 +78,7 @@ pub fn at_text_end<'a>(
     last_line: u32,
 ) -> Result<Source<'a>, Fault>
     ensures told { TellsReading (moves.at_end (reading_view reading.old) last_line) result }
-    // It takes no memory, so a refusal is not told as want of it.
+    // It takes no memory, so a refusal is not reported as out of memory.
     ensures refuses { IfErr result (λ fault. fault ≡ Fault.Memory → ⊥) }
 {
     match open_at_end(&reading.state) {

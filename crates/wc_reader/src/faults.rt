@@ -1,22 +1,22 @@
 ghost use Rattle.std.specs.Prelude.{◌≡◌, Bool, List, Option, Some, None, length, map, nat_le, option_map};
 ghost use Rattle.std.specs.List.{list_any};
-ghost use Rattle.wc_grammar_laws.specs.Moves as moves;
-ghost use Rattle.wc_grammar_laws.specs.Words as words;
+ghost use Rattle.wc_laws_grammar.specs.Moves as moves;
+ghost use Rattle.wc_laws_grammar.specs.Words as words;
 ghost use Rattle.wc_model.specs.Text.Limits.{most_units};
 ghost use Rattle.wc_model.specs.Language.Names.{name_of};
 ghost use Rattle.wc_model.specs.Text.ReadingFaults as faults;
 ghost use Rattle.wc_model.specs.Language.Tree.{ProgramUnit};
 ghost use Rattle.wc_model.specs.Language.Views.{unit_view};
 ghost use Rattle.wc_reader.specs.Programs.{is_program};
-ghost use Rattle.wc_bodies.specs.BodyViews.{IsCounted, fault_of, position_view};
+ghost use Rattle.wc_text_bodies.specs.BodyViews.{IsCounted, fault_of, position_view};
 ghost use Rattle.wc_reader.specs.TextViews.{IsStateCounted, line_place_view, reading_view};
-ghost use Rattle.wc_lines.specs.Words.{symbol_view};
+ghost use Rattle.wc_text_lines.specs.Words.{symbol_view};
 
 use crate::text_state::{LinePlace, Reading, TextState};
-use wc_bodies::{Body, start_fault, state_fault};
 use wc_lexer::{Shape, Token};
-use wc_lines::unit_kind;
 use wc_model::{Fault, MOST_UNITS, Unit, UnitKind};
+use wc_text_bodies::{Body, start_fault, state_fault};
+use wc_text_lines::unit_kind;
 
 /// Whether the unit is a program.
 fn is_program(unit: &Unit) -> bool
@@ -42,7 +42,7 @@ pub fn has_program(units: &[Unit]) -> bool
     any_program(units)
 }
 
-/// One unit too many, where the text has as many as it may.
+/// One unit too many, if the text has as many as it may.
 fn too_many(units: &[Unit], line: u32) -> Option<Fault>
     ensures { result
         ≡ option_map fault_of
@@ -58,7 +58,7 @@ fn too_many(units: &[Unit], line: u32) -> Option<Fault>
     }
 }
 
-/// What is wrong with a unit's first word: a program stands before it, or it is one too many.
+/// What is wrong with a unit's first word: a program precedes it, or it is one too many.
 fn word_fault(units: &[Unit], line: u32) -> Option<Fault>
     ensures { result
         ≡ option_map fault_of
@@ -76,7 +76,7 @@ fn word_fault(units: &[Unit], line: u32) -> Option<Fault>
     }
 }
 
-/// What is wrong with a word between units, where it begins one.
+/// What is wrong with a word between units, if it begins one.
 fn unit_fault(units: &[Unit], token: Token) -> Option<Fault>
     ensures { result
         ≡ option_map fault_of

@@ -1,23 +1,23 @@
 ghost use Rattle.std.specs.Prelude.{◌≡◌, Bool, IfOk, IfSome, List, OnOk, map, option_map};
-ghost use Rattle.wc_grammar_laws.specs.Moves as moves;
-ghost use Rattle.wc_grammar_laws.specs.Words.{found, unit_kinds};
+ghost use Rattle.wc_laws_grammar.specs.Moves as moves;
+ghost use Rattle.wc_laws_grammar.specs.Words.{found, unit_kinds};
 ghost use Rattle.wc_model.specs.Language.Names.{name_of};
 ghost use Rattle.wc_model.specs.Language.Tree.{ProgramUnit};
 ghost use Rattle.wc_model.specs.Language.Views.{unit_view};
-ghost use Rattle.wc_bodies.specs.BodyViews.{IsCounted, position_view};
-ghost use Rattle.wc_bodies.specs.SectionViews.{declaring_view, section_view};
+ghost use Rattle.wc_text_bodies.specs.BodyViews.{IsCounted, position_view};
+ghost use Rattle.wc_text_bodies.specs.SectionViews.{declaring_view, section_view};
 ghost use Rattle.wc_reader.specs.TextViews.{IsStateCounted, line_place_view, place_view, state_view};
-ghost use Rattle.wc_lines.specs.Words.{symbol_view};
+ghost use Rattle.wc_text_lines.specs.Words.{symbol_view};
 
 use crate::body_moves::place_move;
 use crate::text_state::{BodyPlace, LinePlace, TextState};
 use std::alloc::{AllocError, Global};
-use wc_bodies::{Body, DeclarationState, SectionPlace, body_start, declaration_move};
 use wc_lexer::{Shape, Token};
-use wc_lines::{unit_kind, word};
 use wc_model::{Section, Unit, UnitKind};
+use wc_text_bodies::{Body, DeclarationState, SectionPlace, body_start, declaration_move};
+use wc_text_lines::{unit_kind, word};
 
-/// Behind a unit's first word, where the token is one.
+/// After a unit's first word, if the token is one.
 fn at_first_word<'a>(token: Token<'a>) -> Option<TextState<'a>>
     ensures behind { (units : List ProgramUnit)
         → option_map (state_view units) result
@@ -31,7 +31,7 @@ fn at_first_word<'a>(token: Token<'a>) -> Option<TextState<'a>>
     }
 }
 
-/// Behind a token between units.
+/// After a token between units.
 #[inline(always)]
 fn outside<'a>(token: Token<'a>) -> Option<TextState<'a>>
     ensures behind { (units : List ProgramUnit) (colon : Bool)
@@ -46,7 +46,7 @@ fn outside<'a>(token: Token<'a>) -> Option<TextState<'a>>
     }
 }
 
-/// Behind the token after a unit's first word: its name.
+/// After the token that follows a unit's first word: its name.
 fn at_name<'a>(alloc: Global, kind: UnitKind, line: u32, token: Token<'a>) -> Option<TextState<'a>>
     ensures behind { (units : List ProgramUnit) (colon : Bool)
         → option_map (state_view units) result
@@ -69,7 +69,7 @@ fn at_name<'a>(alloc: Global, kind: UnitKind, line: u32, token: Token<'a>) -> Op
     }
 }
 
-/// In a section, or at the start of the body behind it.
+/// In a section, or at the start of the body after it.
 #[inline(always)]
 fn section_state<'a>(
     alloc: Global,
@@ -90,7 +90,7 @@ fn section_state<'a>(
     }
 }
 
-/// Behind one more token of a section.
+/// After one more token of a section.
 #[inline(always)]
 fn in_section<'a>(
     alloc: Global,
@@ -137,7 +137,7 @@ fn end_unit<'a>(units: &mut Vec<Unit<'a>, Global>, body: Body<'a>) -> Result<(),
     Ok(())
 }
 
-/// How far the text has been read whose body has been read so far, where it goes on. A unit that is
+/// How far the text has been read whose body has been read so far, if it goes on. A unit that is
 /// done is added to the whole ones.
 #[inline(always)]
 fn body_state<'a>(
@@ -168,7 +168,7 @@ fn body_state<'a>(
     }
 }
 
-/// Behind one more token of a body.
+/// After one more token of a body.
 #[inline(always)]
 fn in_body<'a>(
     alloc: Global,
@@ -192,7 +192,7 @@ fn in_body<'a>(
     body_state(units, body, next)
 }
 
-/// Behind one more token; none where no text goes on so. `colon` says whether a colon follows it. A
+/// After one more token; none if no text goes on so. `colon` says whether a colon follows it. A
 /// unit that the token ends is added to the whole ones.
 #[inline(always)]
 pub(crate) fn text_move<'a>(

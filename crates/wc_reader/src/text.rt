@@ -1,6 +1,6 @@
 ghost use Rattle.std.specs.Prelude.{◌≡◌, ◌+◌, ◌==◌, ◌≤◌, ◌<◌, ◌∷◌, IfErr, IfOk, IfSome, List, None, OnOk, Some, count_by, drop, false, length};
-ghost use Rattle.wc_grammar_laws.specs.Moves as moves;
-ghost use Rattle.wc_grammar_laws.specs.Moves.{at_first, colon_next};
+ghost use Rattle.wc_laws_grammar.specs.Moves as moves;
+ghost use Rattle.wc_laws_grammar.specs.Moves.{at_first, colon_next};
 ghost use Rattle.wc_model.specs.Text.Marks.{Mark};
 ghost use Rattle.wc_model.specs.Text.Reading.{IsRead, last_line, mark_of_token};
 ghost use Rattle.wc_model.specs.Text.Tokens.{most_bytes};
@@ -8,11 +8,11 @@ ghost use Rattle.wc_model.specs.Language.Tree.{ProgramUnit};
 ghost use Rattle.wc_model.specs.Language.Views.{text_view};
 ghost use Rattle.wc_lexer.specs.Views.{token_view};
 ghost use Rattle.wc_reader.specs.ReadTexts.{IsRefusedAs};
-ghost use Rattle.wc_short_lines.specs.Several.{GoesOn};
-ghost use Rattle.wc_short_lines.specs.Walks.{walk};
+ghost use Rattle.wc_text_short_lines.specs.Several.{GoesOn};
+ghost use Rattle.wc_text_short_lines.specs.Walks.{walk};
 ghost use Rattle.wc_reader.specs.TextViews.{IsUndeclared, IsStateCounted, reading_view, state_view};
 ghost use Rattle.wc_reader.specs.Told.{IsUnexpected, IsUnexpectedAt, StopsWith, TellsReading};
-ghost use Rattle.wc_lines.specs.Words.{marks_of, symbol_view};
+ghost use Rattle.wc_text_lines.specs.Words.{marks_of, symbol_view};
 
 use crate::ends::at_text_end;
 use crate::faults::fault_at;
@@ -20,10 +20,10 @@ use crate::moves::text_move;
 use crate::text_state::{LinePlace, Reading, TextState};
 use std::alloc::{AllocError, Global};
 use std::mem;
-use wc_bodies::DeclarationState;
 use wc_lexer::{Shape, Token, tokens};
 use wc_model::{Fault, Section, Source};
-use wc_short_lines::{take_declaration, take_line_and_call};
+use wc_text_bodies::DeclarationState;
+use wc_text_short_lines::{take_declaration, take_line_and_call};
 
 /// Whether the next token is a colon.
 #[inline(always)]
@@ -36,7 +36,7 @@ fn is_colon_next(tokens: &[Token]) -> bool
     }
 }
 
-/// Takes what stands behind a token of that line, which is unexpected where there is nothing.
+/// Takes what follows a token of that line, which is unexpected if there is nothing.
 #[inline(always)]
 fn go_on<'a>(state: &mut TextState<'a>, next: Option<TextState<'a>>, line: u32) -> Result<(), Fault>
     ensures there { OnOk result (next.entry ≡ Some state.new) }
@@ -54,7 +54,7 @@ fn go_on<'a>(state: &mut TextState<'a>, next: Option<TextState<'a>>, line: u32) 
     }
 }
 
-/// Goes on behind a token with which nothing else is wrong, or says that it is unexpected.
+/// Goes on after a token with which nothing else is wrong, or says that it is unexpected.
 #[inline(always)]
 fn move_on<'a>(
     alloc: Global,
@@ -81,7 +81,7 @@ fn move_on<'a>(
     }
 }
 
-/// Goes on behind one more token, or says what is wrong with it. `colon` says whether a colon
+/// Goes on after one more token, or says what is wrong with it. `colon` says whether a colon
 /// follows it.
 #[inline(always)]
 fn read_token<'a>(
@@ -107,7 +107,7 @@ fn read_token<'a>(
     }
 }
 
-/// Goes on behind the token at that index, or says what is wrong with it.
+/// Goes on after the token at that index, or says what is wrong with it.
 #[inline(always)]
 pub fn read_at<'a>(
     alloc: Global,
@@ -140,8 +140,8 @@ fn section_at(state: &TextState) -> Option<Section>
     }
 }
 
-/// Reads a short line of a section in place, and says how many tokens it has: none where no such
-/// line stands here.
+/// Reads a short line of a section in place, and returns the number of its tokens: none if no
+/// such line is here.
 #[inline(always)]
 fn take_in_section<'a>(
     alloc: Global,
@@ -163,8 +163,8 @@ fn take_in_section<'a>(
     }
 }
 
-/// Reads a short line of a body in place, and says how many tokens it has: none where no such line
-/// stands here.
+/// Reads a short line of a body in place, and returns the number of its tokens: none if no such
+/// line is here.
 #[inline(always)]
 fn take_in_body<'a>(
     alloc: Global,
@@ -185,7 +185,7 @@ fn take_in_body<'a>(
     }
 }
 
-/// Reads a short line in place, and says how many tokens it has: none where no such line stands
+/// Reads a short line in place, and returns the number of its tokens: none if no such line is
 /// here.
 #[inline(always)]
 fn take_front<'a>(
@@ -207,8 +207,8 @@ fn take_front<'a>(
     }
 }
 
-/// Reads a short line at that index in place, where one stands there, and says where the next token
-/// stands.
+/// Reads a short line at that index in place, if one is there, and says where the next token
+/// is.
 #[inline(always)]
 fn take_at<'a>(
     alloc: Global,
@@ -231,8 +231,8 @@ fn take_at<'a>(
     Ok(index + taken)
 }
 
-/// Reads short lines in place from that index on, as many as stand there, and says where the next
-/// token stands.
+/// Reads short lines in place from that index on, as many as are there, and says where the next
+/// token is.
 pub fn take_lines<'a>(
     alloc: Global,
     reading: &mut Reading<'a>,
@@ -311,7 +311,7 @@ pub fn read_tokens<'a>(
     read_on(alloc, &mut reading, tokens, last_line)
 }
 
-/// How many line feeds the text has.
+/// The number of line feeds the text has.
 fn line_feeds(text: &[u8]) -> usize
     ensures counted { result ≡ count_by (λ byte. byte == 10) text.now }
     ensures within { result ≤ length text.now }
@@ -329,9 +329,9 @@ pub fn last_line(text: &[u8]) -> u32
 
 /// The text as a tree (IEC 61131-3:2003, annex B), or its first fault. `Err(Refused)` has the
 /// number and line of the first fault in text order, by the list of refusals: 101 to 107 of its
-/// tokens, 201 to 208 of what they spell; the text is then read as no tree. `Err(Memory)` is want
-/// of memory: no text that is too long is told so, and none that has no token before its first
-/// fault.
+/// tokens, 201 to 208 of what they spell; the text is then read as no tree. `Err(Memory)` means
+/// out of memory: no text that is too long is reported so, and none that has no token before its
+/// first fault.
 pub fn read<'a>(alloc: Global, text: &'a [u8]) -> Result<Source<'a>, Fault>
     ensures read { IfOk result (λ source. IsRead text.now (text_view source)) }
     ensures refused { IfErr result (λ fault. IsRefusedAs text.now fault) }

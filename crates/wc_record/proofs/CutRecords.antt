@@ -25,7 +25,7 @@ abbrev ReadsLong : Option Read → Type 0
 ReadsLong None = ⊥
 ReadsLong (Some p) = IsLong p.0
 
--- where a step does not end the record, the machine stands at the next place
+-- if a step does not end the record, the machine is at the next place
 stands_on : (s : State) (fields : Record) (field : List ℕ) (byte : ℕ) (q : State × Action) (place : Place) → is_end q.1 ≡ false → LeadsTo (length fields) q place → StandsAt q.0 (length (fields_after q.1 fields field)) place
 stands_on s fields field byte (state, act.EndRecord) place e h = cc
 stands_on s fields field byte (state, act.EndField) place e h = rw (length-append fields (field ∷ [])) h
@@ -46,7 +46,7 @@ ends_field act.EndField fields field e = cc
 ends_field act.Skip fields field e = cc
 ends_field act.Copy fields field e = cc
 
--- where three fields have ended, the end of the text ends a record
+-- if three fields have ended, the end of the text ends a record
 ends_open : (s : State) (ended : ℕ) (place : Place) → StandsAt s ended place → 3 ≤ ended → ends_at_end s ≡ true
 ends_open st.StartRecord ended place h few = absurd (omega (arith, h.1))
 ends_open st.AfterCr ended place h few = absurd (omega (arith, h.1))
@@ -57,7 +57,7 @@ ends_open st.InQuoted ended place h few = refl
 ends_open st.InEscape ended place h few = absurd h
 ends_open st.InComment ended place h few = absurd h
 
--- where three fields have ended, the record is long however it goes on
+-- if three fields have ended, the record is long however it goes on
 long_record : (s : State) (fields : Record) (field xs : List ℕ) (place : Place) → StandsAt s (length fields) place → 3 ≤ length fields → ReadsLong (next_record default_config s fields field xs)
 unfolding next_record
 long_record s fields field [] place h few =
@@ -84,7 +84,7 @@ AreAlike None (Some q) = ⊥
 AreAlike (Some p) None = ⊥
 AreAlike (Some p) (Some q) = ((p.0 ≡ q.0) × (p.1 ≡ q.1) × (q.2 ≡ cut_from record_start p.2) × StandsAt p.1 0 record_start) ⊎ (IsLong p.0 × IsLong q.0)
 
--- a place tells how many fields have ended, up to three
+-- a place gives the number of fields that have ended, up to three
 ended_is : (s : State) (ended : ℕ) (place : Place) → StandsAt s ended place → place.ended ≡ min 3 ended
 ended_is st.StartRecord ended place h = rw (h.0, h.1) refl
 ended_is st.AfterCr ended place h = rw (h.0, h.1) refl
@@ -95,7 +95,7 @@ ended_is st.InQuoted ended place h = rw h.1 refl
 ended_is st.InEscape ended place h = absurd h
 ended_is st.InComment ended place h = absurd h
 
--- behind the cut three fields have ended
+-- after the cut three fields have ended
 three_ended : (place : Place) → is_cut place ≡ true → 3 ≤ place.ended
 three_ended place e = by_test (nat_le 3 place.ended) refl e
   where
@@ -116,7 +116,7 @@ at_start ended (state, act.EndField) place e h = cc
 at_start ended (state, act.Skip) place e h = cc
 at_start ended (state, act.Copy) place e h = cc
 
--- the same of the text's end
+-- likewise for the text's end
 same_end : (b : Bool) (fields : Record) → AreAlike (cond b (Some (fields, st.StartRecord, [])) None) (cond b (Some (fields, st.StartRecord, [])) None)
 unfolding cut_from
 same_end true fields = inl (refl, refl, refl, (refl, refl))
@@ -185,7 +185,7 @@ rows_alike s xs (a ∷ more) (b ∷ others) h r u =
     let both : AreAlike (Some r.2.0) (Some u.2.0) = rw (r.2.1, u.2.1) at alike in
     one_more a b r.2.0 u.2.0 more others r.2.2 u.2.2 (u.0, u.1, u.2.3, u.3) both (λ start rest. rows_alike r.2.0.1 r.2.0.2 more others start (r.0, r.1, r.2.3, r.3) rest)
 
--- a long record is no row
+-- a long record is not a row
 long_refused : (fields : Record) (number : ℕ) (last : Option ℕ) → IsLong fields → row_of_fields number last fields ≡ Err 601
 long_refused [] number last h = absurd (omega (arith, h))
 long_refused (a ∷ []) number last h = absurd (omega (arith, h))
@@ -205,7 +205,7 @@ long_not_first (a ∷ b ∷ c ∷ d ∷ more) h = none (bytes_eq (codes "ms") a)
     none true true true = refl
     none other another third = refl
 
--- where a long record stands the log ends, whatever follows
+-- at a long record the log ends, whatever follows
 ends_alike : (before : List Record) (a b : Record) (x y : LogOf) → IsLong a → IsLong b → log_with before (row_of before a) x ≡ log_with before (row_of before b) y
 ends_alike before a b x y h k =
     rw (long_refused a (suc (length before)) (last_moment before) h, long_refused b (suc (length before)) (last_moment before) k) (full (nat_lt most_rows (suc (length before))))
@@ -214,7 +214,7 @@ ends_alike before a b x y h k =
     full true = refl
     full false = refl
 
--- so behind the first row
+-- so after the first row
 behind_alike : (before rows others : List Record) → RowsAlike rows others → log_after before rows ≡ log_after before others
 behind_alike before [] [] h = refl
 behind_alike before [] (b ∷ others) h = absurd h

@@ -1,4 +1,4 @@
--- How the bytes of a log are cut, piece by piece.
+-- How the bytes of a log are cut, chunk by chunk.
 use Rattle.std.proofs.Common.{◌≡◌, ◌<◌, ◌+◌, ◌-◌, ℕ, true, false, List, [], ◌∷◌, ◌++◌, length, take, take-add, drop, refl, sym, ap, ◌∙◌, append_assoc, add-one, arith}
 use Rattle.std.proofs.lemmas.List.{drop_all, length-drop, take_all}
 use Rattle.std.proofs.Math.Seq.{drop-cons, take-suc}
@@ -7,7 +7,7 @@ use Rattle.wc_record.specs.Cutting.{Cuts, Passes, cut_from}
 use Rattle.wc_record.specs.Places.{after, is_cut}
 use Rattle.wc_record.specs.declared.place.Place.{Place}
 
--- nothing is read behind the cut
+-- nothing is read after the cut
 pub cut_at_end : (place : Place) (bytes : List ℕ) → is_cut place ≡ true → cut_from place bytes ≡ []
 unfolding cut_from
 cut_at_end place [] e = refl

@@ -23,11 +23,11 @@ ten_more m (suc k) = rw (add-suc, pow-suc) (omega (arith, ten_more m k))
 pub ten_rises : (m n : ℕ) → m ≤ n → 10 ^ m ≤ 10 ^ n
 ten_rises m n h = let e : m + (n - m) ≡ n = omega arith in subst (λ k. 10 ^ m ≤ 10 ^ k) e (ten_more m (n - m))
 
--- a digit more, of a number of so many digits
+-- a digit more, of a number of n digits
 pub digit_more : (value digit size : ℕ) → value < 10 ^ size → digit < 10 → value * 10 + digit < 10 ^ (size + 1)
 digit_more value digit size below small = rw (add-suc, add-zero, pow-suc) (omega (arith, below, small))
 
--- what stands behind the first byte
+-- what follows the first byte
 abbrev pub behind_first : List ℕ → List ℕ
 behind_first text = take (length text - 1) (drop 1 text)
 
@@ -45,7 +45,7 @@ pub whole_behind : (value digit whole : ℕ) (rest : List ℕ) → 1 ≤ length 
 whole_behind value digit whole [] h is e = absurd (omega arith)
 whole_behind value digit whole (c ∷ rest) h is e = rw (behind_is c rest, is) e
 
--- how much is behind
+-- how much is after
 behind_size : (rest : List ℕ) → 1 ≤ length rest → length (behind_first rest) + 1 ≡ length rest
 behind_size [] h = absurd (omega arith)
 behind_size (c ∷ rest) h = rw (behind_is c rest) (omega arith)

@@ -30,7 +30,7 @@ pair_same high low i = by_digits (is_digit high 16) (is_digit low 16) refl refl
     by_digits true false e f = rw (digit_same high, digit_same low, e, f) refl
     by_digits false l e f = rw (digit_same high, e) refl
 
--- a byte before what is decoded behind it
+-- a byte before what is decoded after it
 joined_same : (byte : Result ℕ FromHexError) (bytes : Result (List ℕ) FromHexError) → ok_of (byte >>= (λ b. bytes >>= (λ bs. Ok (b ∷ bs)))) ≡ with_byte (ok_of byte) (ok_of bytes)
 joined_same (Ok b) (Ok bs) = refl
 joined_same (Ok b) (Err e) = refl
@@ -69,7 +69,7 @@ halves (high ∷ low ∷ rest) bytes e = by_parts (byte_of_digits high low) (byt
         let size = m tail refl in
         rw (← same) (omega arith)
 
--- what decoding into room of its size gives
+-- what decoding into a buffer of its size gives
 room_same : (text : List ℕ) → ok_of (decode_sized text (length text / 2)) ≡ bytes_of_hex text
 room_same text = by_length (length text % 2 == 1) refl
   where
@@ -79,7 +79,7 @@ room_same text = by_length (length text % 2 == 1) refl
         let same : (length text / 2 == length text / 2) ≡ true = grind (arith, nat_tests) in
         rw (e, same) (pairs_same 0 text)
 
--- a longer text is no piece
+-- a longer text is not a chunk
 pub piece_too_long : (text : List ℕ) → 8192 < length text → None ≡ line_piece_of text
 piece_too_long text long = by_bytes (bytes_of_hex text) refl
   where
@@ -90,7 +90,7 @@ piece_too_long text long = by_bytes (bytes_of_hex text) refl
         let many : nat_le (length bytes) 4096 ≡ false = grind (arith, nat_tests) in
         rw many refl
 
--- the bytes of a text of another length than two are no word
+-- the bytes of a text of another length than two are not a word
 other_length : (text : List ℕ) → (length text / 2 == 2) ≡ false → (more : Option (List ℕ)) → bytes_of_hex text ≡ more → None ≡ where_passes (λ bytes. length bytes == 2) more
 other_length text e None m = refl
 other_length text e (Some bytes) m =
@@ -151,7 +151,7 @@ word_read text out r word h u e is =
     let size : length out ≡ 2 = grind (arith, nat_tests) in
     ap Some (is ∙ word_of_two out size) ∙ sym (ap (option_map (number_from_digits 256)) read)
 
--- what is not decoded is no word
+-- what is not decoded is not a word
 pub word_refused : (text out : List ℕ) (r : Result Unit FromHexError) → MatchResult (decode_sized text 2) (λ bytes. (r ≡ Ok tt) × (out ≡ bytes)) (λ e. r ≡ Err e) → (f : FromHexError) → r ≡ Err f → None ≡ inputs_word_of text
 word_refused text out r h f e =
     let read = sym (sized_same text) ∙ refused (decode_sized text 2) r out h f e in
@@ -161,11 +161,11 @@ word_refused text out r h f e =
 abbrev Decodes : Result (List ℕ) FromHexError → Result Unit FromHexError → List ℕ → Type 0
 Decodes decoded r out = MatchResult decoded (λ bytes. (r ≡ Ok tt) × (out ≡ bytes)) (λ e. r ≡ Err e)
 
--- what was decoded into room of its size
+-- what was decoded into a buffer of its size
 read_whole : (text out : List ℕ) (size : ℕ) (r : Result Unit FromHexError) → size ≡ length text / 2 → Decodes (decode_sized text size) r out → (u : Unit) → r ≡ Ok u → bytes_of_hex text ≡ Some out
 read_whole text out size r is h u e = sym (room_same text) ∙ ap (λ n. ok_of (decode_sized text n)) (sym is) ∙ written (decode_sized text size) r out h u e
 
--- bytes that were decoded are a piece where they are few
+-- bytes that were decoded are a chunk if they are few
 pub piece_read : (text out : List ℕ) (size : ℕ) (r : Result Unit FromHexError) → length text ≤ 8192 → size ≡ length text / 2 → Decodes (decode_sized text size) r out → (u : Unit) → r ≡ Ok u → Some out ≡ line_piece_of text
 piece_read text out size r few is h u e =
     let read = read_whole text out size r is h u e in
@@ -177,13 +177,13 @@ piece_read text out size r few is h u e =
 pub piece_few : (text out : List ℕ) (size : ℕ) (r : Result Unit FromHexError) → length text ≤ 8192 → size ≡ length text / 2 → Decodes (decode_sized text size) r out → (u : Unit) → r ≡ Ok u → length out ≤ 4096
 piece_few text out size r few is h u e = omega (arith, halves text out (read_whole text out size r is h u e))
 
--- what is not decoded is no piece
+-- what is not decoded is not a chunk
 pub piece_not_read : (text out : List ℕ) (size : ℕ) (r : Result Unit FromHexError) → size ≡ length text / 2 → Decodes (decode_sized text size) r out → (f : FromHexError) → r ≡ Err f → None ≡ line_piece_of text
 piece_not_read text out size r is h f e =
     let read : bytes_of_hex text ≡ None = sym (room_same text) ∙ ap (λ n. ok_of (decode_sized text n)) (sym is) ∙ refused (decode_sized text size) r out h f e in
     rw read refl
 
--- room that is written whole holds what was written
+-- a buffer that is written whole holds what was written
 pub whole_room : (room out : List ℕ) (size : ℕ) → length out ≡ length room → size ≡ length room → take size (out ++ drop (length out) room) ≡ out
 whole_room room out size filled is =
     let behind : drop (length out) room ≡ [] = drop_of_length-le room (omega (arith, filled)) in

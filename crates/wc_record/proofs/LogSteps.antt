@@ -114,7 +114,7 @@ first_has_none (name ∷ more) e = by_name (bytes_eq (codes "ms") name) refl (sy
     by_name true f h = let same : codes "ms" ≡ name = (bytes_eq-Decides (codes "ms") name).0 f in rw (← same) refl
     by_name false f h = cc
 
--- the first row, where it is as it must be
+-- the first row, if it is as it must be
 pub first_read : (left rest : List Record) (fields : Record) → left ≡ fields ∷ rest → true ≡ has_fields first_row fields → log_of left ≡ log_after (fields ∷ []) rest
 first_read left rest fields e f = rw (e, ← f) refl
 
@@ -136,7 +136,7 @@ taken bytes_left before left (Err (fault.Refused number place)) given end e h = 
 taken bytes_left before left (Err fault.Read) given end e h = tt
 taken bytes_left before left (Err fault.Memory) given end e h = tt
 
--- behind it stand the same records, up to the end
+-- after it are the same records, up to the end
 pub read_on : {R : Type 0} (bytes_left : R → Option (List ℕ)) (before left : List Record) (answer : Answer RowHead) (given : Rows R) (end : Option LogEnd) → end ≡ end_behind answer
     → GivesRecord bytes_left before left answer given → ReadsTo bytes_left end (record given { end = end }) (all_records before left)
 read_on bytes_left before left (Ok (Some row)) given end e h =
@@ -173,28 +173,28 @@ none_read (fields ∷ before) e = absurd (omega (arith, e))
 pub one_read : (fields : Record) (before rest : List Record) → all_records before (fields ∷ rest) ≡ all_records (fields ∷ before) rest
 one_read fields before rest = sym (ap (λ l. l ++ rest) (reverse_onto before fields []) ∙ append_assoc (reverse before) (fields ∷ []) rest)
 
--- the record behind so many is the one of the next number
+-- the record after n is the one of the next number
 pub record_there : (fields : Record) (before rest : List Record) (n : ℕ) → n ≡ length before → fields ≡ record_at (all_records before (fields ∷ rest)) (n + 1)
 record_there fields before rest n counted =
     let place : n ≡ length (reverse before) + 0 = omega (arith, length-reverse before) in
     let next : n + 1 ≡ suc n = omega arith in
     rw (next, slice_get-append_right (reverse before) (fields ∷ rest) n 0 place) refl
 
--- so it is where it was read last
+-- so it is if it was read last
 pub record_read : (fields : Record) (earlier left : List Record) (n : ℕ) → n ≡ suc (length earlier) → fields ≡ record_at (all_records (fields ∷ earlier) left) n
 record_read fields earlier left n counted =
     let next : n ≡ length earlier + 1 = omega arith in
     rw (next, ← one_read fields earlier left) (record_there fields earlier left (length earlier) refl)
 
--- what is left where nothing has ended the log
+-- what is left if nothing has ended the log
 pub not_ended : {R : Type 0} (bytes_left : R → Option (List ℕ)) (rows : Rows R) (log : LogOf) (end : Option LogEnd) → end ≡ None → IsLeft bytes_left end rows log → IsLeft bytes_left None rows log
 not_ended bytes_left rows log end e h = rw e at h
 
--- the records where nothing has ended the log
+-- the records if nothing has ended the log
 pub reads_still : {R : Type 0} (bytes_left : R → Option (List ℕ)) (rows : Rows R) (records : List Record) (end : Option LogEnd) → end ≡ None → ReadsTo bytes_left end rows records → ReadsTo bytes_left None rows records
 reads_still bytes_left rows records end e h = rw e at h
 
--- where the bytes are known, their log is left at first: what is cut off changes none of it
+-- if the bytes are known, their log is left at first: what is cut off changes none of it
 pub all_left : {R : Type 0} (bytes_left : R → Option (List ℕ)) (rows : Rows R) (known read : Option (List ℕ)) → rows.number ≡ 0 → rows.last ≡ 0 → rows.end ≡ None → read ≡ option_map (cut_from log_start) known
     → ((bytes : List ℕ) → read ≡ Some bytes → HasRecords bytes_left rows.records (records_of bytes)) → IfSome known (λ bytes. HasLeft bytes_left rows (log_of (records_of bytes)))
 all_left bytes_left rows None read number last end cut h = tt

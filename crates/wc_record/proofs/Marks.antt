@@ -1,4 +1,4 @@
--- A byte order mark at the start of a log is read as `csv` reads it: it is none of the log's bytes.
+-- A byte order mark at the start of a log is read as `csv` reads it: it is not one of the log's bytes.
 use Rattle.std.proofs.Common.{◌≡◌, ◌==◌, ◌&&◌, ℕ, Bool, true, false, cond, List, [], ◌∷◌, refl, subst, sym, ap, ◌∙◌}
 use Rattle.std.proofs.lemmas.Bool.{eqb-true}
 use Rattle.csv.specs.Reading.{default_config, records, strip_bom}
@@ -18,7 +18,7 @@ no_mark_first a [] e = refl
 no_mark_first a (b ∷ []) e = refl
 no_mark_first a (b ∷ c ∷ rest) e = rw e refl
 
--- the same where its second byte is no mark's
+-- the same if its second byte is not a mark's
 no_mark_second : (a b : ℕ) (xs : List ℕ) → (b == 0xBB) ≡ false → strip_bom (a ∷ b ∷ xs) ≡ a ∷ b ∷ xs
 unfolding strip_bom
 no_mark_second a b [] e = refl
@@ -28,7 +28,7 @@ no_mark_second a b (c ∷ rest) e = rw e (none (a == 0xEF))
     none true = refl
     none false = refl
 
--- the same where its third byte is no mark's
+-- the same if its third byte is not a mark's
 no_mark_third : (a b c : ℕ) (xs : List ℕ) → (c == 0xBF) ≡ false → strip_bom (a ∷ b ∷ c ∷ xs) ≡ a ∷ b ∷ c ∷ xs
 unfolding strip_bom
 no_mark_third a b c xs e = rw e (none (a == 0xEF) (b == 0xBB))
@@ -38,11 +38,11 @@ no_mark_third a b c xs e = rw e (none (a == 0xEF) (b == 0xBB))
     none true false = refl
     none false y = refl
 
--- the bytes that are read from a spot on, where so many bytes were read and no field has ended
+-- the bytes that are read from a position on, if n bytes were read and no field has ended
 from : Spot → ℕ → List ℕ → List ℕ
 from at size bytes = cut_from (record { spot = at; ended = 0; size = size }) bytes
 
--- behind two bytes of a mark
+-- after two bytes of a mark
 third_kept : (bytes : List ℕ) → strip_bom (0xEF ∷ 0xBB ∷ from spot.ThirdOfMark 2 bytes) ≡ cut_from record_start (strip_bom (0xEF ∷ 0xBB ∷ bytes))
 unfolding strip_bom cut_from from
 third_kept [] = refl
@@ -52,7 +52,7 @@ third_kept (c ∷ rest) = by_third (c == 0xBF) refl
     by_third true e = rw (eqb-true c 0xBF e) refl
     by_third false e = no_mark_third 0xEF 0xBB c _ e ∙ sym (ap (cut_from record_start) (no_mark_third 0xEF 0xBB c rest e))
 
--- behind one
+-- after one
 second_kept : (bytes : List ℕ) → strip_bom (0xEF ∷ from spot.SecondOfMark 1 bytes) ≡ cut_from record_start (strip_bom (0xEF ∷ bytes))
 unfolding strip_bom cut_from from
 second_kept [] = refl

@@ -24,17 +24,17 @@ unfolding cut_from
 end_of None place h = tt
 end_of (Some xs) place h = ap (cut_from place) h
 
--- behind the cut there are none
+-- after the cut there are none
 end_at_cut : (known : Option (List ℕ)) (place : Place) → is_cut place ≡ true → IsAtEnd (read_of place known)
 end_at_cut None place e = tt
 end_at_cut (Some xs) place e = cut_at_end place xs e
 
--- where none is given, none is left
+-- if none is given, none is left
 ends : (old new : Option (List ℕ)) (there : Place) (given size : ℕ) → (0 < size → is_cut there ≡ true) → size ≡ given → (given ≡ 0 → IsAtEnd new) → IsAtEnd (read_of there new)
 ends old new there given zero stops e h = end_of new there (h (sym e))
 ends old new there given (suc n) stops e h = end_at_cut new there (stops (omega arith))
 
--- a read of so many bytes, of which so many stand up to the cut
+-- a read of m bytes, of which n are up to the cut
 pub reads_cut : (old new : Option (List ℕ)) (here there : Place) (buffer : List ℕ) (given count : ℕ) → Cuts here (take given buffer) count there → count ≤ length (take given buffer) → (count < length (take given buffer) → is_cut there ≡ true)
     → given ≡ length (take given buffer) → Consumes old new (take given buffer) × (given ≡ 0 → 0 < length buffer → IsAtEnd new)
     → Consumes (read_of here old) (read_of there new) (take count buffer) × (count ≡ 0 → 0 < length buffer → IsAtEnd (read_of there new))
@@ -43,7 +43,7 @@ reads_cut old new here there buffer given count cuts bound stops size h = (
   λ none room. ends old new there given (length (take given buffer)) (λ some. stops (omega (arith, none, some))) (sym size) (λ e. h.1 e room),
 )
 
--- behind the cut a read gives nothing
+-- after the cut a read gives nothing
 pub reads_none : (known : Option (List ℕ)) (place : Place) (buffer : List ℕ) (none : ℕ) → is_cut place ≡ true → none ≡ 0 → Consumes (read_of place known) (read_of place known) (take none buffer) × (none ≡ 0 → 0 < length buffer → IsAtEnd (read_of place known))
 reads_none None place buffer none e zero_is = (tt, λ at room. tt)
 reads_none (Some xs) place buffer none e zero_is = (rw zero_is refl, λ at room. cut_at_end place xs e)

@@ -37,7 +37,7 @@ found_one cfg a b xs fields (Some ys) (one ∷ rest) h r =
       are_left = rw (is.2, is.3) (h.0, h.1, h.2.3, h.3);
     }
 
--- where none was found none is left
+-- if none was found, none is left
 found_none : (cfg : Config) (a b : State) (xs : List ℕ) (fields : Record) (after : Option (List ℕ)) (left : List Record) → AreRecords cfg a xs left → ReadsNext cfg a (Some xs) after false fields b → left ≡ []
 unfolding Reached
 found_none cfg a b xs fields None left h r = absurd r

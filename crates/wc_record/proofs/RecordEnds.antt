@@ -1,4 +1,4 @@
--- All records of a text, as the function that reads so many of them gives them.
+-- All records of a text, as the function that reads n of them gives them.
 use Rattle.std.proofs.Common.{◌≡◌, ◌≤◌, ◌<◌, ◌+◌, ℕ, zero, suc, Bool, true, false, cond, List, [], ◌∷◌, length, Option, Some, None, refl, arith, ◌==◌, ◌&&◌, ◌++◌}
 use Rattle.csv.specs.Machine.{Read, after_end, ends_at_end, ends_with, field_after, fields_after, in_field, is_byte, is_end, next_record, start_field, start_record, step}
 use Rattle.csv.specs.Reading.{AreRecords, Reached, records, records_from, records_next}
@@ -58,13 +58,13 @@ step_ends cfg st.AfterQuote c = either (cfg.quoting && cfg.double_quote && (c ==
 step_ends cfg st.InComment c = either (c == 10) _ _ (plain st.StartRecord act.Skip refl) (plain st.InComment act.Skip refl)
 step_ends cfg st.AfterCr c = either (c == 10) _ _ (plain st.StartRecord act.Skip refl) (start_record_ends cfg c)
 
--- behind a record nothing is open, and the text is no longer
+-- after a record nothing is open, and the text is no longer
 record Behind (s : State) (xs : List ℕ) (p : Read) : Type 0 where
   closed : ends_at_end p.1 ≡ false
   no_longer : length p.2 ≤ length xs
   shorter : ends_at_end s ≡ false → length p.2 < length xs
 
--- so behind each record
+-- so after each record
 behind : (cfg : Config) (s : State) (fields : List (List ℕ)) (field xs : List ℕ) (p : Read) → next_record cfg s fields field xs ≡ Some p → Behind s xs p
 unfolding next_record
 behind cfg s fields field [] p e = by_end (ends_at_end s) refl e

@@ -1,4 +1,4 @@
--- The place at which a reader stands, as the state machine of `csv` has it.
+-- The place at which a reader is, as the state machine of `csv` has it.
 use Rattle.std.proofs.Common.{◌≡◌, ◌+◌, ◌==◌, ◌||◌, ℕ, Bool, true, false, cond, min, refl, ap, arith}
 use Rattle.std.proofs.lemmas.Bool.{eqb-true}
 use Rattle.csv.specs.Machine.{in_field, start_field, start_record, step}
@@ -12,11 +12,11 @@ use Rattle.wc_record.specs.declared.place.Place.{Place}
 use Rattle.wc_record.specs.declared.place.Spot.{Spot}
 use Rattle.wc_record.specs.declared.place.Spot.TheVariants as spot
 
--- a place in a record of which so many fields have ended, and some bytes were read
+-- a place in a record of which n fields have ended, and some bytes were read
 abbrev pub IsIn : Spot → ℕ → Place → Type 0
 IsIn at ended place = (size : ℕ) × (place ≡ record { spot = at; ended = min 3 ended; size = size })
 
--- where so many fields have ended, a state of the machine stands at this place; the default
+-- if n fields have ended, a state of the machine is at this place; the default
 -- settings know no escape and no comment
 abbrev pub StandsAt : State → ℕ → Place → Type 0
 StandsAt st.StartRecord ended place = (place ≡ record_start) × (ended ≡ 0)
@@ -40,7 +40,7 @@ either : (ended : ℕ) (b : Bool) (q r : State × Action) (x y : Place) → Lead
 either ended true q r x y h k = h
 either ended false q r x y h k = k
 
--- behind a comma
+-- after a comma
 comma_leads : (ended size : ℕ) → IsIn spot.Opening (ended + 1) (record { spot = spot.Opening; ended = min 3 (min 3 ended + 1); size = size })
 comma_leads ended size =
     let more : min 3 (min 3 ended + 1) ≡ min 3 (ended + 1) = omega arith in
@@ -70,7 +70,7 @@ record_leads byte = by_end ((byte == 13) || (byte == 10)) refl
     by_end true e = at_return (byte == 13) refl e
     by_end false e = opening_leads 0 1 byte
 
--- behind a carriage return
+-- after a carriage return
 return_leads : (byte : ℕ) → LeadsTo 0 (step default_config st.AfterCr byte) (after record_start byte)
 return_leads byte = by_feed (byte == 10) refl
   where
@@ -78,11 +78,11 @@ return_leads byte = by_feed (byte == 10) refl
     by_feed true f = rw (eqb-true byte 10 f) (refl, refl)
     by_feed false f = record_leads byte
 
--- one byte more of so many
+-- one byte more of n
 abbrev counted : ℕ → ℕ
 counted size = min 65536 (size + 1)
 
--- each step leads to the place behind its byte
+-- each step leads to the place after its byte
 pub leads : (state : State) (ended : ℕ) (place : Place) (byte : ℕ) → StandsAt state ended place → LeadsTo ended (step default_config state byte) (after place byte)
 leads st.StartRecord ended place byte h = rw (h.0, h.1) (record_leads byte)
 leads st.AfterCr ended place byte h = rw (h.0, h.1) (return_leads byte)

@@ -27,27 +27,27 @@ either : (size : ℕ) (b : Bool) (x y : Place) → StaysOutside size x → Stays
 either size true x y h k = h
 either size false x y h k = k
 
--- behind a byte that is no quote
+-- after a byte that is not a quote
 plain_stays : (ended size byte : ℕ) → StaysOutside size (after_plain ended size byte)
 plain_stays ended size byte =
     either size (byte == 44) _ _ (record { outside = refl; grows = omega arith })
     (either size ((byte == 13) || (byte == 10)) _ _ (record { outside = refl; grows = omega arith }) (record { outside = refl; grows = omega arith }))
 
--- at each spot outside of quotes
+-- at each position outside of quotes
 spot_stays : (at : Spot) (ended size byte : ℕ) → is_outside at ≡ true → (byte == 34) ≡ false → StaysOutside size (after_at at ended size byte)
 spot_stays spot.Opening ended size byte e f = rw f (plain_stays ended size byte)
 spot_stays spot.Plain ended size byte e f = plain_stays ended size byte
 spot_stays spot.Quoted ended size byte e f = cc
 spot_stays other ended size byte e f = cc
 
--- behind a line feed a record starts
+-- after a line feed a record starts
 line_ends : (at : Spot) (ended size : ℕ) → is_outside at ≡ true → after_at at ended size 10 ≡ record_start
 line_ends spot.Opening ended size e = refl
 line_ends spot.Plain ended size e = refl
 line_ends spot.Quoted ended size e = cc
 line_ends other ended size e = cc
 
--- what is no quote does not pass the test for one
+-- what is not a quote does not pass the test for one
 no_quote : (byte : ℕ) → byte ≢ 34 → (byte == 34) ≡ false
 no_quote byte e = grind (arith, nat_tests)
 
@@ -67,7 +67,7 @@ lines_pass (byte ∷ bytes) place (suc last) e few within feed none = λ followi
     ∙ ap (λ (xs : List ℕ). byte ∷ xs)
     (lines_pass bytes (after place byte) last stays.outside (omega (arith, few, stays.grows)) (omega (arith, within)) feed (λ k low. none (suc k) (omega (arith, low))) following)
 
--- what an unquoted piece has up to its last line feed is passed
+-- what an unquoted chunk has up to its last line feed is passed
 pub whole_lines_pass : (place : Place) (bytes : List ℕ) (count : ℕ) → is_outside place.spot ≡ true → place.size + length bytes < 65536 → AreUnquotedLines bytes count → 0 < count → Passes place bytes count record_start
 whole_lines_pass place bytes count e few lines some =
     let found = lines some in

@@ -1,4 +1,4 @@
--- The bytes of a log that are read: of a record whose third field has ended none behind its first
+-- The bytes of a log that are read: of a record whose third field has ended none after its first
 -- 65536 (the profile's own).
 use Rattle.std.specs.Prelude.{◌≡◌, ◌≢◌, ◌<◌, ◌≤◌, ◌-◌, ℕ, List, [], ◌∷◌, ◌++◌, length, slice_index, take, drop, if◌then◌else◌}
 use Rattle.wc_record.specs.Places.{after, is_cut}
@@ -9,17 +9,17 @@ unfoldable pub cut_from : Place → List ℕ → List ℕ
 cut_from place [] = []
 cut_from place (byte ∷ rest) = if is_cut place then [] else byte ∷ cut_from (after place byte) rest
 
--- so many of these bytes, and then what is read from the new place on, is what is read of them and
+-- n of these bytes, and then what is read from the new place on, is what is read of them and
 -- of any that follow
 abbrev pub Cuts : Place → List ℕ → ℕ → Place → Type 0
 Cuts old bytes count new = (following : List ℕ) → cut_from old (bytes ++ following) ≡ take count bytes ++ cut_from new following
 
--- so many bytes were passed, and the others are still to be
+-- n bytes were passed, and the others are still to be
 abbrev pub Passes : Place → List ℕ → ℕ → Place → Type 0
 Passes old bytes count new =
     (following : List ℕ) → cut_from old (bytes ++ following) ≡ take count bytes ++ cut_from new (drop count bytes ++ following)
 
--- so many bytes, none or all up to a line feed; where there are some, no byte of all is a quote
+-- n bytes, none or all up to a line feed; if there are some, no byte of all is a quote
 abbrev pub AreUnquotedLines : List ℕ → ℕ → Type 0
 AreUnquotedLines bytes count =
     0 < count → (count ≤ length bytes) × (slice_index bytes (count - 1) ≡ 10)

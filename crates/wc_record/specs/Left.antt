@@ -1,4 +1,4 @@
--- What is left of a log: its rows and its refusal, where the bytes of the reader are known.
+-- What is left of a log: its rows and its refusal, if the bytes of the reader are known.
 use Rattle.std.specs.Prelude.{◌≡◌, ◌≤◌, ◌<◌, ◌^◌, ◌⊎◌, ⊤, ℕ, ◌-◌, true, List, [], ◌∷◌, length, Option, Some, None, Result, Ok, Err}
 use Rattle.wc_model.specs.Run.Log.{Record, LogOf, log_of, log_after, last_moment, refused_at, with_row}
 use Rattle.wc_model.specs.Run.Rows.{LogRow}
@@ -12,11 +12,11 @@ use Rattle.wc_record.specs.declared.log.Rows.{Rows}
 use Rattle.wc_record.specs.declared.row_kind.LogFault.{LogFault}
 use Rattle.wc_record.specs.declared.row_kind.LogFault.TheVariants as fault
 
--- what a call answers: a row or its head, nothing where no row is left, or a fault
+-- what a call answers: a row or its head, nothing if no row is left, or a fault
 abbrev pub Answer : Type 0 → Type 0
 Answer A = Result (Option A) LogFault
 
--- what each call answers behind an end
+-- what each call answers after an end
 abbrev pub answer_at : {A : Type 0} → LogEnd → Answer A
 answer_at AllRead = Ok None
 answer_at (Met met) = Err met
@@ -31,7 +31,7 @@ end_behind (Err met) = Some (Met met)
 abbrev pub ended : {R : Type 0} → Rows R → Option LogEnd
 ended rows = rows.end
 
--- how many rows were read, the first one too
+-- the number of rows that were read, the first one too
 abbrev pub rows_read : {R : Type 0} → Rows R → ℕ
 rows_read rows = rows.number
 
@@ -39,11 +39,11 @@ rows_read rows = rows.number
 abbrev pub last_ms : {R : Type 0} → Rows R → ℕ
 last_ms rows = rows.last
 
--- the bytes that are lent with the last row
+-- the bytes that are borrowed with the last row
 abbrev pub row_bytes : {R : Type 0} → Rows R → List ℕ
 row_bytes rows = rows.room.items
 
--- what the reader had spent when it was lent
+-- what the reader had spent when it was borrowed
 abbrev pub started_at : {R : Type 0} → Rows R → ℕ
 started_at rows = rows.start
 
@@ -51,21 +51,21 @@ started_at rows = rows.start
 abbrev pub bounded_from : {R : Type 0} → Rows R → ℕ
 bounded_from rows = (reader_source rows.records.csv).start
 
--- a count of the reader that is lent
+-- a count of the reader that is borrowed
 abbrev pub count_in : {R : Type 0} → (R → ℕ) → Rows R → ℕ
 count_in count rows = count (lent (reader_source rows.records.csv))
 
--- the moment of a row, 0 where there is none
+-- the moment of a row, 0 if there is none
 abbrev pub moment_or_zero : Option ℕ → ℕ
 moment_or_zero None = 0
 moment_or_zero (Some ms) = ms
 
--- the log behind the records that were read (newest first)
+-- the log after the records that were read (newest first)
 abbrev pub log_behind : List Record → List Record → LogOf
 log_behind [] left = log_of left
 log_behind (fields ∷ before) left = log_after (fields ∷ before) left
 
--- these records were read, and behind them stands this log
+-- these records were read, and after them is this log
 pub record StandsBehind {R : Type 0} (bytes_left : R → Option (List ℕ)) (rows : Rows R) (before left : List Record) : Type 0 where
   pub has : HasRecords bytes_left rows.records left
   pub number : rows.number ≡ length before
@@ -76,7 +76,7 @@ pub record StandsBehind {R : Type 0} (bytes_left : R → Option (List ℕ)) (row
 abbrev pub nothing_left : LogOf
 nothing_left = record { rows = []; refusal = None }
 
--- an end says what is left; behind a fault of the reader or of memory nothing is known
+-- an end says what is left; after a fault of the reader or of memory nothing is known
 abbrev pub EndSays : LogEnd → LogOf → Type 0
 EndSays AllRead log = log ≡ nothing_left
 EndSays (Met (fault.Refused number place)) log = log ≡ refused_at number place
@@ -98,7 +98,7 @@ IsRefusalLeft bytes_left log (fault.Refused number place) rows = (log ≡ refuse
 IsRefusalLeft bytes_left log fault.Read rows = ⊤
 IsRefusalLeft bytes_left log fault.Memory rows = ⊤
 
--- an answer takes the first row that is left, which is the view of what it gives, or tells that
+-- an answer takes the first row that is left, which is the view of what it gives, or says that
 -- none is left, or the refusal; a fault of the reader or of memory says nothing
 abbrev pub Takes : {R A : Type 0} → (A → LogRow) → (R → Option (List ℕ)) → LogOf → Answer A → Rows R → Type 0
 Takes view bytes_left log (Ok (Some given)) rows = (rest : LogOf) × (log ≡ with_row (view given) rest) × HasLeft bytes_left rows rest
@@ -115,11 +115,11 @@ pub record IsNext {R : Type 0} (number ms : ℕ) (rows : Rows R) (row : LogRow) 
   pub early : row.ms < 2 ^ 40
   pub in_range : IsDataInRange row.brings
 
--- a failed read has its cause in the reader: it has failed since, or its count of failures stands
+-- a failed read has its cause in the reader: it has failed since, or its count of failures is
 -- at its end, or as much was read as may be
 abbrev pub HasCause : ℕ → ℕ → ℕ → ℕ → Type 0
 HasCause failures_before failures start spent = (failures_before < failures) ⊎ (failures ≡ 2 ^ 64 - 1) ⊎ (is_used_up start spent ≡ true)
 
--- the same of the reader that is lent
+-- likewise for the reader that is borrowed
 abbrev pub HasCauseIn : {R : Type 0} → (R → ℕ) → (R → ℕ) → ℕ → Rows R → Type 0
 HasCauseIn failures spent before rows = HasCause before (count_in failures rows) (started_at rows) (count_in spent rows)

@@ -1,6 +1,6 @@
--- Where a reader stands in the bytes of a log: what the next byte may be (RFC 4180, section 2; a
--- byte order mark at the log's start is none of its bytes), how many fields of the record at hand
--- have ended, up to three, and how many of its bytes were read, up to 65536.
+-- Where a reader is in the bytes of a log: what the next byte may be (RFC 4180, section 2; a byte
+-- order mark at the log's start is none of its bytes), the number of fields of the current record
+-- that have ended, up to three, and the number of its bytes that were read, up to 65536.
 use Rattle.std.specs.Prelude.{ℕ, ◌+◌, ◌==◌, ◌||◌, ◌&&◌, Bool, true, false, min, nat_le, if◌then◌else◌}
 use Rattle.wc_record.specs.declared.place.Place.{Place}
 use Rattle.wc_record.specs.declared.place.Spot.{Spot}
@@ -14,24 +14,24 @@ log_start = record { spot = spot.LogStart; ended = 0; size = 0 }
 abbrev pub record_start : Place
 record_start = record { spot = spot.Opening; ended = 0; size = 0 }
 
--- three fields of the record at hand have ended, so that it has more than three, and 65536 of its
+-- three fields of the current record have ended, so that it has more than three, and 65536 of its
 -- bytes were read
 abbrev pub is_cut : Place → Bool
 is_cut place = nat_le 3 place.ended && nat_le 65536 place.size
 
--- behind a byte outside of quotes that opens none: a comma ends a field, a line's end the record
+-- after a byte outside of quotes that opens none: a comma ends a field, a line's end the record
 abbrev pub after_plain : ℕ → ℕ → ℕ → Place
 after_plain ended size byte =
     if byte == 44 then record { spot = spot.Opening; ended = min 3 (ended + 1); size = size }
     else if (byte == 13) || (byte == 10) then record_start
     else record { spot = spot.Plain; ended = ended; size = size }
 
--- behind a byte where a quote opens quotes
+-- after a byte where a quote opens quotes
 abbrev pub after_opening : ℕ → ℕ → ℕ → Place
 after_opening ended size byte =
     if byte == 34 then record { spot = spot.Quoted; ended = ended; size = size } else after_plain ended size byte
 
--- behind one byte more, at each spot
+-- after one byte more, at each position
 abbrev pub after_at : Spot → ℕ → ℕ → ℕ → Place
 after_at spot.Opening ended size byte = after_opening ended size byte
 after_at spot.Plain ended size byte = after_plain ended size byte
@@ -50,6 +50,6 @@ is_outside spot.Opening = true
 is_outside spot.Plain = true
 is_outside other = false
 
--- behind one byte more
+-- after one byte more
 abbrev pub after : Place → ℕ → Place
 after place byte = after_at place.spot place.ended (min 65536 (place.size + 1)) byte

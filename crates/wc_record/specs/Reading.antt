@@ -1,4 +1,4 @@
--- What a reader of records has still to give, where it is known.
+-- What a reader of records has still to give, if it is known.
 use Rattle.std.specs.Prelude.{◌≡◌, ◌∷◌, [], Bool, true, false, ℕ, List, Option, Some, option_map}
 use Rattle.csv.specs.Reading.{AreRecords, Ready, default_config, is_flexible, reader_config, reader_state, reader_trim, records, source_of, strip_bom}
 use Rattle.csv.specs.declared.reader.Trim.TheVariants as trim
@@ -11,11 +11,11 @@ use Rattle.wc_record.specs.declared.records.Records.{Records}
 abbrev pub records_of : List ℕ → List Record
 records_of bytes = records default_config (strip_bom bytes)
 
--- the reader that is lent
+-- the reader that is borrowed
 abbrev pub lent : {R : Type 0} → Bounded R → R
 lent bounded = bounded.reader.now
 
--- the bytes that are read of a reader that is lent
+-- the bytes that are read of a reader that is borrowed
 abbrev pub lent_bytes : {R : Type 0} → (R → Option (List ℕ)) → Bounded R → Option (List ℕ)
 lent_bytes bytes_left bounded = option_map (cut_from bounded.place) (bytes_left (lent bounded))
 

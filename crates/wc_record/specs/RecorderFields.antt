@@ -7,7 +7,7 @@ use Rattle.wc_record.specs.declared.last_scans.Recorder.TheInside.{Inside}
 abbrev pub recorder_view : Inside → RecorderState
 recorder_view a = record { most = a.ring.capacity; records = a.ring.items }
 
--- there is room for at least one record, and for 1000 at most
+-- there is space for at least one record, and for 1000 at most
 pub record IsRecorderSound (a : Inside) : Type 0 where
   pub some : 1 ≤ a.ring.capacity
   pub few : a.ring.capacity ≤ 1000

@@ -10,7 +10,7 @@ use Rattle.wc_record.specs.declared.row_head.RowHead.{RowHead}
 use Rattle.wc_record.specs.declared.row_kind.LogFault.{LogFault}
 use Rattle.wc_record.specs.declared.row_kind.LogFault.TheVariants as fault
 
--- the first row was read, and behind it stands the rest of these records
+-- the first row was read, and after it is the rest of these records
 abbrev pub IsBehindFirst : {R : Type 0} → (R → Option (List ℕ)) → Rows R → List Record → Type 0
 IsBehindFirst bytes_left rows left =
     (fields : Record) × (rest : List Record) × (log_of left ≡ log_after (fields ∷ []) rest) × StandsBehind bytes_left rows (fields ∷ []) rest × (left ≡ fields ∷ rest)
@@ -21,12 +21,12 @@ RefusesRow (fault.Refused number place) log = log ≡ refused_at number place
 RefusesRow fault.Read log = ⊤
 RefusesRow fault.Memory log = ⊤
 
--- a refusal says what is left of the log, and its record is at hand
+-- a refusal says what is left of the log, and its record is the current one
 abbrev pub RefusesAt : {R : Type 0} → LogFault → List Record → List Record → Rows R → Type 0
 RefusesAt met before left rows = RefusesRow met (log_behind before left) × HasRefused met (all_records before left) (fields_of rows.row)
 
--- where these records were read and these are left, an answer gives the first row that is left, with its bytes in the
--- room and its record at hand, or tells that none is left, or the refusal
+-- if these records were read and these are left, an answer gives the first row that is left, with its bytes in the
+-- buffer and its current record, or says that none is left, or the refusal
 abbrev pub GivesRecord : {R : Type 0} → (R → Option (List ℕ)) → List Record → List Record → Answer RowHead → Rows R → Type 0
 GivesRecord bytes_left before left (Ok (Some row)) rows =
     (read : List Record) × (rest : List Record) × (log_behind before left ≡ with_row (head_view rows.room.items row) (log_behind read rest))
@@ -39,7 +39,7 @@ pub record Keeps {R : Type 0} (old new : Rows R) : Type 0 where
   pub start : new.start ≡ old.start
   pub end : new.end ≡ old.end
 
--- the same, and the row at hand
+-- the same, and the current row
 pub record KeepsRow {R : Type 0} (old new : Rows R) : Type 0 where
   pub start : new.start ≡ old.start
   pub end : new.end ≡ old.end

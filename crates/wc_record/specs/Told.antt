@@ -1,5 +1,5 @@
--- The row of a log that is told where one is refused: the record of that number among those that are read. (The profile's
--- own.)
+-- The row of a log that is reported if one is refused: the record of that number among those that are read. (The
+-- profile's own.)
 use Rattle.std.specs.Prelude.{◌≡◌, ⊤, ℕ, zero, suc, List, [], ◌∷◌, ◌++◌, reverse, Option, Some, None, slice_get, unwrap_or}
 use Rattle.csv.specs.Records.{fields_of}
 use Rattle.wc_model.specs.Run.Log.{Record}
@@ -14,7 +14,7 @@ use Rattle.wc_record.specs.declared.refused_row.RefusedRow.{RefusedRow}
 use Rattle.wc_record.specs.declared.row_kind.LogFault.{LogFault}
 use Rattle.wc_record.specs.declared.row_kind.LogFault.TheVariants as fault
 
--- the fields of the row that is told
+-- the fields of the row that is reported
 abbrev pub fields_told : RefusedRow → Record
 fields_told told = fields_of told.row
 
@@ -26,7 +26,7 @@ at_hand rows = fields_of rows.row
 abbrev pub records_read : List ℕ → List Record
 records_read bytes = records_of (cut_from log_start bytes)
 
--- the record of that number, counted from 1; no fields where there is none
+-- the record of that number, counted from 1; no fields if there is none
 abbrev pub record_at : List Record → ℕ → Record
 record_at records zero = []
 record_at records (suc before) = unwrap_or (slice_get records before) []
@@ -35,18 +35,18 @@ record_at records (suc before) = unwrap_or (slice_get records before) []
 abbrev pub all_records : List Record → List Record → List Record
 all_records before left = reverse before ++ left
 
--- the record at hand was read last, if any was
+-- the current record was read last, if any was
 abbrev pub IsAtHand : List Record → Record → Type 0
 IsAtHand [] fields = ⊤
 IsAtHand (newest ∷ earlier) fields = fields ≡ newest
 
--- so far these records were read, and behind them these are left
+-- so far these records were read, and after them these are left
 pub record IsAmong {R : Type 0} (bytes_left : R → Option (List ℕ)) (rows : Rows R) (records before left : List Record) : Type 0 where
   pub stands : StandsBehind bytes_left rows before left
   pub all : records ≡ all_records before left
   pub at_hand : IsAtHand before (fields_of rows.row)
 
--- at a refusal the record at hand is the one of the refused row
+-- at a refusal the current record is the one of the refused row
 abbrev pub HasRefused : LogFault → List Record → Record → Type 0
 HasRefused (fault.Refused number place) records fields = fields ≡ record_at records place
 HasRefused fault.Read records fields = ⊤

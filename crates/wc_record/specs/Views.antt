@@ -1,4 +1,4 @@
--- What the rows of this crate stand for, and what their answers say.
+-- What the rows of this crate represent, and what their answers say.
 use Rattle.std.specs.Prelude.{◌≡◌, ◌≤◌, ◌<◌, ◌^◌, ◌≤ℤ◌, ⊤, ℕ, List, length, [], ◌∷◌, Option, Some, None, Result, Ok, Err}
 use Rattle.wc_model.specs.Run.Log.{Record}
 use Rattle.wc_model.specs.Instrument.Plates.{least_sample, greatest_sample}
@@ -45,13 +45,13 @@ IsDataInRange (Inputs inputs) = inputs < 2 ^ 16
 IsDataInRange Scan = ⊤
 IsDataInRange Change = ⊤
 
--- the answer, with these bytes, says what is said, where memory was not refused
+-- the answer, with these bytes, says what is said, if memory was not refused
 abbrev pub SaysData : List ℕ → Result HeadKind RowFault → Result RowData ℕ → Type 0
 SaysData bytes (Ok kind) said = said ≡ Ok (head_data_view bytes kind)
 SaysData bytes (Err (Refused number)) said = said ≡ Err number
 SaysData bytes (Err Memory) said = ⊤
 
--- the same of a whole row
+-- likewise for a whole row
 abbrev pub SaysRow : List ℕ → Result RowHead RowFault → Result LogRow ℕ → Type 0
 SaysRow bytes (Ok row) said = said ≡ Ok (head_view bytes row)
 SaysRow bytes (Err (Refused number)) said = said ≡ Err number

@@ -14,7 +14,7 @@ use std::io::Read;
 use wc_model::{ByteIn, MOST_SPENT};
 
 /// Whether as much of a log was read as may be: 134217728 bytes and calls since the start, or a
-/// count at its end. Both are counts of `ByteIn::spent`, the first of when the reader was lent.
+/// count at its end. Both are counts of `ByteIn::spent`, the first of when the reader was borrowed.
 pub fn is_used_up(start: u64, spent: u64) -> bool
     ensures { result ≡ is_used_up start spent }
 {
@@ -26,7 +26,7 @@ fn read_within<R: ByteIn>(reader: &mut R, start: u64, buffer: &mut [u8]) -> io::
     ensures bound { ReadsAtMost result buffer.new }
     ensures bytes { ReadConsumes (R.bytes_left reader.old)
         (R.bytes_left reader.new) result buffer.new }
-    // What is used up reads no further.
+    // What is exhausted reads no further.
     ensures used_up { is_used_up start (R.spent_count reader.old) ≡ true
         → IsErr result × (reader.new ≡ reader.old) }
     ensures passed { is_used_up start (R.spent_count reader.old) ≡ false
@@ -39,8 +39,8 @@ fn read_within<R: ByteIn>(reader: &mut R, start: u64, buffer: &mut [u8]) -> io::
     reader.read(buffer)
 }
 
-/// A reader that is lent, the count at which it was, and the place at which it stands. It ends in a
-/// record that has more than three fields: such a record is refused, so that nothing behind its
+/// A reader that is borrowed, the count at which it was, and the place at which it is. It ends in a
+/// record that has more than three fields: such a record is refused, so that nothing after its
 /// third field counts.
 #[derive(Drop)]
 pub(crate) struct Bounded<'r, R> {
@@ -66,14 +66,14 @@ impl<'r, R: ByteIn> Bounded<'r, R> {
         }
     }
 
-    /// Reads, up to the cut, where it is not reached yet.
+    /// Reads, up to the cut, if it is not reached yet.
     #[inline(always)]
     fn read_on(&mut self, buffer: &mut [u8]) -> io::Result<usize>
         requires { is_cut self.old.place ≡ false }
         ensures bound { ReadsAtMost result buffer.new }
         ensures bytes { ReadConsumes (lent_bytes R.bytes_left self.old)
             (lent_bytes R.bytes_left self.new) result buffer.new }
-        // What is used up reads no further.
+        // What is exhausted reads no further.
         ensures used_up { is_used_up self.old.start (R.spent_count self.old.reader.now) ≡ true
             → IsErr result × (self.new.reader.now ≡ self.old.reader.now) }
         ensures failures { is_used_up self.old.start (R.spent_count self.old.reader.now) ≡ false
@@ -107,10 +107,10 @@ impl<'r, R: ByteIn> Read for Bounded<'r, R> {
         ensures bound { ReadsAtMost result buffer.new }
         ensures bytes { ReadConsumes (lent_bytes R.bytes_left self.old)
             (lent_bytes R.bytes_left self.new) result buffer.new }
-        // Nothing behind the cut is read.
+        // Nothing after the cut is read.
         ensures cut { is_cut self.old.place ≡ true
             → (result ≡ Ok 0) × (self.new.reader.now ≡ self.old.reader.now) }
-        // What is used up reads no further.
+        // What is exhausted reads no further.
         ensures used_up { is_cut self.old.place ≡ false
             → is_used_up self.old.start (R.spent_count self.old.reader.now) ≡ true
             → IsErr result × (self.new.reader.now ≡ self.old.reader.now) }

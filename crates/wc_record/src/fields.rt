@@ -47,7 +47,7 @@ pub(crate) fn is_first_row(row: &ByteRecord) -> bool
     }
 }
 
-/// The row of that number that a record writes, whose bytes stand in the room then, where the last
+/// The row of that number that a record writes, whose bytes are in the buffer then, if the last
 /// row's moment was `last`, 0 before any.
 #[inline(always)]
 pub(crate) fn row_in(

@@ -3,8 +3,8 @@ use memchr::memchr_iter;
 /// As many words of 64 bits as the 8192 bytes have that `csv` takes from its reader at once.
 const PIECE_WORDS: usize = 128;
 
-/// What a log's reader gave: how many bytes, and of the last piece its length, its last byte and a bit for each CR. It takes
-/// no memory that could be refused.
+/// What a log's reader gave: the number of bytes, and of the last chunk its length, its last byte and a bit for each CR. It
+/// takes no memory that could be refused.
 #[derive(Drop)]
 pub(crate) struct Given {
     total: u64,
@@ -24,14 +24,14 @@ impl Given {
         }
     }
 
-    /// Marks the CR at that place of the piece.
+    /// Marks the CR at that place of the chunk.
     fn mark(&mut self, place: usize) {
         if let Some(word) = self.returns.get_mut(place / 64) {
             *word |= 1 << (place % 64);
         }
     }
 
-    /// Notes a piece in place of the one before.
+    /// Notes a chunk in place of the one before.
     pub(crate) fn note(&mut self, piece: &[u8]) {
         let Some(last) = piece.last() else {
             return;
@@ -45,7 +45,7 @@ impl Given {
         }
     }
 
-    /// Whether a CR stands at that place of the last piece.
+    /// Whether a CR is at that place of the last chunk.
     fn is_return(&self, place: usize) -> bool {
         match self.returns.get(place / 64) {
             Some(word) => *word >> (place % 64) & 1 == 1,
@@ -66,7 +66,7 @@ impl Given {
         }
     }
 
-    /// Whether nothing was given behind that place.
+    /// Whether nothing was given after that place.
     pub(crate) fn is_end(&self, place: u64) -> bool {
         place >= self.total
     }

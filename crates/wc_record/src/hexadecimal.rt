@@ -3,8 +3,8 @@ ghost use Rattle.wc_model.specs.Run.Log.{line_piece_of, inputs_word_of};
 
 use std::alloc::AllocError;
 
-/// Puts the line bytes that a text of hexadecimal digits writes into the room, where it writes at
-/// most 4096: whether it does. No memory is taken where the room is large enough.
+/// Puts the line bytes that a text of hexadecimal digits writes into the buffer, if it writes at
+/// most 4096: whether it does. No memory is taken if the buffer is large enough.
 pub(crate) fn line_piece(room: &mut Vec<u8>, text: &[u8]) -> Result<bool, AllocError>
     ensures piece { IfOk result
         (λ found. (if found then Some room.new.items else None) ≡ line_piece_of text.now) }

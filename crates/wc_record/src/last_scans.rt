@@ -12,14 +12,14 @@ use wc_model::{Fault, Outputs};
 pub struct Record {
     /// Its moment in milliseconds.
     pub ms: u64,
-    /// How many items it executed.
+    /// The number of items it executed.
     pub steps: u32,
     /// What it left at the outputs.
     pub outputs: Outputs,
 }
 
-/// The records of the last scans, as many as it was made for. Its room is made once: keeping a
-/// record takes no memory.
+/// The records of the last scans, as many as it was made for. Its buffer is made once: keeping
+/// a record takes no memory.
 #[derive(Drop)]
 pub struct Recorder {
     ring: HeapCircularBuffer<Record>,
@@ -38,7 +38,7 @@ impl Model for Recorder {
 }
 
 impl Recorder {
-    /// A recorder of the last so many scans, 1 to 1000, that has no record yet. `Memory` is its
+    /// A recorder of the last n scans, 1 to 1000, that has no record yet. `Memory` is its
     /// only fault.
     pub fn new(alloc: Global, number: u16) -> Result<Recorder, Fault>
         requires some { 1 ≤ number }
@@ -52,7 +52,7 @@ impl Recorder {
         }
     }
 
-    /// Keeps the record of one scan more; where there is no room for it, the oldest goes. It takes
+    /// Keeps the record of one scan more; if there is no space for it, the oldest goes. It takes
     /// no memory.
     pub fn keep(&mut self, latest: Record)
         ensures records { self.new.records
@@ -65,7 +65,7 @@ impl Recorder {
         self.ring.push_back(latest);
     }
 
-    /// How many records it has, at most 1000.
+    /// The number of records it has, at most 1000.
     pub fn len(&self) -> usize
         ensures count { result ≡ length self.now.records }
         ensures few { result ≤ 1000 }

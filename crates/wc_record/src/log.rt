@@ -20,14 +20,14 @@ use std::alloc::{AllocError, Global};
 use std::mem::replace;
 use wc_model::{ByteIn, MOST_ROWS};
 
-/// Room for the bytes of a record: as many as `csv` takes from its reader at once.
+/// Capacity for the bytes of a record: as many as `csv` takes from its reader at once.
 const RECORD_ROOM: usize = 8192;
 
-/// Room for the ends of its fields, three and one that is too many.
+/// Capacity for the ends of its fields, three and one that is too many.
 const ENDS_ROOM: usize = 4;
 
-/// A record to read into. `csv` takes no more bytes at once than it has room for, so with less room
-/// than its line has bytes each record would be taken in two pieces. Where memory is refused, it
+/// A record to read into. `csv` takes no more bytes at once than it has space for, so with less
+/// space than its line has bytes each record would be taken in two chunks. If memory is refused, it
 /// grows as it needs.
 #[cold]
 #[inline(never)]
@@ -45,7 +45,7 @@ fn roomy_record(alloc: Global) -> ByteRecord
 pub(crate) enum LogEnd {
     /// No row is left.
     AllRead,
-    /// A fault was met.
+    /// A fault occurred.
     Met(LogFault),
 }
 
@@ -60,7 +60,7 @@ fn answer_at(end: LogEnd) -> Result<Option<RowHead>, LogFault>
     }
 }
 
-/// How the log has ended, where that answer ends it.
+/// How the log has ended, if that answer ends it.
 #[inline(always)]
 fn end_behind(answer: &Result<Option<RowHead>, LogFault>) -> Option<LogEnd>
     ensures { result ≡ left.end_behind answer.now }
@@ -72,9 +72,9 @@ fn end_behind(answer: &Result<Option<RowHead>, LogFault>) -> Option<LogEnd>
     }
 }
 
-/// The rows of a log of CSV records, read one at a time from a reader that is lent. The records are
-/// those that `csv` reads: without a byte order mark, of any number of fields, and blank lines are
-/// none.
+/// The rows of a log of CSV records, read one at a time from a reader that is borrowed. The records
+/// are those that `csv` reads: without a byte order mark, of any number of fields, and blank lines
+/// are not records.
 #[derive(Drop)]
 pub struct Rows<'r, R> {
     alloc: Global,
@@ -114,7 +114,7 @@ impl<'r, R: ByteIn> Rows<'r, R> {
         }
     }
 
-    /// The fault behind a read that failed: the reader's where it failed in this call or as much
+    /// The cause of a read that failed: the reader's if it failed in this call or as much
     /// was read as may be, else memory.
     #[cold]
     #[inline(never)]
@@ -136,7 +136,7 @@ impl<'r, R: ByteIn> Rows<'r, R> {
         }
     }
 
-    /// Reads the next record, where there is one. `Memory` stands for whatever kept it from being
+    /// Reads the next record, if there is one. `Memory` represents whatever kept it from being
     /// read.
     #[inline(always)]
     fn read(&mut self) -> Result<bool, LogFault>
@@ -153,7 +153,7 @@ impl<'r, R: ByteIn> Rows<'r, R> {
         }
     }
 
-    /// Reads the first row, which is no row of the log.
+    /// Reads the first row, which is not a row of the log.
     #[cold]
     #[inline(never)]
     fn first_row(&mut self) -> Result<(), LogFault>
@@ -223,7 +223,7 @@ impl<'r, R: ByteIn> Rows<'r, R> {
         }
     }
 
-    /// The next row behind the first.
+    /// The next row after the first.
     #[inline(always)]
     fn later_row(&mut self) -> Result<Option<RowHead>, LogFault>
         ensures gives { (first : Record) (before left : List Record)
@@ -244,7 +244,7 @@ impl<'r, R: ByteIn> Rows<'r, R> {
         }
     }
 
-    /// The next row, where nothing has ended the log.
+    /// The next row, if nothing has ended the log.
     #[inline(always)]
     fn next_row(&mut self) -> Result<Option<RowHead>, LogFault>
         ensures gives { (before left : List Record) → StandsBehind R.bytes_left self.old before left
@@ -267,7 +267,7 @@ impl<'r, R: ByteIn> Rows<'r, R> {
         }
     }
 
-    /// The next row, where nothing has ended the log, with the cause of what kept a record from
+    /// The next row, if nothing has ended the log, with the cause of what kept a record from
     /// being read.
     #[inline(always)]
     fn told_row(&mut self) -> Result<Option<RowHead>, LogFault>
@@ -319,7 +319,7 @@ impl<'r, R: ByteIn> Rows<'r, R> {
         ensures cause { ended self.old ≡ None → IsErrOf result LogFault.Read
             → HasCauseIn R.failure_count R.spent_count
             (count_in R.failure_count self.old) self.new }
-        // A fault of the reader, or the bound that was met, is not told as want of memory.
+        // A fault of the reader, or the limit that was reached, is not reported as out of memory.
         ensures memory { ended self.old ≡ None → IsErrOf result LogFault.Memory
             → ¬ HasCauseIn R.failure_count R.spent_count
             (count_in R.failure_count self.old) self.new }
@@ -389,7 +389,7 @@ impl<'r, R: ByteIn> Rows<'r, R> {
         ensures cause { ended self.old ≡ None → IsErrOf result LogFault.Read
             → HasCauseIn R.failure_count R.spent_count
             (count_in R.failure_count self.old) self.new }
-        // A fault of the reader, or the bound that was met, is not reported as out of memory.
+        // A fault of the reader, or the limit that was reached, is not reported as out of memory.
         ensures memory { ended self.old ≡ None → IsErrOf result LogFault.Memory
             → ¬ HasCauseIn R.failure_count R.spent_count
             (count_in R.failure_count self.old) self.new }
@@ -429,8 +429,8 @@ impl<'r, R: ByteIn> Rows<'r, R> {
         line.clamp(1, u32::MAX as u64) as u32
     }
 
-    /// Tells the row that was read last, which is the one that a refusal names. It takes no memory, and behind it the rows
-    /// are not read on.
+    /// Reports the row that was read last, which is the one that a refusal names. It takes no memory, and after it the
+    /// rows are not read on.
     #[cold]
     #[inline(never)]
     pub fn tell(&mut self, alloc: Global, told: &mut RefusedRow)

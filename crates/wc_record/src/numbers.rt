@@ -7,7 +7,7 @@ ghost use Rattle.wc_model.specs.Run.Log.{number_within, moment_of, whole_of, cou
 
 use wc_model::{GREATEST_COUNTS, LAST_MOMENT, LEAST_COUNTS};
 
-/// The number that at most thirteen digits write, and none where a byte is no digit.
+/// The number that at most thirteen digits write, and none if a byte is not a digit.
 #[inline(always)]
 fn value_of_digits(text: &[u8]) -> Option<u64>
     requires { length text.now ≤ 13 }
@@ -28,7 +28,7 @@ fn value_of_digits(text: &[u8]) -> Option<u64>
     Some(value)
 }
 
-/// The number that 1 to so many digits write.
+/// The number that 1 to n digits write.
 #[tactic(auto, using(crate::proofs::DigitValues::ten_rises))]
 #[inline(always)]
 fn number_within(most: usize, text: &[u8]) -> Option<u64>
@@ -53,7 +53,7 @@ pub(crate) fn moment(text: &[u8]) -> Option<u64>
     }
 }
 
-/// A whole number: 1 to 10 digits, with `-` before them where it is negative.
+/// A whole number: 1 to 10 digits, with `-` before them if it is negative.
 #[inline(always)]
 fn whole(text: &[u8]) -> Option<i64>
     ensures { result ≡ whole_of text.now }

@@ -4,19 +4,19 @@ ghost use Rattle.wc_record.specs.Places.{after, after_opening, after_plain, is_c
 
 use memchr::{memchr, memrchr};
 
-/// How many bytes of a record are read, whatever they are.
+/// The number of bytes of a record that are read, whatever they are.
 const MOST_READ: u32 = 65536;
 
 /// What the next byte may be.
 #[derive(Clone, Copy, PartialEq, Eq)]
 pub(crate) enum Spot {
-    /// The first of a log, where a byte order mark may stand.
+    /// The first of a log, where a byte order mark may be.
     LogStart,
     /// The second of a byte order mark.
     SecondOfMark,
     /// Its third.
     ThirdOfMark,
-    /// The first of a record or of a field, or one behind quotes that closed: here a quote opens
+    /// The first of a record or of a field, or one after quotes that closed: here a quote opens
     /// quotes.
     Opening,
     /// One of a field, where a quote is a byte as any other.
@@ -25,14 +25,14 @@ pub(crate) enum Spot {
     Quoted,
 }
 
-/// The place in the bytes of a log at which a reader stands.
+/// The place in the bytes of a log at which a reader is.
 #[derive(Clone, Copy, PartialEq, Eq)]
 pub(crate) struct Place {
     /// What the next byte may be.
     pub(crate) spot: Spot,
-    /// How many fields of the record at hand have ended, 3 where there are more.
+    /// The number of fields of the current record that have ended, 3 if there are more.
     pub(crate) ended: u8,
-    /// How many of its bytes were read, 65536 where there are more.
+    /// The number of its bytes that were read, 65536 if there are more.
     pub(crate) size: u32,
 }
 
@@ -68,7 +68,7 @@ fn at_record() -> Place
     }
 }
 
-/// The place behind a byte that opens no quotes, outside of them.
+/// The place after a byte that opens no quotes, outside of them.
 #[inline(always)]
 fn behind_plain(ended: u8, size: u32, byte: u8) -> Place
     ensures { result ≡ after_plain ended size byte }
@@ -90,7 +90,7 @@ fn behind_plain(ended: u8, size: u32, byte: u8) -> Place
     }
 }
 
-/// The place behind a byte that may open quotes.
+/// The place after a byte that may open quotes.
 #[inline(always)]
 fn behind_opening(ended: u8, size: u32, byte: u8) -> Place
     ensures { result ≡ after_opening ended size byte }
@@ -106,7 +106,7 @@ fn behind_opening(ended: u8, size: u32, byte: u8) -> Place
     }
 }
 
-/// How many bytes stand up to the last line feed, that too, where no quote is among all of them.
+/// The number of bytes up to and including the last line feed, if no quote is among all of them.
 fn unquoted_lines(bytes: &[u8]) -> usize
     ensures { AreUnquotedLines bytes.now result }
 {
@@ -131,7 +131,7 @@ impl Place {
         }
     }
 
-    /// Whether no more is read of the record at hand: it has more than three fields, however it
+    /// Whether no more is read of the current record: it has more than three fields, however it
     /// goes on.
     #[inline(always)]
     pub(crate) fn is_cut(self) -> bool
@@ -140,12 +140,12 @@ impl Place {
         self.ended >= 3 && self.size >= MOST_READ
     }
 
-    /// Whether it stands in quotes that are open.
+    /// Whether it is in quotes that are open.
     pub(crate) fn is_in_quotes(self) -> bool {
         self.spot == Spot::Quoted
     }
 
-    /// The place behind this byte.
+    /// The place after this byte.
     #[inline(always)]
     fn behind(self, byte: u8) -> Place
         ensures { result ≡ after self byte }
@@ -178,8 +178,8 @@ impl Place {
         matches!(self.spot, Spot::Opening | Spot::Plain)
     }
 
-    /// How many of these bytes stand on lines that end in them, where they can neither be cut nor
-    /// hold a quote: behind those a record starts.
+    /// The number of these bytes that are on lines that end in them, which can neither be cut nor
+    /// hold a quote: after those a record starts.
     #[inline(always)]
     fn whole_lines(self, bytes: &[u8]) -> usize
         ensures passes { 0 < result → Passes self bytes.now result record_start }
@@ -192,7 +192,7 @@ impl Place {
         }
     }
 
-    /// Goes over these bytes up to the cut, one by one, and answers how many they are.
+    /// Goes over these bytes up to the cut, one by one, and returns their number.
     fn walk_on(&mut self, bytes: &[u8]) -> usize
         ensures cuts { Cuts self.old bytes.now result self.new }
         ensures bound { result ≤ length bytes.now }
@@ -207,7 +207,7 @@ impl Place {
         bytes.len()
     }
 
-    /// Goes over these bytes up to the cut, and answers how many they are.
+    /// Goes over these bytes up to the cut, and returns their number.
     pub(crate) fn walk(&mut self, bytes: &[u8]) -> usize
         ensures cuts { Cuts self.old bytes.now result self.new }
         ensures bound { result ≤ length bytes.now }

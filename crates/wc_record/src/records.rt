@@ -37,7 +37,7 @@ impl<'r, R: ByteIn> Records<'r, R> {
         }
     }
 
-    /// Reads the next record into `row`, where there is one.
+    /// Reads the next record into `row`, if there is one.
     #[inline(never)]
     pub(crate) fn read(&mut self, row: &mut ByteRecord) -> Result<bool, Unread>
         ensures { IfOk result
@@ -52,7 +52,7 @@ impl<'r, R: ByteIn> Records<'r, R> {
         Err(Unread)
     }
 
-    /// How many calls of the reader failed.
+    /// The number of calls of the reader that failed.
     #[inline(always)]
     pub(crate) fn failures(&self) -> u64
         ensures { result ≡ R.failure_count (lent (reader_source self.now.csv)) }
@@ -69,7 +69,7 @@ impl<'r, R: ByteIn> Records<'r, R> {
     }
 
     /// The line on which the last record ends, counted from 1. `csv` counts the line feeds that it has passed, and it passes
-    /// that which ends a record, but not one behind a CR.
+    /// that which ends a record, but not one after a CR.
     pub(crate) fn line(&self) -> u64 {
         let position = self.csv.position();
         if self.csv.get_ref().ends_line(position.byte) {

@@ -5,7 +5,7 @@ ghost use Rattle.wc_record.specs.Told.{fields_told};
 use csv::ByteRecord;
 use std::alloc::Global;
 
-/// The row of a log that was read last, as it is told where it is refused.
+/// The row of a log that was read last, as it is reported if it is refused.
 #[derive(Drop)]
 pub struct RefusedRow {
     pub(crate) row: ByteRecord,
@@ -23,12 +23,12 @@ impl RefusedRow {
         }
     }
 
-    /// The line of the log on which its first field starts, counted from 1; 0 where there is no row.
+    /// The line of the log on which its first field starts, counted from 1; 0 if there is no row.
     pub fn line(&self) -> u32 {
         self.line
     }
 
-    /// How many fields it has.
+    /// The number of fields it has.
     pub fn len(&self) -> usize
         ensures { result ≡ length (fields_told self.now) }
     {

@@ -8,7 +8,7 @@ use crate::hexadecimal::{inputs_word, line_piece};
 use crate::numbers::counts;
 use crate::row_head::HeadKind;
 
-/// Why fields are no row.
+/// Why fields are not a row.
 pub(crate) enum RowFault {
     /// They break the rule of this number.
     Refused(u16),
@@ -16,7 +16,7 @@ pub(crate) enum RowFault {
     Memory,
 }
 
-/// The fault of fields that break the rule of this number. It stands apart, so that a row that breaks none does not pay for it.
+/// The fault of fields that break the rule of this number. It is separate, so that a row that breaks none does not pay for it.
 #[cold]
 #[inline(never)]
 fn refused(rule: u16) -> RowFault
@@ -39,7 +39,7 @@ fn sample(text: &[u8]) -> Result<HeadKind, RowFault>
     }
 }
 
-/// Bytes on the line, which stand in the room then.
+/// Bytes on the line, which are in the buffer then.
 fn line_bytes(room: &mut Vec<u8>, text: &[u8]) -> Result<HeadKind, RowFault>
     ensures says { SaysData room.new.items result
         (log.brings_or 606 rows.Bytes (log.line_piece_of text.now)) }
@@ -93,7 +93,7 @@ fn change(text: &[u8]) -> Result<HeadKind, RowFault>
     }
 }
 
-/// What a kind and its data bring; bytes stand in the room then.
+/// What a kind and its data bring; bytes are in the buffer then.
 #[inline(always)]
 pub(crate) fn row_data(room: &mut Vec<u8>, kind: &[u8], text: &[u8]) -> Result<HeadKind, RowFault>
     ensures says { SaysData room.new.items result (row_data_of kind.now text.now) }

@@ -1,10 +1,10 @@
--- What stands behind a text where room was made for it and then filled.
+-- What follows a text if space was made for it and then filled.
 use Rattle.std.proofs.Common.{◌≡◌, ◌+◌, ℕ, List, [], ◌++◌, length, take, drop, ap, arith, length-append, length-drop}
 use Rattle.std.proofs.lemmas.List.{append-nil}
 use Rattle.std.proofs.Math.Seq.{take-length}
 use Rattle.std.proofs.Math.ListN.{drop_of_length-le}
 
--- the room is filled whole
+-- the buffer is filled whole
 pub filled : (old room digits : List ℕ) (size : ℕ) → take (length old) room ≡ old → length room ≡ length old + length digits → size ≡ length room
     → take size ((take (length old) room ++ (digits ++ drop (length digits) (drop (length old) room)))
     ++ drop (length (take (length old) room ++ (digits ++ drop (length digits) (drop (length old) room)))) room) ≡ old ++ digits

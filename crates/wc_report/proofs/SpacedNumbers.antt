@@ -5,7 +5,7 @@ use Rattle.std.proofs.Math.Seq.{take-suc}
 use Rattle.std.specs.Prelude.{decimal}
 use Rattle.wc_model.specs.Say.UnitReport.{spaced_lines}
 
--- numbers of lines behind others
+-- numbers of lines after others
 lines_behind : (front back : List ℕ) → spaced_lines (front ++ back) ≡ spaced_lines front ++ spaced_lines back
 lines_behind [] back = refl
 lines_behind (n ∷ front) back =

@@ -5,7 +5,7 @@ use Rattle.std.proofs.lemmas.Bool.{and_parts, cases_lt, eqb-true}
 use Rattle.hex.specs.Hex.{IsBytes, encode_lower, encode_with, lower_digits}
 use Rattle.wc_model.specs.Run.Hex.{hex_of_bytes}
 
--- whether the first so many digits are the same, which computes
+-- whether the first n digits are the same, which computes
 abbrev all_same : ℕ → Bool
 all_same zero = true
 all_same (suc n) = (slice_index lower_digits n == digit_char n) && all_same n

@@ -1,11 +1,11 @@
-// A text that is put together from its end: what stands so far are the bytes of the room from a place on.
+// A text that is put together from its end: what is there so far are the bytes of the buffer from a place on.
 ghost use Rattle.std.specs.Prelude.{◌≡◌, ◌≤◌, ◌+◌, ◌∷◌, ◌++◌, length, decimal, drop};
 ghost use Rattle.std.specs.Fmt.{signed_decimal};
 ghost use Rattle.wc_model.specs.Run.Hex.{hex_of_word};
 
 use itoa::write_digits;
 
-/// Puts a byte before the text: where the text starts then.
+/// Puts a byte before the text, and returns where the text then starts.
 pub(crate) fn put_byte(byte: u8, room: &mut [u8], end: usize) -> usize
     requires { (1 ≤ end) × (end ≤ length room.old) }
     ensures start { result + 1 ≡ end }
@@ -16,7 +16,7 @@ pub(crate) fn put_byte(byte: u8, room: &mut [u8], end: usize) -> usize
     start
 }
 
-/// Puts a number in decimal digits before the text, and a space before it: where the text starts then.
+/// Puts a number in decimal digits before the text, and a space before it, and returns where the text then starts.
 #[tactic(auto, using(crate::proofs::Lengths::short_decimal))]
 pub(crate) fn put_number(number: u64, room: &mut [u8], end: usize) -> usize
     requires { (21 ≤ end) × (end ≤ length room.old) }
@@ -27,7 +27,7 @@ pub(crate) fn put_number(number: u64, room: &mut [u8], end: usize) -> usize
     put_byte(b' ', room, start)
 }
 
-/// The same of a number that may be negative.
+/// Likewise for a number that may be negative.
 #[tactic(auto, using(crate::proofs::Lengths::short_decimal))]
 pub(crate) fn put_signed(number: &i32, room: &mut [u8], end: usize) -> usize
     requires { (22 ≤ end) × (end ≤ length room.old) }
@@ -51,7 +51,7 @@ fn word_digits(word: u16) -> [u8; 4]
     digits
 }
 
-/// Puts the four hexadecimal digits of a word before the text, and a space before them: where the text starts then.
+/// Puts the four hexadecimal digits of a word before the text, and a space before them, and returns where the text then starts.
 pub(crate) fn put_word(word: u16, room: &mut [u8], end: usize) -> usize
     requires { (5 ≤ end) × (end ≤ length room.old) }
     ensures start { result + 5 ≡ end }

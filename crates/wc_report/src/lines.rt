@@ -9,9 +9,9 @@ use crate::numbers::spaced_lines;
 use std::alloc::Global;
 use wc_model::{Fault, Outputs, Steps, or_memory, put_bytes};
 
-/// Puts the line of a scan behind a text: `S`, its moment in milliseconds, its steps, the bits of `%QX0` in four hexadecimal
+/// Appends the line of a scan to a text: `S`, its moment in milliseconds, its steps, the bits of `%QX0` in four hexadecimal
 /// digits, and the words `%QD0` to `%QD3`, with a space between and a line feed at the end. Each value of each type can be
-/// written. After `Memory`, its only fault, a front of the line may stand behind the text.
+/// written. After `Memory`, its only fault, a prefix of the line may follow the text.
 pub fn put_scan_line(
     text: &mut Vec<u8>,
     ms: u64,
@@ -27,10 +27,10 @@ pub fn put_scan_line(
     put_bytes(text, &room[start..])
 }
 
-/// Room that each line of a scan has in.
+/// A size that is enough for each line of a scan.
 const SCAN_ROOM: usize = 144;
 
-/// Writes the line of a scan at the end of its room: where it starts.
+/// Writes the line of a scan at the end of its buffer, and returns where it starts.
 fn scan_backward(ms: u64, steps: Steps, outputs: &Outputs, room: &mut [u8; SCAN_ROOM]) -> usize
     ensures within { result ≤ 144 }
     ensures text { drop result room.new ≡ line_text (ScanLine ms steps.0 outputs.now) }
@@ -47,9 +47,9 @@ fn scan_backward(ms: u64, steps: Steps, outputs: &Outputs, room: &mut [u8; SCAN_
     backward::put_byte(b'S', room, at)
 }
 
-/// Puts the line of an answer behind a text: `L`, the moment of its row in milliseconds, and its bytes, two hexadecimal
+/// Appends the line of an answer to a text: `L`, the moment of its row in milliseconds, and its bytes, two hexadecimal
 /// digits for each, with a space between and a line feed at the end. An answer of no bytes has no digits. After `Memory`, its
-/// only fault, a front of the line may stand behind the text.
+/// only fault, a prefix of the line may follow the text.
 pub fn put_answer_line(text: &mut Vec<u8>, ms: u64, bytes: &[u8]) -> Result<(), Fault>
     ensures text { OnOk result
         (text.new.items ≡ text.old.items ++ line_text (AnswerLine ms bytes.now)) }
@@ -62,10 +62,10 @@ pub fn put_answer_line(text: &mut Vec<u8>, ms: u64, bytes: &[u8]) -> Result<(), 
     put_bytes(text, b"\n")
 }
 
-/// Room that the front of each line of an answer has in: its letter, two spaces and 20 digits.
+/// A size that is enough for the start of each line of an answer: its letter, two spaces and 20 digits.
 const HEAD_ROOM: usize = 23;
 
-/// Writes the front of the line of an answer, up to its digits, at the end of its room: where it starts.
+/// Writes the start of the line of an answer, up to its digits, at the end of its buffer, and returns where it starts.
 fn head_backward(ms: u64, room: &mut [u8; HEAD_ROOM]) -> usize
     ensures within { result ≤ 23 }
     ensures text { drop result room.new ≡ 76 ∷ 32 ∷ (decimal ms ++ (32 ∷ [])) }

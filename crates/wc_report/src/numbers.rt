@@ -7,7 +7,7 @@ use itoa::Buffer;
 use std::alloc::Global;
 use wc_model::{Fault, or_memory, put_bytes};
 
-/// Puts a number in decimal digits behind a text. `Memory` is the only fault.
+/// Appends a number in decimal digits to a text. `Memory` is the only fault.
 pub fn put_number(text: &mut Vec<u8>, number: u64) -> Result<(), Fault>
     ensures digits { OnOk result (text.new.items ≡ text.old.items ++ decimal number) }
     ensures memory { IsOkUnless result Fault.Memory }
@@ -16,7 +16,7 @@ pub fn put_number(text: &mut Vec<u8>, number: u64) -> Result<(), Fault>
     put_bytes(text, buffer.format(number).as_bytes())
 }
 
-/// Puts a number in decimal digits behind a text, with a sign before it where it is negative. `Memory` is the only fault.
+/// Appends a number in decimal digits to a text, with a sign before it if it is negative. `Memory` is the only fault.
 pub fn put_signed(text: &mut Vec<u8>, number: i64) -> Result<(), Fault>
     ensures digits { OnOk result (text.new.items ≡ text.old.items ++ signed_decimal number) }
     ensures memory { IsOkUnless result Fault.Memory }

@@ -1,15 +1,15 @@
--- Fronts of a text, and what stands before and behind them.
+-- Prefixes of a text, and what precedes and follows them.
 use Rattle.std.proofs.Common.{ℕ, List, ◌++◌, Option, ap, sym, ◌∙◌}
 use Rattle.std.proofs.KnownBytes.{Appends-trans}
 use Rattle.std.proofs.lemmas.List.{append_assoc}
 use Rattle.std.specs.Io.KnownBytes.{Appends}
 use Rattle.wc_run.specs.Runs.{AppendsFront}
 
--- a front of a text is one of what is longer
+-- a prefix of a text is one of what is longer
 pub front_of_more : (old new : Option (List ℕ)) (text more : List ℕ) → AppendsFront old new text → AppendsFront old new (text ++ more)
 front_of_more old new text more f = (f.0, f.1 ++ more, ap (λ t. t ++ more) f.2 ∙ append_assoc f.0 f.1 more, f.3)
 
--- a front behind a text is a front of both
+-- a prefix after a text is a prefix of both
 pub front_behind : (old middle new : Option (List ℕ)) (text more : List ℕ) → Appends old middle text → AppendsFront middle new more → AppendsFront old new (text ++ more)
 front_behind old middle new text more w f =
     (text ++ f.0, f.1, ap (λ t. text ++ t) f.2 ∙ sym (append_assoc text f.0 f.1), Appends-trans old middle new text f.0 w f.3)

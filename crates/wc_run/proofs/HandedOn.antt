@@ -1,4 +1,4 @@
--- What a `?` returns: the fault that it met, as the fault of the caller.
+-- What a `?` returns: the fault that it found, as the fault of the caller.
 use Rattle.std.proofs.Common.{◌≡◌, Result, Ok, Err, sym, subst}
 use Rattle.std.specs.Result.{IsErr, IsErrAnd}
 

@@ -1,8 +1,8 @@
 -- The lines of scans come out of what a run writes.
 use Rattle.std.proofs.Common.{◌≡◌, ℕ, List}
 use Rattle.std.specs.Prelude.{Option, Some, None, Result, Ok, Err}
-use Rattle.wc_instrument_laws.proofs.WrittenLines.{line_stays, scan_lines_come_out}
-use Rattle.wc_instrument_laws.specs.WrittenLines.{without_scan_lines}
+use Rattle.wc_laws_instrument.proofs.WrittenLines.{line_stays, scan_lines_come_out}
+use Rattle.wc_laws_instrument.specs.WrittenLines.{without_scan_lines}
 use Rattle.wc_model.specs.Instrument.Plates.{PlateData}
 use Rattle.wc_model.specs.Run.Log.{LogOf}
 use Rattle.wc_model.specs.Run.Rows.{LogRow}

@@ -4,7 +4,7 @@ use Rattle.std.proofs.lemmas.Grind.{flat_map-append}
 use Rattle.std.proofs.lemmas.List.{append_assoc}
 use Rattle.std.proofs.lemmas.List.Elements.{filter-append}
 use Rattle.std.specs.Prelude.{filter}
-use Rattle.wc_instrument_laws.proofs.Independence.{is_free_of_programs}
+use Rattle.wc_laws_instrument.proofs.Independence.{is_free_of_programs}
 use Rattle.wc_model.specs.Instrument.Plates.{PlateData}
 use Rattle.wc_model.specs.Instrument.WeighingHistories.{last_items}
 use Rattle.wc_model.specs.Say.ProgramReport.{Logic, programs}
@@ -21,7 +21,7 @@ use Rattle.wc_run.specs.Runs.{Reports, ReportsBy, report_coming, report_printing
 use Rattle.wc_run.specs.declared.fault.RunFault.{RunFault}
 use Rattle.wc_run.specs.declared.fault.RunFault.TheVariants.{Memory}
 
--- the lines of a row stand before those of the rows behind it
+-- the lines of a row precede those of the rows after it
 one_row_more : (plate : PlateData) (logic : Option Logic) (past : Past) (row : LogRow) (rows : List LogRow)
     → lines_of_rows plate logic past (row ∷ rows) ≡ lines_of_row plate logic past row ++ lines_of_rows plate logic (row ∷ past) rows
 one_row_more plate None past row rows = refl
@@ -41,7 +41,7 @@ lines_of_all plate logic (row ∷ past) rows =
     ∙ ap (λ lines. lines_so_far plate logic past ++ lines) (one_row_more plate logic past row rows)
     ∙ sym (append_assoc (lines_so_far plate logic past) (lines_of_row plate logic past row) (lines_of_rows plate logic (row ∷ past) rows))
 
--- where no row follows they are those so far
+-- if no row follows, they are those so far
 pub lines_at_last : (plate : PlateData) (logic : Option Logic) (past : Past) → lines_of_rows plate logic [] (onto past []) ≡ lines_so_far plate logic past
 lines_at_last plate logic past =
     lines_of_all plate logic past [] ∙ ap (λ lines. lines_so_far plate logic past ++ lines) (no_rows plate logic past) ∙ append-nil (lines_so_far plate logic past)
@@ -77,7 +77,7 @@ lines_coming plate logic past (row ∷ rows) =
     ∙ sym (flat_map-append line_text (lines_of_row plate logic past row) (lines_of_rows plate logic (row ∷ past) rows))
     ∙ ap report_text (sym (one_row_more plate logic past row rows))
 
--- where the last scans alone are asked for, the text of the answers
+-- if the last scans alone are asked for, the text of the answers
 answers_coming : (number : ℕ) (plate : PlateData) (logic : Option Logic) (past : Past) (rows : List LogRow)
     → text_coming (last_plan number) plate logic past rows ≡ report_text (filter is_answer_line (lines_of_rows plate logic past rows))
 answers_coming number plate logic past [] = sym (ap (λ lines. report_text (filter is_answer_line lines)) (no_rows plate logic past))

@@ -25,7 +25,7 @@ use Rattle.wc_run.specs.declared.scale.Scale.{Scale}
 next_text : (next : Option LoadedText) (loaded : LoadedText) (left : Option Text) → next ≡ Some loaded → text_of_next next ≡ left → Some (text_view loaded.source) ≡ left
 next_text next loaded left is same = subst (λ n. text_of_next n ≡ left) is same
 
--- behind a change an open scale stands for the next text and what is carried over to it
+-- after a change an open scale represents the next text and what is carried over to it
 changed_logic : {S : Type 0} (opened : OpenScale S) (plate : PlateData) (past : Past) (number ms : ℕ) (logic : Logic) (text : Text) (left : Option Text) → Some text ≡ left →
     open_scale.Stands opened plate (came_by past (Some (changed_program (record { text = logic.text; store = logic.store }) text))) →
     open_scale.Stands opened plate (came_by (row_at number ms Change ∷ past) (program_of (Some (change_to logic left)))) × IsNext None (Some (change_to logic left))
@@ -45,13 +45,13 @@ takes_change old opened loaded ms there is changed plate (Some logic) past numbe
     (changed.stands plate (came_by past (Some running)) running refl stands.opened) in
     record { opened = both.0; next = both.1 }
 
--- where a next text is left the log goes on behind the row
+-- if a next text is left, the log goes on after the row
 goes_on : (logic : Logic) (text : Text) (left : Option Text) → Some text ≡ left → (row : LogRow) (rest : LogOf) →
     change_on (is_some left) row (λ more. log_while more rest.rows rest.refusal) ≡ with_row row (log_for (Some (change_to logic left)) rest)
 goes_on logic text left is row rest =
     subst (λ t. change_on (is_some t) row (λ more. log_while more rest.rows rest.refusal) ≡ with_row row (log_for (Some (change_to logic t)) rest)) is refl
 
--- and a run with whatever logic it stands for takes it
+-- and a run with whatever logic it represents takes it
 pub runs_change : {S : Type 0} (old : Scale S) (loaded : LoadedText) (number ms : ℕ) → is_some old.opened.machine ≡ true → old.next ≡ Some loaded → RunsRow old (row_at number ms Change)
 runs_change old loaded number ms there is plate None past stands = absurd (not_none old.opened.machine there stands.opened.program)
 runs_change old loaded number ms there is plate (Some logic) past stands = λ rest.
@@ -63,7 +63,7 @@ pub runs_past : {S : Type 0} (old : Scale S) (number ms : ℕ) → is_some old.o
 runs_past old number ms none plate None past stands = λ rest. refl
 runs_past old number ms none plate (Some logic) past stands = absurd (not_some old.opened.machine _ none stands.opened.program)
 
--- where none is left the row is refused
+-- if none is left, the row is refused
 refused_at_row : (left : Option Text) → None ≡ left → (row : LogRow) (rest : LogOf) →
     change_on (is_some left) row (λ more. log_while more rest.rows rest.refusal) ≡ refused_at 609 row.number
 refused_at_row left is row rest =

@@ -1,4 +1,4 @@
--- Where a device failed, that is told.
+-- If a device failed, that is reported.
 use Rattle.std.proofs.Common.{◌≡◌, ℕ, true, false}
 use Rattle.std.specs.Prelude.{Result, Ok, Err}
 use Rattle.wc_run.specs.Doing.{is_cut_short}

@@ -39,7 +39,7 @@ scans_more seen plate logic past shown =
     filter-append is_scan_line (lines_so_far plate logic past) (lines_of_row plate logic past (row_of seen))
     ∙ ap (λ lines. filter is_scan_line (lines_so_far plate logic past) ++ lines) (ap (λ lines. filter is_scan_line lines) shown.lines ∙ scans_shown seen)
 
--- a recorder that keeps the record of a scan, or nothing, holds the last scans behind the row
+-- a recorder that keeps the record of a scan, or nothing, holds the last scans after the row
 keeps_by : (seen : RowSeen) (scan : Option ScanSeen) (recorder kept : RecorderState) (number : ℕ) (plate : PlateData) (logic : Option Logic) (past : Past)
     → IsShown seen plate logic past → seen.scan ≡ scan → KeepsScan recorder kept scan
     → HoldsScans recorder number (lines_so_far plate logic past) → HoldsScans kept number (lines_so_far plate logic (row_of seen ∷ past))

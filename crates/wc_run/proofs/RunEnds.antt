@@ -1,4 +1,4 @@
--- The end of a run: what the observer writes behind the rest, and how a fault is judged.
+-- The end of a run: what the observer writes after the rest, and how a fault is classified.
 use Rattle.std.proofs.Common.{inl, inr, ◌≡◌, sym, subst, ℕ, List, [], Option, Ok, Err, Result, append-nil, true, false}
 use Rattle.std.proofs.KnownBytes.{Appends-kept, Appends-trans}
 use Rattle.std.specs.Io.KnownBytes.{Appends}
@@ -40,7 +40,7 @@ module _ {O : Type 0} (has_seen : Seeing O) (plan : Plan) (plate : PlateData) (l
   cut_at_end Memory written cut = (log.rows, [], sym (append-nil log.rows), Appends-kept old mid new (text_coming plan plate logic [] log.rows) written cut)
   cut_at_end met written cut = absurd cut
 
-  -- the answer stays where the end is written
+  -- the answer stays if the end is written
   pub ends_whole : (observer : O) (answer : Result ℕ RunFault) → is_cut_short answer ≡ false → RunsRows has_seen plan plate logic log observer answer old mid
       → Appends mid new (plan.at_end plate logic log.rows log.refusal) → WritesBy plan plate logic log answer old new
   ends_whole observer (Ok count) whole runs more =
@@ -49,7 +49,7 @@ module _ {O : Type 0} (has_seen : Seeing O) (plan : Plan) (plate : PlateData) (l
       (runs.0, Appends-trans old mid new (text_coming plan plate logic [] log.rows) (plan.at_end plate logic log.rows log.refusal) runs.2 more)
   ends_whole observer (Err fault) whole runs more = absurd (cc)
 
-  -- nothing is written behind a fault of a device or of memory
+  -- nothing is written after a fault of a device or of memory
   pub ends_short : (observer : O) (answer : Result ℕ RunFault) → is_cut_short answer ≡ true → RunsRows has_seen plan plate logic log observer answer old mid
       → WritesBy plan plate logic log answer old mid
   ends_short observer (Ok count) short runs = absurd (cc)
@@ -58,7 +58,7 @@ module _ {O : Type 0} (has_seen : Seeing O) (plan : Plan) (plate : PlateData) (l
       front_of_more old mid (text_coming plan plate logic [] log.rows) (plan.at_end plate logic log.rows log.refusal) runs
   ends_short observer (Err fault) short runs = runs
 
--- what a fault says is also said by what it is judged to be
+-- what a fault says is also said by what it is classified as
 pub judged_says : (whole coming : List LogRow → List ℕ) (log : LogOf) (old new : Option (List ℕ)) (fault judged : RunFault)
     → IsJudged fault judged → ReportsBy whole coming log (Err fault) old new → ReportsBy whole coming log (Err judged) old new
 judged_says whole coming log old new Read judged (inl same) says = subst (λ met. ReportsBy whole coming log (Err met) old new) (sym same) says

@@ -26,7 +26,7 @@ use Rattle.wc_run.specs.declared.fault.RunFault.TheVariants.{Refused, Read, Writ
 use Rattle.wc_run.specs.declared.scale.Scale.{Scale}
 use Rattle.wc_run.proofs.Texts.{length-onto, onto-append, text_at_last, text_of_all, text_so_far}
 
--- So many rows of the log are done, the scale stands for them, and the observer has seen them; with
+-- N rows of the log are done, the scale represents them, and the observer has seen them; with
 -- those that a run takes of what is left they are the log. What the plan says of them is written.
 pub record Running {R S O : Type 0} (bytes_left : R → Option (List ℕ)) (rows : Rows R) (scale : Scale S) (has_seen : Seeing O) (observer : O)
     (plan : Plan) (plate : PlateData) (logic : Option Logic) (log : LogOf) (count : ℕ) (old new : Option (List ℕ)) : Type 0 where
@@ -94,12 +94,12 @@ at_first bytes_left rows scale has_seen observer plan plate logic log taken has 
 module _ {R S O : Type 0} (bytes_left : R → Option (List ℕ)) (rows : Rows R) (scale : Scale S) (has_seen : Seeing O) (observer : O)
     (plan : Plan) (plate : PlateData) (logic : Option Logic) (log : LogOf) (count : ℕ) (old mid : Option (List ℕ))
     (r : Running bytes_left rows scale has_seen observer plan plate logic log count old mid) where
-  -- a row that is taken stands before the rest that is
+  -- a row that is taken precedes the rest that is
   row_coming : (row : LogRow) (rest : LogOf) → r.left ≡ with_row row rest → IsTaken (logic_after plate logic r.past) (logic_after plate logic (row ∷ r.past)) row
       → log_for (logic_after plate logic r.past) r.left ≡ with_row row (log_for (logic_after plate logic (row ∷ r.past)) rest)
   row_coming row rest is taken = ap (λ l. log_for (logic_after plate logic r.past) l) is ∙ taken rest
 
-  -- behind one row more
+  -- after one row more
   pub one_more : (rows' : Rows R) (scale' : Scale S) (observer' : O) (new : Option (List ℕ)) (row : RowHead) {X : Type 0} (x : X)
       → Takes (head_view (row_bytes rows')) bytes_left r.left (Ok (Some row)) rows'
       → Does has_seen plan plate logic r.past (head_view (row_bytes rows') row) scale' observer' (Ok x) mid new
@@ -118,7 +118,7 @@ module _ {R S O : Type 0} (bytes_left : R → Option (List ℕ)) (rows : Rows R)
         written = Appends-trans old mid new (text_so_far plan plate logic r.past) (plan.at_row plate logic r.past (head_view (row_bytes rows') row)) r.written does.3;
       }
 
-  -- where no row is taken any more, those so far are all
+  -- if no row is taken any more, those so far are all
   all_rows : (log_for (logic_after plate logic r.past) r.left).rows ≡ [] → log.rows ≡ onto r.past []
   all_rows none = r.in_all ∙ ap (λ l. onto r.past l) none
 
@@ -171,7 +171,7 @@ module _ {R S O : Type 0} (bytes_left : R → Option (List ℕ)) (rows : Rows R)
       (ap (λ l. log_for (logic_after plate logic r.past) l) takes.0 ∙ refusal_taken (logic_after plate logic r.past) code place) r.seen (Keeps-refl mid)
   at_fault rows' met takes = first_written
 
-  -- a row of which a front was written
+  -- a row of which a prefix was written
   front_of_row : (new : Option (List ℕ)) (row : LogRow) (rest : LogOf) → log_for (logic_after plate logic r.past) r.left ≡ with_row row rest
       → AppendsFront mid new (plan.at_row plate logic r.past row) → AppendsFront old new (text_coming plan plate logic [] log.rows)
   front_of_row new row rest one cut =

@@ -1,6 +1,6 @@
 -- What a row leaves in a scale, and what is printed of it, kind by kind: it does what a call of the open scale does.
 use Rattle.std.proofs.Common.{Global, Vec, ◌≡◌, refl, ℕ, ℤ, true, false, List, [], ◌∷◌, ◌++◌, sym, ◌∙◌, ap, subst, append-nil, Option, Some, None, is_some, Result, Ok, Err, IfErr, IfOk, IfSome, IsOkUnless, OnOk}
-use Rattle.wc_instrument_laws.specs.Changes.{IsNoChange}
+use Rattle.wc_laws_instrument.specs.Changes.{IsNoChange}
 use Rattle.wc_cost.specs.LoadedTexts.{LoadedText}
 use Rattle.wc_machine.specs.Machines.{MachineState}
 use Rattle.wc_model.specs.Instrument.Plates.{PlateData}
@@ -39,7 +39,7 @@ pub on_ok_of : {T E : Type 0} (P Q : Type 0) (r : Result T E) → (P → Q) → 
 on_ok_of P Q (Ok x) f h = f h
 on_ok_of P Q (Err e) f h = tt
 
--- a machine that stands for the logic runs its program
+-- a machine that represents the logic runs its program
 runs_program : (plate : PlateData) (machine : Option MachineState) (next : Option LoadedText) (logic : Option Logic) → StandsAt machine next logic →
     IsRunning machine (program_of (logic_after plate logic []))
 runs_program plate None next None stands = tt
@@ -47,14 +47,14 @@ runs_program plate None next (Some logic) stands = stands
 runs_program plate (Some machine) next None stands = stands
 runs_program plate (Some machine) next (Some logic) stands = stands.0
 
--- and what is loaded stands for the next text
+-- and what is loaded represents the next text
 has_next : (plate : PlateData) (machine : Option MachineState) (next : Option LoadedText) (logic : Option Logic) → StandsAt machine next logic →
     IsNext next (logic_after plate logic [])
 has_next plate machine next None stands = tt
 has_next plate None next (Some logic) stands = absurd stands
 has_next plate (Some machine) next (Some logic) stands = stands.1
 
--- an open scale to which nothing has come stands for no row
+-- an open scale to which nothing has come represents no row
 pub stands_first : {S : Type 0} (alloc : Global) (opened : OpenScale S) (machine : Option MachineState) (next : Option LoadedText) (plate : PlateData) (logic : Option Logic) →
     ((program : Option Running) → IsRunning machine program → open_scale.Stands opened plate (open_scale.only_program program)) → StandsAt machine next logic →
     Stands (record { alloc = alloc; opened = opened; next = next }) plate logic []
@@ -64,7 +64,7 @@ stands_first alloc opened machine next plate logic begins stands =
       next = has_next plate machine next logic stands;
     }
 
--- a row that leaves any logic as it was leaves the logic beside a scale as it was, if there is one
+-- a row that leaves any logic as it was leaves the logic with a scale as it was, if there is one
 still : (ms : ℕ) (brings : RowData) → ((plate : PlateData) (logic : Logic) (past : Past) (number : ℕ) → logic_behind plate logic (row_at number ms brings ∷ past) ≡ logic_behind plate logic past) →
     (plate : PlateData) (logic : Option Logic) (past : Past) (number : ℕ) → logic_after plate logic (row_at number ms brings ∷ past) ≡ logic_after plate logic past
 still ms brings leaves plate None past number = refl
@@ -138,7 +138,7 @@ gives_scan old opened ms scan there scans plate (Some logic) past number stands 
     let before : Logic = logic_behind plate logic past in
     sym (ap (λ s. line_of_record s ∷ []) (scans plate (came_by past (program_of (Some before))) (record { text = before.text; store = before.store }) refl stands.opened).recorded)
 
--- where it is looked at what it executes, these are its items
+-- if what it executes is looked at, these are its items
 pub gives_items : {S : Type 0} (old : Scale S) (ms : ℕ) (record' : Record) (lines : Vec SeenLine Global) → is_some old.opened.machine ≡ true → Sees old.opened ms (Ok lines) →
     GivesItems old ms Scan (Some (record { «record» = record'; lines = Some lines }))
 gives_items old ms record' lines there sees plate None past number stands = tt
@@ -146,7 +146,7 @@ gives_items old ms record' lines there sees plate (Some logic) past number stand
     let before : Logic = logic_behind plate logic past in
     sees plate (came_by past (program_of (Some before))) (record { text = before.text; store = before.store }) refl stands.opened
 
--- where it is not, nothing is said
+-- if it is not, nothing is said
 pub gives_none : {S : Type 0} (old : Scale S) (ms : ℕ) (record' : Record) → GivesItems old ms Scan (Some (record { «record» = record'; lines = None }))
 gives_none old ms record' plate logic past number stands = tt
 
@@ -157,7 +157,7 @@ passes old ms brings none brought plate None past number stands =
     record { opened = subst (λ came. open_scale.Stands old.opened plate came) (brought past None number) stands.opened; next = tt }
 passes old ms brings none brought plate (Some logic) past number stands = absurd (not_some old.opened.machine _ none stands.opened.program)
 
--- where no machine is said to be, there is none
+-- if no machine is said to be, there is none
 none_of : (machine : Option MachineState) → is_some machine ≡ false → machine ≡ None
 none_of None none = refl
 none_of (Some machine) none = absurd (cc)
@@ -179,7 +179,7 @@ gives_no_scan old ms none plate (Some logic) past number stands = absurd (not_so
 pub gives_no_items : {S : Type 0} (old : Scale S) (ms : ℕ) → GivesItems old ms Scan None
 gives_no_items old ms plate logic past number stands = tt
 
--- the scale stands after the row that brings this
+-- the scale is as after the row that brings this
 pub takes_row : {S : Type 0} (old new : Scale S) (bytes : List ℕ) (row : RowHead) (brings : RowData) → head_data_view bytes row.kind ≡ brings → TakesRow old new row.ms brings →
     (plate : PlateData) (logic : Option Logic) (past : Past) → Stands old plate logic past → Stands new plate logic (head_view bytes row ∷ past)
 takes_row old new bytes row brings is takes plate logic past stands =
@@ -201,7 +201,7 @@ runs_row old bytes row brings is none plate logic past stands =
     subst (λ kind. IsTaken (logic_after plate logic past) (logic_after plate logic (row_at row.number row.ms kind ∷ past)) (row_at row.number row.ms kind)) (sym is)
     (taken_with plate logic past row.number row.ms brings none)
 
--- want of memory keeps a scale from any row
+-- out of memory keeps a scale from any row
 pub stops_for_memory : {S : Type 0} {X : Type 0} (old : Scale S) (row : LogRow) (answer : Result X RunFault) → IsOkUnless answer Memory → IfErr answer (λ fault. StopsAtRow old row fault)
 stops_for_memory old row (Ok x) h = tt
 stops_for_memory old row (Err fault) h = subst (λ f. StopsAtRow old row f) (sym h) tt

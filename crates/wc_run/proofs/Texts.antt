@@ -7,12 +7,12 @@ use Rattle.wc_model.specs.Say.ProgramReport.{Logic}
 use Rattle.wc_model.specs.Run.Log.{LogRefusal}
 use Rattle.wc_run.specs.Observing.{Plan, onto, text_coming, text_in_all}
 
--- how many rows there are with those before them
+-- the number of rows with those before them
 pub length-onto : (past : Past) (rows : List LogRow) → length (onto past rows) ≡ length past + length rows
 length-onto [] rows = omega (arith)
 length-onto (row ∷ past) rows = omega (arith, length-onto past (row ∷ rows))
 
--- what stands behind the rows stays behind
+-- what follows the rows stays after them
 pub onto-append : (past : Past) (rows more : List LogRow) → onto past (rows ++ more) ≡ onto past rows ++ more
 onto-append [] rows more = refl
 onto-append (row ∷ past) rows more = onto-append past (row ∷ rows) more
@@ -30,11 +30,11 @@ text_of_all plan plate logic (row ∷ past) rows =
     text_of_all plan plate logic past (row ∷ rows)
     ∙ sym (append_assoc (text_so_far plan plate logic past) (plan.at_row plate logic past row) (text_coming plan plate logic (row ∷ past) rows))
 
--- where no row follows it is that of those so far
+-- if no row follows, it is that of those so far
 pub text_at_last : (plan : Plan) (plate : PlateData) (logic : Option Logic) (past : Past) → text_coming plan plate logic [] (onto past []) ≡ text_so_far plan plate logic past
 text_at_last plan plate logic past = text_of_all plan plate logic past [] ∙ append-nil (text_so_far plan plate logic past)
 
--- what is written of the first rows is a front of what is written in all
+-- what is written of the first rows is a prefix of what is written in all
 pub lines_first : (plan : Plan) (plate : PlateData) (logic : Option Logic) (refusal : Option LogRefusal) (first left : List LogRow)
     → (rest : List ℕ) × (text_in_all plan plate logic refusal (first ++ left) ≡ text_coming plan plate logic [] first ++ rest)
 lines_first plan plate logic refusal first left =

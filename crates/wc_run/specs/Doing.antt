@@ -13,8 +13,8 @@ use Rattle.wc_run.specs.declared.fault.RunFault.{RunFault}
 use Rattle.wc_run.specs.declared.fault.RunFault.TheVariants.{Refused, Read, Write, Memory}
 use Rattle.wc_run.specs.declared.scale.Scale.{Scale}
 
--- Of a text that is not written whole a front is written at a write fault, and for want of memory
--- nothing: a text is made before it is written.
+-- Of a text that is not written whole a prefix is written at a write fault, and when out of
+-- memory nothing: a text is made before it is written.
 abbrev pub IsCutShort : RunFault → Option (List ℕ) → Option (List ℕ) → List ℕ → Type 0
 IsCutShort (Refused number place) old new text = ⊥
 IsCutShort Read old new text = ⊥
@@ -31,7 +31,7 @@ abbrev pub Seeing : Type 0 → Type 1
 Seeing O = O → PlateData → Option Logic → Past → Type 0
 
 -- The row is done, seen and written. Or it is refused, and nothing is written; or the writer failed
--- at a front of what is written of it; or memory was refused, and nothing is written.
+-- at a prefix of what is written of it; or memory was refused, and nothing is written.
 abbrev pub Does : {S O X : Type 0} → Seeing O → Plan → PlateData → Option Logic → Past → LogRow → Scale S → O → Result X RunFault → Option (List ℕ) → Option (List ℕ) → Type 0
 Does has_seen plan plate logic past row scale observer (Ok x) old new =
     IsTaken (logic_after plate logic past) (logic_after plate logic (row ∷ past)) row
@@ -50,7 +50,7 @@ abbrev pub HasSeenAll : {O : Type 0} → Seeing O → O → PlateData → Option
 HasSeenAll has_seen observer plate logic rows = (past : Past) × (rows ≡ onto past []) × has_seen observer plate logic past
 
 -- All rows were run, or those before the refused one, and seen and written. After a fault that of the
--- first of them was written, or a front of it.
+-- first of them was written, or a prefix of it.
 abbrev pub RunsRows : {O : Type 0} → Seeing O → Plan → PlateData → Option Logic → LogOf → O → Result ℕ RunFault → Option (List ℕ) → Option (List ℕ) → Type 0
 RunsRows has_seen plan plate logic log observer (Ok count) old new =
     (log.refusal ≡ None) × (count ≡ length log.rows) × HasSeenAll has_seen observer plate logic log.rows × Appends old new (text_coming plan plate logic [] log.rows)
@@ -71,12 +71,12 @@ refused_in (Ok count) = None
 refused_in (Err (Refused number place)) = Some (number, place)
 refused_in (Err fault) = None
 
--- A run writes by a plan: of each row as it comes, and behind the last one, or the last before a refused one, the rest.
+-- A run writes by a plan: of each row as it comes, and after the last one, or the last before a refused one, the rest.
 abbrev pub WritesBy : Plan → PlateData → Option Logic → LogOf → Result ℕ RunFault → Option (List ℕ) → Option (List ℕ) → Type 0
 WritesBy plan plate logic log answer old new = ReportsBy (text_in_all plan plate logic log.refusal) (text_coming plan plate logic []) log answer old new
 
--- a refusal and a write fault stay as they are; what else kept the log from being run is judged by
--- its cause
+-- a refusal and a write fault stay as they are; what else kept the log from being run is
+-- classified by its cause
 abbrev pub IsJudged : RunFault → RunFault → Type 0
 IsJudged Read judged = (judged ≡ Read) ⊎ (judged ≡ Memory)
 IsJudged Memory judged = (judged ≡ Read) ⊎ (judged ≡ Memory)

@@ -1,5 +1,5 @@
--- The logic beside a scale: none, or a program's text with the store from which its scans go on, and
--- the next text where one is left; and what a run with it writes.
+-- The logic with a scale: none, or a program's text with the store from which its scans go on, and
+-- the next text if one is left; and what a run with it writes.
 use Rattle.std.specs.Prelude.{◌≡◌, ⊤, ℕ, List, Option, Some, None, option_map}
 use Rattle.wc_cost.specs.LoadedTexts.{LoadedText}
 use Rattle.wc_machine.specs.Machines.{MachineState, StandsFor}
@@ -16,7 +16,7 @@ use Rattle.wc_model.specs.Run.Rows.{LogRow, Past, answer_of_row}
 abbrev pub text_of_next : Option LoadedText → Option Text
 text_of_next next = option_map (λ loaded. text_view loaded.source) next
 
--- a machine stands for its logic, and what is loaded for the next text; no machine stands for none,
+-- a machine represents its logic, and what is loaded the next text; no machine represents none,
 -- whatever is loaded
 abbrev pub StandsAt : Option MachineState → Option LoadedText → Option Logic → Type 0
 StandsAt None next None = ⊤
@@ -29,7 +29,7 @@ abbrev pub run_report : PlateData → Option Logic → List LogRow → List ℕ
 run_report plate None rows = line_report plate rows
 run_report plate (Some logic) rows = program_report plate logic rows
 
--- what a run of rows writes that keeps the last so many scans: the answers, then those scans
+-- what a run of rows writes that keeps the last n scans: the answers, then those scans
 abbrev pub run_report_last : ℕ → PlateData → Option Logic → List LogRow → List ℕ
 run_report_last number plate None rows = line_report plate rows
 run_report_last number plate (Some logic) rows = program_report_last number plate logic rows
@@ -39,7 +39,7 @@ abbrev pub logic_after : PlateData → Option Logic → Past → Option Logic
 logic_after plate None past = None
 logic_after plate (Some logic) past = Some (logic_behind plate logic past)
 
--- the lines of a row behind the rows so far
+-- the lines of a row after the rows so far
 abbrev pub lines_of_row : PlateData → Option Logic → Past → LogRow → List ReportLine
 lines_of_row plate None past row = answer_line row.ms (answer_of_row plate past row)
 lines_of_row plate (Some logic) past row = lines_with plate programs logic row.brings past row

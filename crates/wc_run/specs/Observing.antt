@@ -19,8 +19,8 @@ use Rattle.wc_run.specs.declared.program.Program.{Program}
 use Rattle.wc_run.specs.declared.row_seen.RowSeen.{RowSeen}
 use Rattle.wc_run.specs.declared.row_seen.ScanSeen.{ScanSeen}
 
--- what an observer writes of a row behind those so far, the newest of which stands first, and what it writes behind the last
--- of these rows, or behind those before a refused one
+-- what an observer writes of a row after those so far, the newest of which comes first, and what it writes after the last
+-- of these rows, or after those before a refused one
 pub record Plan : Type 0 where
   pub at_row : PlateData → Option Logic → Past → LogRow → List ℕ
   pub at_end : PlateData → Option Logic → List LogRow → Option LogRefusal → List ℕ
@@ -30,7 +30,7 @@ abbrev pub text_coming : Plan → PlateData → Option Logic → Past → List L
 text_coming plan plate logic past [] = []
 text_coming plan plate logic past (row ∷ rows) = plan.at_row plate logic past row ++ text_coming plan plate logic (row ∷ past) rows
 
--- what is written in all of a log's rows, with the refusal behind them or with none
+-- what is written in all of a log's rows, with the refusal after them or with none
 abbrev pub Written : Type 0
 Written = PlateData → Option Logic → Option LogRefusal → List LogRow → List ℕ
 
@@ -38,7 +38,7 @@ Written = PlateData → Option Logic → Option LogRefusal → List LogRow → L
 abbrev pub text_in_all : Plan → Written
 text_in_all plan plate logic refusal rows = text_coming plan plate logic [] rows ++ plan.at_end plate logic rows refusal
 
--- rows with those before them, the newest of which stands first
+-- rows with those before them, the newest of which comes first
 abbrev pub onto : Past → List LogRow → List LogRow
 onto [] rows = rows
 onto (row ∷ past) rows = onto past (row ∷ rows)
@@ -65,7 +65,7 @@ lines_of_scan (Some scan) = line_of_record scan.record ∷ []
 abbrev pub lines_of_seen : RowSeen → List ReportLine
 lines_of_seen seen = answer_line seen.row.ms seen.answer.now ++ lines_of_scan seen.scan
 
--- where it is looked at what a scan executes, these are the items of the scan that the row brings
+-- if what a scan executes is looked at, these are the items of the scan that the row brings
 abbrev pub AreItems : PlateData → Option Logic → Past → LogRow → Option (List SeenLine) → Type 0
 AreItems plate logic past row None = ⊤
 AreItems plate None past row (Some lines) = ⊤
@@ -76,7 +76,7 @@ AreItems plate (Some logic) past row (Some lines) =
 abbrev pub items_of : ScanSeen → Option (List SeenLine)
 items_of scan = option_map (λ lines. lines.items) scan.lines
 
--- what is shown is what the row brings, behind those so far: the line's answer, the scan, and what it executes
+-- what is shown is what the row brings, after those so far: the line's answer, the scan, and what it executes
 pub record IsShown (seen : RowSeen) (plate : PlateData) (logic : Option Logic) (past : Past) : Type 0 where
   pub lines : lines_of_row plate logic past (row_of seen) ≡ lines_of_seen seen
   pub items : IfSome seen.scan (λ scan. AreItems plate logic past (row_of seen) (items_of scan))

@@ -1,4 +1,4 @@
--- The lines that kept records stand for.
+-- The lines that kept records represent.
 use Rattle.std.specs.Prelude.{List, map}
 use Rattle.wc_model.specs.Say.Report.{ReportLine, ScanLine}
 use Rattle.wc_record.specs.declared.last_scans.Record.{Record}

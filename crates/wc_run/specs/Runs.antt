@@ -6,7 +6,7 @@ use Rattle.wc_model.specs.Instrument.Plates.{PlateData}
 use Rattle.wc_model.specs.Run.Rows.{LogRow}
 use Rattle.wc_model.specs.Run.Writing.{HasFailedSince}
 use Rattle.wc_model.specs.Say.Report.{line_report}
-use Rattle.wc_instrument_laws.specs.WrittenLines.{without_scan_lines}
+use Rattle.wc_laws_instrument.specs.WrittenLines.{without_scan_lines}
 use Rattle.wc_model.specs.Say.ProgramReport.{Logic}
 use Rattle.wc_record.specs.Told.{record_at, records_read}
 use Rattle.wc_run.specs.Logics.{run_report, run_report_last}
@@ -14,7 +14,7 @@ use Rattle.wc_run.specs.Observing.{Written}
 use Rattle.wc_run.specs.declared.fault.RunFault.{RunFault}
 use Rattle.wc_run.specs.declared.fault.RunFault.TheVariants.{Refused, Write}
 
--- a front of the text was written
+-- a prefix of the text was written
 abbrev pub AppendsFront : Option (List ℕ) → Option (List ℕ) → List ℕ → Type 0
 AppendsFront old new text = (front : List ℕ) × (rest : List ℕ) × (text ≡ front ++ rest) × Appends old new front
 
@@ -23,20 +23,20 @@ abbrev pub AppendsFirst : (List LogRow → List ℕ) → List LogRow → Option 
 AppendsFirst text rows old new = (first : List LogRow) × (left : List LogRow) × (rows ≡ first ++ left) × Appends old new (text first)
 
 -- All rows were run, or those before the refused one, and their whole text was written; after a
--- read fault or want of memory what is written of the first of them as they come, after a write
--- fault a front of the whole.
+-- read fault or out of memory what is written of the first of them as they come, after a write
+-- fault a prefix of the whole.
 abbrev pub ReportsBy : (List LogRow → List ℕ) → (List LogRow → List ℕ) → LogOf → Result ℕ RunFault → Option (List ℕ) → Option (List ℕ) → Type 0
 ReportsBy whole coming log (Ok count) old new = (log.refusal ≡ None) × (count ≡ length log.rows) × Appends old new (whole log.rows)
 ReportsBy whole coming log (Err (Refused number place)) old new = (log.refusal ≡ Some (record { number = number; row = place })) × Appends old new (whole log.rows)
 ReportsBy whole coming log (Err Write) old new = AppendsFront old new (whole log.rows)
 ReportsBy whole coming log (Err fault) old new = AppendsFirst coming log.rows old new
 
--- what a run of rows writes that prints every scan, or the last so many alone
+-- what a run of rows writes that prints every scan, or the last n alone
 abbrev pub report_printing : Option ℕ → PlateData → Option Logic → List LogRow → List ℕ
 report_printing None plate logic = run_report plate logic
 report_printing (Some number) plate logic = run_report_last number plate logic
 
--- the same, whatever the refusal behind them
+-- the same, whatever the refusal after them
 abbrev pub report_written : Option ℕ → Written
 report_written last plate logic refusal rows = report_printing last plate logic rows
 
@@ -45,8 +45,8 @@ abbrev pub report_coming : Option ℕ → PlateData → Option Logic → List Lo
 report_coming None plate logic = run_report plate logic
 report_coming (Some number) plate logic = line_report plate
 
--- A run writes the report, line for line as the rows come; or, where the last so many scans are asked
--- for, the answers, which are those of a run with no program, and those scans behind them.
+-- A run writes the report, line for line as the rows come; or, if the last n scans are asked
+-- for, the answers, which are those of a run with no program, and those scans after them.
 abbrev pub Reports : Option ℕ → PlateData → Option Logic → LogOf → Result ℕ RunFault → Option (List ℕ) → Option (List ℕ) → Type 0
 Reports last plate logic log answer old new = ReportsBy (report_printing last plate logic) (report_coming last plate logic) log answer old new
 
@@ -61,14 +61,14 @@ AppendsLineOfFirst plate rows old new = (first : List LogRow) × (left : List Lo
 
 -- Whatever the program, what is left of the bytes that a run writes without its lines of scans is
 -- what a run with no program writes: of all rows, of those before the refused one, or, after a read
--- fault or want of memory, of the first of them. Behind a write fault stands a front of such a text.
+-- fault or out of memory, of the first of them. After a write fault it is a prefix of such a text.
 abbrev pub LeavesLine : PlateData → LogOf → Result ℕ RunFault → Option (List ℕ) → Option (List ℕ) → Type 0
 LeavesLine plate log (Ok count) old new = AppendsLine plate log.rows old new
 LeavesLine plate log (Err (Refused number place)) old new = AppendsLine plate log.rows old new
 LeavesLine plate log (Err Write) old new = Unit {0}
 LeavesLine plate log (Err fault) old new = AppendsLineOfFirst plate log.rows old new
 
--- The log's reader has not failed where a run came to the log's end or to a refused row.
+-- The log's reader has not failed if a run came to the log's end or to a refused row.
 abbrev pub HasNotFailed : Result ℕ RunFault → ℕ → ℕ → Type 0
 HasNotFailed (Ok count) old new = new ≤ old
 HasNotFailed (Err (Refused number place)) old new = new ≤ old
@@ -79,21 +79,21 @@ abbrev pub TellsFault : List Record → Record → RunFault → Type 0
 TellsFault records fields (Refused number place) = fields ≡ record_at records place
 TellsFault records fields fault = Unit {0}
 
--- the same of whatever a run answers
+-- likewise for whatever a run answers
 abbrev pub TellsRow : {X : Type 0} → List Record → Record → Result X RunFault → Type 0
 TellsRow records fields (Ok x) = Unit {0}
 TellsRow records fields (Err fault) = TellsFault records fields fault
 
--- of a log whose bytes are known the refused row is told
+-- of a log whose bytes are known the refused row is reported
 abbrev pub TellsRefused : {X : Type 0} → Option (List ℕ) → Record → Result X RunFault → Type 0
 TellsRefused known fields answer = IfSome known (λ bytes. TellsRow (records_read bytes) fields answer)
 
--- a write fault is told where the writer's failed calls rose, and only there
+-- a write fault is reported if the writer's failed calls rose, and only then
 abbrev pub TellsWrite : RunFault → ℕ → ℕ → Type 0
 TellsWrite Write old new = HasFailedSince old new
 TellsWrite fault old new = new ≡ old
 
--- the same of whatever a run answers
+-- likewise for whatever a run answers
 abbrev pub TellsWrites : {X : Type 0} → Result X RunFault → ℕ → ℕ → Type 0
 TellsWrites (Ok x) old new = new ≡ old
 TellsWrites (Err fault) old new = TellsWrite fault old new

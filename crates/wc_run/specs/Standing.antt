@@ -1,4 +1,4 @@
--- What a scale stands for while a log is run.
+-- What a scale represents while a log is run.
 use Rattle.std.specs.Prelude.{◌≡◌, ⊤, ℕ, Option, Some, None}
 use Rattle.wc_cost.specs.LoadedTexts.{LoadedText}
 use Rattle.wc_model.specs.Instrument.Plates.{PlateData}
@@ -15,17 +15,17 @@ abbrev pub program_of : Option Logic → Option Running
 program_of None = None
 program_of (Some logic) = Some (record { text = logic.text; store = logic.store })
 
--- what is loaded stands for the next text; with no program that is not told
+-- what is loaded represents the next text; with no program nothing is said of it
 abbrev pub IsNext : Option LoadedText → Option Logic → Type 0
 IsNext next None = ⊤
 IsNext next (Some logic) = text_of_next next ≡ logic.next
 
--- the scale stands for a plate, the logic with which it began, and the rows so far: the open scale for what they have brought
--- beside the logic behind them, and what is loaded for the next text
+-- the scale represents a plate, the logic with which it began, and the rows so far: the open scale what they have brought
+-- with the logic after them, and what is loaded the next text
 pub record Stands {S : Type 0} (scale : Scale S) (plate : PlateData) (logic : Option Logic) (past : Past) : Type 0 where
   pub opened : open_scale.Stands scale.opened plate (came_by past (program_of (logic_after plate logic past)))
   pub next : IsNext scale.next (logic_after plate logic past)
 
--- no scan so far was behind this moment
+-- no scan so far was after this moment
 abbrev pub IsNotBehind : {S : Type 0} → Scale S → ℕ → Type 0
 IsNotBehind scale ms = open_scale.IsNotBehind scale.opened ms

@@ -1,5 +1,5 @@
--- What a row does to a scale, whatever the scale stands for: told of the row's moment and of what
--- it brings.
+-- What a row does to a scale, whatever the scale represents: stated of the row's moment and of
+-- what it brings.
 use Rattle.std.specs.Prelude.{◌≡◌, ⊤, ℕ, List, ◌∷◌, ◌++◌, Option, IfSome}
 use Rattle.wc_model.specs.Instrument.Plates.{PlateData}
 use Rattle.wc_model.specs.Say.ProgramReport.{Logic}
@@ -17,7 +17,7 @@ use Rattle.wc_run.specs.declared.scale.Scale.{Scale}
 abbrev pub row_at : ℕ → ℕ → RowData → LogRow
 row_at number ms brings = record { number = number; ms = ms; brings = brings }
 
--- the scale stands for what it stood for, and one row more
+-- the scale represents what it represented, and one row more
 abbrev pub TakesRow : {S : Type 0} → Scale S → Scale S → ℕ → RowData → Type 0
 TakesRow old new ms brings = (plate : PlateData) (logic : Option Logic) (past : Past) (number : ℕ) → Stands old plate logic past → Stands new plate logic (row_at number ms brings ∷ past)
 
@@ -25,15 +25,15 @@ TakesRow old new ms brings = (plate : PlateData) (logic : Option Logic) (past : 
 abbrev pub Gives : {S : Type 0} → Scale S → ℕ → RowData → List ℕ → Option ScanSeen → Type 0
 Gives old ms brings answers scan = (plate : PlateData) (logic : Option Logic) (past : Past) (number : ℕ) → Stands old plate logic past → lines_of_row plate logic past (row_at number ms brings) ≡ answer_line ms answers ++ lines_of_scan scan
 
--- and these the items of its scan, where they are looked at
+-- and these the items of its scan, if they are looked at
 abbrev pub GivesItems : {S : Type 0} → Scale S → ℕ → RowData → Option ScanSeen → Type 0
 GivesItems old ms brings scan = (plate : PlateData) (logic : Option Logic) (past : Past) (number : ℕ) → Stands old plate logic past → IfSome scan (λ done. AreItems plate logic past (row_at number ms brings) (items_of done))
 
--- a run with whatever logic the scale stands for takes the row
+-- a run with whatever logic the scale represents takes the row
 abbrev pub RunsRow : {S : Type 0} → Scale S → LogRow → Type 0
 RunsRow old row = (plate : PlateData) (logic : Option Logic) (past : Past) → Stands old plate logic past → IsTaken (logic_after plate logic past) (logic_after plate logic (row ∷ past)) row
 
--- a scale is kept from a row by want of memory, or because a run with whatever logic it stands for
+-- a scale is kept from a row by lack of memory, or because a run with whatever logic it represents
 -- refuses the row
 abbrev pub StopsAtRow : {S : Type 0} → Scale S → LogRow → RunFault → Type 0
 StopsAtRow old row (Refused code place) = (plate : PlateData) (logic : Option Logic) (past : Past) → Stands old plate logic past → IsRefusedRow (logic_after plate logic past) row code place

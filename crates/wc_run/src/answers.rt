@@ -2,8 +2,8 @@ use std::alloc::Global;
 use std::io;
 use wc_model::ByteOut;
 
-/// What the line answers to a row. The room is kept from row to row, so that a row takes no memory
-/// where it is large enough.
+/// What the line answers to a row. The buffer is kept from row to row, so that a row takes no
+/// memory if it is large enough.
 #[derive(Drop)]
 pub(crate) struct Answers {
     pub(crate) bytes: Vec<u8>,
@@ -11,7 +11,7 @@ pub(crate) struct Answers {
 }
 
 impl Answers {
-    /// No answers, and no room. It takes no memory.
+    /// No answers, and no buffer. It takes no memory.
     pub(crate) fn new(alloc: Global) -> Answers {
         Answers {
             bytes: Vec::new(alloc),

@@ -11,7 +11,7 @@ pub enum RunFault {
     Refused {
         /// The rule's number, by the list of refusals.
         number: u16,
-        /// The line or row that breaks it, counted from 1; 0 where no line does.
+        /// The line or row that breaks it, counted from 1; 0 if no line does.
         place: u32,
     },
     /// The reader failed, or as much was read as may be.

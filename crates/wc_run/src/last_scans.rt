@@ -13,7 +13,7 @@ use wc_model::ByteOut;
 use wc_record::Recorder;
 use wc_store::Store;
 
-/// Writes the report of a run with the last so many of its scans: the answers as their rows come, and behind the last row, or
+/// Writes the report of a run with the last n of its scans: the answers as their rows come, and after the last row, or
 /// the last before a refused one, the lines of those scans. Each scan is kept as a record in a ring until then.
 #[derive(Drop)]
 pub struct LastScans {
@@ -24,7 +24,7 @@ pub struct LastScans {
 }
 
 impl LastScans {
-    /// Before the first row, with room for so many scans, 1 to 1000. `Memory` is the only fault.
+    /// Before the first row, with space for n scans, 1 to 1000. `Memory` is the only fault.
     pub fn new(alloc: Global, number: u16) -> Result<LastScans, RunFault>
         requires some { 1 ≤ number }
         requires few { number ≤ 1000 }

@@ -23,7 +23,7 @@ use wc_model::{ByteIn, ByteOut};
 use wc_record::{RefusedRow, RowHead, Rows};
 use wc_store::Store;
 
-/// Does a row, with the bytes that are lent with it, and shows it to the observer.
+/// Does a row, with the bytes that are borrowed with it, and shows it to the observer.
 #[inline(always)]
 fn run_row<S: Store, W: ByteOut, O: Observer<S, W>>(
     observer: &mut O,
@@ -59,7 +59,7 @@ fn run_row<S: Store, W: ByteOut, O: Observer<S, W>>(
     observer.see(&seen, scale, writer)
 }
 
-/// Runs the rows that are left: how many there were.
+/// Runs the rows that are left, and returns their number.
 fn run_rows<S: Store, W: ByteOut, O: Observer<S, W>, R: ByteIn>(
     observer: &mut O,
     scale: &mut Scale<'_, S>,
@@ -91,7 +91,7 @@ fn run_rows<S: Store, W: ByteOut, O: Observer<S, W>, R: ByteIn>(
     }
 }
 
-/// Runs the log that the reader has to give, and tells its refused row, if it has one.
+/// Runs the log that the reader has to give, and reports its refused row, if it has one.
 pub(crate) fn run_log<S: Store, W: ByteOut, O: Observer<S, W>, R: ByteIn>(
     alloc: Global,
     observer: &mut O,

@@ -17,7 +17,7 @@ use wc_store::Store;
 /// Who observes a run: it is shown each row that was done with what the row brought, and writes what it has to say of it. Whoever
 /// observes, the rows are done in the same way. `S` is the store of the machine that does the scans, `W` the writer.
 pub trait Observer<S: Store, W: ByteOut> {
-    /// What it writes of each row, and behind the last one.
+    /// What it writes of each row, and after the last one.
     ghost plan: { Self → Plan };
 
     /// Whether the plan says what the writer takes; else nothing is said of the bytes.
@@ -36,7 +36,7 @@ pub trait Observer<S: Store, W: ByteOut> {
     ghost has_seen: { Self → PlateData → Option Logic → Past → Type 0 };
 
     /// Is shown the programs of a run before its first row: the first one, if there is one, and the next one, if there is one.
-    /// It fails for want of memory, or refuses to begin: what it was to write of cannot be had of these programs.
+    /// It fails when out of memory, or refuses to begin: what it was to write of cannot be had of these programs.
     fn begin(
         &mut self,
         first: Option<Program<'_, '_>>,
@@ -56,7 +56,7 @@ pub trait Observer<S: Store, W: ByteOut> {
     /// Whether it looks at the items that a scan at this moment executes.
     fn looks_at(&self, ms: u64) -> bool;
 
-    /// Is shown a row that was done, and the scale after it. It fails where the writer does, or for want of memory; the run ends
+    /// Is shown a row that was done, and the scale after it. It fails if the writer does, or when out of memory; the run ends
     /// there.
     fn see(
         &mut self,
@@ -80,7 +80,7 @@ pub trait Observer<S: Store, W: ByteOut> {
         ensures failures { TellsWrites result (W.failure_count writer.old)
             (W.failure_count writer.new) };
 
-    /// Is told that the rows are over: all were done, or those before a refused row, by its number and the row.
+    /// Is informed that the rows are over: all were done, or those before a refused row, by its number and the row.
     fn end(&mut self, refused: Option<(u16, u32)>, writer: &mut W) -> Result<(), RunFault>
         ensures writes { (plate : PlateData) (logic : Option Logic) (past : Past)
             → has_seen self.old plate logic past

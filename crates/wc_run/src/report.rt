@@ -13,7 +13,7 @@ use wc_model::ByteOut;
 use wc_report::put_answer_line;
 use wc_store::Store;
 
-/// Puts the line of an answer behind a text, and nothing of an empty one.
+/// Appends the line of an answer to a text, and nothing of an empty one.
 #[inline(always)]
 pub fn put_answer(text: &mut Vec<u8>, seen: &RowSeen<'_>) -> Result<(), RunFault>
     ensures text { OnOk result (text.new.items
@@ -27,7 +27,7 @@ pub fn put_answer(text: &mut Vec<u8>, seen: &RowSeen<'_>) -> Result<(), RunFault
     Ok(())
 }
 
-/// Puts the line of a scan, if there is one, behind a text.
+/// Appends the line of a scan, if there is one, to a text.
 #[inline(always)]
 fn put_scan(text: &mut Vec<u8>, scan: &Option<ScanSeen>) -> Result<(), RunFault>
     ensures text { OnOk result
@@ -40,7 +40,7 @@ fn put_scan(text: &mut Vec<u8>, scan: &Option<ScanSeen>) -> Result<(), RunFault>
     }
 }
 
-/// Puts the lines of a row behind a text: its answer's, and its scan's.
+/// Appends the lines of a row to a text: its answer's, and its scan's.
 #[inline(always)]
 pub(crate) fn put_lines(text: &mut Vec<u8>, seen: &RowSeen<'_>) -> Result<(), RunFault>
     ensures text { OnOk result

@@ -6,7 +6,7 @@ use wc_record::{Record, RowHead};
 pub struct ScanSeen {
     /// Its moment, its steps and its outputs.
     pub record: Record,
-    /// The items that it executed, in order, where the observer looks at them.
+    /// The items that it executed, in order, if the observer looks at them.
     pub lines: Option<Vec<SeenLine>>,
 }
 
@@ -17,8 +17,8 @@ pub struct RowSeen<'a> {
     pub row: RowHead,
     /// Its line bytes; of a row of another kind they say nothing.
     pub bytes: &'a [u8],
-    /// What the line answered; empty where it answered nothing.
+    /// What the line answered; empty if it answered nothing.
     pub answer: &'a [u8],
-    /// The scan of a scan row, where there is a program.
+    /// The scan of a scan row, if there is a program.
     pub scan: Option<ScanSeen>,
 }

@@ -46,9 +46,9 @@ fn refused_in(answer: &Result<u32, RunFault>) -> Option<(u16, u32)>
     }
 }
 
-/// Runs a log, and behind its rows tells the observer that they are over, unless a device failed or
-/// memory was refused. Where its reader failed, that is told, also if every row was read all the
-/// same: the library that reads records does not promise to tell each failure.
+/// Runs a log, and after its rows informs the observer that they are over, unless a device failed
+/// or memory was refused. If its reader failed, that is reported, also if every row was read all
+/// the same: the library that reads records does not promise to report each failure.
 fn run_to_end<S: Store, W: ByteOut, O: Observer<S, W>, R: ByteIn>(
     alloc: Global,
     observer: &mut O,
@@ -82,7 +82,7 @@ fn run_to_end<S: Store, W: ByteOut, O: Observer<S, W>, R: ByteIn>(
     answer
 }
 
-/// A read fault where the reader has failed since, or as much was read as may be; else want of
+/// A read fault if the reader has failed since, or as much was read as may be; else out of
 /// memory. A refusal and a write fault stay what they are.
 pub fn judged<R: ByteIn>(fault: RunFault, reader: &R, failures: u64, spent: u64) -> RunFault
     ensures judged { IsJudged fault result }
@@ -105,19 +105,19 @@ pub fn judged<R: ByteIn>(fault: RunFault, reader: &R, failures: u64, spent: u64)
 }
 
 /// Runs a log on a scale to which no row has come, whoever observes it: each row is read, done and
-/// shown before the next row is read, and the observer writes what its plan says of it; behind the
+/// shown before the next row is read, and the observer writes what its plan says of it; after the
 /// last row, or the last before a refused one, it writes what its plan says of the end. `Ok` is the
-/// number of rows behind the first. `Refused` names the first row that breaks a rule, and the rows
-/// before it are run and written; that row is told, the record of the log that has its number.
-/// `Read` comes only where the reader failed in this call or as much was read as may be (134217728
-/// bytes and calls), `Write` only where the observer's writer failed in it, `Memory` where a growth
-/// was refused, or a read failed, without such a cause; what is written is then what the plan says
-/// of the first rows, at a write fault a front of the whole. A run takes no more memory for more rows
-/// but for what its observer keeps.
-/// No scan is stuck, and none shows a line that only a stuck one would: a machine is made by
-/// `Machine::new` alone, of a text that every pass accepts, and its `scan` promises that each scan is
-/// done. That takes two things of whoever calls it: the machine has run no scan (`first`), and it
-/// stands for the logic that the plan speaks of, as `new` promises of the text and its first store.
+/// number of rows after the first. `Refused` names the first row that breaks a rule, and the rows
+/// before it are run and written; that row is reported, the record of the log that has its number.
+/// `Read` comes only if the reader failed in this call or as much was read as may be (134217728 bytes
+/// and calls), `Write` only if the observer's writer failed in it, `Memory` if an allocation was
+/// refused, or a read failed, without such a cause; what is written is then what the plan says of the
+/// first rows, at a write fault a prefix of the whole. A run takes no more memory for more rows but
+/// for what its observer keeps. No scan is stuck, and none shows a line that only a stuck one would:
+/// a machine is made by `Machine::new` alone, of a text that every pass accepts, and its `scan`
+/// promises that each scan is done. That takes two things of whoever calls it: the machine has run no
+/// scan (`first`), and it represents the logic that the plan speaks of, as `new` promises of the text
+/// and its first store.
 pub fn run<S: Store, W: ByteOut, O: Observer<S, W>, R: ByteIn>(
     alloc: Global,
     observer: &mut O,
@@ -137,14 +137,14 @@ pub fn run<S: Store, W: ByteOut, O: Observer<S, W>, R: ByteIn>(
     ensures read { IsErrOf result RunFault.Read
         → HasCause (R.failure_count reader.old) (R.failure_count reader.new)
         (R.spent_count reader.old) (R.spent_count reader.new) }
-    // A fault of the reader, or the bound that was met, is not told as want of memory.
+    // A fault of the reader, or the limit that was reached, is not reported as out of memory.
     ensures memory { IsErrOf result RunFault.Memory
         → ¬ HasCause (R.failure_count reader.old) (R.failure_count reader.new)
         (R.spent_count reader.old) (R.spent_count reader.new) }
-    // A write fault is told where the observer's writer failed, and only there.
+    // A write fault is reported if the observer's writer failed, and only then.
     ensures failures { TellsWrites result (W.failure_count writer.old)
         (W.failure_count writer.new) }
-    // Behind the last row, or a refused one, its reader has not failed.
+    // After the last row, or a refused one, its reader has not failed.
     ensures reader { HasNotFailed result (R.failure_count reader.old)
         (R.failure_count reader.new) }
 {

@@ -74,8 +74,8 @@ impl<'a, S: Store> Scale<'a, S> {
         self.opened.machine()
     }
 
-    /// Does a row, with the bytes that are lent with it. The line's answer is gathered; a scan is
-    /// given, with the items that it executes where they are looked at.
+    /// Does a row, with the bytes that are borrowed with it. The line's answer is gathered; a
+    /// scan is given, with the items that it executes if they are looked at.
     #[inline(always)]
     pub(crate) fn take(
         &mut self,
@@ -139,7 +139,7 @@ impl<'a, S: Store> Scale<'a, S> {
         self.opened.sample(counts);
     }
 
-    /// Takes bytes on the line; what is answered is gathered behind no other answers.
+    /// Takes bytes on the line; what is answered is gathered after no other answers.
     #[inline(always)]
     fn take_bytes(&mut self, answers: &mut Answers, bytes: &[u8]) -> Result<(), RunFault>
         requires empty { answers.old.bytes.items ≡ [] }
@@ -164,7 +164,7 @@ impl<'a, S: Store> Scale<'a, S> {
         self.opened.inputs(inputs);
     }
 
-    /// Does a scan where there is a machine.
+    /// Does a scan if there is a machine.
     #[inline(always)]
     fn take_scan(&mut self, looks: bool, ms: u64) -> Result<Option<ScanSeen>, RunFault>
         requires early { ms < 2 ^ 40 }
@@ -187,7 +187,7 @@ impl<'a, S: Store> Scale<'a, S> {
         }
     }
 
-    /// Does a scan where there is a machine, and gives the items that it executes. `Memory` is want of memory for these.
+    /// Does a scan if there is a machine, and gives the items that it executes. `Memory` means out of memory for these.
     #[cold]
     #[inline(never)]
     fn look_at(&mut self, ms: u64) -> Result<Option<ScanSeen>, RunFault>
@@ -211,7 +211,7 @@ impl<'a, S: Store> Scale<'a, S> {
         }
     }
 
-    /// Takes the next program where there is a machine.
+    /// Takes the next program if there is a machine.
     #[cold]
     #[inline(never)]
     fn take_change(&mut self, number: u32) -> Result<(), RunFault>

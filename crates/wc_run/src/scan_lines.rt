@@ -10,7 +10,7 @@ use wc_model::{ByteOut, Steps, write_whole};
 use wc_record::{Record, Recorder};
 use wc_report::put_scan_line;
 
-/// Puts the line of a scan by its record behind a text.
+/// Appends the line of a scan by its record to a text.
 #[inline(always)]
 pub fn put_record(text: &mut Vec<u8>, scan: &Record) -> Result<(), RunFault>
     ensures text { OnOk result

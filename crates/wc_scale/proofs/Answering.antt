@@ -1,10 +1,10 @@
--- The answer to one byte fits twenty bytes, so a room of twenty never fails.
+-- The answer to one byte fits twenty bytes, so a buffer of twenty never fails.
 use Rattle.std.proofs.Common.{◌≡◌, ◌==◌, refl, ◌<◌, ◌≤◌, ◌⊎◌, inl, inr, ℕ, Bool, true, false, List, [], ◌∷◌, ◌++◌, length, take, sym, subst, ap, arith, Option, Some, None, if◌then◌else◌, length-append}
 use Rattle.std.specs.Option.{option_to_list}
 use Rattle.std.proofs.lemmas.List.{length-take}
 use Rattle.wc_indicator.specs.Kept.{IndicatorState}
-use Rattle.wc_instrument_laws.proofs.Answers.{length_answer}
-use Rattle.wc_instrument_laws.proofs.Requests.{is_cut_anywhere}
+use Rattle.wc_laws_instrument.proofs.Answers.{length_answer}
+use Rattle.wc_laws_instrument.proofs.Requests.{is_cut_anywhere}
 use Rattle.wc_model.specs.Instrument.Answers.{AskTare, AskWeight, Clear, Command, Plain, Shown, TakeTare, Tare, Unknown, Zero, after_requests, answer_to, answers_to, asked_tare, asked_zero, command_of}
 use Rattle.wc_model.specs.Instrument.Plates.{IsPlate, PlateData}
 use Rattle.wc_model.specs.Instrument.Requests.{carriage_return, open_request, requests_in}
@@ -34,12 +34,12 @@ few false begun = omega arith
 one_request : (before : List ℕ) (byte : ℕ) → length (requests_in before (byte ∷ [])) ≤ 1
 one_request before byte = subst (λ texts. length texts ≤ 1) (sym (is_cut_anywhere.byte before byte)) (few (byte == carriage_return) (open_request before))
 
--- so none stands before it
+-- so none precedes it
 none_before : (done : List (List ℕ)) (next : List ℕ) (left : List (List ℕ)) → length (done ++ (next ∷ left)) ≤ 1 → done ≡ []
 none_before [] next left h = refl
 none_before (text ∷ done) next left h = absurd (omega (arith, length-append done (next ∷ left)))
 
--- what is cut short is not behind twenty bytes
+-- what is cut short is not after twenty bytes
 never_cut : (p : PlateData) (before : List ℕ) (byte : ℕ) (history : History) (indicator : IndicatorState) (bytes : List ℕ) → IsPlate p → length bytes ≡ 20 →
     IsCutShort p (requests_in before (byte ∷ [])) history indicator (Some []) (Some bytes) → ⊥
 never_cut p before byte history indicator bytes is whole cut =
@@ -52,7 +52,7 @@ never_cut p before byte history indicator bytes is whole cut =
     let front : length bytes ≡ length cut.written = ap length taken in
     omega (arith, answer_short p (command_of cut.next) history is, all, front, length-append cut.written cut.unwritten, whole, cut.short)
 
--- a write failed, so the room is full
+-- a write failed, so the buffer is full
 is_full : (room : AnswerRoom) → HasFailedSince 0 room.failures → length (take room.taken room.bytes) ≡ 20
 is_full room failed =
     let some : 0 < room.failures = elim failed [ inl more ↦ more | inr most ↦ omega (arith, most) ] in

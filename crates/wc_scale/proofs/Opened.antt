@@ -14,7 +14,7 @@ use Rattle.wc_scale.specs.Standing.{IsOpenAt, machine_in}
 use Rattle.wc_scale.specs.declared.scale.Scale.{Scale}
 use Rattle.wc_store.specs.declared.slot_store.SlotStore.{SlotStore}
 
--- what is open stands for what the scale stands for
+-- what is open represents what the scale represents
 pub stands_in : {S : Type 0} (kept : Option (OpenScale S)) (opened : OpenScale S) (plate : PlateData) (came : Came) → kept ≡ Some opened → IsOpenAt kept plate came →
     OpenStands opened plate came
 stands_in kept opened plate came is stands = subst (λ held. IsOpenAt held plate came) is stands

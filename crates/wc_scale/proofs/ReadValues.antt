@@ -1,6 +1,6 @@
 -- The value that a name leads to in the program of a scale, or that it leads nowhere.
 use Rattle.std.proofs.Common.{◌≡◌, ◌∙◌, ℕ, ℤ, List, false, Option, Some, None, ap, inr, pos, refl, subst, sym, is_some}
-use Rattle.wc_flat.specs.Contents.{frame_of_text, number_in}
+use Rattle.wc_text_flat.specs.Contents.{frame_of_text, number_in}
 use Rattle.wc_machine.specs.Machines.{MachineState, StandsFor}
 use Rattle.wc_model.specs.Instrument.Plates.{PlateData}
 use Rattle.wc_model.specs.Language.Frames.{content_number, place_number}
@@ -16,10 +16,10 @@ use Rattle.wc_scale.specs.Values.{IsValueOf, OfProgram, RefusesValue, kind_numbe
 use Rattle.wc_scale.specs.declared.results.VariableRead.{VariableRead}
 use Rattle.wc_scale.specs.declared.scale.Scale.{Scale}
 use Rattle.wc_store.specs.declared.slot_store.SlotStore.{SlotStore}
-use Rattle.wc_variables.proofs.Readings.{Reads, known, reads}
-use Rattle.wc_variables.specs.Names.{named_location}
-use Rattle.wc_variables.specs.Numbered.{variable_named}
-use Rattle.wc_variables.specs.declared.variables.NamedVariable.{NamedVariable}
+use Rattle.wc_text_variables.proofs.Readings.{Reads, known, reads}
+use Rattle.wc_text_variables.specs.Names.{named_location}
+use Rattle.wc_text_variables.specs.Numbered.{variable_named}
+use Rattle.wc_text_variables.specs.declared.variables.NamedVariable.{NamedVariable}
 
 module _ (scale : Scale) (opened : OpenScale SlotStore) (machine : MachineState) (is : scale.opened ≡ Some opened) (has : opened.machine ≡ Some machine) where
   -- the machine runs the program that the scale has

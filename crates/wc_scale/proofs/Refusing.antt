@@ -1,4 +1,4 @@
--- What is told of a fault is the text's one refusal.
+-- What is reported about a fault is the text's one refusal.
 use Rattle.std.proofs.Common.{◌≡◌, ◌≤◌, ℕ, Bool, true, List, Option, Some, None, is_some, sym, subst, arith}
 use Rattle.wc_controller.specs.Loads.{IsRefusedLoad, IsTheOnlyRefusal}
 use Rattle.wc_model.specs.declared.fault.Fault.{Fault}
@@ -23,7 +23,7 @@ refused_at bytes (Refused number place) told refused only tells is =
     (record { refused = refused; never = only.0; only = only.1 }))
 refused_at bytes Memory told refused only tells is = absurd (omega arith)
 
--- a fault is told by status 1 or 2
+-- a fault is reported by status 1 or 2
 pub fault_status : (fault : Fault) (told : Refusal) → TellsFault fault told → (told.status ≤ 2) × ¬ (told.status ≡ 0)
 fault_status (Refused number place) told tells = (omega arith, λ none. absurd (omega arith))
 fault_status Memory told tells = (omega arith, λ none. absurd (omega arith))
@@ -36,7 +36,7 @@ fault_is_bare Memory told tells = λ other. (tells.1, tells.2)
 pub no_unit_told : (bytes : List ℕ) (unit : ℕ) (fault : Fault) (told : Refusal) → TellsFault fault told → TellsNoUnit bytes unit told
 no_unit_told bytes unit fault told tells = λ is. absurd (omega (arith, (fault_status fault told tells).0, is))
 
--- where a program is said to be, there is one
+-- if a program is said to be, there is one
 pub has_a_program : {X : Type 0} (kept : Option X) (there : Bool) → there ≡ is_some kept → there ≡ true → ¬ (kept ≡ None)
 has_a_program None there said is = λ _. absurd (cc)
 has_a_program (Some x) there said is = λ other. absurd (cc)

@@ -1,4 +1,4 @@
--- What is told of a unit of a program's text.
+-- What is reported about a unit of a program's text.
 use Rattle.std.specs.Prelude.{◌≡◌, ◌⊎◌, ℕ, ◌<◌, ◌≤◌, min, List, length, take, Some, option_map, slice_get}
 use Rattle.wc_cost.specs.LoadedTexts.{AreWorstAt}
 use Rattle.wc_model.specs.Language.Loading.{IsLoaded}
@@ -17,7 +17,7 @@ pub record IsUnitTold (text : Text) (unit : ℕ) (told : UnitTold) : Type 0 wher
   pub short : told.length ≤ 32
   pub name : (spelled : List ℕ) → option_map (λ u. u.spelled) (slice_get text unit) ≡ Some spelled → take told.length told.name ≡ take 32 spelled
 
--- the lines of the unit's worst path stand in the room, and there are no more than it has
+-- the lines of the unit's worst path are in the buffer, and there are no more than it has
 pub record IsPathTold (text : Text) (unit : ℕ) (room : List ℕ) (told : PathTold) : Type 0 where
   pub there : unit < length text
   pub fits : told.length ≤ length room
@@ -27,7 +27,7 @@ pub record IsPathTold (text : Text) (unit : ℕ) (room : List ℕ) (told : PathT
 abbrev pub HasNoUnit : Text → ℕ → Type 0
 HasNoUnit text unit = length text ≤ unit
 
--- the unit's worst path has more lines than the room, or than are told; this is how many
+-- the unit's worst path has more lines than the buffer, or than are reported; this is their number
 pub record IsTooLong (text : Text) (unit : ℕ) (room : List ℕ) (told : PathTold) : Type 0 where
   pub there : unit < length text
   pub lines : List ℕ
@@ -51,11 +51,11 @@ TellsPath bytes unit room told = told.text.status ≡ 0 → IsTextWith bytes (λ
 abbrev pub RefusesText : List ℕ → Refusal → Type 0
 RefusesText bytes told = told.status ≡ 1 → IsRefusedAt bytes told.number told.place
 
--- where it is told that there is no such unit, the text has none of that number
+-- if it is reported that there is no such unit, the text has none of that number
 abbrev pub TellsNoUnit : List ℕ → ℕ → Refusal → Type 0
 TellsNoUnit bytes unit told = told.status ≡ 10 → IsTextWith bytes (λ text. HasNoUnit text unit)
 
--- where the room is told to be too small, it is
+-- if the buffer is reported to be too small, it is
 abbrev pub TellsNoRoom : List ℕ → ℕ → List ℕ → PathTold → Type 0
 TellsNoRoom bytes unit room told = told.text.status ≡ 11 → IsTextWith bytes (λ text. IsTooLong text unit room told)
 
@@ -63,6 +63,6 @@ TellsNoRoom bytes unit room told = told.text.status ≡ 11 → IsTextWith bytes 
 abbrev pub IsUnitStatus : ℕ → Type 0
 IsUnitStatus status = (status ≤ 2) ⊎ (status ≡ 10)
 
--- the same; or there is no room
+-- the same; or there is no space
 abbrev pub IsPathStatus : ℕ → Type 0
 IsPathStatus status = IsUnitStatus status ⊎ (status ≡ 11)

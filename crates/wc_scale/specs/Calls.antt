@@ -1,5 +1,5 @@
 -- What each call with a row's work does to a scale and what it answers, for whatever plate and whatever has come the scale
--- stands for. A call that answers any status but 0 changes nothing. (The profile's own.)
+-- represents. A call that answers any status but 0 changes nothing. (The profile's own.)
 use Rattle.std.specs.Prelude.{◌≡◌, ℕ, ◌<◌, ◌≤◌, List, [], ◌∷◌, take, replicate, ℤ, pos, IfSome, Some}
 use Rattle.wc_model.specs.Instrument.Answers.{answers_to}
 use Rattle.wc_model.specs.Instrument.Plates.{PlateData}
@@ -91,7 +91,7 @@ TakesScan old new ms scanned = scanned.status ≡ 0 →
     (plate : PlateData) (came : Came) (running : Running) → came.program ≡ Some running → Stands old plate came → IsScanned new plate came running ms scanned
 
 -- a scan is done unless the scale is closed, has no program, or the moment is out of range or goes back; of one that is not done
--- no step and no output is told
+-- no step and no output is reported
 pub record RefusesScan (old new : Scale) (ms : ℕ) (scanned : Scanned) : Type 0 where
   pub kept : IsKept old new scanned.status
   pub empty : ¬ (scanned.status ≡ 0) → (scanned.steps ≡ 0) × (scanned.bits ≡ 0) × (scanned.words ≡ replicate 4 (pos 0))
@@ -107,7 +107,7 @@ abbrev pub TellsReading : Scale → Reading → Type 0
 TellsReading scale reading = (plate : PlateData) (came : Came) → Stands scale plate came →
     (reading.status ≡ 0) × (reading.flags ≡ (image_of plate came).status) × (reading.weights ≡ (image_of plate came).weights)
 
--- what is engraved: the unit, the digits behind the point, the greatest load and the scale interval of the plate
+-- what is engraved: the unit, the digits after the point, the greatest load and the scale interval of the plate
 abbrev pub TellsEngraved : Scale → Engraved → Type 0
 TellsEngraved scale engraved = (plate : PlateData) (came : Came) → Stands scale plate came →
     (engraved.status ≡ 0) × (engraved.unit ≡ plate.unit) × (engraved.decimals ≡ pos plate.decimals) × (engraved.max ≡ pos plate.max) × (engraved.e ≡ pos plate.e)

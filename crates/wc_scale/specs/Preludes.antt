@@ -1,6 +1,6 @@
--- What is told of the state of a scale, and what brings it back. (The profile's own.)
+-- What is reported about the state of a scale, and what brings it back. (The profile's own.)
 use Rattle.std.specs.Prelude.{◌≡◌, ℕ, zero, suc, List, [], ◌∷◌, replicate, take, ℤ, pos, Option, Some, None}
-use Rattle.wc_instrument_laws.specs.Preludes.{ScaleState, state_of}
+use Rattle.wc_laws_instrument.specs.Preludes.{ScaleState, state_of}
 use Rattle.wc_model.specs.Instrument.Plates.{PlateData}
 use Rattle.wc_model.specs.Instrument.Requests.{line_feed}
 use Rattle.wc_open_scale.specs.Standing.{Came}
@@ -26,7 +26,7 @@ pub record IsToldState (told : PreludeTold) (state : ScaleState) : Type 0 where
   pub same_inputs : told.inputs ≡ state.inputs
   pub same_request : take told.length told.request ≡ request_bytes state.request
 
--- what is told is the state that all that has come has left, beside the plate's window
+-- what is reported is the state that all that has come has left, with the plate's window
 pub record IsPreludeOf (told : PreludeTold) (plate : PlateData) (came : Came) : Type 0 where
   pub done : told.status ≡ 0
   pub window : told.window ≡ plate.window
@@ -35,7 +35,7 @@ pub record IsPreludeOf (told : PreludeTold) (plate : PlateData) (came : Came) : 
 abbrev pub TellsPrelude : Scale → PreludeTold → Type 0
 TellsPrelude scale told = (plate : PlateData) (came : Came) → Stands scale plate came → IsPreludeOf told plate came
 
--- nothing is told of a closed scale
+-- nothing is reported about a closed scale
 pub record HoldsNothing (told : PreludeTold) : Type 0 where
   pub status : told.status ≡ 3
   pub window : told.window ≡ 0

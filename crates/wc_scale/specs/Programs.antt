@@ -26,7 +26,7 @@ pub record IsBegun (old new : Scale) (bytes : List ℕ) : Type 0 where
 abbrev pub TakesLoad : Scale → Scale → List ℕ → Refusal → Type 0
 TakesLoad old new bytes told = told.status ≡ 0 → IsBegun old new bytes
 
--- the program stays where the text is refused or there is no memory
+-- the program stays if the text is refused or there is no memory
 pub record RefusesLoad (old new : Scale) (bytes : List ℕ) (told : Refusal) : Type 0 where
   pub kept : IsKept old new told.status
   pub closed : IsClosed old → told.status ≡ 3

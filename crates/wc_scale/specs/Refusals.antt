@@ -1,4 +1,4 @@
--- What is told of a text.
+-- What is reported about a text.
 use Rattle.std.specs.Prelude.{◌≡◌}
 use Rattle.wc_model.specs.declared.fault.Fault.{Fault}
 use Rattle.wc_model.specs.declared.fault.Fault.TheVariants.{Refused, Memory}

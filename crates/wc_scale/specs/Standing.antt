@@ -1,4 +1,4 @@
--- What a scale stands for while it is open, and what is kept of it.
+-- What a scale represents while it is open, and what is kept of it.
 use Rattle.std.specs.Prelude.{◌≡◌, ℕ, ◌≤◌, Option, Some, None, IfSome}
 use Rattle.wc_machine.specs.Machines.{MachineState}
 use Rattle.wc_model.specs.Instrument.Plates.{PlateData}
@@ -6,7 +6,7 @@ use Rattle.wc_open_scale.specs.Standing.{Came, Stands as OpenStands}
 use Rattle.wc_open_scale.specs.declared.open_scale.OpenScale.{OpenScale}
 use Rattle.wc_scale.specs.declared.scale.Scale.{Scale}
 
--- what is open stands for a plate and for what has come; nothing open stands for nothing
+-- what is open represents a plate and what has come; nothing open represents nothing
 abbrev pub IsOpenAt : {S : Type 0} → Option (OpenScale S) → PlateData → Came → Type 0
 IsOpenAt None plate came = ⊥
 IsOpenAt (Some opened) plate came = OpenStands opened plate came
@@ -16,7 +16,7 @@ abbrev pub machine_in : {S : Type 0} → Option (OpenScale S) → Option Machine
 machine_in None = None
 machine_in (Some opened) = opened.machine
 
--- the scale stands for a plate and for what has come
+-- the scale represents a plate and what has come
 abbrev pub Stands : Scale → PlateData → Came → Type 0
 Stands scale plate came = IsOpenAt scale.opened plate came
 

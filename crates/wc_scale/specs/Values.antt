@@ -11,7 +11,7 @@ use Rattle.wc_open_scale.specs.Standing.{Came, Running}
 use Rattle.wc_scale.specs.Standing.{HasNoProgram, IsClosed, Stands}
 use Rattle.wc_scale.specs.declared.results.VariableRead.{VariableRead}
 use Rattle.wc_scale.specs.declared.scale.Scale.{Scale}
-use Rattle.wc_variables.specs.Names.{named_location}
+use Rattle.wc_text_variables.specs.Names.{named_location}
 
 -- the number of a kind, for C
 abbrev pub kind_number : Kind → ℕ

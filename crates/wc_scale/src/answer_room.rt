@@ -3,7 +3,7 @@ ghost use Rattle.std.specs.Prelude.{◌≡◌, ◌<◌, ◌≤◌, Some, length,
 use std::io;
 use wc_model::ByteOut;
 
-/// Room for one answer of the line. It takes no memory.
+/// A buffer for one answer of the line. It takes no memory.
 #[derive(Drop)]
 pub(crate) struct AnswerRoom {
     pub(crate) bytes: [u8; 20],
@@ -11,12 +11,12 @@ pub(crate) struct AnswerRoom {
     pub(crate) failures: u64,
     ghost whole: { length bytes ≡ 20 },
     ghost within: { taken ≤ 20 },
-    // A write fails in full room alone.
+    // A write fails only if the buffer is full.
     ghost full: { 0 < failures → taken ≡ 20 },
 }
 
 impl AnswerRoom {
-    /// Room in which nothing stands.
+    /// An empty buffer.
     pub(crate) fn new() -> AnswerRoom
         ensures empty { result.taken ≡ 0 }
         ensures works { result.failures ≡ 0 }

@@ -26,7 +26,7 @@ fn machine_of(alloc: Global, text: &'static [u8]) -> Result<Machine<'static, Slo
 }
 
 impl Scale {
-    /// Loads a program, which begins anew; one that was loaded before is let go then, and stays where the text is
+    /// Loads a program, which starts over; one that was loaded before is freed then, and stays if the text is
     /// refused.
     pub fn load(&mut self, text: &'static [u8]) -> Refusal
         ensures taken { TakesLoad self.old self.new text.now result }

@@ -18,7 +18,7 @@ fn status_of(fault: ChangeFault) -> u32
 
 impl Scale {
     /// Changes the program between two scans: what is named alike in both texts keeps its value, and all else begins
-    /// with its first. The program stays where the text is refused.
+    /// with its first. The program stays if the text is refused.
     pub fn change(&mut self, text: &'static [u8]) -> Refusal
         ensures taken { TakesChange self.old self.new text.now result }
         ensures refused { RefusesChange self.old self.new text.now result }

@@ -1,4 +1,4 @@
-//! A scale for a maker's own program: its indicator, its line, its digital inputs and the program beside it in one
+//! A scale for a maker's own program: its indicator, its line, its digital inputs and the program with it in one
 //! value, which takes what comes of it call by call. Each call on arguments that can't be taken answers by a status
 //! and changes nothing.
 #![tactic(auto)]

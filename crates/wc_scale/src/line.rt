@@ -17,7 +17,7 @@ fn no_answer(status: u32) -> Answer
     }
 }
 
-/// The answer that stands in the room.
+/// The answer that is in the buffer.
 fn answer_in(room: &AnswerRoom) -> Answer
     ensures status { result.status ≡ 0 }
     ensures length { result.length ≡ room.now.taken }

@@ -9,7 +9,7 @@ use crate::statuses::{CLOSED, DONE};
 use arrayvec::ArrayVec;
 use wc_open_scale::Prelude;
 
-/// A list of at most sixteen numbers with zeros after it, and how many they are.
+/// A list of at most sixteen numbers with zeros after it, and their number.
 fn padded(items: &ArrayVec<i32, 16>) -> (u32, [i32; 16])
     ensures { take result.0 result.1 ≡ items.now.items }
 {
@@ -19,7 +19,7 @@ fn padded(items: &ArrayVec<i32, 16>) -> (u32, [i32; 16])
     (count as u32, room)
 }
 
-/// The bytes of a request that is open, with zeros after them, and how many they are.
+/// The bytes of a request that is open, with zeros after them, and their number.
 fn opened(request: &Option<ArrayVec<u8, 2>>) -> (u32, [u8; 3])
     ensures { take result.0 result.1
         ≡ request_bytes (option_map (λ text. text.items) request.now) }

@@ -10,9 +10,9 @@ use wc_model::Fault;
 pub struct Refusal {
     /// The status.
     pub status: u32,
-    /// The number of the rule that the text breaks, 0 where it is not refused.
+    /// The number of the rule that the text breaks, 0 if it is not refused.
     pub number: u32,
-    /// The line that breaks it, counted from 1; 0 where no line does.
+    /// The line that breaks it, counted from 1; 0 if no line does.
     pub place: u32,
 }
 
@@ -22,19 +22,19 @@ pub struct Refusal {
 pub struct Answer {
     /// The status.
     pub status: u32,
-    /// How many bytes the answer has, 0 where the byte completes no request.
+    /// The number of bytes the answer has, 0 if the byte completes no request.
     pub length: u32,
-    /// Its bytes, and zeros behind them.
+    /// Its bytes, and zeros after them.
     pub bytes: [u8; 20],
 }
 
-/// What comes of a scan: a status, how many steps it took, and the outputs that it leaves.
+/// What comes of a scan: a status, the number of steps it took, and the outputs that it leaves.
 #[repr(C)]
 #[derive(Clone, Copy)]
 pub struct Scanned {
     /// The status.
     pub status: u32,
-    /// How many steps the scan took.
+    /// The number of steps the scan took.
     pub steps: u32,
     /// `%QX0.0` to `%QX0.15`; bit i is `%QX0.i`.
     pub bits: u32,
@@ -50,7 +50,7 @@ pub struct Reading {
     pub status: u32,
     /// Stable, over, under, centre of zero, tare active, valid, the lowest bit first.
     pub flags: u32,
-    /// Gross, net and tare, each 0 where there is no indication.
+    /// Gross, net and tare, each 0 if there is no indication.
     pub weights: [i32; 3],
 }
 
@@ -61,7 +61,7 @@ pub struct Reading {
 pub struct PreludeTold {
     /// The status.
     pub status: u32,
-    /// How many samples the window holds, 2 to 16.
+    /// The number of samples the window holds, 2 to 16.
     pub window: u32,
     /// 1 if zero is set at `zero`: as many samples of it as the window holds, and a `Z` request. Else 0.
     pub has_zero: u32,
@@ -71,27 +71,27 @@ pub struct PreludeTold {
     pub has_tare: u32,
     /// The sample at which the tare is taken.
     pub tare: i32,
-    /// How many of the last samples there are.
+    /// The number of last samples.
     pub count: u32,
     /// They, the oldest first, and zeros after them.
     pub samples: [i32; 16],
     /// The digital inputs; bit i is `%IX0.i`.
     pub inputs: u32,
-    /// How many bytes the request has that is open, 0 if none is.
+    /// The number of bytes the request has that is open, 0 if none is.
     pub length: u32,
     /// They, and zeros after them.
     pub request: [u8; 3],
 }
 
-/// What is engraved on the scale: a status, and of its plate what a display needs beside a weight.
+/// What is engraved on the scale: a status, and of its plate what a display needs besides a weight.
 #[repr(C)]
 #[derive(Clone, Copy)]
 pub struct Engraved {
     /// The status.
     pub status: u32,
-    /// The unit in three bytes, as the line writes it: `g`, `kg` or `t`, and spaces behind it; zeros of a closed scale.
+    /// The unit in three bytes, as the line writes it: `g`, `kg` or `t`, and spaces after it; zeros of a closed scale.
     pub unit: [u8; 3],
-    /// How many digits a weight has behind its point, 0 to 3.
+    /// The number of digits a weight has after its point, 0 to 3.
     pub decimals: i32,
     /// The greatest load (Max), in units of the last decimal.
     pub max: i32,
@@ -111,29 +111,29 @@ pub struct VariableRead {
     pub number: i64,
 }
 
-/// What is told of one unit of a program's text.
+/// What is reported about one unit of a program's text.
 #[repr(C)]
 #[derive(Clone, Copy)]
 pub struct UnitTold {
     /// What comes of the text.
     pub text: Refusal,
-    /// How many units the text has; the program is the last.
+    /// The number of units the text has; the program is the last.
     pub units: u32,
-    /// How many steps the unit takes at most.
+    /// The number of steps the unit takes at most.
     pub bound: u32,
-    /// How many bytes the unit's name has.
+    /// The number of bytes the unit's name has.
     pub length: u32,
-    /// Its name as it is spelled, and zeros behind it.
+    /// Its name as it is spelled, and zeros after it.
     pub name: [u8; 32],
 }
 
-/// What is told of the worst path of a unit.
+/// What is reported about the worst path of a unit.
 #[repr(C)]
 #[derive(Clone, Copy)]
 pub struct PathTold {
     /// What comes of the text.
     pub text: Refusal,
-    /// How many lines the path has.
+    /// The number of lines the path has.
     pub length: u32,
 }
 

@@ -21,7 +21,7 @@ fn no_unit(text: Refusal) -> UnitTold
     }
 }
 
-/// The first 32 bytes of a name, and zeros behind them.
+/// The first 32 bytes of a name, and zeros after them.
 fn name_room(name: &[u8]) -> [u8; 32]
     ensures { take (min 32 (length name.now)) result ≡ take 32 name.now }
 {
@@ -31,7 +31,7 @@ fn name_room(name: &[u8]) -> [u8; 32]
     room
 }
 
-/// What is told of a unit of a loaded text.
+/// What is reported about a unit of a loaded text.
 fn unit_told(loaded: &Loaded<'_>, unit: u32) -> UnitTold
     ensures told { result.text.status ≡ 0 → IsUnitTold (text_view loaded.now.source) unit result }
     ensures no_unit { result.text.status ≡ 10 → HasNoUnit (text_view loaded.now.source) unit }
@@ -53,8 +53,8 @@ fn unit_told(loaded: &Loaded<'_>, unit: u32) -> UnitTold
     }
 }
 
-/// What is told of a unit of a program's text, counted in text order from 0: its name, its bound, and how many units there are. The
-/// text is let go again.
+/// What is reported about a unit of a program's text, counted in text order from 0: its name, its bound, and the number of
+/// units. The text is freed again.
 pub fn about(alloc: Global, text: &[u8], unit: u32) -> UnitTold
     ensures told { TellsUnit text.now unit result }
     ensures no_unit { TellsNoUnit text.now unit result.text }
@@ -67,7 +67,7 @@ pub fn about(alloc: Global, text: &[u8], unit: u32) -> UnitTold
     }
 }
 
-/// Nothing of a path, but how many lines it has.
+/// Nothing of a path, but the number of lines it has.
 fn no_path(text: Refusal, length: u32) -> PathTold
     ensures text { result.text ≡ text }
     ensures length { result.length ≡ length }
@@ -75,7 +75,7 @@ fn no_path(text: Refusal, length: u32) -> PathTold
     PathTold { text, length }
 }
 
-/// Puts the worst path of a unit of a loaded text into the room, where it fits.
+/// Puts the worst path of a unit of a loaded text into the buffer, if it fits.
 fn path_told(alloc: Global, loaded: &Loaded<'_>, unit: u32, room: &mut [u32]) -> PathTold
     ensures told { result.text.status ≡ 0
         → IsPathTold (text_view loaded.now.source) unit room.new result }
@@ -103,7 +103,7 @@ fn path_told(alloc: Global, loaded: &Loaded<'_>, unit: u32, room: &mut [u32]) ->
     }
 }
 
-/// The lines of a unit's worst path, put into the room, and how many there are. The text is let go again.
+/// The lines of a unit's worst path, put into the buffer, and their number. The text is freed again.
 pub fn path(alloc: Global, text: &[u8], unit: u32, room: &mut [u32]) -> PathTold
     ensures told { TellsPath text.now unit room.new result }
     ensures kept { ¬ (result.text.status ≡ 0) → room.new ≡ room.old }

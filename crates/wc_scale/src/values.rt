@@ -1,12 +1,12 @@
 ghost use Rattle.std.specs.Prelude.{◌≡◌, pos};
 ghost use Rattle.wc_scale.specs.Values.{RefusesValue, TellsValue, kind_number};
-ghost use Rattle.wc_variables.specs.Numbered.{variable_named};
+ghost use Rattle.wc_text_variables.specs.Numbered.{variable_named};
 
 use crate::results::VariableRead;
 use crate::scale::Scale;
 use crate::statuses::{CLOSED, DONE, NO_MEMORY, NO_PROGRAM, NO_VARIABLE};
 use wc_model::Kind;
-use wc_variables::variable_named;
+use wc_text_variables::variable_named;
 
 /// No value, for this reason.
 fn no_value(status: u32) -> VariableRead

@@ -5,7 +5,7 @@ use Rattle.std.proofs.lemmas.Int.{ints}
 use Rattle.std.specs.Prelude.{ℤ, pos, negsuc, ◌<ℤ◌, decimal}
 use Rattle.wc_model.specs.Instrument.Answers.{last_digits, minus_of}
 
--- a number of several digits: its last, behind the others
+-- a number of several digits: its last, after the others
 pub more_digits : (n : ℕ) (text : List ℕ) → 10 ≤ n → n < 2 ^ 64 → decimal (n / 10) ++ ((48 + n % 10) ∷ text) ≡ decimal n ++ text
 more_digits n text h l =
     sym (append_assoc (decimal (n / 10)) ((48 + n % 10) ∷ []) text) ∙ ap (λ t. t ++ text) (sym (decimal_step n h l))

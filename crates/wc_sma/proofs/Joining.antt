@@ -1,7 +1,7 @@
 -- The parts of an answer.
 use Rattle.std.proofs.Common.{◌≡◌, ℕ, List, [], ◌∷◌, ◌++◌, length, get_or, refl, ap, sym, ◌∙◌, append_assoc, arith}
 use Rattle.std.specs.Prelude.{ℤ, ◌<◌, unsigned_abs, Option, Some, None, IfSome}
-use Rattle.wc_instrument_laws.proofs.Answers.{IsShort}
+use Rattle.wc_laws_instrument.proofs.Answers.{IsShort}
 
 -- a list of three
 pub three_of : (xs : List ℕ) → length xs ≡ 3 → (get_or xs 0 0 ∷ get_or xs 1 0 ∷ get_or xs 2 0 ∷ []) ≡ xs
@@ -19,7 +19,7 @@ parts_joined s m o x y z w status mode motion weight unit a b c d e =
     ap (λ t. 10 ∷ s ∷ 49 ∷ m ∷ o ∷ 32 ∷ t) (sym (append_assoc w (x ∷ y ∷ z ∷ []) (13 ∷ [])))
     ∙ λ i. 10 ∷ (a i ++ (49 ∷ []) ++ b i ++ c i ++ (32 ∷ []) ++ d i ++ e i ++ (13 ∷ []))
 
--- a short weight, where there is one
+-- a short weight, if there is one
 pub short_where_some : (weight : Option ℤ) → IsShort weight → IfSome weight (λ value. unsigned_abs value < 10000000)
 short_where_some None h = h
 short_where_some (Some value) h = h

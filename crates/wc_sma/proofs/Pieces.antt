@@ -1,12 +1,12 @@
--- Pieces joined.
+-- Chunks joined.
 use Rattle.std.proofs.Common.{ℕ, List, [], ◌∷◌, ◌++◌, ap, sym, ◌∙◌, subst, append_assoc}
 use Rattle.std.specs.Prelude.{Option}
 use Rattle.std.specs.Io.KnownBytes.{Appends}
 use Rattle.std.proofs.KnownBytes.{Appends-trans}
 use Rattle.wc_model.specs.Instrument.Requests.{requests_in}
 use Rattle.wc_model.specs.Instrument.Answers.{after_requests, answers_to, answer_to, command_of}
-use Rattle.wc_instrument_laws.proofs.Requests.{requests_in_again}
-use Rattle.wc_instrument_laws.proofs.Answers.{after_more_requests, answers_to_more}
+use Rattle.wc_laws_instrument.proofs.Requests.{requests_in_again}
+use Rattle.wc_laws_instrument.proofs.Answers.{after_more_requests, answers_to_more}
 use Rattle.wc_indicator.specs.Kept.{IndicatorState, StandsForHistory}
 use Rattle.wc_sma.specs.declared.line.Line.{Line}
 use Rattle.wc_sma.specs.Standing.{StandsAfter}
@@ -14,7 +14,7 @@ use Rattle.wc_sma.specs.Feeding.{Feeds, Fails, IsCutShort}
 
 module _ (line middle line' : Line) (indicator between indicator' : IndicatorState) (taken more taken' : Option (List ℕ)) (first second : List ℕ)
     (fed : Feeds line indicator taken middle between more first) where
-  -- a piece behind a piece
+  -- a chunk after a chunk
   pub feeds_on : Feeds middle between more line' indicator' taken' second → Feeds line indicator taken line' indicator' taken' (first ++ second)
   feeds_on next = record {
     stands = λ before s. subst (λ b. StandsAfter line' b) (append_assoc before first second) (next.stands (before ++ first) (fed.stands before s));
@@ -33,7 +33,7 @@ module _ (line middle line' : Line) (indicator between indicator' : IndicatorSta
         (next.answers (before ++ first) p (after_requests (requests_in before first) history) (fed.stands before s) (fed.acts before p history s st)));
   }
 
-  -- a piece that fails behind a piece
+  -- a chunk that fails after a chunk
   pub fails_on : Fails middle between more line' indicator' taken' second → Fails line indicator taken line' indicator' taken' (first ++ second)
   fails_on next = record {
     failed = next.failed;
@@ -62,7 +62,7 @@ module _ (line middle line' : Line) (indicator between indicator' : IndicatorSta
         };
   }
 
--- what stands behind a failed piece is not looked at
+-- what follows a failed chunk is not looked at
 pub fails_early : (line line' : Line) (indicator indicator' : IndicatorState) (taken taken' : Option (List ℕ)) (first second : List ℕ) →
     Fails line indicator taken line' indicator' taken' first → Fails line indicator taken line' indicator' taken' (first ++ second)
 fails_early line line' indicator indicator' taken taken' first second failing = record {

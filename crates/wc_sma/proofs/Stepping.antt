@@ -8,7 +8,7 @@ use Rattle.wc_model.specs.Instrument.Plates.{PlateData}
 use Rattle.wc_model.specs.Instrument.WeighingHistories.{History}
 use Rattle.wc_model.specs.Instrument.Requests.{carriage_return, open_request, requests_in, completed_by, opened_by}
 use Rattle.wc_model.specs.Instrument.Answers as told
-use Rattle.wc_instrument_laws.proofs.Requests.{requests_in_byte, open_request_after}
+use Rattle.wc_laws_instrument.proofs.Requests.{requests_in_byte, open_request_after}
 use Rattle.wc_indicator.specs.Kept.{IndicatorState, StandsForHistory}
 use Rattle.wc_sma.specs.declared.command.Seen.{Seen}
 use Rattle.wc_sma.specs.declared.command.Command.{Command}
@@ -23,7 +23,7 @@ seen_text : (o : Option (List ℕ)) (seen : Seen) → Some seen ≡ option_map s
 seen_text None seen e = absurd (cc)
 seen_text (Some text) seen e = (text, refl, cc)
 
--- where nothing is seen there is no text
+-- if nothing is seen, there is no text
 unseen_text : (o : Option (List ℕ)) → None ≡ option_map seen_in o → o ≡ None
 unseen_text None e = refl
 unseen_text (Some text) e = absurd (cc)
@@ -36,7 +36,7 @@ completed_list byte o = go (byte == carriage_return)
     go true = refl
     go false = refl
 
--- the same behind what has come
+-- the same after what has come
 completed_behind : (before : List ℕ) (byte : ℕ) (o : Option (List ℕ)) → completes byte (open_request before) ≡ o →
     requests_in before (byte ∷ []) ≡ option_to_list o
 completed_behind before byte o e = requests_in_byte before byte ∙ completed_list byte (open_request before) ∙ ap option_to_list e
@@ -49,7 +49,7 @@ command_behind before byte seen command was asks =
     let found = seen_text (completes byte (open_request before)) seen was in
     ap (λ k. k ∷ []) (asks found.0 found.2) ∙ ap (map told.command_of) (sym (completed_behind before byte (Some found.0) found.1))
 
--- and none where it completes none
+-- and none if it completes none
 pub no_command_behind : (before : List ℕ) (byte : ℕ) → None ≡ option_map seen_in (completes byte (open_request before)) →
     [] ≡ map told.command_of (requests_in before (byte ∷ []))
 no_command_behind before byte was =
@@ -60,7 +60,7 @@ module _ (line line' : Line) (indicator indicator' : IndicatorState) (taken take
   abbrev pub Carries : Type 0
   Carries = (text : Option (List ℕ)) → line.begun ≡ option_map seen_in text → line'.begun ≡ option_map seen_in (opened_by byte text)
 
-  -- the line behind a byte
+  -- the line after a byte
   stands_on : Carries → line'.failed ≡ false → (before : List ℕ) → StandsAfter line before → StandsAfter line' (before ++ (byte ∷ []))
   stands_on now works before s = (now (open_request before) s.0 ∙ ap (option_map seen_in) (sym (open_request_after before byte)), works)
 
@@ -96,7 +96,7 @@ module _ (line line' : Line) (indicator indicator' : IndicatorState) (taken take
     acts_on before p history s st =
         subst (λ k. StandsForHistory indicator' p (told.after_command k history)) (asks (found before s).0 (found before s).2) (acted p history st)
 
-    -- a byte that completes a request, where its answer is written in full
+    -- a byte that completes a request, if its answer is written in full
     pub feeds_with : Carries → line'.failed ≡ false →
         ((p : PlateData) (history : History) → StandsForHistory indicator p history → Appends taken taken' (told.answer_to p (command_told command) history)) →
         Feeds line indicator taken line' indicator' taken' (byte ∷ [])
@@ -110,7 +110,7 @@ module _ (line line' : Line) (indicator indicator' : IndicatorState) (taken take
           (subst (λ k. Appends taken taken' (told.answer_to p k history)) (asks (found before s).0 (found before s).2) (whole p history st)));
     }
 
-    -- and where it is not
+    -- and if it is not
     pub fails_with : line'.failed ≡ true →
         ((p : PlateData) (history : History) → StandsForHistory indicator p history → TakesFront taken taken' (told.answer_to p (command_told command) history)) →
         Fails line indicator taken line' indicator' taken' (byte ∷ [])

@@ -1,5 +1,5 @@
--- What comes of a piece of the stream: for whatever bytes the line stands after, and whatever plate and history the
--- indicator stands for.
+-- What comes of a chunk of the stream: for whatever bytes the line is after, and whatever plate and history the
+-- indicator represents.
 use Rattle.std.specs.Prelude.{◌≡◌, ℕ, ◌<◌, List, [], ◌∷◌, ◌++◌, length, Option}
 use Rattle.std.specs.Io.KnownBytes.{Appends}
 use Rattle.wc_model.specs.Instrument.Plates.{PlateData}
@@ -10,7 +10,7 @@ use Rattle.wc_indicator.specs.Kept.{IndicatorState, StandsForHistory}
 use Rattle.wc_sma.specs.declared.line.Line.{Line}
 use Rattle.wc_sma.specs.Standing.{StandsAfter, HasFailed}
 
--- The piece is taken: the requests that it completes are acted on, and the writer has taken their answers, in order.
+-- The chunk is taken: the requests that it completes are acted on, and the writer has taken their answers, in order.
 pub record Feeds (line : Line) (indicator : IndicatorState) (taken : Option (List ℕ)) (line' : Line) (indicator' : IndicatorState) (taken' : Option (List ℕ))
     (piece : List ℕ) : Type 0 where
   pub stands : (before : List ℕ) → StandsAfter line before → StandsAfter line' (before ++ piece)
@@ -20,7 +20,7 @@ pub record Feeds (line : Line) (indicator : IndicatorState) (taken : Option (Lis
       Appends taken taken' (answers_to p (requests_in before piece) history)
 
 -- Of these requests those up to `next` are acted on and no more. The writer has taken the answers of those before it, and of
--- its answer a front that is not all of it.
+-- its answer a prefix that is not all of it.
 pub record IsCutShort (p : PlateData) (texts : List (List ℕ)) (history : History) (indicator' : IndicatorState) (taken taken' : Option (List ℕ)) : Type 0 where
   pub done : List (List ℕ)
   pub next : List ℕ
@@ -33,7 +33,7 @@ pub record IsCutShort (p : PlateData) (texts : List (List ℕ)) (history : Histo
   pub short : 0 < length unwritten
   pub answers : Appends taken taken' (answers_to p done history ++ written)
 
--- The piece is not taken to its end, and the line has failed.
+-- The chunk is not taken to its end, and the line has failed.
 pub record Fails (line : Line) (indicator : IndicatorState) (taken : Option (List ℕ)) (line' : Line) (indicator' : IndicatorState) (taken' : Option (List ℕ))
     (piece : List ℕ) : Type 0 where
   pub failed : HasFailed line'

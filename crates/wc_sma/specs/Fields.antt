@@ -2,11 +2,11 @@
 use Rattle.std.specs.Prelude.{◌≡◌, ℕ, ◌≤◌, List, take, drop, replicate}
 use Rattle.wc_sma.specs.declared.weight.Field.TheInside.{Inside}
 
--- its text is what stands from its place on
+-- its text is what is from its place on
 abbrev pub request_view : Inside → List ℕ
 request_view a = drop a.at a.bytes
 
--- before it stand spaces
+-- spaces precede it
 pub record IsFilled (a : Inside) : Type 0 where
   pub within : a.at ≤ 10
   pub spaces : take a.at a.bytes ≡ replicate a.at 32

@@ -28,6 +28,6 @@ asked_by Nothing = told.Unknown
 asked_by (One byte) = told.command_of (byte ∷ [])
 asked_by More = told.Unknown
 
--- the open request, where this byte completes it
+-- the open request, if this byte completes it
 abbrev pub completes : ℕ → Option (List ℕ) → Option (List ℕ)
 completes byte text = if byte == carriage_return then text else None

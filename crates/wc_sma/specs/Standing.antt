@@ -1,4 +1,4 @@
--- The bytes after which a line stands.
+-- The bytes after which a line is.
 use Rattle.std.specs.Prelude.{◌≡◌, ℕ, true, false, List, option_map}
 use Rattle.wc_model.specs.Instrument.Requests.{open_request}
 use Rattle.wc_sma.specs.declared.line.Line.{Line}

@@ -20,7 +20,7 @@ pub(crate) enum Reply {
     Unknown,
 }
 
-/// Sets zero, and tells what the answer is to.
+/// Sets zero, and says what the answer is to.
 fn set_zero(indicator: &mut Indicator) -> Asked
     ensures stands { (p : PlateData) (history : History) → StandsForHistory indicator.old p history
         → StandsForHistory indicator.new p (SetZero ∷ history) }
@@ -32,7 +32,7 @@ fn set_zero(indicator: &mut Indicator) -> Asked
     }
 }
 
-/// Takes a tare, and tells what the answer is to.
+/// Takes a tare, and says what the answer is to.
 fn take_tare(indicator: &mut Indicator) -> Asked
     ensures stands { (p : PlateData) (history : History) → StandsForHistory indicator.old p history
         → StandsForHistory indicator.new p (SetTare ∷ history) }
@@ -44,7 +44,7 @@ fn take_tare(indicator: &mut Indicator) -> Asked
     }
 }
 
-/// Acts on a request, and gives the reply, which tells the indication behind it.
+/// Acts on a request, and gives the reply, which gives the indication after it.
 pub(crate) fn act(command: Command, indicator: &mut Indicator) -> Reply
     ensures stands { (p : PlateData) (history : History) → StandsForHistory indicator.old p history
         → StandsForHistory indicator.new p (told.after_command (command_told command) history) }

@@ -74,7 +74,7 @@ fn motion_byte(indicator: &Indicator) -> u8
     if indicator.stable() { b' ' } else { b'M' }
 }
 
-/// The weight that is asked for, where there is an indication.
+/// The weight that is asked for, if there is an indication.
 fn weight_asked(indicator: &Indicator, mode: Mode) -> Option<i32>
     ensures { Tells
         (λ p history. told.weight_asked p history (mode_view mode)) indicator.now result }

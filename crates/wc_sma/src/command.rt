@@ -27,7 +27,7 @@ pub enum Command {
     AskTare,
     /// Clear the tare.
     Clear,
-    /// It is no request that the line knows.
+    /// It is not a request that the line knows.
     Unknown,
 }
 
@@ -56,7 +56,7 @@ pub(crate) fn after_byte(begun: Option<Seen>, byte: u8) -> Option<Seen>
     }
 }
 
-/// The command that a letter stands for.
+/// The command that a letter represents.
 fn command_of_letter(letter: u8) -> Command
     ensures { command_told result ≡ asked_by (Seen.One letter) }
 {

@@ -103,8 +103,8 @@ impl Line {
         }
     }
 
-    /// Takes a piece of the stream, acts on the requests that it completes and writes their answers, in order. Where an
-    /// answer could not be written in full the line has failed: its request was acted on, those behind it are not, and
+    /// Takes a chunk of the stream, acts on the requests that it completes and writes their answers, in order. If an
+    /// answer could not be written in full, the line has failed: its request was acted on, those after it are not, and
     /// each later call answers `WriteFault` and does nothing.
     pub fn feed<W: ByteOut>(
         &mut self,

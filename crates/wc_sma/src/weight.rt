@@ -10,7 +10,7 @@ struct Field {
     at: usize,
 }
 
-/// What stands before the last so many digits of a number.
+/// What precedes the last n digits of a number.
 fn digits_before(number: u32, decimals: u32) -> u32
     requires { decimals ≤ 3 }
     ensures { result ≡ number / 10 ^ decimals }
@@ -55,7 +55,7 @@ impl Field {
         self.bytes[self.at] = byte;
     }
 
-    /// Puts the last so many digits of a number before the text, zeros included.
+    /// Puts the last n digits of a number before the text, zeros included.
     fn put_last_digits(&mut self, count: u32, number: u32)
         requires { length self.old + count ≤ 10 }
         ensures { self.new ≡ last_digits count number ++ self.old }
@@ -82,7 +82,7 @@ impl Field {
         self.put(b'0' + rest as u8);
     }
 
-    /// Puts a point and so many digits before the text, or nothing for none.
+    /// Puts a point and n digits before the text, or nothing for none.
     fn put_fraction(&mut self, decimals: u32, number: u32)
         requires { length self.old + decimals < 10 }
         ensures { self.new ≡ fraction_text decimals number ++ self.old }

@@ -1,4 +1,4 @@
--- Entries whose places are numbered from 0 on: what is kept under a place is what stands at its index.
+-- Entries whose places are numbered from 0 on: what is kept under a place is what is at its index.
 use Rattle.std.proofs.Common.{◌≡◌, ◌≢◌, ◌≤◌, ◌<◌, ℕ, zero, suc, ◌+◌, Bool, true, false, List, [], ◌∷◌, ◌++◌, Option, Some, None, length, length-append, replicate, map, subst, cond, option_map, ℤ, pos, refl, ap, sym, ◌∙◌, arith, eq-eqb, ne_eqb}
 use Rattle.std.proofs.lemmas.List.{map-append, length-map}
 use Rattle.std.specs.Prelude.{slice_get, slice_set, eqb, IfSome}
@@ -14,7 +14,7 @@ use Rattle.wc_store.specs.declared.tagged.TaggedNumber.{TaggedNumber}
 abbrev pub is_place : ℕ → ℕ → Bool
 is_place at place = eqb at place
 
--- a test is met, or is not
+-- a test holds, or does not
 met : {A : Type 0} (test : Bool) (x y z : A) → test ≡ true → x ≡ z → cond test x y ≡ z
 met true x y z e same = same
 met false x y z e same = absurd (cc)
@@ -23,7 +23,7 @@ unmet : {A : Type 0} (test : Bool) (x y z : A) → test ≡ false → y ≡ z �
 unmet true x y z e same = absurd (cc)
 unmet false x y z e same = same
 
--- what is kept under a place is what stands at its index
+-- what is kept under a place is what is at its index
 pub found : {B : Type 0} (f : TaggedNumber → B) (at first index : ℕ) (entries : List (ℕ × TaggedNumber)) → at ≡ first + index → ArePlacesFrom first entries →
     slice_get (map (λ e. f e.1) entries) index ≡ option_map f (lookup (is_place at) entries)
 found f at first index [] e h = refl

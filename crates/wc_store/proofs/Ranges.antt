@@ -1,4 +1,4 @@
--- Numbers in the ranges of their kinds: how many there are, each of them, none yet, and one written.
+-- Numbers in the ranges of their kinds: their number, each of them, none yet, and one written.
 use Rattle.std.proofs.Common.{◌≡◌, ◌<◌, ℕ, zero, suc, List, [], ◌∷◌, Some, length, ℤ, pos, refl, ap, sym, ◌∙◌, subst, arith, to_z, of_z, w64, replicate}
 use Rattle.std.proofs.lemmas.Int.{ints}
 use Rattle.std.proofs.lemmas.Option.{slice_get_read}

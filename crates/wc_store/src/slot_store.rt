@@ -6,7 +6,7 @@ use std::alloc::Global;
 use std::marker::Model;
 use wc_model::{Fault, Place, SlotKind};
 
-/// A store of plain numbers: a read and a write are an index each. The kinds are kept beside them.
+/// A store of plain numbers: a read and a write are an index each. The kinds are kept next to them.
 #[derive(Drop)]
 pub struct SlotStore {
     numbers: Vec<i64>,
@@ -25,7 +25,7 @@ impl Model for SlotStore {
     ghost invariant = { AreSlotsSound };
 }
 
-/// Writes four numbers one behind another.
+/// Writes four numbers one after another.
 #[inline(always)]
 fn write_four(numbers: &mut [i64], at: usize, a: i64, b: i64, c: i64, d: i64)
     requires { at + 4 ≤ length numbers.old }

@@ -20,7 +20,7 @@ pub trait Store: Drop + Sized {
         ensures zero { IfOk result (λ store. numbers store ≡ replicate (length kinds.now) (pos 0)) }
         ensures memory { IsOkUnless result Fault.Memory };
 
-    /// How many places there are.
+    /// The number of places.
     fn size(&self) -> usize
         ensures kinds { result ≡ length (slot_kinds self.now) }
         ensures numbers { result ≡ length (numbers self.now) };

@@ -1,4 +1,4 @@
--- The lines of the code as lines of a body, and how many of them carry a label.
+-- The lines of the code as lines of a body, and the number of them that carry a label.
 use Rattle.std.proofs.Common.{◌≡◌, ℕ, ◌+◌, ◌≤◌, Bool, true, false, List, [], Option, Some, None, option_map, add-zero, zero-add, arith, refl, sym, ap, ◌∙◌}
 use Rattle.wc_model.specs.Language.Kinds.{BodyLine, label_of, lines_of}
 use Rattle.wc_model.specs.Language.Meaning.{carries}
@@ -15,7 +15,7 @@ use Rattle.wc_verify.specs.declared.labels.Row.{Row}
 use Rattle.wc_verify.specs.declared.ways.Way.TheVariants.{Unseen}
 use Rattle.wc_verify.proofs.InstrLines.{lines_put, view_instr, view_none}
 
--- an instruction stands behind its label
+-- an instruction follows its label
 label_opened : (layer : Instr-F Instr Line) (label : Option Word) → label_of (opened_line layer label) ≡ label
 label_opened (Instr-F.Load negated operand line) label = refl
 label_opened other label = refl

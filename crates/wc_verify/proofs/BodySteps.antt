@@ -1,4 +1,4 @@
--- What is kept of a body behind a line, from what is kept before it.
+-- What is kept of a body after a line, from what is kept before it.
 use Rattle.std.proofs.Common.{◌≡◌, ℕ, suc, ◌-◌, nat_lt, Bool, true, false, List, [], ◌∷◌, ◌++◌, Option, Some, None, Result, Ok, Err, option_map, arith, refl, sym, ap, ◌∙◌}
 use Rattle.std.proofs.lemmas.Bool.{lt-ltb}
 use Rattle.std.specs.List.{list_any}
@@ -28,7 +28,7 @@ use Rattle.wc_verify.proofs.BodyLines.{label_kept}
 use Rattle.wc_verify.proofs.InstrLines.{lines_put, view_instr, view_none}
 use Rattle.wc_verify.proofs.KindsAlong.{above_next, jumps_next, kind_here, line_asked}
 
--- a label is ahead where a line that is left carries it
+-- a label is ahead if a line that is left carries it
 or_ahead : (b : Bool) (n : ℕ) (a : Bool) → nat_lt 0 n ≡ a → nat_lt 0 (one_more b n) ≡ (b || a)
 or_ahead true n a e = lt-ltb 0 (suc n) (omega arith)
 or_ahead false n a e = e
@@ -93,7 +93,7 @@ pub kind_entered : (scope : Scope) (before : List BodyLine) (b : BodyLine) (all 
 kind_entered scope before b all left label rows entered above kind h =
     kind_here scope before b above (way_to label rows) h.stands.handed (ap (λ l. way_of (kinds_from_label l (known_kinds scope before))) h.carried ∙ way_kept scope before all label rows above h.stands) ∙ sym h.kind_is
 
--- the row of a label behind the line
+-- the row of a label after the line
 one_less : (n : ℕ) → suc n - 1 ≡ n
 one_less n = omega arith
 
@@ -121,7 +121,7 @@ counts_entered scope before b all left label rows entered above kind h name =
     ap (λ row. row.ahead) (row_entered scope before b all left label rows entered above kind h name)
     ∙ entered_ahead (carries (label_of b) name) (carriers name left) (list_any (λ line. carries (label_of line) name) before) (way_of (kinds_from_jumps name (known_kinds scope before)))
 
--- what is kept behind it
+-- what is kept after it
 stands_behind : (scope : Scope) (before : List BodyLine) (b : BodyLine) (all left : List BodyLine) (label : Option Word) (rows entered new : List (Name × Row)) (above next : Way) (kind : Option Kind) →
     IsEntered scope before b all left label rows entered above kind → ((name : Name) → row_named new name ≡ jumped_row (jumps_to b name) kind (row_named entered name)) → next ≡ way_behind scope b kind →
     StandsAt scope (b ∷ before) left new next
@@ -140,7 +140,7 @@ stands_behind scope before b all left label rows entered new above next kind h j
       handed = above_next scope before b ∙ ap (λ kind. if leaves b then Unseen else Agreed (kind_after scope b kind)) k ∙ sym handed;
     }
 
--- what is found of it, and then of those behind it
+-- what is found of it, and then of those after it
 found_behind : (scope : Scope) (before : List BodyLine) (b : BodyLine) (all left : List BodyLine) (label : Option Word) (rows entered : List (Name × Row)) (above : Way) (kind : Option Kind) (more : List Check) →
     IsEntered scope before b all left label rows entered above kind →
     first_broken (asked_of scope before all ++ more) ≡ first_broken (line_rules scope b left kind ++ (asked_of scope (b ∷ before) left ++ more))
@@ -150,7 +150,7 @@ found_behind scope before b all left label rows entered above kind more h =
     ap (λ ls. first_broken (asked_of scope before ls ++ more)) h.is ∙ line_asked scope before b left more
     ∙ (λ i. first_broken (label_rules before (h.carried i) ++ others (k i))) ∙ h.new (others kind)
 
--- a line is judged
+-- a line is checked
 pub line_judged : (scope : Scope) (before : List BodyLine) (b : BodyLine) (all left : List BodyLine) (label : Option Word) (rows entered new : List (Name × Row)) (above : Way) (kind : Option Kind) (r : Result Way Fault) →
     IsEntered scope before b all left label rows entered above kind → OnOk r ((name : Name) → row_named new name ≡ jumped_row (jumps_to b name) kind (row_named entered name)) →
     ((more : List Check) → HandsOn scope b left kind more r) → GoesTo scope before all left new r
@@ -177,7 +177,7 @@ alone_judged scope before all (Some word) rest rows entered above kind is stands
     line_judged scope before (AloneLine word) all (lines_of rest) (Some word) rows entered entered above kind (Ok (Agreed kind))
     (record { is = is; carried = refl; stands = stands; kind_is = kind_is; rows_are = rows_are; new = new }) (λ name. refl) (λ more. (refl, refl))
 
--- lines that are judged, and others behind them
+-- lines that are checked, and others after them
 pub goes_further : (scope : Scope) (before all middle left : List BodyLine) (rows new : List (Name × Row)) (above : Way) (r : Result Way Fault) → (h : GetsTo scope before all middle rows above) →
     GoesTo scope h.so_far middle left new r → GoesTo scope before all left new r
 goes_further scope before all middle left rows new above (Ok next) h g = record { so_far = g.so_far; found = λ more. h.found more ∙ g.found more; stands = g.stands }

@@ -25,7 +25,7 @@ rest_there (x ∷ xs) (suc i) y ys e = rest_there xs i y ys e
 abbrev pub unit_rules : Spot ProgramUnit → List Check
 unit_rules spot = body_rules (record { before = spot.before; unit = spot.item })
 
--- nothing is broken before the units that are left, which stand in the text from this number on
+-- nothing is broken before the units that are left, which are in the text from this number on
 pub record UnitsLeft (all left : Text) (number : ℕ) : Type 0 where
   pub before : List ProgramUnit
   pub found : body_fault all ≡ first_broken (flat_map unit_rules (spots_behind before left))
@@ -38,7 +38,7 @@ all_left all = record { before = []; found = refl; there = refl }
 pub unit_there : (all left : Text) (unit : ProgramUnit) (number : ℕ) (h : UnitsLeft all (unit ∷ left) number) → slice_get (scopes_of all) number ≡ Some (record { before = h.before; unit = unit })
 unit_there all left unit number h = first_there (scopes_of all) number (record { before = h.before; unit = unit }) (map scope_of_spot (spots_behind (unit ∷ h.before) left)) h.there
 
--- those behind it
+-- those after it
 pub unit_passed : (all left : Text) (unit : ProgramUnit) (number : ℕ) (h : UnitsLeft all (unit ∷ left) number) →
     ((more : List Check) → first_broken (body_rules (record { before = h.before; unit = unit }) ++ more) ≡ first_broken more) → UnitsLeft all left (number + 1)
 unit_passed all left unit number h passes =

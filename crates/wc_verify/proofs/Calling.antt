@@ -57,7 +57,7 @@ pub one_more : (names : List Name) (before : List Assignment) (a : Assignment) �
 one_more names before a held = λ name.
     list_any-append (same_name name) names (a.formal ∷ []) ∙ or_last (is_among names name) (same_name name a.formal) ∙ (λ i. same_name_laws.symm name a.formal i || held name i)
 
--- what stands behind the arguments so far, newest first
+-- what follows the arguments so far, newest first
 pub record ArgumentsBehind (tables : Tables) (unit : ℕ) (declared : DeclaredType) (line : ℕ) (names : List Name) (all left : List Assignment) : Type 0 where
   pub before : List Assignment
   pub held : HoldsNames names before
@@ -121,7 +121,7 @@ abbrev pub checks_called : Scope → ℕ → Condition → Option VariableType �
 checks_called scope line condition o arguments kind =
     asks 401 line (is_some o) ∷ asks 402 line (is_instance o) ∷ condition_checks condition line kind ++ flat_map (argument_checks scope line (members_called scope o)) (spots_of arguments)
 
--- what is called is no instance
+-- what is called is not an instance
 pub no_instance_found : (scope : Scope) (line : ℕ) (condition : Condition) (o : Option VariableType) (arguments : List Assignment) (kind : Option Kind) (rest : List Check) (declared : DeclaredType) →
     IsTyped scope o declared → is_numbered_instance declared ≡ false → first_broken (checks_called scope line condition o arguments kind ++ rest) ≡ Some (record { number = 402; line = line })
 no_instance_found scope line condition o arguments kind rest declared typed none =

@@ -11,7 +11,7 @@ Asked number holds found = (line : ℕ) (rest : List Check) → first_broken (as
 abbrev pub Both : Option ℕ → Option ℕ → Option ℕ → Type 0
 Both first then' found = (line : ℕ) (rest : Option Refusal) → first_at found line rest ≡ first_at first line (first_at then' line rest)
 
--- two rules, one behind the other
+-- two rules, one after the other
 pub pair_found : (n m : ℕ) (a b a' b' : Bool) (p q r : Option ℕ) → Asked n a p → Asked m b q → Both p q r → a' ≡ a → b' ≡ b → (line : ℕ) (rest : List Check) →
     first_broken (asks n line a' ∷ asks m line b' ∷ rest) ≡ first_at r line (first_broken rest)
 pair_found n m a b a' b' p q r asked asked' both e e' line rest =
@@ -21,11 +21,11 @@ pair_found n m a b a' b' p q r asked asked' both e e' line rest =
 abbrev pub Finds : (ℕ → List Check) → Option ℕ → Type 0
 Finds checks found = (line : ℕ) (rest : List Check) → first_broken (checks line ++ rest) ≡ first_at found line (first_broken rest)
 
--- rules, and others behind them
+-- rules, and others after them
 pub joined : (these those : ℕ → List Check) (p q r : Option ℕ) → Finds these p → Finds those q → Both p q r → Finds (λ line. these line ++ those line) r
 joined these those p q r finds finds' both line rest =
     ap first_broken (append_assoc (these line) (those line) rest) ∙ finds line (those line ++ rest) ∙ ap (first_at p line) (finds' line rest) ∙ sym (both line (first_broken rest))
 
--- a rule that holds where another does
+-- a rule that holds if another does
 pub asked_as : (n : ℕ) (a a' : Bool) (p : Option ℕ) → Asked n a p → a' ≡ a → Finds (λ line. asks n line a' ∷ []) p
 asked_as n a a' p asked e line rest = (λ i. first_broken (asks n line (e i) ∷ rest)) ∙ asked line rest

@@ -1,4 +1,4 @@
--- What is found of a line, and the kind of the result behind it.
+-- What is found of a line, and the kind of the result after it.
 use Rattle.std.proofs.Common.{◌≡◌, ℕ, Bool, true, false, List, ◌++◌, Option, Some, Result, Err, sym, subst, ◌∙◌}
 use Rattle.std.specs.Prelude.{if◌then◌else◌}
 use Rattle.wc_model.specs.Language.BodyRules.{line_rules}
@@ -23,7 +23,7 @@ pub goes_wrong : (scope : Scope) (line : BodyLine) (behind : List BodyLine) (kin
     Judges (first_broken (line_rules scope line behind kind ++ more)) (first_broken more) r → GoesOn scope line behind kind more (Err fault)
 goes_wrong scope line behind kind more r fault e h = goes_so scope line behind kind more fault (subst (λ x. Judges (first_broken (line_rules scope line behind kind ++ more)) (first_broken more) x) e h)
 
--- the kind behind LD and LDN
+-- the kind after LD and LDN
 pub loaded : (scope : Scope) (label : Option Word) (line : ℕ) (negated : Bool) (term : Term) (kind seen after : Option Kind) → after ≡ (if negated then Some KindBool else seen) → term_kind scope term ≡ seen →
     after ≡ kind_after scope (PlainLine label line (Load negated term)) kind
 loaded scope label line true term kind seen after e k = e

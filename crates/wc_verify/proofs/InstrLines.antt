@@ -1,4 +1,4 @@
--- What the code's instructions stand for as lines of a body, and what is found of lines inside a parenthesis.
+-- What the code's instructions represent as lines of a body, and what is found of lines inside a parenthesis.
 use Rattle.std.proofs.Common.{◌≡◌, ℕ, ◌+◌, ◌<◌, length, drop, get_or, Bor, Vec, Global, Bool, false, List, [], ◌∷◌, ◌++◌, map, Option, Some, None, Result, Ok, Err, option_map, append_assoc, refl, sym, ap, subst, ◌∙◌, rules}
 use Rattle.wc_model.specs.Language.BodyRules.{inside_rules, line_rules}
 use Rattle.wc_model.specs.Language.Checks.{Check, first_broken}
@@ -24,13 +24,13 @@ use Rattle.wc_model.specs.declared.tree.Line.{Line, fold-Line, the_lemmas}
 use Rattle.wc_names.proofs.Lists.{from_index}
 use Rattle.wc_verify.specs.Instructions.{GoesInside, GoesOn, SaysAhead, step_ahead, instr_line, opened_line, put}
 
--- a line in front of others is the first of them
+-- a line before others is the first of them
 pub lines_put : (line : BodyLine) (rest : Lines) → lines_of (put line rest) ≡ line ∷ lines_of rest
 lines_put (AloneLine label) rest = refl
 lines_put (PlainLine label line step) rest = refl
 lines_put (NestedLine label line operator operand inside close) rest = refl
 
--- what is asked of it inside a parenthesis, and the kind behind it
+-- what is asked of it inside a parenthesis, and the kind after it
 pub inside_put : (scope : Scope) (line : BodyLine) (rest : Lines) (kind : Option Kind) → inside_rules scope (put line rest) kind ≡ line_rules scope line [] kind ++ inside_rules scope rest (kind_after scope line kind)
 inside_put scope (AloneLine label) rest kind = refl
 inside_put scope (PlainLine label line step) rest kind = refl
@@ -41,7 +41,7 @@ behind_put scope (AloneLine label) rest kind = refl
 behind_put scope (PlainLine label line step) rest kind = refl
 behind_put scope (NestedLine label line operator operand inside close) rest kind = refl
 
--- no label stands behind a line inside a parenthesis
+-- no label follows a line inside a parenthesis
 step_none : (step : Step) → step_ahead step false []
 step_none (Load negated operand) = tt
 step_none (Store storing target) = tt
@@ -56,7 +56,7 @@ none_ahead (AloneLine label) = tt
 none_ahead (PlainLine label line step) = step_none step
 none_ahead (NestedLine label line operator operand inside close) = tt
 
--- a line that is judged goes on inside a parenthesis
+-- a line that is checked goes on inside a parenthesis
 pub inside_line : (scope : Scope) (line : BodyLine) (rest : Lines) (kind : Option Kind) (more : List Check) (r : Result (Option Kind) Fault) → GoesOn scope line [] kind (inside_rules scope rest (kind_after scope line kind) ++ more) r → GoesInside scope (put line rest) kind rest more r
 inside_line scope line rest kind more (Ok after) h = (
   ap (λ cs. first_broken (cs ++ more)) (inside_put scope line rest kind) ∙ ap first_broken (append_assoc (line_rules scope line [] kind) (inside_rules scope rest (kind_after scope line kind)) more) ∙ h.0 ∙ ap (λ k. first_broken (inside_rules scope rest k ++ more)) (sym h.1),
@@ -66,7 +66,7 @@ inside_line scope line rest kind more (Err (Refused number place)) h =
     ap (λ cs. first_broken (cs ++ more)) (inside_put scope line rest kind) ∙ ap first_broken (append_assoc (line_rules scope line [] kind) (inside_rules scope rest (kind_after scope line kind)) more) ∙ h
 inside_line scope line rest kind more (Err Memory) h = tt
 
--- lines that are judged, and others behind them
+-- lines that are checked, and others after them
 pub inside_more : (scope : Scope) (all left rest : Lines) (first kind : Option Kind) (more : List Check) (r : Result (Option Kind) Fault) →
     GoesInside scope all first left more (Ok kind) → GoesInside scope left kind rest more r → GoesInside scope all first rest more r
 inside_more scope all left rest first kind more (Ok after) h g = (h.0 ∙ g.0, h.1 ∙ g.1)

@@ -14,7 +14,7 @@ use Rattle.wc_verify.specs.declared.ways.Way.{Way}
 use Rattle.wc_verify.specs.declared.ways.Way.TheVariants.{Unseen, Agreed}
 use Rattle.wc_verify.proofs.WaysIn.{kind_kept, one_joined, with_one}
 
--- the way from above is none or one
+-- the path from above is none or one
 none_or_one : (b : Bool) (kind : Option Kind) (ways : List (Option Kind)) → way_of ((if b then [] else kind ∷ []) ++ ways) ≡ joined_ways (way_of (if b then [] else kind ∷ [])) (way_of ways)
 none_or_one true kind ways = refl
 none_or_one false kind ways = one_joined kind ways
@@ -30,7 +30,7 @@ kind_here scope before line above others e o =
     kind_kept (ways_in scope (known_kinds scope before) line) ∙ ap kind_of_way (above_joined scope (known_kinds scope before) (kinds_from_label (label_of line) (known_kinds scope before)))
     ∙ (λ i. kind_of_way (joined_ways (e i) (o i)))
 
--- what a line hands on
+-- what a line passes on
 handed : (b : Bool) (kind : Option Kind) → way_of (if b then [] else kind ∷ []) ≡ (if b then Unseen else Agreed kind)
 handed true kind = refl
 handed false kind = refl
@@ -39,7 +39,7 @@ pub above_next : (scope : Scope) (before : List BodyLine) (line : BodyLine) →
     way_of (kinds_from_above scope (known_kinds scope (line ∷ before))) ≡ (if leaves line then Unseen else Agreed (kind_after scope line (kind_at scope before line)))
 above_next scope before line = handed (leaves line) (kind_after scope line (kind_at scope before line))
 
--- the jumps to a label behind a line: the line may carry it, and may jump to it
+-- the jumps to a label after a line: the line may carry it, and may jump to it
 jumped : (j c : Bool) (kind : Option Kind) (ways : List (Option Kind)) →
     way_of ((if j then kind ∷ [] else []) ++ (if c then [] else ways)) ≡ (if j then with_way kind (if c then Unseen else way_of ways) else (if c then Unseen else way_of ways))
 jumped true true kind ways = with_one kind []
@@ -53,7 +53,7 @@ pub jumps_next : (scope : Scope) (before : List BodyLine) (line : BodyLine) (nam
     else (if carries (label_of line) name then Unseen else way_of (kinds_from_jumps name (known_kinds scope before))))
 jumps_next scope before line name = jumped (jumps_to line name) (carries (label_of line) name) (kind_at scope before line) (kinds_from_jumps name (known_kinds scope before))
 
--- what is asked of a line, and then of those behind it
+-- what is asked of a line, and then of those after it
 pub line_asked : (scope : Scope) (before : List BodyLine) (line : BodyLine) (left : List BodyLine) (rest : List Check) →
     first_broken (flat_map (spot_rules scope) (spots_behind before (line ∷ left)) ++ rest)
     ≡ first_broken (label_rules before (label_of line) ++ (line_rules scope line left (kind_at scope before line) ++ (flat_map (spot_rules scope) (spots_behind (line ∷ before) left) ++ rest)))

@@ -1,4 +1,4 @@
--- What stands beside a name once a row is kept.
+-- What is next to a name once a row is kept.
 use Rattle.std.proofs.Common.{◌≡◌, Bool, true, false, List, [], ◌∷◌, Option, Some, cond, refl, sym, ap, ◌∙◌}
 use Rattle.std.specs.Map.{lookup}
 use Rattle.std.specs.Prelude.{if◌then◌else◌}
@@ -6,7 +6,7 @@ use Rattle.indexmap.specs.IndexMap.{insert_entry}
 use Rattle.wc_model.specs.Language.Declarations.{named_in, same_name}
 use Rattle.wc_model.specs.Language.Names.{Name}
 use Rattle.wc_names.specs.Keys.{name_of_key, same_key, same_name_laws}
-use Rattle.wc_soundness.proofs.Tests.{same_name-sound}
+use Rattle.wc_laws_soundness.proofs.Tests.{same_name-sound}
 use Rattle.wc_verify.specs.Rows.{named_rows, row_of}
 use Rattle.wc_names.specs.declared.key.Key.{Key}
 use Rattle.wc_verify.specs.declared.labels.Row.{Row}
@@ -37,7 +37,7 @@ pub kept : {X : Type 0} (k : Key) (v : X) (es : List (Key × X)) (name : Name) �
 kept k v [] name = refl
 kept k v (entry ∷ es) name = step k v entry es name (same_name (name_of_key entry.0) (name_of_key k)) refl (kept k v es name)
 
--- what is looked up by a key is what stands beside its name
+-- what is looked up by a key is what is next to its name
 pub looked_up : {X : Type 0} (k : Key) (es : List (Key × X)) → lookup (same_key k) es ≡ named_in (named_rows es) (name_of_key k)
 looked_up k [] = refl
 looked_up k (entry ∷ es) = ap (λ o. cond (same_name (name_of_key entry.0) (name_of_key k)) (Some entry.1) o) (looked_up k es)

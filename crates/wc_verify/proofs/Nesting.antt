@@ -18,7 +18,7 @@ module _ (scope : Scope) (label : Option Word) (line : ℕ) (operator : Operator
   abbrev pub whole : BodyLine
   whole = NestedLine label line operator term inside close
 
-  -- what is asked behind the opening line, and behind the lines inside
+  -- what is asked after the opening line, and after the lines inside
   abbrev pub closing : List Check
   closing = closing_checks close kind (kind_behind scope inside (opening_kind scope term)) ++ more
 

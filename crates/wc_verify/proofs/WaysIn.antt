@@ -1,10 +1,10 @@
--- The ways in to a line agree on what they are kept as.
+-- The incoming paths of a line agree on what they are kept as.
 use Rattle.std.proofs.Common.{◌≡◌, Bool, true, false, List, [], ◌∷◌, ◌++◌, Option, None, refl, sym, ap}
 use Rattle.std.specs.List.{list_all}
 use Rattle.std.specs.Prelude.{if◌then◌else◌, ◌&&◌}
 use Rattle.wc_model.specs.Language.Kinds.{agreed, same_result}
 use Rattle.wc_model.specs.declared.kind.Kind.{Kind}
-use Rattle.wc_soundness.proofs.Bodies.{same_result-sound}
+use Rattle.wc_laws_soundness.proofs.Bodies.{same_result-sound}
 use Rattle.wc_verify.specs.Ways.{joined_ways, kind_of_way, way_of, with_way}
 use Rattle.wc_verify.specs.declared.ways.Way.TheVariants.{Agreed, Different}
 
@@ -17,7 +17,7 @@ pub kind_kept : (ways : List (Option Kind)) → agreed ways ≡ kind_of_way (way
 kind_kept [] = refl
 kind_kept (way ∷ ways) = sym (kept (list_all (same_result way) ways) way)
 
--- whether all of the others bring the same, where the first of them does or does not
+-- whether all of the others bring the same, if the first of them does or does not
 same_first : (same others all : Bool) (kind other : Option Kind) → (same ≡ true → kind ≡ other) → (same ≡ true → others ≡ all) → same_result kind other ≡ same →
     (if same && others then Agreed kind else Different) ≡ with_way kind (if all then Agreed other else Different)
 same_first true others true kind other is e s = rw (s, e refl) refl
@@ -25,7 +25,7 @@ same_first true others false kind other is e s = rw (e refl) refl
 same_first false others true kind other is e s = rw s refl
 same_first false others false kind other is e s = refl
 
--- one more way in front
+-- one more path before
 pub with_one : (kind : Option Kind) (ways : List (Option Kind)) → way_of (kind ∷ ways) ≡ with_way kind (way_of ways)
 with_one kind [] = refl
 with_one kind (other ∷ ways) =

@@ -1,4 +1,4 @@
--- What is kept from line to line of a body, and how far it is judged. (No rule of the language.)
+-- What is kept from line to line of a body, and how far it is checked. (No rule of the language.)
 use Rattle.std.specs.Prelude.{◌≡◌, List, ◌++◌, Option, Some, Result, Ok, Err, if◌then◌else◌}
 use Rattle.std.specs.List.{flat_map}
 use Rattle.wc_model.specs.Language.BodyRules.{line_rules, spot_rules}
@@ -19,11 +19,11 @@ use Rattle.wc_verify.specs.declared.ways.Way.TheVariants.{Unseen, Agreed}
 abbrev pub CountsLines : List (Name × Row) → List BodyLine → Type 0
 CountsLines rows left = (name : Name) → (row_named rows name).ahead ≡ carriers name left
 
--- what a line hands on, from the kind before it
+-- what a line passes on, from the kind before it
 abbrev pub way_behind : Scope → BodyLine → Option Kind → Way
 way_behind scope line kind = if leaves line then Unseen else Agreed (kind_after scope line kind)
 
--- an instruction is judged, from the kind before it; where nothing is broken, with what it hands on
+-- an instruction is checked, from the kind before it; if nothing is broken, with what it passes on
 abbrev pub HandsOn : Scope → BodyLine → List BodyLine → Option Kind → List Check → Result Way Fault → Type 0
 HandsOn scope line behind kind more (Ok way) = (first_broken (line_rules scope line behind kind ++ more) ≡ first_broken more) × (way ≡ way_behind scope line kind)
 HandsOn scope line behind kind more (Err (Refused number place)) = first_broken (line_rules scope line behind kind ++ more) ≡ Some (record { number = number; line = place })
@@ -34,7 +34,7 @@ pub record StandsAt (scope : Scope) (before left : List BodyLine) (rows : List (
   pub labels : (name : Name) → row_named rows name ≡ row_at scope before left name
   pub handed : way_of (kinds_from_above scope (known_kinds scope before)) ≡ above
 
--- what is asked of lines behind others
+-- what is asked of lines after others
 abbrev pub asked_of : Scope → List BodyLine → List BodyLine → List Check
 asked_of scope before left = flat_map (spot_rules scope) (spots_behind before left)
 
@@ -44,7 +44,7 @@ pub record GetsTo (scope : Scope) (before all left : List BodyLine) (rows : List
   pub found : (more : List Check) → first_broken (asked_of scope before all ++ more) ≡ first_broken (asked_of scope so_far left ++ more)
   pub stands : StandsAt scope so_far left rows above
 
--- lines are judged as far as those that are left
+-- lines are checked as far as those that are left
 abbrev pub GoesTo : Scope → List BodyLine → List BodyLine → List BodyLine → List (Name × Row) → Result Way Fault → Type 0
 GoesTo scope before all left rows (Ok above) = GetsTo scope before all left rows above
 GoesTo scope before all left rows (Err (Refused number place)) = (more : List Check) → first_broken (asked_of scope before all ++ more) ≡ Some (record { number = number; line = place })

@@ -1,4 +1,4 @@
--- What is kept while a call is judged. (No rule of the language.)
+-- What is kept while a call is checked. (No rule of the language.)
 use Rattle.std.specs.Prelude.{◌≡◌, Bool, true, false, List}
 use Rattle.std.specs.List.{list_any}
 use Rattle.wc_model.specs.Language.DeclarationRules.{is_among}

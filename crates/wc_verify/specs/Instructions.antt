@@ -1,4 +1,4 @@
--- What an instruction stands for as a line of a body. (No rule of the language.)
+-- What an instruction represents as a line of a body. (No rule of the language.)
 use Rattle.std.specs.Prelude.{◌≡◌, Bool, List, ◌++◌, map, Option, Some, None, option_map, Result, Ok, Err}
 use Rattle.wc_model.specs.Language.BodyRules.{inside_rules, is_ahead, line_rules}
 use Rattle.wc_model.specs.Language.Checks.{Check, first_broken}
@@ -14,7 +14,7 @@ use Rattle.wc_model.specs.declared.tree.Instr.{Instr, out-Instr}
 use Rattle.wc_model.specs.declared.tree.Instr.TheOpen.{Instr-F}
 use Rattle.wc_model.specs.declared.tree.Line.{Line}
 
--- an instruction behind its label, opened
+-- an instruction after its label, opened
 abbrev pub opened_line : Instr-F Instr Line → Option Word → BodyLine
 opened_line (Instr-F.Load negated operand line) label = PlainLine label line (Load negated (term_view operand))
 opened_line (Instr-F.Store storing target line) label = PlainLine label line (Store storing (term_view target))
@@ -28,13 +28,13 @@ opened_line (Instr-F.Return condition line) label = PlainLine label line (Return
 abbrev pub instr_line : Instr → Option Word → BodyLine
 instr_line instr label = opened_line (out-Instr instr) label
 
--- a line in front of others
+-- a line before others
 abbrev pub put : BodyLine → Lines → Lines
 put (AloneLine label) rest = Alone label rest
 put (PlainLine label line step) rest = Plain label line step rest
 put (NestedLine label line operator operand inside close) rest = Nested label line operator operand inside close rest
 
--- what a jump asks of the lines behind it
+-- what a jump asks of the lines after it
 abbrev pub step_ahead : Step → Bool → List BodyLine → Type 0
 step_ahead (Load negated operand) ahead behind = Unit {0}
 step_ahead (Store storing target) ahead behind = Unit {0}
@@ -49,20 +49,20 @@ SaysAhead (AloneLine label) ahead behind = Unit {0}
 SaysAhead (PlainLine label line step) ahead behind = step_ahead step ahead behind
 SaysAhead (NestedLine label line operator operand inside close) ahead behind = Unit {0}
 
--- a line is judged, from the kind before it; where nothing is broken, with the kind behind it
+-- a line is checked, from the kind before it; if nothing is broken, with the kind after it
 abbrev pub GoesOn : Scope → BodyLine → List BodyLine → Option Kind → List Check → Result (Option Kind) Fault → Type 0
 GoesOn scope line behind kind more (Ok after) = (first_broken (line_rules scope line behind kind ++ more) ≡ first_broken more) × (after ≡ kind_after scope line kind)
 GoesOn scope line behind kind more (Err (Refused number place)) = first_broken (line_rules scope line behind kind ++ more) ≡ Some (record { number = number; line = place })
 GoesOn scope line behind kind more (Err Memory) = Unit {0}
 
--- lines inside a parenthesis are judged as far as the rest
+-- lines inside a parenthesis are checked as far as the rest
 abbrev pub GoesInside : Scope → Lines → Option Kind → Lines → List Check → Result (Option Kind) Fault → Type 0
 GoesInside scope lines kind rest more (Ok after) =
     (first_broken (inside_rules scope lines kind ++ more) ≡ first_broken (inside_rules scope rest after ++ more)) × (kind_behind scope lines kind ≡ kind_behind scope rest after)
 GoesInside scope lines kind rest more (Err (Refused number place)) = first_broken (inside_rules scope lines kind ++ more) ≡ Some (record { number = number; line = place })
 GoesInside scope lines kind rest more (Err Memory) = Unit {0}
 
--- what is said of the lines behind, where there is a jump
+-- what is said of the lines after, if there is a jump
 abbrev pub AsksAhead : Option Name → Bool → List BodyLine → Type 0
 AsksAhead None ahead behind = Unit {0}
 AsksAhead (Some label) ahead behind = ahead ≡ is_ahead behind label

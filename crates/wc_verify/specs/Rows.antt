@@ -1,4 +1,4 @@
--- What the labels of a body stand beside. (No rule of the language.)
+-- What is kept next to the labels of a body. (No rule of the language.)
 use Rattle.std.specs.Prelude.{ℕ, zero, suc, ◌+◌, ◌-◌, Bool, true, false, List, [], ◌∷◌, map, Option, Some, None}
 use Rattle.std.specs.List.{list_any}
 use Rattle.wc_model.specs.Language.Declarations.{named_in, same_name}
@@ -27,7 +27,7 @@ row_of (Some row) = row
 abbrev pub row_named : List (Name × Row) → Name → Row
 row_named rows name = row_of (named_in rows name)
 
--- how many of the lines carry the label
+-- the number of the lines that carry the label
 abbrev pub one_more : Bool → ℕ → ℕ
 one_more true n = suc n
 one_more false n = n

@@ -9,7 +9,7 @@ use Rattle.wc_names.specs.StandsFor.{AreTables}
 use Rattle.wc_names.specs.declared.kept.Tables.{Tables}
 use Rattle.wc_verify.specs.declared.seen.Seen.{Seen}
 
--- the tables are those of a text, whose unit of that number stands in this scope
+-- the tables are those of a text, whose unit of that number is in this scope
 pub record IsScope (tables : Tables) (unit : ℕ) (scope : Scope) : Type 0 where
   pub text : Text
   pub tables_are : AreTables tables text

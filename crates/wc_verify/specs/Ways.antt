@@ -1,4 +1,4 @@
--- What the ways in to a line agree on, as it is kept. (No rule of the language.)
+-- What the incoming paths of a line agree on, as it is kept. (No rule of the language.)
 use Rattle.std.specs.Prelude.{List, [], ◌∷◌, Option, Some, None, if◌then◌else◌}
 use Rattle.std.specs.List.{list_all}
 use Rattle.wc_model.specs.Language.Kinds.{same_result}
@@ -7,7 +7,7 @@ use Rattle.wc_model.specs.declared.kind.Kind.{Kind}
 use Rattle.wc_verify.specs.declared.ways.Way.{Way}
 use Rattle.wc_verify.specs.declared.ways.Way.TheVariants.{Unseen, Agreed, Different}
 
--- the ways in, as they are kept
+-- the incoming paths, as they are kept
 abbrev pub way_of : List (Option Kind) → Way
 way_of [] = Unseen
 way_of (way ∷ ways) = if list_all (same_result way) ways then Agreed way else Different
@@ -30,7 +30,7 @@ joined_ways Unseen others = others
 joined_ways (Agreed kind) others = with_way kind others
 joined_ways Different others = Different
 
--- what a line with no instruction hands on: with no label it is no line of the body
+-- what a line with no instruction passes on: with no label it is not a line of the body
 abbrev pub labelled_way : Option Word → Way → Option Kind → Way
 labelled_way None above kind = above
 labelled_way (Some word) above kind = Agreed kind

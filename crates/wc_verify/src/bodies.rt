@@ -34,7 +34,7 @@ fn is_ahead(labels: &Labels<'_>, target: Option<&[u8]>) -> bool
     }
 }
 
-/// What an instruction hands on to the next line.
+/// What an instruction passes on to the next line.
 fn handed_on(instr: &Instr<'_>, after: Option<Kind>) -> Way
     ensures { (label : Option LabelWord)
         → result ≡ (if leaves (instr_line instr.now label) then Way.Unseen else Way.Agreed after) }
@@ -46,7 +46,7 @@ fn handed_on(instr: &Instr<'_>, after: Option<Kind>) -> Way
     }
 }
 
-/// Judges an instruction whose line is entered, and keeps its jump: what it hands on.
+/// Checks an instruction whose line is entered, and keeps its jump: what it passes on.
 fn judge_step<'a>(
     alloc: Global,
     tables: &Tables<'a>,
@@ -71,7 +71,7 @@ fn judge_step<'a>(
     Ok(handed_on(instr, after))
 }
 
-/// What a line with no instruction hands on.
+/// What a line with no instruction passes on.
 fn handed_by_label(label: &Option<Word<'_>>, above: Way, kind: Option<Kind>) -> Way
     ensures { result ≡ labelled_way (option_map word_view label.now) above kind }
 {
@@ -81,7 +81,7 @@ fn handed_by_label(label: &Option<Word<'_>>, above: Way, kind: Option<Kind>) -> 
     }
 }
 
-/// Judges a line, from what is handed on from above: what it hands on.
+/// Checks a line, from what is passed on from above: what it passes on.
 fn judge_line<'a>(
     alloc: Global,
     tables: &Tables<'a>,
@@ -103,7 +103,7 @@ fn judge_line<'a>(
     }
 }
 
-/// Judges the body of a unit, line by line.
+/// Checks the body of a unit, line by line.
 pub(crate) fn judge_body<'a>(
     alloc: Global,
     tables: &Tables<'a>,

@@ -18,9 +18,9 @@ use crate::first::{first_of, refusal, refuse, unless};
 use crate::refusals::{is_of_kind, judge_condition, judge_reading, judge_writing};
 use crate::seen::{Seen, see};
 use std::alloc::Global;
-use wc_kinds::{is_bit_literal, is_kind};
 use wc_model::{Argument, Condition, Direction, Fault, Kind, Operand};
 use wc_names::{DeclaredType, Names, Tables};
+use wc_text_kinds::{is_bit_literal, is_kind};
 
 /// Whether an input of a kind takes what is assigned.
 fn suits_input(kind: Kind, operand: &Operand<'_>, seen: Seen) -> bool
@@ -76,7 +76,7 @@ fn judge_actual(direction: Direction, kind: Kind, operand: &Operand<'_>, seen: S
     }
 }
 
-/// Judges one of a call's list behind others, and keeps its name: 409, 410, and what is passed.
+/// Checks one of a call's list after others, and keeps its name: 409, 410, and what is passed.
 fn judge_argument<'a>(
     tables: &Tables<'a>,
     unit: usize,
@@ -109,7 +109,7 @@ fn judge_argument<'a>(
     refuse(found, line)
 }
 
-/// Judges the arguments of a call in written order, and keeps their names, of which there are none.
+/// Checks the arguments of a call in written order, and keeps their names, of which there are none.
 fn judge_each<'a>(
     tables: &Tables<'a>,
     unit: usize,
@@ -133,7 +133,7 @@ fn judge_each<'a>(
     Ok(())
 }
 
-/// Judges the arguments of a call in written order.
+/// Checks the arguments of a call in written order.
 fn judge_arguments<'a>(
     alloc: Global,
     tables: &Tables<'a>,
@@ -178,7 +178,7 @@ fn type_of<'a>(tables: &Tables<'a>, unit: usize, name: &[u8]) -> Option<Declared
     }
 }
 
-/// Judges a call: 401, 402, the condition, and then its arguments.
+/// Checks a call: 401, 402, the condition, and then its arguments.
 pub(crate) fn judge_call<'a>(
     alloc: Global,
     tables: &Tables<'a>,
@@ -194,7 +194,7 @@ pub(crate) fn judge_call<'a>(
         (first_broken
         (call_checks scope line condition (name_of instance.now)
         (map assignment_view arguments.now) kind ++ rest)) (first_broken rest) result }
-    // With an empty list no memory is taken, so no refusal is told as want of it.
+    // With an empty list no memory is taken, so no refusal is reported as out of memory.
     ensures room { IfErr result (λ fault. fault ≡ Fault.Memory → 0 < length arguments.now) }
 {
     let Some(declared) = type_of(tables, unit, instance) else {

@@ -15,7 +15,7 @@ use crate::labels::{Labels, Row};
 use crate::ways::{Way, joined_ways, kind_of};
 use wc_model::{Fault, Kind, Word};
 
-/// Enters a line with a label, from the way above: 407 where the label was given already.
+/// Enters a line with a label, from the path above: 407 if the label was given already.
 fn enter_label<'a>(
     labels: &mut Labels<'a>,
     word: &Word<'a>,
@@ -47,7 +47,7 @@ fn enter_label<'a>(
     Ok(kind_of(joined_ways(above, row.way)))
 }
 
-/// Enters a line, from the way above: the kind of the result before its instruction.
+/// Enters a line, from the path above: the kind of the result before its instruction.
 pub(crate) fn enter<'a>(
     labels: &mut Labels<'a>,
     label: &Option<Word<'a>>,

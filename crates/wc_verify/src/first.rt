@@ -35,7 +35,7 @@ pub(crate) fn refusal(number: u16, place: u32) -> Fault
 pub(crate) fn refuse(number: Option<u16>, line: u32) -> Result<(), Fault>
     ensures judges { (found rest : Option Refusal) → found ≡ first_at number line rest
         → Judges found rest result }
-    // No memory is taken here, so none is told to be wanting.
+    // No memory is taken here, so out of memory is not reported.
     ensures refuses { IfErr result (λ fault. fault ≡ Fault.Memory → ⊥) }
 {
     match number {

@@ -12,11 +12,11 @@ use crate::instructions::{apply, call, jump, kind_behind, leave, load, negate, s
 use crate::seen::{Seen, see};
 use crate::steps::{judge_closing, judge_opening};
 use std::alloc::Global;
-use wc_kinds::kind_after_operator;
 use wc_model::{Fault, Instr, Kind, Line, Operand, Operator};
 use wc_names::Tables;
+use wc_text_kinds::kind_after_operator;
 
-/// What the operand on an opening line names, where one is written.
+/// What the operand on an opening line names, if one is written.
 fn see_if_any<'a>(tables: &Tables<'a>, unit: usize, operand: &Option<Operand<'a>>) -> Option<Seen>
     ensures { (scope : Scope) → IsScope tables.now unit scope
         → IsSeenIfAny scope (option_map term_view operand.now) result }
@@ -38,7 +38,7 @@ fn opening_kind(seen: Option<Seen>) -> Option<Kind>
     }
 }
 
-/// Judges an opening line, the lines inside, and the `)`.
+/// Checks an opening line, the lines inside, and the `)`.
 #[cycle(inside)]
 fn judge_nested<'a>(
     alloc: Global,
@@ -66,7 +66,7 @@ fn judge_nested<'a>(
     )
 }
 
-/// Judges an instruction, from the kind of the result before it.
+/// Checks an instruction, from the kind of the result before it.
 #[cycle(inside)]
 pub(crate) fn judge_instr<'a>(
     alloc: Global,
@@ -123,7 +123,7 @@ pub(crate) fn judge_instr<'a>(
     }
 }
 
-/// Judges a line inside a parenthesis, whatever its label.
+/// Checks a line inside a parenthesis, whatever its label.
 #[cycle(inside)]
 fn judge_inside_line<'a>(
     alloc: Global,
@@ -141,7 +141,7 @@ fn judge_inside_line<'a>(
     }
 }
 
-/// Judges the lines inside a parenthesis: the kind of the result behind them.
+/// Checks the lines inside a parenthesis: the kind of the result after them.
 #[cycle(inside)]
 fn judge_inside<'a>(
     alloc: Global,

@@ -16,11 +16,11 @@ use crate::refusals::{judge_condition, judge_truth};
 use crate::seen::see;
 use crate::steps::{judge_apply, judge_load, judge_store};
 use std::alloc::Global;
-use wc_kinds::kind_after_operator;
 use wc_model::{Argument, Condition, Fault, Kind, Operand, Operator, Storing};
 use wc_names::Tables;
+use wc_text_kinds::kind_after_operator;
 
-/// What follows a line that is judged: the kind of the result behind it.
+/// What follows a line that is checked: the kind of the result after it.
 pub(crate) fn kind_behind(
     judged: Result<(), Fault>,
     after: Option<Kind>,
@@ -35,7 +35,7 @@ pub(crate) fn kind_behind(
     Ok(after)
 }
 
-/// The kind of the result behind LD or LDN.
+/// The kind of the result after LD or LDN.
 fn kind_loaded(negated: bool, kind: Option<Kind>) -> Option<Kind>
     ensures { result ≡ (if negated then Some Kind.Bool else kind) }
 {
@@ -108,7 +108,7 @@ pub(crate) fn negate(line: u32, kind: Option<Kind>) -> Result<Option<Kind>, Faul
     kind_behind(refuse(judge_truth(kind), line), kind)
 }
 
-/// A jump: 406 where its label is not ahead, and then the condition.
+/// A jump: 406 if its label is not ahead, and then the condition.
 pub(crate) fn jump(
     is_ahead: bool,
     condition: Condition,

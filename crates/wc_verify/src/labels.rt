@@ -14,7 +14,7 @@ use wc_names::Key;
 /// What is known of a label.
 #[derive(Clone, Copy)]
 pub(crate) struct Row {
-    /// How many lines that are still ahead carry it.
+    /// The number of lines still ahead that carry it.
     pub(crate) ahead: usize,
     /// Whether a line carried it already.
     pub(crate) given: bool,

@@ -10,8 +10,8 @@ ghost use Rattle.wc_verify.specs.Seeing.{IsSeen};
 
 use crate::first::{first_of, unless};
 use crate::seen::Seen;
-use wc_kinds::{divides, is_bit_literal, is_bool, is_divisor, is_kind, takes, takes_truth};
 use wc_model::{Condition, Kind, Operand, Operator};
+use wc_text_kinds::{divides, is_bit_literal, is_bool, is_divisor, is_kind, takes, takes_truth};
 
 /// What is read: 401, 405.
 pub(crate) fn judge_reading(seen: Seen) -> Option<u16>
@@ -53,7 +53,7 @@ pub(crate) fn judge_result(operator: Operator, kind: Option<Kind>) -> Option<u16
     )
 }
 
-/// The result where a BOOL is wanted: 403, 402.
+/// The result if a BOOL is wanted: 403, 402.
 pub(crate) fn judge_truth(kind: Option<Kind>) -> Option<u16>
     ensures { (line : ℕ) (rest : List Check)
         → first_broken (truth_checks line kind ++ rest) ≡ first_at result line (first_broken rest) }

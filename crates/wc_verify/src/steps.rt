@@ -13,8 +13,8 @@ use crate::refusals::{
     suits_target,
 };
 use crate::seen::Seen;
-use wc_kinds::{divides, is_bool, same_result};
 use wc_model::{Kind, Operand, Operator, Storing};
+use wc_text_kinds::{divides, is_bool, same_result};
 
 /// Whether LD or LDN takes an operand of the kind.
 fn is_loaded(negated: bool, kind: Option<Kind>) -> bool
@@ -109,7 +109,7 @@ fn judge_opening_operand(seen: Option<Seen>) -> Option<u16>
     }
 }
 
-/// Whether the operand on an opening line is no instance.
+/// Whether the operand on an opening line is not an instance.
 fn is_no_instance(seen: Option<Seen>) -> bool
     ensures { (scope : Scope) (term : Option Term) → IsSeenIfAny scope term seen
         → is_no_instance scope term ≡ result }

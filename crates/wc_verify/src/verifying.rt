@@ -11,8 +11,8 @@ use std::alloc::Global;
 use wc_model::{Fault, Source};
 use wc_names::Tables;
 
-/// Judges the bodies of a text by its tables, unit by unit: the first of the refusals 401 to 410, at
-/// its line. The lines of the text are handed on alone, so they may be places as well.
+/// Checks the bodies of a text by its tables, unit by unit: the first of the refusals 401 to 410, at
+/// its line. The lines of the text are passed on alone, so they may be places as well.
 pub fn judge_bodies<'a>(
     alloc: Global,
     source: &Source<'a>,
@@ -28,7 +28,7 @@ pub fn judge_bodies<'a>(
 }
 
 /// Verifies the bodies of a text that was read, by its tables: the text with its tables, or the first
-/// of the refusals 401 to 410, at its line. `Fault::Memory` where memory is refused.
+/// of the refusals 401 to 410, at its line. `Fault::Memory` if memory is refused.
 pub fn verify<'a>(
     alloc: Global,
     source: Source<'a>,

@@ -1,10 +1,10 @@
 ghost use Rattle.std.specs.Prelude.{◌≡◌};
 ghost use Rattle.wc_verify.specs.Ways.{joined_ways, kind_of_way, with_way};
 
-use wc_kinds::same_result;
 use wc_model::Kind;
+use wc_text_kinds::same_result;
 
-/// What the ways in to a line agree on.
+/// What the incoming paths of a line agree on.
 #[derive(Clone, Copy)]
 pub(crate) enum Way {
     /// There is none so far.
@@ -15,7 +15,7 @@ pub(crate) enum Way {
     Different,
 }
 
-/// The kind of the result that the ways in bring.
+/// The kind of the result that the incoming paths bring.
 pub(crate) fn kind_of(way: Way) -> Option<Kind>
     ensures { result ≡ kind_of_way way }
 {

@@ -12,7 +12,7 @@ abbrev pub last_digits : ℕ → ℕ → List ℕ
 last_digits zero number = []
 last_digits (suc count) number = last_digits count (number / 10) ++ ((48 + number % 10) ∷ [])
 
--- a point and so many digits, or nothing for none
+-- a point and n digits, or nothing for none
 abbrev pub fraction_text : ℕ → ℕ → List ℕ
 fraction_text zero number = []
 fraction_text (suc decimals) number = codes "." ++ last_digits (suc decimals) number
@@ -21,7 +21,7 @@ fraction_text (suc decimals) number = codes "." ++ last_digits (suc decimals) nu
 abbrev pub minus_of : ℤ → List ℕ
 minus_of value = if is_negative value then codes "-" else []
 
--- a value in units of the last decimal, with so many digits after the point and at least one before it
+-- a value in units of the last decimal, with n digits after the point and at least one before it
 abbrev pub value_text : ℕ → ℤ → List ℕ
 value_text decimals value =
     minus_of value ++ decimal (unsigned_abs value / 10 ^ decimals) ++ fraction_text decimals (unsigned_abs value)
@@ -70,7 +70,7 @@ mode_byte p history Tare = codes "T"
 abbrev pub motion_byte : PlateData → History → List ℕ
 motion_byte p history = if is_stable p history then codes " " else codes "M"
 
--- the weight that is asked for, where there is an indication
+-- the weight that is asked for, if there is an indication
 abbrev pub weight_asked : PlateData → History → Mode → Option ℤ
 weight_asked p history Shown = shown p history
 weight_asked p history Tare = if is_valid p history then Some (tare_value p history) else None
@@ -109,11 +109,11 @@ after_command AskTare history = history
 after_command Clear history = ClearTare ∷ history
 after_command Unknown history = history
 
--- what an answer to a zero command tells
+-- what an answer to a zero command says
 abbrev pub asked_zero : PlateData → History → Asked
 asked_zero p history = if is_some (zero_refusal p history) then ZeroRefused else Plain
 
--- what an answer to a tare command tells
+-- what an answer to a tare command says
 abbrev pub asked_tare : PlateData → History → Asked
 asked_tare p history = if is_some (tare_refusal p history) then TareRefused else Plain
 

@@ -23,7 +23,7 @@ abbrev pub indicator_moments : List LogRow → List (ℕ × RowData)
 indicator_moments rows = map (λ row. (row.ms, row.brings)) (indicator_rows rows)
 
 -- Scans, inputs and changes of the program may be taken out and put in.
---     row      a row has the answer that it has where those before it are taken out
+--     row      a row has the answer that it has if those before it are taken out
 --     log      two logs that bring the same samples and line bytes at the same moments have the same answers
 pub record IsFreeOfScans (p : PlateData) : Type 0 where
   pub row : (before : Past) (row : LogRow) → answer_of_row p before row ≡ answer_of_row p (indicator_rows before) row

@@ -1,5 +1,5 @@
 -- The indication as a function of the plate and of all that has come: OIML R 76-1:2006, class III, single range,
--- non-automatic use. A rule names its section where it has one; where none is named, it is the profile's own.
+-- non-automatic use. A rule names its section if it has one; if none is named, it is the profile's own.
 use Rattle.std.specs.Prelude.{ℕ, ◌+◌, ◌*◌, Bool, true, false, not, ◌&&◌, ◌||◌, nat_le, List, [], ◌∷◌, length, fold, ℤ, pos, negsuc, ◌-ℤ◌, ◌*ℤ◌, int_lt, int_le, unsigned_abs, Option, Some, None, is_some, unwrap_or, if◌then◌else◌}
 use Rattle.std.specs.Int.{int_max, int_min}
 use Rattle.std.specs.Option.{option_map_or}
@@ -25,7 +25,7 @@ abbrev pub window_of : PlateData → History → List ℤ
 window_of p history = last_items p.window (samples history)
 
 -- Stable equilibrium (OIML R 76-1:2006, 4.4.2), by the profile's own measure: `window` samples have come, and the
--- spread of the last so many is at most half an interval.
+-- spread of the last `window` is at most half an interval.
 abbrev pub is_stable : PlateData → History → Bool
 is_stable p history =
     nat_le p.window (length (samples history)) && nat_le (2 * spread_of (window_of p history) * p.n) p.span_counts
@@ -35,7 +35,7 @@ pub data CommandRefusal : Type 0 where
   Motion : CommandRefusal
   Range : CommandRefusal
 
--- Motion where the scale is not stable, else Range where it lies outside
+-- Motion if the scale is not stable, else Range if it lies outside
 abbrev pub refused_unless : Bool → Bool → Option CommandRefusal
 refused_unless true true = None
 refused_unless true false = Some Range
@@ -147,7 +147,7 @@ abbrev pub is_centre_of_zero : PlateData → History → Bool
 is_centre_of_zero p history =
     has_sample history && nat_le (4 * unsigned_abs (from_zero p history *ℤ pos p.n)) p.span_counts
 
--- a value, where there is an indication
+-- a value, if there is an indication
 abbrev pub if_valid : PlateData → History → ℤ → Option ℤ
 if_valid p history value = if is_valid p history then Some value else None
 

@@ -5,13 +5,13 @@ use Rattle.std.specs.List.{list_all, list_any}
 use Rattle.std.specs.Str.{bytes_eq}
 use Rattle.wc_model.specs.Instrument.Plates.{PlateData, grams, kilograms, tonnes, grams_of, allowed_intervals, least_sample, greatest_sample}
 
--- what stands behind a key
+-- the value of a key
 pub data Entry : Type 0 where
   Text : (text : List ℕ) → Entry
   Whole : (number : ℤ) → Entry
   Other : Entry
 
--- a table: its keys, each with what stands behind it
+-- a table: its keys, each with its value
 abbrev pub Table : Type 0
 Table = List (List ℕ × Entry)
 
@@ -19,11 +19,11 @@ Table = List (List ℕ × Entry)
 abbrev pub plate_keys : List (List ℕ)
 plate_keys = codes "unit" ∷ codes "decimals" ∷ codes "max" ∷ codes "e" ∷ codes "zero_counts" ∷ codes "span_counts" ∷ codes "window" ∷ []
 
--- whether the table has no key beside these seven
+-- whether the table has no key besides these seven
 abbrev pub has_no_other_key : Table → Bool
 has_no_other_key table = list_all (λ member. list_any (bytes_eq member.0) plate_keys) table
 
--- what stands behind a key, if it is there
+-- the value of a key, if it is there
 abbrev pub entry_at : Table → List ℕ → Option Entry
 entry_at table key = option_map (λ member. member.1) (find (λ member. bytes_eq member.0 key) table)
 
@@ -39,15 +39,15 @@ number_in (Text text) = None
 number_in (Whole number) = Some number
 number_in Other = None
 
--- the text behind a key
+-- the text of a key
 abbrev pub text_at : Table → List ℕ → Option (List ℕ)
 text_at table key = option_and_then text_in (entry_at table key)
 
--- the whole number behind a key
+-- the whole number of a key
 abbrev pub number_at : Table → List ℕ → Option ℤ
 number_at table key = option_and_then number_in (entry_at table key)
 
--- what stands behind the seven keys, before it is judged
+-- the values of the seven keys, before they are checked
 pub record Written : Type 0 where
   pub unit : List ℕ
   pub decimals : ℤ
@@ -57,7 +57,7 @@ pub record Written : Type 0 where
   pub span_counts : ℤ
   pub window : ℤ
 
--- the second step, where the first gave something
+-- the second step, if the first gave something
 infixl 10 ◌>>=◌
 abbrev pub ◌>>=◌ : {A B : Type 0} → Option A → (A → Option B) → Option B
 o >>= f = option_and_then f o
@@ -74,7 +74,7 @@ each_key table = do
   window ← number_at table (codes "window")
   Some (record { unit = unit; decimals = decimals; max = max; e = e; zero_counts = zero_counts; span_counts = span_counts; window = window })
 
--- the seven keys in their kinds, where there is no other key
+-- the seven keys in their kinds, if there is no other key
 abbrev pub written_of : Table → Option Written
 written_of table = if has_no_other_key table then each_key table else None
 
@@ -96,7 +96,7 @@ is_interval unit decimals e =
     list_any (λ allowed. int_le e (pos allowed) && int_le (pos allowed) e) (allowed_intervals decimals)
     && int_le (pos (5 * 10 ^ decimals)) (e *ℤ pos (grams_of unit))
 
--- whether the greatest load is a whole number of intervals, and how many is in range
+-- whether the greatest load is a whole number of intervals, and their number is in range
 abbrev pub is_count : ℤ → ℤ → Bool
 is_count max e = int_le (int_rem max e) (pos 0) && is_between (pos 500) (pos 10000) (int_div max e)
 
@@ -133,7 +133,7 @@ abbrev pub judged : Written → Option (List ℕ) → Result PlateData ℕ
 judged w None = Err 503
 judged w (Some unit) = unless_broken (find (λ rule. not rule.1) (rules_after_unit w unit)) (plate_from w unit)
 
--- the same, where all keys are there in their kinds
+-- the same, if all keys are there in their kinds
 abbrev pub plate_of_written : Option Written → Result PlateData ℕ
 plate_of_written None = Err 502
 plate_of_written (Some w) = judged w (line_unit w.unit)

@@ -3,9 +3,9 @@
 use Rattle.std.specs.Prelude.{◌≡◌, ℕ, ◌*◌, ◌^◌, ◌≤◌, ◌||◌, ◌==◌, List, [], ◌∷◌, Contains, codes, ℤ, pos, negsuc, ◌≤ℤ◌, if◌then◌else◌}
 use Rattle.std.specs.Str.{bytes_eq}
 
--- What is written on an instrument. `unit` is the line's three bytes, `decimals` the digits behind the point, `max` and
+-- What is written on an instrument. `unit` is the line's three bytes, `decimals` the digits after the point, `max` and
 -- `e` the greatest load and the scale interval in units of the last decimal, `n` the number of intervals, `zero_counts`
--- the sample at no load, `span_counts` the counts from there to `max`, `window` how many samples stability looks at.
+-- the sample at no load, `span_counts` the counts from there to `max`, `window` the number of samples stability looks at.
 pub record PlateData : Type 0 where
   pub unit : List ℕ
   pub decimals : ℕ
@@ -28,7 +28,7 @@ kilograms = codes "kg "
 abbrev pub tonnes : List ℕ
 tonnes = codes "t  "
 
--- how many grams one of a unit is
+-- the number of grams of one unit
 abbrev pub grams_of : List ℕ → ℕ
 grams_of unit = if bytes_eq unit tonnes then 1000000 else if bytes_eq unit kilograms then 1000 else 1
 

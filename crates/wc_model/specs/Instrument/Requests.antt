@@ -15,7 +15,7 @@ carriage_return = 13
 abbrev pub escape : ℕ
 escape = 27
 
--- whether a byte may stand in a request's text
+-- whether a byte may be in a request's text
 abbrev pub is_text : ℕ → Bool
 is_text byte = not (byte == line_feed || byte == carriage_return || byte == escape)
 
@@ -35,7 +35,7 @@ abbrev pub requests : List ℕ → List (List ℕ)
 requests [] = []
 requests (byte ∷ rest) = cons_option (request_at byte rest) (requests rest)
 
--- the texts of the requests that a piece completes, after the bytes before it, which may have left a request cut short
+-- the texts of the requests that a chunk completes, after the bytes before it, which may have left a request cut short
 abbrev pub requests_in : List ℕ → List ℕ → List (List ℕ)
 requests_in before piece = drop (length (requests before)) (requests (before ++ piece))
 
@@ -58,14 +58,14 @@ opened_by byte begun =
     if byte == line_feed then Some []
     else if is_text byte then option_map (λ text. text ++ (byte ∷ [])) begun else None
 
--- the requests that each of some pieces completes, in order
+-- the requests that each of some chunks completes, in order
 abbrev pub requests_in_pieces : List ℕ → List (List ℕ) → List (List ℕ)
 requests_in_pieces before [] = []
 requests_in_pieces before (piece ∷ pieces) = requests_in before piece ++ requests_in_pieces (before ++ piece) pieces
 
 -- Where a stream is cut makes no difference.
---     whole      the pieces of a stream complete the requests of the whole stream
---     again      a piece completes what its two parts complete
+--     whole      the chunks of a stream complete the requests of the whole stream
+--     again      a chunk completes what its two parts complete
 --     byte       one byte completes the open request, or nothing
 --     opens      and it opens a new one, goes on with it, or leaves none
 pub record IsCutAnywhere : Type 0 where

@@ -13,7 +13,7 @@ use Rattle.wc_model.specs.declared.value.Value.TheVariants.{Bool as Truth, Dint,
 abbrev pub field_at : Store → List Name → Name → Option Content
 field_at store instance name = store (Path (instance ++ name ∷ []))
 
--- goes on with a BOOL, a DINT, a TIME, a moment or a phase, where the field has one
+-- goes on with a BOOL, a DINT, a TIME, a moment or a phase, if the field has one
 abbrev pub with_truth : {X : Type 0} → Option Content → (Bool → Result X Reason) → Result X Reason
 with_truth (Some (Plain (Truth b))) go = go b
 with_truth other go = Err NoSuchPlace

@@ -47,8 +47,8 @@ pub record TofFields : Type 0 where
   pub phase : ℕ
   pub start : ℕ
 
--- TP: in phase 0 no pulse has begun, in phase 1 it began at the moment `start` and is on, in phase 2 it is over and IN has
--- not been FALSE since
+-- TP: in phase 0 no pulse has started, in phase 1 it began at the moment `start` and is on, in phase 2 it is over and IN
+-- has not been FALSE since
 pub record TpFields : Type 0 where
   pub input : Bool
   pub pt : ℤ
@@ -69,7 +69,7 @@ sr_step f = record { s1 = f.s1; r = f.r; q1 = f.s1 || (not f.r && f.q1) }
 abbrev pub rs_step : RsFields → RsFields
 rs_step f = record { s = f.s; r1 = f.r1; q1 = not f.r1 && (f.s || f.q1) }
 
--- 0 where R is TRUE; else one more at an edge of CU, short of the greatest number
+-- 0 if R is TRUE; else one more at an edge of CU, short of the greatest number
 abbrev pub ctu_count : CtuFields → ℤ
 ctu_count f = if f.r then pos 0 else (if f.cu && not f.m && int_lt f.cv (pos 2147483647) then f.cv +ℤ pos 1 else f.cv)
 
@@ -77,7 +77,7 @@ ctu_count f = if f.r then pos 0 else (if f.cu && not f.m && int_lt f.cv (pos 214
 abbrev pub ctu_step : CtuFields → CtuFields
 ctu_step f = record { cu = f.cu; r = f.r; pv = f.pv; q = int_le f.pv (ctu_count f); cv = ctu_count f; m = f.cu }
 
--- the preset time: PT, or 0 where it is negative
+-- the preset time: PT, or 0 if it is negative
 abbrev pub preset : ℤ → ℕ
 preset (pos pt) = pt
 preset (negsuc pt) = 0
@@ -120,7 +120,7 @@ tof_step now f = if f.input then tof_held f else tof_released f.phase f now
 abbrev pub tp_pulsing : TpFields → ℕ → ℕ → TpFields
 tp_pulsing f now start = record { input = f.input; pt = f.pt; q = true; et = pos (now - start); phase = 1; start = start }
 
--- no pulse has begun, or IN is FALSE behind its end
+-- no pulse has started, or IN is FALSE after its end
 abbrev pub tp_idle : TpFields → TpFields
 tp_idle f = record { input = f.input; pt = f.pt; q = false; et = pos 0; phase = 0; start = f.start }
 
@@ -128,7 +128,7 @@ tp_idle f = record { input = f.input; pt = f.pt; q = false; et = pos 0; phase = 
 abbrev pub tp_held : TpFields → ℕ → TpFields
 tp_held f start = record { input = f.input; pt = f.pt; q = false; et = pos (preset f.pt); phase = 2; start = start }
 
--- it is over, and stands so until IN is FALSE
+-- it is over, and stays so until IN is FALSE
 abbrev pub tp_over : TpFields → ℕ → TpFields
 tp_over f start = if f.input then tp_held f start else tp_idle f
 

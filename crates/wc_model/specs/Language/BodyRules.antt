@@ -103,7 +103,7 @@ abbrev pub is_bit_literal : Term → Bool
 is_bit_literal (Constant (Dint n)) = is_bit n
 is_bit_literal term = false
 
--- 402: the operand is of the result's kind, or a literal 0 or 1 beside a BOOL
+-- 402: the operand is of the result's kind, or a literal 0 or 1 next to a BOOL
 abbrev pub suits_result : Scope → Operator → Term → Option Kind → Bool
 suits_result scope operator term None = false
 suits_result scope operator term (Some kind) =
@@ -232,7 +232,7 @@ line_rules scope (PlainLine label line step) behind kind = step_rules scope line
 line_rules scope (NestedLine label line operator operand inside close) behind kind =
     opening_checks scope line operator operand kind ++ inside_rules scope inside (opening_kind scope operand) ++ closing_checks close kind (kind_behind scope inside (opening_kind scope operand))
 
--- a line with those before and behind it: its label, and then its instruction
+-- a line with those before and after it: its label, and then its instruction
 abbrev pub spot_rules : Scope → Spot BodyLine → List Check
 spot_rules scope spot = label_rules spot.before (label_of spot.item) ++ line_rules scope spot.item spot.behind (kind_at scope spot.before spot.item)
 

@@ -21,13 +21,13 @@ pub data Lead : Type 0 where
 abbrev pub same_block : StandardBlock → StandardBlock → Bool
 same_block a b = same_name (block_word a) (block_word b)
 
--- the one name behind an instance of a standard block is that of a field
+-- the one name after an instance of a standard block is that of a field
 abbrev pub field_lead : StandardBlock → List Name → Option Lead
 field_lead block (field ∷ []) = if list_any (λ f. same_name f.0 field) (standard_fields block) then Some (ToField block) else None
 field_lead block [] = None
 field_lead block (field ∷ other ∷ names) = None
 
--- nothing stands behind a plain variable
+-- nothing follows a plain variable
 abbrev pub plain_lead : Kind → List Name → Option Lead
 plain_lead kind [] = Some (ToPlace kind)
 plain_lead kind (name ∷ names) = None

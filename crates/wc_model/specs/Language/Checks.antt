@@ -32,7 +32,7 @@ pub record IsFirstBroken (checks : List Check) (refusal : Refusal) : Type 0 wher
   pub is_it : refusal ≡ record { number = broken.number; line = broken.line }
   pub none_before : list_all (λ check. check.holds) before ≡ true
 
--- each item of a list with those before it, newest first, and those behind it
+-- each item of a list with those before it, newest first, and those after it
 pub record Spot (X : Type 0) : Type 0 where
   pub before : List X
   pub item : X

@@ -24,7 +24,7 @@ reserved_words = operator_words ++ other_words ++ unit_words ++ (kind_words ++ t
 abbrev pub is_among : List Name → Name → Bool
 is_among names name = list_any (same_name name) names
 
--- 307: a name that is no reserved word
+-- 307: a name that is not a reserved word
 abbrev pub not_reserved : Word → Check
 not_reserved word = asks 307 word.line (not (is_among reserved_words word.name))
 
@@ -39,7 +39,7 @@ name_of_word word = word.name
 abbrev pub names_are_new : List Name → List Word → List Check
 names_are_new names words = flat_map (λ spot. not_reserved spot.item ∷ is_new (map name_of_word spot.before ++ names) spot.item ∷ []) (spots_of words)
 
--- an instance stands in VAR alone
+-- an instance is in VAR alone
 abbrev pub is_own : Section → Bool
 is_own Input = false
 is_own Output = false
@@ -57,7 +57,7 @@ names_block_of text name = list_any (λ unit. is_block unit && same_name unit.na
 abbrev pub is_closed_before : Text → List ProgramUnit → Name → Bool
 is_closed_before text before name = is_among type_words name || is_some (block_named before name) || not (names_block_of text name)
 
--- 302: a type that there is, in a section where it may stand
+-- 302: a type that there is, in a section where it may be
 abbrev pub may_stand : Section → VariableType → Bool
 may_stand section (Elementary kind) = true
 may_stand section (Standard block) = is_own section
@@ -121,7 +121,7 @@ and_more taken count size = record { variables = taken.variables + count; places
 abbrev pub room_checks : Taken → ℕ → List Word → List Check
 room_checks taken size words = map (λ spot. asks 306 spot.item.line (has_room (and_more taken (length spot.before + 1) size))) (spots_of words)
 
--- the rules of a declaration, behind the names and the places that the unit has taken before
+-- the rules of a declaration, after the names and the places that the unit has taken before
 abbrev pub declaration_checks : Text → List ProgramUnit → List Name → Taken → Declaration → List Check
 declaration_checks text before names taken d =
     names_are_new names d.names ++ type_checks text before d ++ initial_checks before d ++ room_checks taken (places_of_type before d.type_name.name) d.names

@@ -1,4 +1,4 @@
--- What the names of a unit stand for (IEC 61131-3:2003, 2.4.3 and 2.5.2). Units that stand before come newest first.
+-- What the names of a unit represent (IEC 61131-3:2003, 2.4.3 and 2.5.2). Units that come before are given newest first.
 use Rattle.std.specs.Prelude.{ℕ, Bool, true, false, List, [], ◌∷◌, map, Option, Some, None, find, codes, if◌then◌else◌}
 use Rattle.std.specs.List.{flat_map}
 use Rattle.std.specs.Str.{bytes_eq}
@@ -50,7 +50,7 @@ standard_blocks =
     (block_word RTrig, RTrig) ∷ (block_word Sr, Sr) ∷ (block_word Rs, Rs) ∷ (block_word Ctu, Ctu) ∷ (block_word Ton, Ton) ∷ (block_word Tof, Tof)
     ∷ (block_word Tp, Tp) ∷ []
 
--- what stands beside a name
+-- what is next to a name
 abbrev pub named_in : {X : Type 0} → List (Name × X) → Name → Option X
 named_in [] name = None
 named_in (entry ∷ entries) name = if same_name entry.0 name then Some entry.1 else named_in entries name
@@ -64,7 +64,7 @@ abbrev pub block_named : List ProgramUnit → Name → Option (ProgramUnit × Li
 block_named [] name = None
 block_named (unit ∷ before) name = elim (same_name unit.name.name name) [ true ↦ (if is_block unit then Some (unit, before) else None) | false ↦ block_named before name ]
 
--- the type that a name stands for behind these units
+-- the type that a name represents after these units
 abbrev pub block_type : List ProgramUnit → Name → Option VariableType
 block_type before name = elim (block_named before name) [ Some found ↦ Some (Block name) | None ↦ None ]
 
@@ -78,7 +78,7 @@ type_named before name = elim (named_in elementary_types name) [ Some kind ↦ S
 abbrev pub variable_named : ProgramUnit → Name → Option Variable
 variable_named unit name = find (λ v. same_name v.name name) (variables_of unit)
 
--- a name that can stand behind an instance and a dot: the section in which its block declares it, and its type
+-- a name that can follow an instance and a dot: the section in which its block declares it, and its type
 pub record Member : Type 0 where
   pub name : Name
   pub section : Section
@@ -98,7 +98,7 @@ standard_members Ton = member (codes "in") Input KindBool ∷ member (codes "pt"
 standard_members Tof = member (codes "in") Input KindBool ∷ member (codes "pt") Input KindTime ∷ member (codes "q") Output KindBool ∷ member (codes "et") Output KindTime ∷ []
 standard_members Tp = member (codes "in") Input KindBool ∷ member (codes "pt") Input KindTime ∷ member (codes "q") Output KindBool ∷ member (codes "et") Output KindTime ∷ []
 
--- a variable of a block as a member, where its type is known
+-- a variable of a block as a member, if its type is known
 abbrev pub as_member : List ProgramUnit → Variable → List Member
 as_member before v = elim (type_named before v.type_name) [ Some type ↦ record { name = v.name; section = v.section; type = type } ∷ [] | None ↦ [] ]
 

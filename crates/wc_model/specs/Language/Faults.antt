@@ -1,4 +1,4 @@
--- The first fault of the passes behind reading. (The passes and their order are the profile's own.)
+-- The first fault of the passes after reading. (The passes and their order are the profile's own.)
 use Rattle.std.specs.Prelude.{◌≡◌, ℕ, ◌<◌, ◌≤◌, List, [], ◌∷◌, Option, Some, None, length, ◌⊎◌}
 use Rattle.wc_model.specs.Language.BodyRules.{text_body_checks}
 use Rattle.wc_model.specs.Language.Checks.{Refusal, Spot, spots_of, first_broken}

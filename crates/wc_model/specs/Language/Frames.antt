@@ -22,7 +22,7 @@ use Rattle.wc_model.specs.declared.value.Value.TheVariants.{Bool as Truth, Dint,
 abbrev pub frame_of : Scope → List (Location × Content)
 frame_of scope = if is_block scope.unit then map (λ p. (Path p.0, p.1)) (unit_places scope.before scope.unit) else program_frame scope.before scope.unit
 
--- the number of a place: how many stand before it in the frame
+-- the number of a place: the number of places before it in the frame
 abbrev pub place_number : List (Location × Content) → Location → Option ℕ
 place_number frame place = position_from (λ entry. same_place entry.0 place) 0 frame
 
@@ -88,7 +88,7 @@ pub record PlainVariable : Type 0 where
   pub kind : Kind
   pub place : Option ℕ
 
--- a variable of an elementary type; an instance is none
+-- a variable of an elementary type; an instance is not one
 abbrev pub plain_of : Scope → Variable → Option VariableType → List PlainVariable
 plain_of scope v None = []
 plain_of scope v (Some (Elementary kind)) = record { name = v.name; section = v.section; kind = kind; place = place_number (frame_of scope) (Path (v.name ∷ [])) } ∷ []

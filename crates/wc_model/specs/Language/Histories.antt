@@ -1,4 +1,4 @@
--- What the outputs of the standard blocks are after a history of calls, told without any field (IEC 61131-3:2003,
+-- What the outputs of the standard blocks are after a history of calls, defined without any field (IEC 61131-3:2003,
 -- 2.5.2.3: the timing diagrams of table 38 and the bodies of tables 34 to 36). A history has the newest call first.
 use Rattle.std.specs.Prelude.{◌≡◌, ℕ, ◌-◌, min, Bool, true, false, not, ◌&&◌, ◌||◌, ℤ, pos, int_le, nat_le, nat_lt, List, [], ◌∷◌, Some, None, find, count_by, take_while, if◌then◌else◌}
 use Rattle.std.specs.List.{list_any}
@@ -44,7 +44,7 @@ is_rise [] = false
 is_rise (now ∷ []) = now
 is_rise (now ∷ before ∷ earlier) = now && not before
 
--- R_TRIG: Q is TRUE where the last call has an edge; `m` is its CLK
+-- R_TRIG: Q is TRUE if the last call has an edge; `m` is its CLK
 pub record FitsRTrig (clks : List Bool) (f : RTrigFields) : Type 0 where
   pub q : f.q ≡ is_rise clks
   pub m : f.m ≡ first_or false clks
@@ -119,7 +119,7 @@ abbrev pub FitsTon : List TimerCall → TonFields → Type 0
 FitsTon [] f = FitsTonIdle f
 FitsTon (c ∷ earlier) f = elim c.input [ true ↦ FitsTonRun c (run_start c earlier) f | false ↦ FitsTonIdle f ]
 
--- TOF, where no call had IN TRUE; where the last call has; and where it had before: the time since the first call after
+-- TOF, if no call had IN TRUE; if the last call has; and if it had before: the time since the first call after
 -- the last TRUE
 pub record FitsTofNever (f : TofFields) : Type 0 where
   pub phase : f.phase ≡ 0
@@ -169,7 +169,7 @@ has_ended span = list_any (λ c. nat_le (preset c.pt) (c.moment - span_start spa
 abbrev pub span_with : TimerCall → List TimerCall → List TimerCall
 span_with c span = if has_ended (c ∷ span) && not c.input then [] else c ∷ span
 
--- what is open behind a call: where nothing was open, a call with IN TRUE begins a span
+-- what is open after a call: if nothing was open, a call with IN TRUE begins a span
 abbrev pub open_with : TimerCall → List TimerCall → List TimerCall
 open_with c [] = if c.input then c ∷ [] else []
 open_with c (d ∷ span) = span_with c (d ∷ span)

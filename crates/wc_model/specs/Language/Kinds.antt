@@ -1,5 +1,5 @@
--- The kind of the current result at each line, from all ways in (IEC 61131-3:2003, 3.2.2; the rule that all ways in
--- agree is the profile's own).
+-- The kind of the current result at each line, from all incoming paths (IEC 61131-3:2003, 3.2.2; the rule that all
+-- incoming paths agree is the profile's own).
 use Rattle.std.specs.Prelude.{ℕ, Bool, true, false, List, [], ◌∷◌, ◌++◌, Option, Some, None, if◌then◌else◌}
 use Rattle.std.specs.List.{list_all}
 use Rattle.wc_model.specs.Language.Declarations.{VariableType, Elementary, Standard, Block, same_name}
@@ -20,7 +20,7 @@ is_kind KindDint KindDint = true
 is_kind KindTime KindTime = true
 is_kind a b = false
 
--- the same of kinds that may be none
+-- likewise for kinds that may be none
 abbrev pub same_result : Option Kind → Option Kind → Bool
 same_result None None = true
 same_result (Some a) (Some b) = is_kind a b
@@ -50,7 +50,7 @@ compares operator = false
 abbrev pub kind_after_operator : Operator → Option Kind → Option Kind
 kind_after_operator operator result = if compares operator then Some KindBool else result
 
--- the kind behind a step, from the kind before
+-- the kind after a step, from the kind before
 abbrev pub kind_after_step : Scope → Step → Option Kind → Option Kind
 kind_after_step scope (Load false operand) result = term_kind scope operand
 kind_after_step scope (Load true operand) result = Some KindBool
@@ -80,7 +80,7 @@ label_of (AloneLine label) = Some label
 label_of (PlainLine label line step) = label
 label_of (NestedLine label line operator operand inside close) = label
 
--- the kind behind a line, from the kind before
+-- the kind after a line, from the kind before
 abbrev pub kind_after : Scope → BodyLine → Option Kind → Option Kind
 kind_after scope (AloneLine label) result = result
 kind_after scope (PlainLine label line step) result = kind_after_step scope step result
@@ -117,16 +117,16 @@ abbrev pub kinds_from_label : Option Word → List Known → List (Option Kind)
 kinds_from_label None earlier = []
 kinds_from_label (Some word) earlier = kinds_from_jumps word.name earlier
 
--- the kind that the line before hands on; at a body's start there is no result
+-- the kind that the line before passes on; at a body's start there is no result
 abbrev pub kinds_from_above : Scope → List Known → List (Option Kind)
 kinds_from_above scope [] = None ∷ []
 kinds_from_above scope (known ∷ earlier) = if leaves known.line then [] else kind_after scope known.line known.before ∷ []
 
--- the kinds of all ways in to a line, whose earlier lines are known
+-- the kinds of all incoming paths of a line, whose earlier lines are known
 abbrev pub ways_in : Scope → List Known → BodyLine → List (Option Kind)
 ways_in scope earlier line = kinds_from_above scope earlier ++ kinds_from_label (label_of line) earlier
 
--- the kind on which all ways agree; none where they do not, or where there is no way
+-- the kind on which all incoming paths agree; none if they do not, or if there is no path
 abbrev pub agreed : List (Option Kind) → Option Kind
 agreed [] = None
 agreed (way ∷ ways) = if list_all (same_result way) ways then way else None
@@ -139,8 +139,8 @@ abbrev pub known_kinds : Scope → List BodyLine → List Known
 known_kinds scope [] = []
 known_kinds scope (line ∷ before) = with_line scope line (known_kinds scope before)
 
--- the kind of the result at a line behind these lines, newest first: of a label, the kind on which all ways in agree (label
--- kinds)
+-- the kind of the result at a line after these lines, newest first: of a label, the kind on which all incoming paths agree
+-- (label kinds)
 abbrev pub kind_at : Scope → List BodyLine → BodyLine → Option Kind
 kind_at scope before line = agreed (ways_in scope (known_kinds scope before) line)
 
@@ -149,7 +149,7 @@ abbrev pub opening_kind : Scope → Option Term → Option Kind
 opening_kind scope None = None
 opening_kind scope (Some operand) = term_kind scope operand
 
--- the kind behind lines inside a parenthesis, which none of them leaves and no jump enters
+-- the kind after lines inside a parenthesis, which none of them leaves and no jump enters
 abbrev pub kind_behind : Scope → Lines → Option Kind → Option Kind
 kind_behind scope End result = result
 kind_behind scope (Alone label rest) result = kind_behind scope rest result

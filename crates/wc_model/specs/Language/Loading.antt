@@ -14,7 +14,7 @@ pub record IsLoaded (bytes : List ℕ) (text : Text) : Type 0 where
   pub bodies : body_fault text ≡ None
   pub costs : IsCostFault text None
 
--- a next text, where there is one, is loaded from some bytes
+-- a next text, if there is one, is loaded from some bytes
 abbrev pub IsNextLoaded : Option Text → Type 0
 IsNextLoaded None = ⊤
 IsNextLoaded (Some text) = (bytes : List ℕ) × IsLoaded bytes text

@@ -10,7 +10,7 @@ use Rattle.wc_model.specs.Language.Tree.{Word, Assignment, Step, Load, Store, Ap
 use Rattle.wc_model.specs.declared.operator.Condition.{Condition}
 use Rattle.wc_model.specs.declared.operator.Condition.TheVariants.{Always, IfTrue, IfFalse}
 
--- where a path stands before a line: it executes it, looks for a label, or has returned
+-- the state of a path before a line: it executes it, looks for a label, or has returned
 pub data Way : Type 0 where
   Onward : Way
   Toward : (label : Name) → Way
@@ -22,13 +22,13 @@ arriving_way word Onward = Onward
 arriving_way word Back = Back
 arriving_way word (Toward label) = elim (carries word label) [ true ↦ Onward | false ↦ Toward label ]
 
--- a path ends at the end of a body, but not where a label is looked for
+-- a path ends at the end of a body, but not if a label is looked for
 abbrev pub EndsThere : Way → List Item → Type 0
 EndsThere Onward path = path ≡ []
 EndsThere Back path = path ≡ []
 EndsThere (Toward label) path = ⊥
 
--- the items of a call that is made, behind its own line: the inputs that it assigns, its block's body, and the outputs that
+-- the items of a call that is made, after its own line: the inputs that it assigns, its block's body, and the outputs that
 -- it gives out
 abbrev pub IsBodyPath : (Name → List Item → Type 0) → Option VariableType → List Item → Type 0
 IsBodyPath block_path None items = ⊥
@@ -50,7 +50,7 @@ MayAct IfFalse acts passes = acts ⊎ passes
 abbrev pub GoesOn : List Item → Way → List Item → Way → Type 0
 GoesOn wanted way items next = (items ≡ wanted) × (next ≡ way)
 
--- what a step that is executed may add to a path, and where the path then stands
+-- what a step that is executed may add to a path, and where the path then is
 abbrev pub MayStep : (Name → List Item → Type 0) → Scope → ℕ → Step → List Item → Way → Type 0
 MayStep block_path scope line (Load negated operand) items next = GoesOn (At line ∷ []) Onward items next
 MayStep block_path scope line (Store storing target) items next = GoesOn (At line ∷ []) Onward items next

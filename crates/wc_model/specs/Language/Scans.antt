@@ -30,7 +30,7 @@ overlaid entries store = λ place. elim (store_of entries place) [ Some content 
 abbrev pub with_image : Image → Store → Store
 with_image image store = overlaid (image_contents image) store
 
--- the units of a text that stand before the program, newest first
+-- the units of a text that precede the program, newest first
 abbrev pub first_of_reversed : List ProgramUnit → (List ProgramUnit → ProgramUnit → Outcome) → Outcome
 first_of_reversed [] go = Stuck NoSuchPlace
 first_of_reversed (program ∷ before) go = go before program
@@ -47,7 +47,7 @@ initial_of_reversed (program ∷ before) = initial_store before program
 abbrev pub initial_of : Text → Store
 initial_of text = initial_of_reversed (reverse text)
 
--- the steps of an outcome: how many items its trace has
+-- the steps of an outcome: the number of items its trace has
 abbrev pub steps_of : Outcome → ℕ
 steps_of (Done result store trace) = length trace
 steps_of (Stuck reason) = 0

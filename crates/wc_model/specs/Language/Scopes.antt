@@ -1,4 +1,4 @@
--- What a term names from the body in which it stands (IEC 61131-3:2003, 2.4.3.2 and 2.5.2.1): inputs of an instance are
+-- What a term names from the body in which it is (IEC 61131-3:2003, 2.4.3.2 and 2.5.2.1): inputs of an instance are
 -- written from outside, its outputs read.
 use Rattle.std.specs.Prelude.{Bool, true, false, not, List, [], ◌∷◌, ◌++◌, Option, Some, None, if◌then◌else◌}
 use Rattle.wc_model.specs.Language.Declarations.{Variable, VariableType, Elementary, Member, type_named, variable_named, members_of, member_named}

@@ -78,7 +78,7 @@ zero_of KindBool = Plain (Truth false)
 zero_of KindDint = Plain (Dint (pos 0))
 zero_of KindTime = Plain (Time (pos 0))
 
--- a literal as a value of a kind: a whole number 0 or 1 is a BOOL where one is wanted; another kind's literal counts for nothing
+-- a literal as a value of a kind: a whole number 0 or 1 is a BOOL if one is wanted; another kind's literal counts for nothing
 abbrev pub literal_as : Kind → Value → Content
 literal_as KindBool (Dint n) = Plain (Truth (elim n [ pos k ↦ k == 1 | negsuc k ↦ false ]))
 literal_as KindBool (Truth b) = Plain (Truth b)
@@ -109,7 +109,7 @@ standard_fields Tp = (codes "in", zero_of KindBool) ∷ (codes "pt", zero_of Kin
 abbrev pub below : Name → List (List Name × Content) → List (List Name × Content)
 below name places = map (λ p. (name ∷ p.0, p.1)) places
 
--- the places of a variable, where `places_of_block` gives those of an instance of a block of the text
+-- the places of a variable, if `places_of_block` gives those of an instance of a block of the text
 abbrev pub variable_places : (Name → List (List Name × Content)) → Option VariableType → Option Initial → List (List Name × Content)
 variable_places places_of_block None initial = []
 variable_places places_of_block (Some (Elementary kind)) initial = ([], first_content kind initial) ∷ []

@@ -1,4 +1,4 @@
--- A program text as a tree (IEC 61131-3:2003, 2.5 and 3.2), with the lines at which its parts stand.
+-- A program text as a tree (IEC 61131-3:2003, 2.5 and 3.2), with the lines at which its parts are.
 use Rattle.std.specs.Prelude.{ℕ, Bool, true, false, not, List, filter, Option}
 use Rattle.wc_model.specs.Language.Names.{Name}
 use Rattle.wc_model.specs.declared.operator.Condition.{Condition}
@@ -58,7 +58,7 @@ pub data Lines : Type 0 where
   Plain : (label : Option Word) (line : ℕ) (step : Step) (rest : Lines) → Lines
   Nested : (label : Option Word) (line : ℕ) (operator : Operator) (operand : Option Term) (inside : Lines) (close : ℕ) (rest : Lines) → Lines
 
--- names of one type, with their first value where one is written
+-- names of one type, with their first value if one is written
 pub record Declaration : Type 0 where
   pub section : Section
   pub names : List Word

@@ -1,4 +1,4 @@
--- What a `Source` stands for: the text as a tree, its names in one letter case. (No rule of the language.)
+-- What a `Source` represents: the text as a tree, its names in one letter case. (No rule of the language.)
 use Rattle.std.specs.Prelude.{List, [], ◌∷◌, map, Option, Some, None}
 use Rattle.std.specs.Option.{option_map}
 use Rattle.wc_model.specs.Language.Names.{Name, name_of}
@@ -31,12 +31,12 @@ term_view (operands.Field instance field) = Field (name_of instance.now) (name_o
 abbrev pub assignment_view : Argument → Assignment
 assignment_view argument = record { direction = argument.direction; formal = name_of argument.name.now; actual = term_view argument.value }
 
--- lines, each of which stands before the rest
+-- lines, each of which precedes the rest
 abbrev pub joined : List (Lines → Lines) → Lines
 joined [] = End
 joined (line ∷ lines) = line (joined lines)
 
--- an instruction behind its label, whose lines inside are seen already
+-- an instruction after its label, whose lines inside are seen already
 abbrev pub instruction_view : Instr-F (Option Word → Lines → Lines) (Lines → Lines) → Option Word → Lines → Lines
 instruction_view (Instr-F.Load negated operand line) label rest = Plain label line (Load negated (term_view operand)) rest
 instruction_view (Instr-F.Store storing target line) label rest = Plain label line (Store storing (term_view target)) rest
@@ -79,6 +79,6 @@ unit_view unit = record {
   body = lines_view unit.body.items;
 }
 
--- the text that a source stands for
+-- the text that a source represents
 abbrev pub text_view : Source → Text
 text_view source = map unit_view source.units.items

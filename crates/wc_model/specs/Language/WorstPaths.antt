@@ -1,4 +1,4 @@
--- The worst path of a unit: among the longest the one that, where two ways are equally long, takes the next line. (The
+-- The worst path of a unit: among the longest the one that, if two paths are equally long, takes the next line. (The
 -- profile's own.)
 use Rattle.std.specs.Prelude.{◌≡◌, ◌≢◌, ℕ, ◌≤◌, ◌<◌, List, ◌++◌, length, Some}
 use Rattle.wc_model.specs.Language.Names.{Name}
@@ -11,7 +11,7 @@ use Rattle.wc_model.specs.Language.Tree.{Lines, End, Alone, Plain, Nested}
 abbrev pub StaysOnward : (List Item → Way → Type 0) → List Item → Way → Type 0
 StaysOnward executed items next = executed items next × (next ≡ Onward)
 
--- The path begins with these items and goes on as a worst one. No path from here is longer; and where it leaves the next
+-- The path begins with these items and goes on as a worst one. No path from here is longer; and if it leaves the next
 -- line, each path that takes it is shorter.
 pub record ChoosesWorst (executed : List Item → Way → Type 0) (any worst : Way → List Item → Type 0) (path : List Item) : Type 0 where
   pub items : List Item

@@ -6,7 +6,7 @@ use Rattle.wc_model.specs.declared.device.Device.{Device}
 abbrev pub counted : ℕ → ℕ → ℕ
 counted old more = min (old + more) (2 ^ 64 - 1)
 
--- one more where the read failed
+-- one more if the read failed
 abbrev pub failures_after_read : {E : Type 0} → ℕ → Result ℕ E → ℕ
 failures_after_read old (Ok n) = old
 failures_after_read old (Err e) = counted old 1
@@ -16,7 +16,7 @@ abbrev pub spent_after_read : {E : Type 0} → ℕ → Result ℕ E → ℕ
 spent_after_read old (Ok n) = counted old (1 + n)
 spent_after_read old (Err e) = counted old 1
 
--- one more where the write failed: an error, or nothing taken of a nonempty piece
+-- one more if the write failed: an error, or nothing taken of a nonempty chunk
 abbrev pub failures_after_write : {E : Type 0} → ℕ → Result ℕ E → List ℕ → ℕ
 failures_after_write old (Ok zero) (byte ∷ piece) = counted old 1
 failures_after_write old (Ok zero) [] = old

@@ -3,7 +3,7 @@ use Rattle.std.specs.Prelude.{◌≡◌, ℕ, zero, suc, List, [], ◌++◌, tak
 use Rattle.wc_model.specs.declared.fuse_in.FuseIn.{FuseIn}
 use Rattle.wc_model.specs.declared.fuse_out.FuseOut.{FuseOut}
 
--- a piece so many times
+-- a chunk n times
 abbrev pub repeated : List ℕ → ℕ → List ℕ
 repeated piece zero = []
 repeated piece (suc times) = piece ++ repeated piece times
@@ -12,7 +12,7 @@ repeated piece (suc times) = piece ++ repeated piece times
 abbrev pub fuse_bytes : FuseIn → List ℕ
 fuse_bytes fuse = fuse.left.now ++ repeated fuse.piece.now fuse.times
 
--- where nothing is left of a piece, nothing is left at all
+-- if nothing is left of a chunk, nothing is left at all
 abbrev pub has_burnt_in : FuseIn → Type 0
 has_burnt_in fuse = fuse.left.now ≡ [] → fuse_bytes fuse ≡ []
 

@@ -7,7 +7,7 @@ abbrev pub byte_of_digits : ℕ → ℕ → Option ℕ
 byte_of_digits high low =
     if is_digit high 16 && is_digit low 16 then Some (16 * digit_value high + digit_value low) else None
 
--- a byte before more bytes, where both are there
+-- a byte before more bytes, if both are there
 abbrev pub with_byte : Option ℕ → Option (List ℕ) → Option (List ℕ)
 with_byte None more = None
 with_byte (Some byte) None = None

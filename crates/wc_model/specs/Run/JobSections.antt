@@ -1,4 +1,4 @@
--- The sections of a job: a plate, a program text, where there is one the text of the next program, and a log, each under its
+-- The sections of a job: a plate, a program text, if there is one the text of the next program, and a log, each under its
 -- heading. The form is the profile's own.
 use Rattle.std.specs.Prelude.{ℕ, Bool, ◌||◌, ◌==◌, nat_lt, List, [], ◌∷◌, ◌++◌, length, codes, Option, Some, None, Result, Ok, Err, if◌then◌else◌}
 use Rattle.std.specs.List.{concat}
@@ -14,7 +14,7 @@ abbrev pub whole_lines : List ℕ → List (List ℕ)
 whole_lines [] = []
 whole_lines (byte ∷ rest) = if byte == 10 then (10 ∷ []) ∷ whole_lines rest else onto_first_line byte (whole_lines rest)
 
--- whether a line is a heading, with nothing beside it: its word, then LF or CRLF
+-- whether a line is a heading and nothing else: its word, then LF or CRLF
 abbrev pub is_heading : List ℕ → List ℕ → Bool
 is_heading word line = bytes_eq line (word ++ (10 ∷ [])) || bytes_eq line (word ++ (13 ∷ 10 ∷ []))
 
@@ -28,21 +28,21 @@ abbrev pub with_line : List ℕ → Option Parted → Option Parted
 with_line line None = None
 with_line line (Some parted) = Some (record { section = line ++ parted.section; rest = parted.rest })
 
--- what stands before and after the first line that is a heading
+-- what precedes and follows the first line that is a heading
 abbrev pub part_at : List ℕ → List (List ℕ) → Option Parted
 part_at word [] = None
 part_at word (line ∷ lines) =
     if is_heading word line then Some (record { section = []; rest = lines }) else with_line line (part_at word lines)
 
--- the sections, each with the line end before the next heading; the next program where it has its heading
+-- the sections, each with the line end before the next heading; the next program if it has its heading
 pub record Sections : Type 0 where
   pub plate : List ℕ
   pub program : List ℕ
   pub next : Option (List ℕ)
   pub log : List ℕ
 
--- what stands between the headings of the program and of the log is the program, and behind the first heading of a next
--- program, where there is one, that program
+-- what is between the headings of the program and of the log is the program, and after the first heading of a next
+-- program, if there is one, that program
 abbrev pub sections_with_next : (plate between log : List ℕ) → Option Parted → Sections
 sections_with_next plate between log None = record { plate = plate; program = between; next = None; log = log }
 sections_with_next plate between log (Some parted) =
@@ -65,7 +65,7 @@ sections_in [] = None
 sections_in (first ∷ lines) =
     if is_heading (codes "@plate") first then sections_with_program (part_at (codes "@program") lines) else None
 
--- the sections, or the number of the refusal where a heading is missing
+-- the sections, or the number of the refusal if a heading is missing
 abbrev pub sections_or_refusal : Option Sections → Result Sections ℕ
 sections_or_refusal None = Err 701
 sections_or_refusal (Some sections) = Ok sections

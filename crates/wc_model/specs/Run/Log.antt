@@ -24,7 +24,7 @@ has_fields [] (field ∷ fields) = false
 has_fields (wanted ∷ others) [] = false
 has_fields (wanted ∷ others) (field ∷ fields) = bytes_eq wanted field && has_fields others fields
 
--- the number that 1 to so many digits write
+-- the number that 1 to n digits write
 abbrev pub number_within : ℕ → List ℕ → Option ℕ
 number_within most text =
     if nat_le 1 (length text) && nat_le (length text) most && list_all is_ascii_digit text
@@ -51,7 +51,7 @@ most_rows = 1000000
 abbrev pub moment_of : List ℕ → Option ℕ
 moment_of text = where_passes (λ ms. nat_le ms greatest_moment) (number_within 13 text)
 
--- a whole number: 1 to 10 digits, and `-` before them where it is negative
+-- a whole number: 1 to 10 digits, and `-` before them if it is negative
 abbrev pub whole_of : List ℕ → Option ℤ
 whole_of [] = None
 whole_of (first ∷ rest) =
@@ -71,7 +71,7 @@ abbrev pub inputs_word_of : List ℕ → Option ℕ
 inputs_word_of text =
     option_map (number_from_digits 256) (where_passes (λ bytes. length bytes == 2) (bytes_of_hex text))
 
--- what a row brings, or the number of its refusal where the data is at fault
+-- what a row brings, or the number of its refusal if the data is at fault
 abbrev pub brings_or : {A : Type 0} → ℕ → (A → RowData) → Option A → Result RowData ℕ
 brings_or refusal form None = Err refusal
 brings_or refusal form (Some value) = Ok (form value)
@@ -132,7 +132,7 @@ row_of before fields =
     if nat_lt most_rows (suc (length before)) then Err 607
     else row_of_fields (suc (length before)) (last_moment before) fields
 
--- a refusal: its number, and the row at which it stands
+-- a refusal: its number, and the row at which it is
 pub record LogRefusal : Type 0 where
   pub number : ℕ
   pub row : ℕ
@@ -150,7 +150,7 @@ with_row row log = record { rows = row ∷ log.rows; refusal = log.refusal }
 abbrev pub refused_at : ℕ → ℕ → LogOf
 refused_at number row = record { rows = []; refusal = Some (record { number = number; row = row }) }
 
--- the log that a record's row begins, where the rest is known
+-- the log that a record's row begins, if the rest is known
 abbrev pub log_with : List Record → Result LogRow ℕ → LogOf → LogOf
 log_with before (Ok row) rest = with_row row rest
 log_with before (Err number) rest = refused_at number (suc (length before))
@@ -160,7 +160,7 @@ abbrev pub log_after : List Record → List Record → LogOf
 log_after before [] = record { rows = []; refusal = None }
 log_after before (fields ∷ records) = log_with before (row_of before fields) (log_after (fields ∷ before) records)
 
--- the log of all its records; the first is no row of the log, and must be as it is written
+-- the log of all its records; the first is not a row of the log, and must be as it is written
 abbrev pub log_of : List Record → LogOf
 log_of [] = refused_at 601 1
 log_of (fields ∷ records) = if has_fields first_row fields then log_after (fields ∷ []) records else refused_at 601 1

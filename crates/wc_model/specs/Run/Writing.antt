@@ -6,7 +6,7 @@ use Rattle.std.specs.Io.KnownBytes.{Appends}
 abbrev pub HasFailedSince : ℕ → ℕ → Type 0
 HasFailedSince old new = (old < new) ⊎ (new ≡ 2 ^ 64 - 1)
 
--- it has taken a front of the text, and not all of it
+-- it has taken a prefix of the text, and not all of it
 pub record TakesFront (old new : Option (List ℕ)) (text : List ℕ) : Type 0 where
   pub front : List ℕ
   pub rest : List ℕ

@@ -22,7 +22,7 @@ pub record JobAnswer : Type 0 where
 abbrev pub refusing : ℕ → ℕ → JobAnswer
 refusing number place = record { output = refused_text number place; status = 1 }
 
--- the report of the rows up to the first refused one, and the refusal behind it
+-- the report of the rows up to the first refused one, and the refusal after it
 abbrev pub behind_report : List ℕ → Option LogRefusal → JobAnswer
 behind_report text None = record { output = text; status = 0 }
 behind_report text (Some refusal) = record { output = text ++ refused_text refusal.number refusal.row; status = 1 }
@@ -38,7 +38,7 @@ pub data AnswersProgram (program : List ℕ) (rest : Text → JobAnswer → Type
   refuses_program : (number line : ℕ) → IsRefused program number line → answer ≡ refusing number line → AnswersProgram program rest answer
   loads_program : (text : Text) → IsLoaded program text → rest text answer → AnswersProgram program rest answer
 
--- the next program, where there is one, is judged as the first is, before any row
+-- the next program, if there is one, is checked as the first is, before any row
 abbrev pub AnswersNext : Option (List ℕ) → (Option Text → JobAnswer → Type 0) → JobAnswer → Type 0
 AnswersNext None rest answer = rest None answer
 AnswersNext (Some next) rest answer = AnswersProgram next (λ text. rest (Some text)) answer

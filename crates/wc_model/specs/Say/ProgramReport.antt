@@ -20,7 +20,7 @@ result_of old (Stuck reason) = record { steps = 0; outputs = outputs_of old; aft
 abbrev pub scans_of : Text → Scans Store
 scans_of text store image now = result_of store (scan_of text store image now)
 
--- the logic beside a scale: the text that runs, the store from which its next scan goes on, and the next text where one is left
+-- the logic with a scale: the text that runs, the store from which its next scan goes on, and the next text if one is left
 pub record Logic : Type 0 where
   pub text : Text
   pub store : Store
@@ -44,11 +44,11 @@ abbrev pub change_to : Logic → Option Text → Logic
 change_to logic None = logic
 change_to logic (Some new) = record { text = new; store = carried logic.text logic.store new; next = None }
 
--- a change takes the next text; a row that wants one where none is left is refused, and not run
+-- a change takes the next text; a row that wants one if none is left is refused, and not run
 abbrev pub change_logic : Logic → Logic
 change_logic logic = change_to logic logic.next
 
--- programs beside a scale, the one that runs and the next
+-- programs with a scale, the one that runs and the next
 abbrev pub programs : Program Logic
 programs = record { scan = scan_logic; change = change_logic }
 

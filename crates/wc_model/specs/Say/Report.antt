@@ -19,7 +19,7 @@ pub record ScanResult (State : Type 0) : Type 0 where
 abbrev pub Scans : Type 0 → Type 0
 Scans State = State → Image → ℕ → ScanResult State
 
--- a program beside a scale: its scans, and what a change to the next program makes of a state
+-- a program with a scale: its scans, and what a change to the next program makes of a state
 pub record Program (State : Type 0) : Type 0 where
   pub scan : Scans State
   pub change : State → State
@@ -60,7 +60,7 @@ answer_line ms (byte ∷ bytes) = AnswerLine ms (byte ∷ bytes) ∷ []
 abbrev pub scan_line : {State : Type 0} → ℕ → ScanResult State → List ReportLine
 scan_line ms result = ScanLine ms result.steps result.outputs ∷ []
 
--- the state after a row, where it was this one before
+-- the state after a row, if it was this one before
 abbrev pub state_with : {State : Type 0} → PlateData → Program State → RowData → ℕ → Past → State → State
 state_with p program (Counts counts) ms before state = state
 state_with p program (Bytes bytes) ms before state = state

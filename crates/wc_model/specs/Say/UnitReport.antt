@@ -1,4 +1,4 @@
--- What a check writes: for each unit its name and its bound, the length of its longest path, and where it is asked for the
+-- What a check writes: for each unit its name and its bound, the length of its longest path, and if they are asked for the
 -- lines of its worst path. (The form is the profile's own.)
 use Rattle.std.specs.Prelude.{◌≡◌, ℕ, Bool, true, false, List, [], ◌∷◌, ◌++◌, codes, decimal, IfSome, slice_get}
 use Rattle.wc_model.specs.Language.Checks.{Spot, spots_of}
@@ -6,7 +6,7 @@ use Rattle.wc_model.specs.Language.Paths.{IsLongest}
 use Rattle.wc_model.specs.Language.Tree.{ProgramUnit, Text}
 use Rattle.wc_model.specs.Language.WorstPaths.{AreWorstLines}
 
--- the bound of a unit behind those before it
+-- the bound of a unit after those before it
 abbrev pub IsBoundOf : Spot ProgramUnit → ℕ → Type 0
 IsBoundOf spot bound = IsLongest (record { before = spot.before; unit = spot.item }) bound
 
@@ -27,7 +27,7 @@ spaced_lines (line ∷ lines) = 32 ∷ (decimal line ++ spaced_lines lines)
 abbrev pub path_line : List ℕ → List ℕ
 path_line lines = codes "path" ++ spaced_lines lines ++ (10 ∷ [])
 
--- where paths are asked for, the line of the unit's worst path
+-- if paths are asked for, the line of the unit's worst path
 abbrev pub IsPathPart : Bool → Spot ProgramUnit → List ℕ → Type 0
 IsPathPart false spot part = part ≡ []
 IsPathPart true spot part = (lines : List ℕ) × AreWorstLines (record { before = spot.before; unit = spot.item }) lines × (part ≡ path_line lines)

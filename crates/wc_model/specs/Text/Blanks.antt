@@ -1,4 +1,4 @@
--- What stands between tokens: spaces, tabs, a CR directly before LF, and comments (IEC 61131-3:2003, 2.1.4 and 2.1.5).
+-- What is between tokens: spaces, tabs, a CR directly before LF, and comments (IEC 61131-3:2003, 2.1.4 and 2.1.5).
 -- That a comment may hold any other bytes, and no comment, is the profile's own.
 use Rattle.std.specs.Prelude.{◌≡◌, ℕ, Bool, ◌||◌, List, [], ◌∷◌, ◌++◌, IsTrue, if◌then◌else◌, codes}
 use Rattle.std.specs.Bool.{nat_eq}
@@ -17,18 +17,18 @@ comment_closing = codes "*)"
 abbrev pub starts_with_bracket : List ℕ → Bool
 starts_with_bracket text = starts_with nat_eq text comment_opening || starts_with nat_eq text comment_closing
 
--- what is left of a text from the first `(*` or `*)` on, nothing where it has none
+-- what is left of a text from the first `(*` or `*)` on, nothing if it has none
 abbrev pub from_bracket : List ℕ → List ℕ
 from_bracket [] = []
 from_bracket (b ∷ rest) = if starts_with_bracket (b ∷ rest) then b ∷ rest else from_bracket rest
 
--- the piece is a comment: behind its opening the first `(*` or `*)` is the one that closes it
+-- the slice is a comment: after its opening the first `(*` or `*)` is the one that closes it
 pub record IsComment (piece after : List ℕ) : Type 0 where
   pub inside : List ℕ
   pub opens : piece ++ after ≡ comment_opening ++ inside
   pub closes : from_bracket inside ≡ comment_closing ++ after
 
--- the piece stands between tokens where `after` follows it
+-- the slice is between tokens if `after` follows it
 pub data Blank (piece after : List ℕ) : Type 0 where
   Space : piece ≡ codes " " → Blank piece after
   Tab : piece ≡ 9 ∷ [] → Blank piece after

@@ -6,7 +6,7 @@ use Rattle.std.specs.List.{list_all}
 use Rattle.std.specs.Str.Parse.{digits_value}
 use Rattle.wc_model.specs.Text.Characters.{begins, is_underscore}
 
--- behind each underscore stands another character: no two stand in a row, and none at the end
+-- after each underscore comes another character: no two are in a row, and none at the end
 abbrev pub has_single_underscores : List ℕ → Bool
 has_single_underscores [] = true
 has_single_underscores (b ∷ rest) =
@@ -21,6 +21,6 @@ are_digits base text =
 abbrev pub value_of_digits : ℕ → List ℕ → ℕ
 value_of_digits base text = digits_value base (filter (λ b. not (is_underscore b)) text)
 
--- that number, where the text is such digits
+-- that number, if the text is such digits
 abbrev pub digits_of : ℕ → List ℕ → Option ℕ
 digits_of base text = then_some (are_digits base text) (value_of_digits base text)

@@ -10,13 +10,13 @@ use Rattle.wc_model.specs.Text.Digits.{are_digits, value_of_digits}
 use Rattle.wc_model.specs.Language.Names.{name_of}
 use Rattle.wc_model.specs.Text.WholeNumbers.{within_32_bits}
 
--- a unit of time: its letters, how long it is, and below what number it counts behind a greater unit
+-- a unit of time: its letters, how long it is, and below what number it counts after a greater unit
 pub record TimeUnit : Type 0 where
   pub letters : List ℕ
   pub milliseconds : ℕ
   pub below : ℕ
 
--- Days, hours, minutes, seconds and milliseconds. Days stand behind no greater unit, so their `below` is never asked.
+-- Days, hours, minutes, seconds and milliseconds. Days follow no greater unit, so their `below` is never asked.
 abbrev pub time_units : List TimeUnit
 time_units =
     record { letters = codes "d"; milliseconds = 86400000; below = 0 }
@@ -30,12 +30,12 @@ time_units =
 abbrev pub unit_named : List ℕ → Option TimeUnit
 unit_named letters = find (λ unit. bytes_eq unit.letters (name_of letters)) time_units
 
--- a part of a duration: what stands before its letters, and its letters
+-- a part of a duration: what precedes its letters, and its letters
 pub record Part : Type 0 where
   pub number : List ℕ
   pub letters : List ℕ
 
--- the parts with one byte more before them: a letter joins the letters behind it, another byte the number behind it
+-- the parts with one byte more before them: a letter joins the letters after it, another byte the number after it
 abbrev pub onto_parts : ℕ → List Part → List Part
 onto_parts b [] = if is_ascii_alphabetic b then record { number = []; letters = b ∷ [] } ∷ [] else (record { number = b ∷ []; letters = [] } ∷ [])
 onto_parts b (part ∷ parts) =
@@ -43,12 +43,12 @@ onto_parts b (part ∷ parts) =
     then (if is_empty part.number then record part { letters = b ∷ part.letters } ∷ parts else (record { number = []; letters = b ∷ [] } ∷ part ∷ parts))
     else (record part { number = b ∷ part.number } ∷ parts)
 
--- the text, cut wherever a letter stands before another byte
+-- the text, cut wherever a letter precedes another byte
 abbrev pub parts_of : List ℕ → List Part
 parts_of [] = []
 parts_of (b ∷ rest) = onto_parts b (parts_of rest)
 
--- a part without the one underscore that may stand between it and the part before
+-- a part without the one underscore that may be between it and the part before
 abbrev pub without_separator : Part → Part
 without_separator part = record part { number = drop (if begins is_underscore part.number then 1 else 0) part.number }
 
@@ -60,7 +60,7 @@ duration_parts text = take 1 (parts_of text) ++ map without_separator (drop 1 (p
 abbrev pub whole_digits : Part → List ℕ
 whole_digits part = before_first is_point part.number
 
--- the digits behind the point, none where there is no point
+-- the digits after the point, none if there is no point
 abbrev pub fraction_digits : Part → List ℕ
 fraction_digits part = after_first is_point part.number
 
@@ -68,11 +68,11 @@ fraction_digits part = after_first is_point part.number
 abbrev pub has_point : Part → Bool
 has_point part = list_any is_point part.number
 
--- how many milliseconds the part's unit has
+-- the number of milliseconds the part's unit has
 abbrev pub unit_milliseconds : Part → ℕ
 unit_milliseconds part = option_map_or (λ unit. unit.milliseconds) (unit_named part.letters) 0
 
--- below what number the part's unit counts behind a greater one
+-- below what number the part's unit counts after a greater one
 abbrev pub unit_below : Part → ℕ
 unit_below part = option_map_or (λ unit. unit.below) (unit_named part.letters) 0
 
@@ -93,7 +93,7 @@ has_fraction_form part =
 abbrev pub is_part : Part → Bool
 is_part part = is_some (unit_named part.letters) && has_whole_form part && has_fraction_form part
 
--- a part behind another
+-- a part after another
 abbrev pub is_later_part : Part → Bool
 is_later_part part = is_part part && nat_lt (whole_of part) (unit_below part)
 
@@ -115,14 +115,14 @@ billionths_of part = (whole_of part * 10 ^ 9 + digits_value 10 (fraction_digits 
 abbrev pub billionths : List Part → ℕ
 billionths parts = sum_by billionths_of parts
 
--- the milliseconds of the parts, where they are a whole number of 32 bits with that sign
+-- the milliseconds of the parts, if they are a whole number of 32 bits with that sign
 abbrev pub milliseconds_of : (negative : Bool) → List Part → Option ℤ
 milliseconds_of negative parts =
     if are_duration_parts parts && (billionths parts % 10 ^ 9 == 0)
     then within_32_bits (if negative then neg_ℤ (pos (billionths parts / 10 ^ 9)) else pos (billionths parts / 10 ^ 9))
     else None
 
--- the milliseconds of a duration, as it stands behind its `#`
+-- the milliseconds of a duration, as it is written after its `#`
 abbrev pub duration_of : List ℕ → Option ℤ
 duration_of text =
     if begins is_minus text then milliseconds_of true (duration_parts (drop 1 text)) else milliseconds_of false (duration_parts text)

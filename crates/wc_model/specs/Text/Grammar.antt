@@ -35,7 +35,7 @@ IsLiteral (BoolValue value) mark = IsSymbol (Truth value) mark ⊎ IsNamed (trut
 IsLiteral (Dint number) mark = IsSymbol (Whole number) mark
 IsLiteral (Time milliseconds) mark = IsSymbol (Duration milliseconds) mark
 
--- Where a value is read or written, TRUE and FALSE are literals and no names.
+-- Where a value is read or written, TRUE and FALSE are literals and not names.
 abbrev pub variable : Name → Language Mark
 variable name = identifier name given ((value : Bool) → name ≢ truth_word value)
 
@@ -59,7 +59,7 @@ argument a = identifier a.formal then symbol (sign_of a.direction) then operand 
 abbrev pub bracketed : List Assignment → Language Mark
 bracketed arguments = symbol OpeningBracket then skipping is_line_end (separated (symbol Comma) argument arguments) then symbol ClosingBracket
 
--- the arguments of a call; where there are none, the list may be left out
+-- the arguments of a call; if there are none, the list may be left out
 abbrev pub call_list : List Assignment → Language Mark
 call_list [] = empty or bracketed []
 call_list (first ∷ others) = bracketed (first ∷ others)
@@ -80,7 +80,7 @@ IsOperatorOf (Jump condition label) = IsNamed (jump_word condition)
 IsOperatorOf (Call condition instance arguments) = IsNamed (call_word condition)
 IsOperatorOf (Return condition) = IsNamed (return_word condition)
 
--- what stands behind the operator on its line
+-- what follows the operator on its line
 abbrev pub operands_of : Step → Language Mark
 operands_of (Load negated x) = operand x
 operands_of (Store storing x) = operand x
@@ -98,7 +98,7 @@ IsOn line IsSort mark = IsSort mark × (mark.line ≡ line)
 abbrev pub instruction : ℕ → Step → Language Mark
 instruction line step = one (IsOn line (IsOperatorOf step)) then operands_of step
 
--- where lines stand: in a body, or inside parentheses
+-- where lines are: in a body, or inside parentheses
 pub data Setting : Type 0 where
   InBody InParentheses : Setting
 
@@ -109,12 +109,12 @@ IsTransfer (Call condition instance arguments) = ⊤
 IsTransfer (Return condition) = ⊤
 IsTransfer _ = ⊥
 
--- inside parentheses stands no jump, no call and no return
+-- inside parentheses there is no jump, no call and no return
 abbrev pub MayStand : Setting → Step → Type 0
 MayStand InBody step = ⊤
 MayStand InParentheses step = ¬ (IsTransfer step)
 
--- a label and its colon; inside parentheses stands none
+-- a label and its colon; inside parentheses there is none
 abbrev pub label_in : Setting → Option Word → Language Mark
 label_in setting None = empty
 label_in InBody (Some label) = one (IsWord label) then symbol Colon
@@ -133,7 +133,7 @@ abbrev pub HasContent : Option Term → Lines → Type 0
 HasContent None End = ⊥
 HasContent _ _ = ⊤
 
--- The lines of a body, or those inside parentheses. Line ends alone are no lines.
+-- The lines of a body, or those inside parentheses. Line ends alone are not lines.
 abbrev pub lines : Setting → Lines → Language Mark
 lines setting End = line_ends
 lines setting (Alone label rest) = line_ends then label_in setting (Some label) then symbol LineEnd then lines setting rest
@@ -179,7 +179,7 @@ sections declarations tokens =
 abbrev pub IsNameOf : ProgramUnit → Mark → Type 0
 IsNameOf unit mark = IsSymbol (Identifier unit.spelled) mark × (unit.name.name ≡ name_of unit.spelled) × (mark.line ≡ unit.name.line)
 
--- what stands before a unit's body
+-- what precedes a unit's body
 abbrev pub head : ProgramUnit → Language Mark
 head unit = one (IsOn unit.line (IsNamed (unit_word unit.kind))) then one (IsNameOf unit) then sections unit.declarations
 
@@ -187,7 +187,7 @@ head unit = one (IsOn unit.line (IsNamed (unit_word unit.kind))) then one (IsNam
 abbrev pub unit_of : ProgramUnit → Language Mark
 unit_of unit = head unit then lines InBody unit.body then identifier (end_word unit.kind)
 
--- whole units, with line ends before, between and behind them
+-- whole units, with line ends before, between and after them
 abbrev pub units : List ProgramUnit → Language Mark
 units us = each (λ unit. line_ends then unit_of unit) us then line_ends
 

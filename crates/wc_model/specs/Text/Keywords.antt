@@ -42,7 +42,7 @@ abbrev pub truth_word : Bool → Name
 truth_word true = codes "true"
 truth_word false = codes "false"
 
--- LD, and LDN where negated
+-- LD, and LDN if negated
 abbrev pub load_word : Bool → Name
 load_word false = codes "ld"
 load_word true = codes "ldn"

@@ -27,7 +27,7 @@ one IsSort (token ∷ next ∷ more) = ⊥
 abbrev pub many : {T : Type 0} → (T → Type 0) → Language T
 many IsSort tokens = AllByRecursion IsSort tokens
 
--- the tokens are a front of one language, and then the rest of the other
+-- the tokens are a prefix of one language, and then the rest of the other
 pub record Sequence {T : Type 0} (first second : List T → Type 0) (tokens : List T) : Type 0 where
   pub front : List T
   pub rest : List T
@@ -43,11 +43,11 @@ abbrev pub ◌then◌ : {T : Type 0} → Language T → Language T → Language 
 abbrev pub ◌or◌ : {T : Type 0} → Language T → Language T → Language T
 ◌or◌ first second tokens = first tokens ⊎ second tokens
 
--- the language where the fact holds, and nothing where it does not
+-- the language if the fact holds, and nothing if it does not
 abbrev pub ◌given◌ : {T : Type 0} → Language T → Type 0 → Language T
 ◌given◌ language Fact tokens = Fact × language tokens
 
--- what is spelled, where there is something
+-- what is spelled, if there is something
 abbrev pub optional : {T A : Type 0} → (A → Language T) → Option A → Language T
 optional spelling None = empty
 optional spelling (Some value) = spelling value
@@ -62,7 +62,7 @@ abbrev pub separated : {T A : Type 0} → Language T → (A → Language T) → 
 separated separator spelling [] = empty
 separated separator spelling (value ∷ values) = spelling value then each (λ next. separator then spelling next) values
 
--- tokens of this sort may stand anywhere, and are passed over
+-- tokens of this sort may be anywhere, and are passed over
 abbrev pub skipping : {T : Type 0} → (T → Bool) → Language T → Language T
 skipping is_skipped language tokens = language (filter (λ token. not (is_skipped token)) tokens)
 
@@ -74,6 +74,6 @@ front_of {T} language tokens = (more : List T) × language (tokens ++ more)
 abbrev pub unfinished : {T : Type 0} → Language T → Language T
 unfinished {T} language tokens = (next : T) × (more : List T) × language (tokens ++ next ∷ more)
 
--- what has begun, and is not yet whole
+-- what has started, and is not yet whole
 abbrev pub begun : {T : Type 0} → Language T → Language T
 begun language tokens = (tokens ≢ []) × unfinished language tokens

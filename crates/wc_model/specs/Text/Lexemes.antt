@@ -1,4 +1,4 @@
--- The lexemes of a text: which of its pieces may be tokens, and which one stands at a place (IEC 61131-3:2003, 2.1).
+-- The lexemes of a text: which of its slices may be tokens, and which one is at a place (IEC 61131-3:2003, 2.1).
 use Rattle.std.specs.Prelude.{◌≡◌, ℕ, ◌≤◌, Bool, true, not, ◌&&◌, List, [], ◌∷◌, ◌++◌, length, drop, IsTrue, Some, if◌then◌else◌}
 use Rattle.std.specs.Char.{is_ascii_digit}
 use Rattle.std.specs.List.{list_all}
@@ -14,17 +14,17 @@ is_run piece = begins starts_identifier piece && list_all is_identifier_characte
 abbrev pub is_unsigned_run : List ℕ → Bool
 is_unsigned_run piece = begins is_ascii_digit piece && list_all is_number_character piece
 
--- what may stand behind the `#` of a typed literal: characters of a number, with a `-` before them or none
+-- what may follow the `#` of a typed literal: characters of a number, with a `-` before them or none
 abbrev pub is_literal_value : List ℕ → Bool
 is_literal_value piece = list_all is_number_character (drop (if begins is_minus piece then 1 else 0) piece)
 
--- `&N` ends where no character of an identifier follows, and `(` before `*` opens a comment
+-- `&N` ends if no character of an identifier follows, and `(` before `*` opens a comment
 abbrev pub may_stand_before : Shape → List ℕ → Bool
 may_stand_before AndNot after = not (begins is_identifier_character after)
 may_stand_before Opening after = not (begins is_star after)
 may_stand_before _ after = true
 
--- The piece may be a token where `after` follows it. What it may say is another question: each of these can have a fault.
+-- The slice may be a token if `after` follows it. What it may say is another question: each of these can have a fault.
 pub data Lexeme (piece after : List ℕ) : Type 0 where
   Run : IsTrue (is_run piece) → Lexeme piece after
   Typed : (type value : List ℕ) → piece ≡ type ++ byte "#" ∷ value → IsTrue (is_run type) → IsTrue (is_literal_value value) → Lexeme piece after
@@ -34,7 +34,7 @@ pub data Lexeme (piece after : List ℕ) : Type 0 where
   Addressed : (address : List ℕ) → piece ≡ byte "%" ∷ address → IsTrue (list_all is_address_character address) → Lexeme piece after
   Marked : (shape : Shape) → mark_of piece ≡ Some shape → IsTrue (may_stand_before shape after) → Lexeme piece after
 
--- the piece is the longest lexeme where it stands
+-- the slice is the longest lexeme where it is
 pub record IsLongestLexeme (piece after : List ℕ) : Type 0 where
   pub lexeme : Lexeme piece after
   pub longest : (other left : List ℕ) → other ++ left ≡ piece ++ after → Lexeme other left → length other ≤ length piece

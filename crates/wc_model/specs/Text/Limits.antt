@@ -16,14 +16,14 @@ most_lines = 1024
 abbrev pub most_depth : ℕ
 most_depth = 8
 
--- one line for each instruction and each `)`; a label alone is none
+-- one line for each instruction and each `)`; a label alone is not one
 abbrev pub line_count : Lines → ℕ
 line_count End = 0
 line_count (Alone label rest) = line_count rest
 line_count (Plain label line step rest) = 1 + line_count rest
 line_count (Nested label line operator operand inside close rest) = 2 + line_count inside + line_count rest
 
--- how many parentheses stand in one another
+-- the nesting depth of parentheses
 abbrev pub depth : Lines → ℕ
 depth End = 0
 depth (Alone label rest) = depth rest
@@ -45,6 +45,6 @@ abbrev pub lines_opened : List Opening → ℕ
 lines_opened [] = 0
 lines_opened (innermost ∷ outer) = lines_opened outer + line_count innermost.before + 1
 
--- the lines of the unit that stand before a place in its body
+-- the lines of the unit that precede a place in its body
 abbrev pub lines_before : Position → ℕ
 lines_before p = lines_opened p.openings + line_count p.done

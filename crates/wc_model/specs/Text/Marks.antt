@@ -3,7 +3,7 @@ use Rattle.std.specs.Prelude.{◌≡◌, ℕ, ℤ, Bool, true, false, List, Opti
 use Rattle.wc_model.specs.Language.Names.{Name, name_of}
 use Rattle.wc_model.specs.Language.Tree.{Word}
 
--- what a token is; comments and spaces are none
+-- what a token is; comments and spaces are not tokens
 pub data Symbol : Type 0 where
   Identifier : (bytes : List ℕ) → Symbol
   Whole : (number : ℤ) → Symbol

@@ -7,7 +7,7 @@ use Rattle.wc_model.specs.Text.Languages.{Language, empty, ◌then◌, ◌or◌,
 use Rattle.wc_model.specs.Text.Grammar.{symbol, operand, bracket, opening, instruction, Setting, InBody, InParentheses, MayStand, label_in, HasContent, lines, head, unit_of, units}
 use Rattle.wc_model.specs.declared.operator.Operator.{Operator}
 
--- a parenthesis that is open: the lines before it in the list where it stands, and its opening line
+-- a parenthesis that is open: the lines before it in its list, and its opening line
 pub record Opening : Type 0 where
   pub before : Lines
   pub label : Option Word
@@ -15,7 +15,7 @@ pub record Opening : Type 0 where
   pub operator : Operator
   pub operand : Option Term
 
--- what follows these openings stands in parentheses, if there are any
+-- what follows these openings is in parentheses, if there are any
 abbrev pub setting_in : List Opening → Setting
 setting_in [] = InBody
 setting_in (innermost ∷ outer) = InParentheses
@@ -35,7 +35,7 @@ pub record Position : Type 0 where
   pub openings : List Opening
   pub done : Lines
 
--- whether lines here stand in parentheses
+-- whether lines here are in parentheses
 abbrev pub setting_of : Position → Setting
 setting_of p = setting_in p.openings
 
@@ -43,7 +43,7 @@ setting_of p = setting_in p.openings
 abbrev pub at_line : Position → Language Mark
 at_line p = units p.before then head p.unit then openings_of p.openings then lines (setting_of p) p.done
 
--- up to there, and then the line's label where it has one
+-- up to there, and then the line's label if it has one
 abbrev pub at_instruction : Position → Option Word → Language Mark
 at_instruction p label = at_line p then label_in (setting_of p) label
 
@@ -63,11 +63,11 @@ cut_short setting tokens =
 abbrev pub part_of_line : Setting → Language Mark
 part_of_line setting = cut_short setting or closed setting
 
--- The tokens stop behind whole units and in a further one: some of its tokens have come, and some have not.
+-- The tokens stop after whole units and in a further one: some of its tokens have come, and some have not.
 abbrev pub StopsInUnit : ProgramUnit → List Mark → Type 0
 StopsInUnit unit tokens = (before : List ProgramUnit) × (units before then begun (unit_of unit)) tokens
 
--- a body's tokens that stop on an opening line, behind its bracket
+-- a body's tokens that stop on an opening line, after its bracket
 abbrev pub opening_cut_short : List Opening → Opening → Language Mark
 opening_cut_short outer o =
     openings_of outer then lines (setting_in outer) o.before then label_in (setting_in outer) o.label
@@ -77,7 +77,7 @@ opening_cut_short outer o =
 abbrev pub cut_short_inside : List Opening → Lines → Language Mark
 cut_short_inside openings done = openings_of openings then lines InParentheses done then part_of_line InParentheses
 
--- The tokens stop in an operator's parentheses: on their opening line, or behind it.
+-- The tokens stop in an operator's parentheses: on their opening line, or after it.
 abbrev pub StopsInParentheses : Opening → List Mark → Type 0
 StopsInParentheses innermost tokens =
     (before : List ProgramUnit) × (unit : ProgramUnit) × (outer : List Opening) × (done : Lines)

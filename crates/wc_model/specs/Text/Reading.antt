@@ -9,7 +9,7 @@ use Rattle.wc_model.specs.Text.Shapes.{Shape, Identifier, Whole, Duration, Truth
 use Rattle.wc_model.specs.Text.Tokens.{Token, IsCut, most_bytes}
 use Rattle.wc_model.specs.Language.Tree.{Text}
 
--- a token's shape, with its bytes where the grammar looks at them
+-- a token's shape, with its bytes if the grammar looks at them
 abbrev pub symbol_of : Shape → List ℕ → Symbol
 symbol_of Identifier bytes = marks.Identifier bytes
 symbol_of (Whole value) bytes = marks.Whole value

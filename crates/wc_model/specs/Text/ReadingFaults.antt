@@ -17,7 +17,7 @@ use Rattle.wc_model.specs.declared.source.UnitKind.TheVariants.{FunctionBlock, P
 pub data ReadingFault : Type 0 where
   UnexpectedToken UnitNotClosed NotOneProgramLast EmptyParentheses NotAllowedInParentheses ParenthesisNotPaired TooDeep TooMany : ReadingFault
 
--- the numbers by which they are told
+-- the numbers by which they are reported
 abbrev pub number_of : ReadingFault → ℕ
 number_of UnexpectedToken = 201
 number_of UnitNotClosed = 202
@@ -28,7 +28,7 @@ number_of ParenthesisNotPaired = 206
 number_of TooDeep = 207
 number_of TooMany = 208
 
--- Of the faults at one token that of the lowest rank is told: the lower number, but an unexpected token only where there is no other.
+-- Of the faults at one token that of lowest rank is reported: the lower number, but an unexpected token only if there is no other.
 abbrev pub rank_of : ReadingFault → ℕ
 rank_of UnexpectedToken = 209
 rank_of fault = number_of fault
@@ -54,30 +54,30 @@ IsInnermost p innermost = (outer : List Opening) × (p.openings ≡ innermost �
 abbrev pub BeginsTransferOrLabel : Mark → List Mark → Type 0
 BeginsTransferOrLabel mark behind = ((step : Step) × IsTransfer step × IsOperatorOf step mark) ⊎ (IsIdentifier mark × ColonFollows behind)
 
--- An instruction begins here: the token is an operator, and where the line has no label yet, none itself.
+-- An instruction begins here: the token is an operator, and if the line has no label yet, not one itself.
 abbrev pub BeginsInstruction : Option Word → Mark → List Mark → Type 0
 BeginsInstruction label mark behind = ((step : Step) × IsOperatorOf step mark) × ((label ≡ None) → ¬ (ColonFollows behind))
 
--- Behind `before` the fault is met at the token `mark`, which names the line; `behind` are the tokens after it.
+-- After `before` the fault is found at the token `mark`, which names the line; `behind` are the tokens after it.
 abbrev pub MetAtToken : ReadingFault → (before : List Mark) → Mark → (behind : List Mark) → (line : ℕ) → Type 0
 -- no text goes on so
 MetAtToken UnexpectedToken before mark behind line = ¬ (IsFront (before ++ mark ∷ [])) × (line ≡ mark.line)
 -- a second unit after a program
 MetAtToken NotOneProgramLast before mark behind line =
     (whole : List ProgramUnit) × units whole before × Any (λ unit. unit.kind ≡ Program) whole × BeginsUnit mark × (line ≡ mark.line)
--- a `)` where the innermost parenthesis has no operand on its opening line and no instruction inside
+-- a `)` if the innermost parenthesis has no operand on its opening line and no instruction inside
 MetAtToken EmptyParentheses before mark behind line =
     (p : Position) × at_line p before × (innermost : Opening) × IsInnermost p innermost × ¬ (HasContent innermost.operand p.done)
     × IsSymbol ClosingBracket mark × (line ≡ mark.line)
 -- a label, a jump, a call or a return in parentheses
 MetAtToken NotAllowedInParentheses before mark behind line =
     (p : Position) × at_line p before × (p.openings ≢ []) × BeginsTransferOrLabel mark behind × (line ≡ mark.line)
--- a `)` where no parenthesis is open, or the unit's end where one is: then the innermost opening's line is told
+-- a `)` if no parenthesis is open, or the unit's end if one is: then the innermost opening's line is reported
 MetAtToken ParenthesisNotPaired before mark behind line =
     (p : Position) × at_line p before
     × ((p.openings ≡ []) × IsSymbol ClosingBracket mark × (line ≡ mark.line)
     ⊎ ((innermost : Opening) × IsInnermost p innermost × IsNamed (end_word p.unit.kind) mark × (line ≡ innermost.line)))
--- one opening too many; the operator's line is told
+-- one opening too many; the operator's line is reported
 MetAtToken TooDeep before mark behind line =
     (p : Position) × (label : Option Word) × (operator : Operator) × (at_instruction p label then one (IsOn line (IsOperator operator))) before
     × (most_depth ≤ length p.openings) × IsSymbol OpeningBracket mark
@@ -89,21 +89,21 @@ MetAtToken TooMany before mark behind line =
     × (line ≡ mark.line)
 MetAtToken UnitNotClosed before mark behind line = ⊥
 
--- The fault is met at the text's end, behind `before`.
+-- The fault is found at the text's end, after `before`.
 abbrev pub MetAtEnd : ReadingFault → (before : List Mark) → (last_line line : ℕ) → Type 0
--- In a unit, outside an operator's parentheses: the line of the unit's first word is told. An END word at the text's end
--- closes its unit, although it could begin a label.
+-- In a unit, outside an operator's parentheses: the line of the unit's first word is reported. An END word at the text's
+-- end closes its unit, although it could begin a label.
 MetAtEnd UnitNotClosed before last_line line =
     (unit : ProgramUnit) × StopsInUnit unit before × ¬ ((innermost : Opening) × StopsInParentheses innermost before)
     × ¬ ((whole : List ProgramUnit) × units whole before) × (line ≡ unit.line)
 -- with no program
 MetAtEnd NotOneProgramLast before last_line line =
     (whole : List ProgramUnit) × units whole before × AllByRecursion (λ unit. unit.kind ≡ FunctionBlock) whole × (line ≡ last_line)
--- in an operator's parentheses: the line of the innermost opening is told
+-- in an operator's parentheses: the line of the innermost opening is reported
 MetAtEnd ParenthesisNotPaired before last_line line = (innermost : Opening) × StopsInParentheses innermost before × (line ≡ innermost.line)
 MetAtEnd _ before last_line line = ⊥
 
--- Behind `before` the fault is met at the first of the tokens that are left, or at the text's end.
+-- After `before` the fault is found at the first of the tokens that are left, or at the text's end.
 abbrev pub IsMet : ReadingFault → (before left : List Mark) → (last_line line : ℕ) → Type 0
 IsMet fault before [] last_line line = MetAtEnd fault before last_line line
 IsMet fault before (mark ∷ behind) last_line line = MetAtToken fault before mark behind line
@@ -114,15 +114,15 @@ KeepsLimits before left =
     (seen : List Mark) (mark : Mark) (more : List Mark) (line : ℕ) → before ≡ seen ++ mark ∷ more
     → ¬ (MetAtToken TooDeep seen mark (more ++ left) line) × ¬ (MetAtToken TooMany seen mark (more ++ left) line)
 
--- At none of the tokens before a fault is met. That they are a front says so of each fault but three: a limit that is
--- exceeded, and a label in parentheses whose name is an operator, of which the colon behind it tells.
+-- At none of the tokens before a fault is found. That they are a prefix says so of each fault but three: a limit that
+-- is exceeded, and a label in parentheses whose name is an operator, which the colon after it shows.
 abbrev pub IsFaultFree : (before left : List Mark) → Type 0
 IsFaultFree before left =
     (seen : List Mark) (mark : Mark) (more : List Mark) (line : ℕ) → before ≡ seen ++ mark ∷ more
     → (fault : ReadingFault) → ¬ (MetAtToken fault seen mark (more ++ left) line)
 
--- The fault is the first in text order: the tokens before are a front, no fault is met at one of them, it is met behind
--- them, and no fault that is met there has a lower rank. `last_line` is the text's last line number.
+-- The fault is the first in text order: the tokens before are a prefix, no fault is found at one of them, it is found
+-- after them, and no fault that is found there has a lower rank. `last_line` is the text's last line number.
 pub record IsFirstReadingFault (tokens : List Mark) (last_line : ℕ) (fault : ReadingFault) (line : ℕ) : Type 0 where
   pub before : List Mark
   pub left : List Mark

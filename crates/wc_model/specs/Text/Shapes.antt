@@ -74,11 +74,11 @@ truth_shape value =
     if bytes_eq value (codes "0") then Ok (Truth false)
     else (if bytes_eq value (codes "1") then Ok (Truth true) else Err 105)
 
--- T# and TIME# stand before durations
+-- T# and TIME# precede durations
 abbrev pub duration_shape : List ℕ → Result Shape ℕ
 duration_shape value = ok_or (option_map Duration (duration_of value)) 106
 
--- a literal by its type's name and what stands behind the `#`
+-- a literal by its type's name and what follows the `#`
 abbrev pub typed_shape : Name → List ℕ → Result Shape ℕ
 typed_shape type value =
     if bytes_eq type (kind_word KindBool) then truth_shape value
@@ -88,7 +88,7 @@ typed_shape type value =
 abbrev pub literal_shape : List ℕ → Result Shape ℕ
 literal_shape lexeme = typed_shape (name_of (before_first is_hash lexeme)) (after_first is_hash lexeme)
 
--- The shape of a lexeme, or the number of its fault. What starts like an identifier is one, or a typed literal where it holds a `#`.
+-- The shape of a lexeme, or the number of its fault. What starts like an identifier is one, or a typed literal if it holds a `#`.
 abbrev pub shape_of : List ℕ → Result Shape ℕ
 shape_of lexeme =
     if begins starts_identifier lexeme then (if list_any is_hash lexeme then literal_shape lexeme else identifier_shape lexeme)

@@ -16,12 +16,12 @@ pub record Token : Type 0 where
 abbrev pub line_after : List ℕ → ℕ
 line_after before = 1 + count_by is_line_feed before
 
--- the token of that shape and text that stands behind `before`
+-- the token of that shape and text that follows `before`
 abbrev pub token_behind : List ℕ → Shape → List ℕ → Token
 token_behind before shape text = record { shape = shape; text = text; start = length before; line = line_after before }
 
--- From the place between `before` and `rest` on, these tokens stand up to a place at which `Ends` holds. Between them are
--- blanks alone, and each is the longest lexeme at its place.
+-- From the place between `before` and `rest` on, these tokens follow up to a place at which `Ends` holds. Between them
+-- are blanks alone, and each is the longest lexeme at its place.
 pub data Cuts (Ends : List ℕ → List ℕ → Type 0) : (before rest : List ℕ) → List Token → Type 0 where
   Nothing : {before rest : List ℕ} → Ends before rest → Cuts Ends before rest []
   Skipped : {before rest : List ℕ} {tokens : List Token} (piece after : List ℕ) → piece ++ after ≡ rest → Blank piece after → Cuts Ends (before ++ piece) after tokens → Cuts Ends before rest tokens
@@ -42,24 +42,24 @@ pub record IsForeign (rest : List ℕ) : Type 0 where
   pub no_comment : (inside : List ℕ) → rest ≢ comment_opening ++ inside
   pub no_lexeme : (piece after : List ℕ) → piece ++ after ≡ rest → ¬ (Lexeme piece after)
 
--- The fault that stands where the text goes on with `rest`: a byte that belongs to nothing, a comment that is not closed, one
--- that opens another inside, or a lexeme of no allowed form.
+-- The fault where the text goes on with `rest`: a byte that belongs to nothing, a comment that is not closed, one
+-- that opens another inside, or a malformed lexeme.
 pub data FaultAt (rest : List ℕ) : ℕ → Type 0 where
   Foreign : IsForeign rest → FaultAt rest 101
   Unclosed : (inside : List ℕ) → rest ≡ comment_opening ++ inside → from_bracket inside ≡ [] → FaultAt rest 102
   Nested : (inside more : List ℕ) → rest ≡ comment_opening ++ inside → from_bracket inside ≡ comment_opening ++ more → FaultAt rest 103
   Malformed : {number : ℕ} (piece after : List ℕ) → piece ++ after ≡ rest → IsLongestLexeme piece after → shape_of piece ≡ Err number → FaultAt rest number
 
--- at a place the fault of that number stands on that line
+-- at a place the fault of that number is on that line
 pub record Faulty (number line : ℕ) (before rest : List ℕ) : Type 0 where
   pub fault : FaultAt rest number
   pub here : line ≡ line_after before
 
--- how many bytes a text has at most
+-- the greatest number of bytes of a text
 abbrev pub most_bytes : ℕ
 most_bytes = 65536
 
--- The first fault of a text: it is too long, which names no line, or it is cut up to a place at which a fault stands.
+-- The first fault of a text: it is too long, which names no line, or it is cut up to a place at which a fault is.
 pub data IsFirstTokenFault (text : List ℕ) : (number line : ℕ) → Type 0 where
   TooLong : most_bytes < length text → IsFirstTokenFault text 107 0
   Stands : {number line : ℕ} (tokens : List Token) → length text ≤ most_bytes → Cuts (Faulty number line) [] text tokens → IsFirstTokenFault text number line

@@ -10,11 +10,11 @@ abbrev pub fits_32_bits : ℤ → Bool
 fits_32_bits (pos n) = nat_lt n (2 ^ 31)
 fits_32_bits (negsuc n) = nat_lt n (2 ^ 31)
 
--- the number where it has 32 bits
+-- the number if it has 32 bits
 abbrev pub within_32_bits : ℤ → Option ℤ
 within_32_bits n = then_some (fits_32_bits n) n
 
--- the base that stands before a `#`
+-- the base that precedes a `#`
 abbrev pub base_of : List ℕ → Option ℕ
 base_of text =
     if bytes_eq text (codes "2") then Some 2
@@ -28,7 +28,7 @@ unsigned_of text =
     then option_and_then (λ base. digits_of base (after_first is_hash text)) (base_of (before_first is_hash text))
     else digits_of 10 text
 
--- the value of a number; behind a sign stand decimal digits alone
+-- the value of a number; after a sign only decimal digits follow
 abbrev pub written_value : List ℕ → Option ℤ
 written_value [] = None
 written_value (first ∷ rest) =

@@ -1,4 +1,4 @@
--- A closed scale is made and written to the room at the pointer.
+-- A closed scale is made and written to the buffer at the pointer.
 use Rattle.narbeddo.proofs.Steps.{List, [], ◌∷◌, ◌++◌, refl, proved, full_share, id⊢, sep, ftrue, Val, fact, tables, sem, ‵, raw, ◌⊛◌, some, later, prop, ◌$◌, ◌∵◌, !, qed, done, move, keep, drop, use1, use2, split, join, pick, show, await, regoal, suffices, frame, group, enter, of_opd, stop, no_more, and_then, returns, alloc_all, pass_all, free_all, look_at, get, through, sets, lands_as, yes, Is, shows, Ptr, RawPtr, block_ptr, lies_at, in_a_block, rawptr_vals, rawptr_Tells, plain, nothing, heard, peeks, calls_at, lasts, triple_of, Stays, walk_of, says, stay_dropped, Goes-dropped, ends_at, framed, WpFn, feq_i}
 use types.Run.{unit_lit, assigns, init}
 use mir.Val.{vunit}
@@ -35,14 +35,14 @@ narbeddo_make_spec 𝓤 𝓛 𝓜 𝓡 wired =
     sets ! (of_opd ! (get ! refl)) refl (tt, tt) $
     let G = triple_of 𝓛 g.signature (g.spec 𝓛 𝓜.mem 𝓡.returns) in
     let z : G.Ghost = ((tt, tt, tt, (alloc, tt), (alloc_vals alloc, tt)), tt) in
-    -- [the room; the allocator]
+    -- [the buffer; the allocator]
     nothing ! $ move ! (2 ∷ 0 ∷ []) $ join ! $ nothing ! $ join ! $ nothing ! $ move ! (1 ∷ 0 ∷ []) $ use2 𝓛 (raw (G.pre z)) (id⊢ 𝓤 _) $
     calls_at ! (framed 𝓤 𝓛.H 𝓜 (tables 𝓤 𝓛.H 𝓜 𝓡 𝓡.env)) G (met 𝓤 𝓛 𝓜 𝓡 (code.calls-wc_scale::scale::Scale::new 𝓡.env wired)) z
     (and_then ! (get ! refl) (no_more !)) (λ v.
     use1 𝓛 (later (some (λ (r : R.Denot). (‵ ftrue ⊛ ‵ (R.own_val r (v ∷ []))) ⊛
     some (λ (ws : Unit {0} × Unit {0}). ‵ (lasts g.ended z.0.0 z.0.3 ws) ⊛ raw (fact 𝓤 (IsClosed r)))))) (id⊢ 𝓤 _) $
     await ! tt $ pick ! (λ r. split ! $ split ! $ drop ! $
-    -- [the value; its facts; the room]
+    -- [the value; its facts; the buffer]
     peeks ! R (Is R) (shows 𝓛 R) r (v ∷ []) (λ is. let typed = ((R-laws.lawful 𝓛).typed r _ is).0 in lands_as ! refl refl typed $
     move ! (1 ∷ []) $ pick ! (λ ws. split ! $ drop ! $ heard ! _ (λ none.
     assigns ! (of_opd ! (get ! refl)) (through ! refl (stop !)) (init ! 1 refl typed) $

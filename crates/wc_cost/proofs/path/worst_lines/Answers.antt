@@ -1,6 +1,6 @@
 use Rattle.std.proofs.Common.{◌≡◌, ◌+◌, ◌-◌, ◌++◌, suc, drop, ap, ◌∙◌, arith}
 use Rattle.std.specs.Prelude.{slice_index}
-use Rattle.wc_flat.specs.FlatPaths.{worst_from}
+use Rattle.wc_text_flat.specs.FlatPaths.{worst_from}
 use Rattle.wc_cost.specs.Ways.{own_source}
 use Rattle.wc_cost.proofs.WorstWays.{behind_all, executed, passed_over}
 use Rattle.wc_cost.proofs.path.worst_lines.Goals as goal

@@ -1,7 +1,7 @@
 use Rattle.std.proofs.Common.{◌≡◌, ◌≤◌, List, length, sym, subst, ap, ◌∙◌, arith}
-use Rattle.wc_flat.proofs.Bodies.{laid_length}
-use Rattle.wc_flat.specs.FlatPaths.{sources_of, worst_of}
-use Rattle.wc_flat.specs.Laid.{IsLaid, flat_length}
+use Rattle.wc_text_flat.proofs.Bodies.{laid_length}
+use Rattle.wc_text_flat.specs.FlatPaths.{sources_of, worst_of}
+use Rattle.wc_text_flat.specs.Laid.{IsLaid, flat_length}
 use Rattle.wc_model.specs.Language.Tree.{Lines, ProgramUnit}
 use Rattle.wc_model.specs.Language.Views.{lines_view}
 use Rattle.wc_model.specs.declared.code.Code.{Code}

@@ -6,7 +6,7 @@ use Rattle.wc_cost.proofs.Measured.{AreSoFar}
 use Rattle.wc_cost.specs.Faultless.{IsFaultless}
 use Rattle.wc_cost.proofs.units.lay_units.Given as goal
 
--- the units that are left stand behind those that are laid
+-- the units that are left follow those that are lowered
 abbrev pub invariant-loop-number : goal.invariant-loop-number
 invariant-loop-number l =
     (before : List ProgramUnit) × (onto before (map unit_view (drop l.number l.unit-items)) ≡ map unit_view l.unit-items) × (length before ≡ l.number)

@@ -1,5 +1,5 @@
 use Rattle.std.proofs.Common.{sym, ◌∙◌}
-use Rattle.wc_flat.specs.FlatPaths.{from_line}
+use Rattle.wc_text_flat.specs.FlatPaths.{from_line}
 use Rattle.wc_cost.proofs.WorstWays.{way_behind}
 use Rattle.wc_cost.proofs.ways.choose.Goals as goal
 

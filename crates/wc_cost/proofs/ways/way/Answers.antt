@@ -1,5 +1,5 @@
 use Rattle.std.proofs.Common.{◌≡◌, ◌+◌, sym, ap, ◌∙◌, arith}
-use Rattle.wc_flat.specs.FlatPaths.{Worst, from_line, line_worst}
+use Rattle.wc_text_flat.specs.FlatPaths.{Worst, from_line, line_worst}
 use Rattle.wc_cost.specs.LoadedInside.{bounds_of}
 use Rattle.wc_cost.proofs.WorstWays.{then_steps, way_behind}
 use Rattle.wc_cost.proofs.ways.way.Goals as goal

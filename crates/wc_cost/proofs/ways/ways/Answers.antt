@@ -1,6 +1,6 @@
 use Rattle.std.proofs.Common.{◌≡◌, ◌+◌, ◌-◌, ℕ, List, drop, subst, ap, ◌∙◌, arith}
 use Rattle.std.proofs.lemmas.List.{length-set}
-use Rattle.wc_flat.specs.FlatPaths.{worst_from}
+use Rattle.wc_text_flat.specs.FlatPaths.{worst_from}
 use Rattle.wc_cost.specs.LoadedInside.{bounds_of}
 use Rattle.wc_cost.specs.Ways.{steps_of}
 use Rattle.wc_cost.proofs.WorstWays.{one_more_way}

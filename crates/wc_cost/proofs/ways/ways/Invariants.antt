@@ -1,10 +1,10 @@
 use Rattle.std.proofs.Common.{◌≡◌, ℕ, ◌≤◌, List, drop, length}
-use Rattle.wc_flat.specs.FlatPaths.{worst_from}
+use Rattle.wc_text_flat.specs.FlatPaths.{worst_from}
 use Rattle.wc_cost.specs.LoadedInside.{bounds_of}
 use Rattle.wc_cost.specs.Ways.{AreSmall, steps_of}
 use Rattle.wc_cost.proofs.ways.ways.Given as goal
 
--- the ways from the index on are there
+-- the paths from the index on are there
 abbrev pub invariant-loop-index : goal.invariant-loop-index
 invariant-loop-index l =
     (length l.ways.items ≡ length l.code)

@@ -5,7 +5,7 @@ use Rattle.wc_declare.proofs.SpelledSoFar.{AreSpelledOn}
 use Rattle.wc_declare.proofs.RowsSoFar.{RoomBehind}
 use Rattle.wc_declare.proofs.declaration.declare_variables.Given as goal
 
--- the words that are left stand behind those so far, and are spelled behind them
+-- the words that are left follow those so far, and are spelled after them
 abbrev pub invariant-loop-word : goal.invariant-loop-word
 invariant-loop-word l =
     RoomBehind l.initial.table l.table (declaration_view l.declaration) l.declared l.width (map word_view l.word-items) (map word_view (drop l.word-index l.word-items))

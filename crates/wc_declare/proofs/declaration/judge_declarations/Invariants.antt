@@ -9,7 +9,7 @@ use Rattle.wc_declare.specs.SoFar.{AreUnitsOf}
 use Rattle.wc_declare.proofs.DeclaredSoFar.{Declares}
 use Rattle.wc_declare.proofs.declaration.judge_declarations.Given as goal
 
--- the declarations that are left stand behind those so far
+-- the declarations that are left follow those so far
 abbrev pub invariant-loop-declaration : goal.invariant-loop-declaration
 invariant-loop-declaration l =
     ((text : Text) (before : List ProgramUnit) → AreUnitsOf text before l.units → IsEmptyOf (unit_view l.unit) l.initial.table →

@@ -6,7 +6,7 @@ use Rattle.wc_declare.proofs.SpelledSoFar.{AreNamedOn}
 use Rattle.wc_declare.proofs.UnitsSoFar.{Reads}
 use Rattle.wc_declare.proofs.declaring.judge_units.Given as goal
 
--- the units that are left stand behind those so far
+-- the units that are left follow those so far
 abbrev pub invariant-loop-unit : goal.invariant-loop-unit
 invariant-loop-unit l =
     (AreUnitsOf (map unit_view l.unit-items) [] l.initial.units → Reads (map unit_view l.unit-items) (map unit_view (drop l.unit-index l.unit-items)) l.units)

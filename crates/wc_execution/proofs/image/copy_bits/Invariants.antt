@@ -1,4 +1,4 @@
--- The bits so far stand behind what stood before them, and the rest is as it was.
+-- The bits so far follow what was before them, and the rest is as it was.
 use Rattle.std.proofs.Common.{◌≡◌, ℕ, ℤ, List, ◌++◌, map, drop, length}
 use Rattle.wc_execution.proofs.image.copy_bits.Given as goal
 use Rattle.wc_execution.specs.Lines.{AreBefore}

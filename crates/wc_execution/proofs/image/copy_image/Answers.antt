@@ -2,7 +2,7 @@
 use Rattle.std.proofs.Common.{◌≡◌, ◌+◌, ◌++◌, map, drop, refl, ap, sym, ◌∙◌, subst, arith, pos, true, zero-add}
 use Rattle.std.proofs.lemmas.List.{drop-drop}
 use Rattle.std.specs.Prelude.{slice_get, slice_index_or}
-use Rattle.wc_flat.specs.NumberBlocks.{is_slot}
+use Rattle.wc_text_flat.specs.NumberBlocks.{is_slot}
 use Rattle.wc_execution.proofs.image.copy_image.Goals as goal
 use Rattle.wc_model.specs.Language.DirectVariables.{numbers_below}
 use Rattle.wc_model.specs.Language.Frames.{bit_number}

@@ -4,7 +4,7 @@ use Rattle.std.specs.Prelude.{slice_get}
 use Rattle.wc_execution.proofs.Behind.{next_four}
 use Rattle.wc_execution.proofs.Bits.{shifted_bit}
 use Rattle.wc_execution.proofs.image.copy_inputs.Goals as goal
-use Rattle.wc_flat.specs.NumberBlocks.{is_slot}
+use Rattle.wc_text_flat.specs.NumberBlocks.{is_slot}
 use Rattle.wc_model.specs.Language.DirectVariables.{numbers_below}
 use Rattle.wc_model.specs.Language.Frames.{bit_number}
 use Rattle.wc_model.specs.Language.Scans.{is_bit_set}

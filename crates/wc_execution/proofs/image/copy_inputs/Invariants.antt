@@ -1,4 +1,4 @@
--- The bits so far stand first, and the rest is as it was.
+-- The bits so far are first, and the rest is as it was.
 use Rattle.std.proofs.Common.{◌≡◌, ℕ, ◌*◌, ◌++◌, map, drop}
 use Rattle.wc_execution.proofs.image.copy_inputs.Given as goal
 use Rattle.wc_execution.specs.Lines.{AreBefore}

@@ -1,4 +1,4 @@
--- The weights so far stand behind what stood before them, and the rest is as it was.
+-- The weights so far follow what was before them, and the rest is as it was.
 use Rattle.std.proofs.Common.{◌≡◌, ℕ, ℤ, pos, List, ◌++◌, map, drop, length}
 use Rattle.std.specs.Prelude.{slice_index_or}
 use Rattle.wc_execution.proofs.image.copy_weights.Given as goal

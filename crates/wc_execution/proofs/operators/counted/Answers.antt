@@ -1,7 +1,7 @@
 -- Sums and differences wrap.
 use Rattle.std.proofs.Common.{w32, Some, ap, sym, ◌∙◌}
 use Rattle.std.proofs.lemmas.Int.{wrapping_add_is, wrapping_sub_is}
-use Rattle.wc_flat.specs.NumberOperators.{combined}
+use Rattle.wc_text_flat.specs.NumberOperators.{combined}
 use Rattle.wc_execution.proofs.operators.counted.Goals as goal
 
 pub returns-in-Add : goal.returns-in-Add

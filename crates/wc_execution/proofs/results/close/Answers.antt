@@ -1,7 +1,7 @@
 -- The result that was last put by is the first of those newest first.
 use Rattle.std.proofs.Common.{◌≡◌, rules, [], ◌∷◌, Some, reverse, refl, ap, sym, ◌∙◌, subst, to_z, of_z, w32}
 use Rattle.std.proofs.lemmas.List.{reverse-append}
-use Rattle.wc_flat.specs.NumberOperators.{combined}
+use Rattle.wc_text_flat.specs.NumberOperators.{combined}
 use Rattle.wc_execution.proofs.results.close.Goals as goal
 use Rattle.wc_execution.specs.Lines.{IsClosed}
 

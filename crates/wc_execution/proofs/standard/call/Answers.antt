@@ -1,6 +1,6 @@
 -- The slots are those of the block.
 use Rattle.std.proofs.Common.{IsSome, subst}
-use Rattle.wc_flat.specs.NumberBlocks.{block_called}
+use Rattle.wc_text_flat.specs.NumberBlocks.{block_called}
 use Rattle.wc_execution.proofs.BlockSlots.{slots_there}
 use Rattle.wc_execution.proofs.standard.call.Goals as goal
 use Rattle.wc_model.specs.declared.block.StandardBlock.TheVariants as blocks

@@ -1,6 +1,6 @@
 use Rattle.std.proofs.Common.{◌≡◌, ◌+◌, ◌-◌, ◌≤◌, [], ◌∷◌, List, option_map, map, drop, length, refl, sym, ap, subst, ◌∙◌, arith}
 use Rattle.std.proofs.lemmas.List.{drop_all}
-use Rattle.wc_flat.specs.Laid.{IsStepLaid}
+use Rattle.wc_text_flat.specs.Laid.{IsStepLaid}
 use Rattle.wc_model.specs.Language.Kinds.{PlainLine, NestedLine}
 use Rattle.wc_model.specs.Language.Names.{name_of}
 use Rattle.wc_model.specs.Language.Tree.{Load, Store, Apply, Negate, Jump, Call, Return}

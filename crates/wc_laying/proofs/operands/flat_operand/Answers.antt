@@ -1,5 +1,5 @@
 use Rattle.std.proofs.Common.{sym, subst}
-use Rattle.wc_flat.specs.Laid.{IsOperand, IsPlaceOf, At}
+use Rattle.wc_text_flat.specs.Laid.{IsOperand, IsPlaceOf, At}
 use Rattle.wc_model.specs.Language.Scopes.{readable_place}
 use Rattle.wc_model.specs.Language.Views.{term_view}
 use Rattle.wc_model.specs.declared.operand.Operand.{Operand as Spelled}

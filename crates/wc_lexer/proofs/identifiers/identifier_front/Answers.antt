@@ -3,12 +3,12 @@ use Rattle.wc_lexer.proofs.NameFronts.{digit_step, letter_step, passed_step, und
 use Rattle.wc_lexer.proofs.identifiers.identifier_front.Goals as goal
 use Rattle.wc_lexer.proofs.identifiers.identifier_front.Goals.{then-not-is_ascii_alphabetic+then-first-eq95+then-not-begins_plain, then-not-is_ascii_alphabetic+then-first-eq95+else-not-begins_plain, then-not-is_ascii_alphabetic+else-first-eq95+else-not-is_ascii_digit, else-not-is_ascii_alphabetic}
 
--- nothing is single behind a loose underscore
+-- nothing is single after a loose underscore
 none : (single : Bool) → false ≡ (single && false)
 none true = refl
 none false = refl
 
--- what was single stays so behind another one
+-- what was single stays so after another one
 same : (single : Bool) → single ≡ (single && true)
 same true = refl
 same false = refl

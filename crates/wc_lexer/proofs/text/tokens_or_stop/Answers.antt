@@ -24,7 +24,7 @@ returns-then-is_err-clause-stopped c =
 pub returns-clause-cut : goal.returns-clause-cut
 returns-clause-cut c = (omega arith, cut_at_end c.args.text.now c.loop-start.start (map token_view c.loop-start.tokens.items) c.loop-start-test.false c.loop-start.invariant.going)
 
--- what the piece that stands here passes
+-- what the slice that is here passes
 stepped : (c : goal.Joined-first_piece) → IsStep c.split_at.result.1.now c.match-first_piece.count
 stepped c = elim c.match-first_piece.branch [
   | in-Space w ↦

@@ -1,4 +1,4 @@
--- The numbers so far, and the first ones behind them; no moment is ahead.
+-- The numbers so far, and the first ones after them; no moment is ahead.
 use Rattle.std.proofs.Common.{◌≡◌, ℕ}
 use Rattle.wc_machine.proofs.Carrying.{AreCarriedTo}
 use Rattle.wc_machine.proofs.carry.carried_over.Given as goal

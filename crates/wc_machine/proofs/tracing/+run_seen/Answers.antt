@@ -1,7 +1,7 @@
--- What is left, and left to be seen, behind each line.
+-- What is left, and left to be seen, after each line.
 use Rattle.std.proofs.Common.{◌≡◌, ◌+◌, ◌≤◌, ◌++◌, List, map, drop, get_or, length, pos, Some, refl, sym, ap, ◌∙◌, subst, arith, rules, to_z, of_z, w32}
 use Rattle.std.proofs.lemmas.List.{map-append}
-use Rattle.wc_flat.specs.FlatMeaning.{State, Skips, runs, calls_below, unit_runs}
+use Rattle.wc_text_flat.specs.FlatMeaning.{State, Skips, runs, calls_below, unit_runs}
 use Rattle.wc_execution.proofs.Lefts.{callee_short, steps_fit}
 use Rattle.wc_execution.proofs.BodyLines.{is_own, own_there}
 use Rattle.wc_machine.proofs.SeenLines.{so_far_on, called_real, called_done, called_left, real_done, real_seen}
@@ -13,8 +13,8 @@ use Rattle.wc_machine.specs.Seeing.{Keeps, kept_at, left_real, real_state}
 use Rattle.wc_machine.specs.declared.seen.SeenLine.{SeenLine}
 use Rattle.wc_model.specs.Language.Views.{text_view}
 use Rattle.wc_model.specs.declared.code.Code.TheVariants.{LoadNumber}
-use Rattle.wc_trace_laws.specs.FlatSeen.{FlatSeen, flat_seen, flat_seen_below, flat_seen_of_unit, first_source, seen_moved}
-use Rattle.wc_trace_laws.specs.Laws.{sources_of_text}
+use Rattle.wc_laws_trace.specs.FlatSeen.{FlatSeen, flat_seen, flat_seen_below, flat_seen_of_unit, first_source, seen_moved}
+use Rattle.wc_laws_trace.specs.Laws.{sources_of_text}
 
 pub run_seen-steps-requires : goal.run_seen-steps-requires
 run_seen-steps-requires g t c κs within =

@@ -1,13 +1,13 @@
 -- The rest of the body leaves what the whole leaves, and what is seen of it is left to be seen; a call is of an earlier unit.
 use Rattle.std.proofs.Common.{◌≡◌, length, map, ◌-◌, drop}
-use Rattle.wc_flat.specs.FlatMeaning.{Skips, runs, calls_below, unit_runs}
+use Rattle.wc_text_flat.specs.FlatMeaning.{Skips, runs, calls_below, unit_runs}
 use Rattle.wc_machine.proofs.SeenLines.{SoFar}
 use Rattle.wc_execution.specs.Lines.{here_at, AreBefore}
 use Rattle.wc_execution.specs.Running.{IsLeft}
 use Rattle.wc_machine.specs.Seeing.{kept_at, real_state}
 use Rattle.wc_model.specs.Language.Views.{text_view}
-use Rattle.wc_trace_laws.specs.FlatSeen.{flat_seen, flat_seen_below, flat_seen_of_unit}
-use Rattle.wc_trace_laws.specs.Laws.{sources_of_text}
+use Rattle.wc_laws_trace.specs.FlatSeen.{flat_seen, flat_seen_below, flat_seen_of_unit}
+use Rattle.wc_laws_trace.specs.Laws.{sources_of_text}
 use Rattle.wc_machine.proofs.tracing.+run_seen.Given as goal
 
 abbrev pub decreases-run_seen : goal.decreases-run_seen

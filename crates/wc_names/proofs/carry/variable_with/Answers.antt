@@ -21,7 +21,7 @@ returns-in_default c = λ before u entry h least there.
     none_begun before (first_place u) (variables_of u) c.args.table.now.rows.items c.args.number entry h.rows least there
     (λ j d l. subst (λ rows. j < length rows → c.args.number < (slice_index_or rows j d).first) c.deref.ensures.value (c.count_begun.ensures.behind (rise c before u h) j d (omega (arith, none))) l)
 
--- the variable at the last number that is begun
+-- the variable at the last number that is started
 at_last : (c : goal.In_default-at) (before : List ProgramUnit) (u : ProgramUnit) (entry : List Name × Content) → IsTableOf before u c.args.table.now → first_place u ≤ c.args.number → slice_get (unit_places before u) (c.args.number - first_place u) ≡ Some entry →
     Located before (first_place u) (variables_of u) c.args.table.now.rows.items c.args.number entry c.in-Some.at
 at_last c before u entry h least there =

@@ -6,7 +6,7 @@ use Rattle.wc_names.proofs.Lists.{same_found}
 use Rattle.wc_names.proofs.finished.push_finished.Goals as goal
 use Rattle.wc_names.proofs.finished.push_finished.Goals.{After-append}
 
--- the frame that is found is the one that stands there
+-- the frame that is found is the one that is there
 found : (c : After-append) (more : Frame) → slice_get c.args.finished.now c.args.unit ≡ Some more → c.in-Some.more.now ≡ more
 found c more there = same_found c.args.finished.now c.args.finished.now c.args.unit more c.in-Some.more.now refl there c.in-Some.ensures.lookup.3.0 c.in-Some.ensures.lookup.1
 

@@ -7,6 +7,6 @@ use Rattle.wc_names.specs.Keys.{name_number, number_behind}
 abbrev pub invariant-loop-at : goal.invariant-loop-at
 invariant-loop-at l = (l.at ≤ length l.fn.text) × (number_behind l.number (name_of (drop l.at l.fn.text)) ≡ name_number (name_of l.fn.text))
 
--- how many bytes are left
+-- the number of bytes left
 abbrev pub decreases-loop-at : goal.decreases-loop-at
 decreases-loop-at l = length l.fn.text - l.at

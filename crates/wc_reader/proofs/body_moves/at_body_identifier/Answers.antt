@@ -1,9 +1,9 @@
 use Rattle.std.proofs.Common.{true, ap, ◌∙◌}
-use Rattle.wc_grammar_laws.specs.LineMoves.{Start, line_move}
-use Rattle.wc_grammar_laws.specs.Moves.{begun_line}
+use Rattle.wc_laws_grammar.specs.LineMoves.{Start, line_move}
+use Rattle.wc_laws_grammar.specs.Moves.{begun_line}
 use Rattle.wc_model.specs.Text.Grammar.{InBody}
-use Rattle.wc_lines.proofs.Outcomes.{ok-map}
-use Rattle.wc_bodies.specs.BodyViews.{position_view}
+use Rattle.wc_text_lines.proofs.Outcomes.{ok-map}
+use Rattle.wc_text_bodies.specs.BodyViews.{position_view}
 use Rattle.wc_reader.proofs.body_moves.at_body_identifier.Goals as goal
 
 pub returns-then-colon-clause-behind : goal.returns-then-colon-clause-behind

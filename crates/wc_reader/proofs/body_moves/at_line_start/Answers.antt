@@ -1,10 +1,10 @@
 use Rattle.std.proofs.Common.{◌≡◌, ◌==◌, false, length, sym, ap, ◌∙◌, arith}
 use Rattle.std.proofs.lemmas.Bool.Decides.{nat_tests}
-use Rattle.wc_grammar_laws.specs.Moves.{start_move}
-use Rattle.wc_bodies.proofs.Openings.{innermost_of}
-use Rattle.wc_lines.proofs.Outcomes.{ok-map}
-use Rattle.wc_bodies.specs.BodyViews.{position_view}
-use Rattle.wc_lines.specs.Words.{symbol_view}
+use Rattle.wc_laws_grammar.specs.Moves.{start_move}
+use Rattle.wc_text_bodies.proofs.Openings.{innermost_of}
+use Rattle.wc_text_lines.proofs.Outcomes.{ok-map}
+use Rattle.wc_text_bodies.specs.BodyViews.{position_view}
+use Rattle.wc_text_lines.specs.Words.{symbol_view}
 use Rattle.wc_reader.proofs.body_moves.at_line_start.Goals as goal
 
 pub returns-else-is_empty-clause-behind : goal.returns-else-is_empty-clause-behind

@@ -1,11 +1,11 @@
 use Rattle.std.proofs.Common.{◌≡◌, None, false, sym, ap, ◌∙◌}
-use Rattle.wc_grammar_laws.specs.LineMoves.{Start, line_move}
-use Rattle.wc_grammar_laws.specs.Moves.{begun_line, section_begun}
+use Rattle.wc_laws_grammar.specs.LineMoves.{Start, line_move}
+use Rattle.wc_laws_grammar.specs.Moves.{begun_line, section_begun}
 use Rattle.wc_model.specs.Text.Grammar.{InBody}
 use Rattle.wc_model.specs.Language.Names.{name_of}
 use Rattle.wc_model.specs.Language.Views.{lines_view}
-use Rattle.wc_lines.proofs.Outcomes.{ok-map}
-use Rattle.wc_bodies.specs.BodyViews.{position_view}
+use Rattle.wc_text_lines.proofs.Outcomes.{ok-map}
+use Rattle.wc_text_bodies.specs.BodyViews.{position_view}
 use Rattle.wc_reader.proofs.body_moves.at_word.Goals as goal
 
 pub returns-in-None-clause-behind : goal.returns-in-None-clause-behind

@@ -1,9 +1,9 @@
 use Rattle.std.proofs.Common.{◌≡◌, ◌∙◌, [], refl, subst, sym}
-use Rattle.wc_grammar_laws.specs.Moves.{Met, open_on}
+use Rattle.wc_laws_grammar.specs.Moves.{Met, open_on}
 use Rattle.wc_model.specs.declared.fault.Fault.{Fault}
 use Rattle.wc_model.specs.declared.fault.Fault.TheVariants.{Memory, Refused}
-use Rattle.wc_lines.specs.LineViews.{line_state_view}
-use Rattle.wc_bodies.specs.BodyViews.{fault_of, position_view}
+use Rattle.wc_text_lines.specs.LineViews.{line_state_view}
+use Rattle.wc_text_bodies.specs.BodyViews.{fault_of, position_view}
 use Rattle.wc_reader.proofs.ends.open_in_body.Goals as goal
 
 pub returns-in-OnLine-clause-told : goal.returns-in-OnLine-clause-told
@@ -16,7 +16,7 @@ abbrev IsRefusal : Fault → Type 0
 IsRefusal Memory = ⊥
 IsRefusal (Refused number place) = Unit {0}
 
--- what is met is told as a refusal
+-- what is found is reported as a refusal
 met_refuses : (met : Met) → fault_of met ≡ Memory → ⊥
 met_refuses met e = subst IsRefusal e tt
 

@@ -1,5 +1,5 @@
 use Rattle.std.proofs.Common.{ap}
-use Rattle.wc_grammar_laws.specs.Moves as moves
+use Rattle.wc_laws_grammar.specs.Moves as moves
 use Rattle.wc_reader.proofs.moves.section_state.Goals as goal
 
 pub returns-in-BehindSection-clause-behind : goal.returns-in-BehindSection-clause-behind

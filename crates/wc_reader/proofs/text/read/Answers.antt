@@ -1,10 +1,10 @@
 use Rattle.std.proofs.Common.{ap, arith, length, map}
 use Rattle.std.proofs.lemmas.List.{length-map}
 use Rattle.wc_lexer.specs.Views.{token_view}
-use Rattle.wc_lines.proofs.Outcomes.{err-map}
+use Rattle.wc_text_lines.proofs.Outcomes.{err-map}
 use Rattle.wc_reader.proofs.ReadTexts.{result_read, result_refused, token_fault}
 use Rattle.wc_reader.proofs.text.read.Goals as goal
-use Rattle.wc_lines.specs.Words.{marks_of}
+use Rattle.wc_text_lines.specs.Words.{marks_of}
 
 pub returns-in-Ok-clause-read : goal.returns-in-Ok-clause-read
 returns-in-Ok-clause-read c =

@@ -1,6 +1,6 @@
 use Rattle.wc_reader.proofs.ReadingSteps.{stopped_as}
 use Rattle.wc_reader.specs.TextViews.{reading_view}
-use Rattle.wc_lines.specs.Words.{marks_of}
+use Rattle.wc_text_lines.specs.Words.{marks_of}
 use Rattle.std.proofs.Common.{drop}
 use Rattle.wc_reader.proofs.text.read_on.Goals as goal
 

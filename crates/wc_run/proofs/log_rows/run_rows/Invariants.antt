@@ -11,7 +11,7 @@ use Rattle.wc_run.specs.Standing.{IsNotBehind, Stands}
 use Rattle.wc_run.proofs.RunsOn.{Running}
 use Rattle.wc_run.proofs.log_rows.run_rows.Given as goal
 
--- so many rows are done, and no scan was behind the last of them
+-- n rows are done, and no scan was after the last of them
 abbrev pub invariant-loop-row : goal.invariant-loop-row
 invariant-loop-row g l = record {
   running : (log : LogOf) → HasLeft g.R.ByteIn.bytes_left l.initial.rows log → (plate : PlateData) (logic : Option Logic)

@@ -3,7 +3,7 @@ use Rattle.std.proofs.lemmas.Int.{ints}
 use Rattle.std.specs.Prelude.{◌<◌, unsigned_abs, IfSome}
 use Rattle.wc_model.specs.Instrument.Plates.{IsPlate}
 use Rattle.wc_model.specs.Instrument.Answers as told
-use Rattle.wc_instrument_laws.proofs.Answers.{short_weight, length_unit}
+use Rattle.wc_laws_instrument.proofs.Answers.{short_weight, length_unit}
 use Rattle.wc_sma.specs.Asking.{mode_view}
 use Rattle.wc_sma.proofs.Joining.{three_of, parts_joined, short_where_some}
 use Rattle.wc_sma.proofs.answers.answer.Goals as goal

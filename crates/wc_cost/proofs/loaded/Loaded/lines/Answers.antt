@@ -2,7 +2,7 @@ use Rattle.std.proofs.Common.{◌≡◌, ◌<◌, length, refl, sym, subst, ap, 
 use Rattle.std.proofs.lemmas.List.{length-map}
 use Rattle.std.proofs.lemmas.Option.{slice_get_read}
 use Rattle.std.specs.Prelude.{Some, map, slice_get}
-use Rattle.wc_flat.specs.FlatPaths.{sources_of}
+use Rattle.wc_text_flat.specs.FlatPaths.{sources_of}
 use Rattle.wc_model.specs.Language.Views.{text_view}
 use Rattle.wc_cost.proofs.WorstLines.{unit_lines}
 use Rattle.wc_cost.specs.LoadedTexts.{LoadedText}

@@ -2,7 +2,7 @@ use Rattle.std.proofs.Common.{◌<◌, ◌≤◌, List, length, refl, sym, subst
 use Rattle.std.proofs.lemmas.List.{length-map}
 use Rattle.std.proofs.lemmas.Result.{IfOk-weaker}
 use Rattle.std.proofs.lemmas.Option.{slice_get_read}
-use Rattle.wc_flat.specs.FlatPaths.{worst_of}
+use Rattle.wc_text_flat.specs.FlatPaths.{worst_of}
 use Rattle.wc_model.specs.Language.Views.{text_view}
 use Rattle.wc_model.specs.declared.code.Code.{Code}
 use Rattle.wc_cost.proofs.WorstLines.{code_short, worst_stands}
@@ -29,7 +29,7 @@ returns-clause-worst c =
     let ways = c.in_ok-ways.ensures.ways (subst (λ (us : List LaidUnit). AreSmall (bounds_of us)) (sym c.deref.ensures.value) sound.small) (subst (λ (l : List Code). length l ≤ 65536) (sym c.deref-2.ensures.value) short) in
     let those : AreWays (bounds_of units) c.deref-4.result.now c.deref-3.result.now = λ sources.
     c.deref-3.ensures.value ∙ ways sources
-    ∙ (λ i. Rattle.wc_cost.specs.Ways.steps_of (Rattle.wc_flat.specs.FlatPaths.worst_from (bounds_of (c.deref.ensures.value i)) ((c.deref-2.ensures.value ∙ sym c.deref-4.ensures.value) i) sources))
+    ∙ (λ i. Rattle.wc_cost.specs.Ways.steps_of (Rattle.wc_text_flat.specs.FlatPaths.worst_from (bounds_of (c.deref.ensures.value i)) ((c.deref-2.ensures.value ∙ sym c.deref-4.ensures.value) i) sources))
     in
     subst (λ (v : LoadedText). Rattle.std.specs.Prelude.IfOk c.worst_lines.result (λ lines. AreWorstAt (text_view v.source) c.args.unit lines.items)) c.self.view_is
     (IfOk-weaker c.worst_lines.result _ _

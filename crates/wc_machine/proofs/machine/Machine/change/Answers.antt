@@ -1,6 +1,6 @@
--- A changed machine stands for the store that is carried over.
+-- A changed machine represents the store that is carried over.
 use Rattle.std.proofs.Common.{◌≡◌, ◌-◌, List, ℤ, length, ap, sym, ◌∙◌, subst, arith, rules, refl}
-use Rattle.wc_flat.specs.Contents.{AreContents, frame_of_text}
+use Rattle.wc_text_flat.specs.Contents.{AreContents, frame_of_text}
 use Rattle.wc_machine.proofs.Carrying.{before_later, contents_carried}
 use Rattle.wc_machine.proofs.FirstPlaces.{last_bound}
 use Rattle.wc_machine.proofs.Scanning.{has_a_unit}
@@ -14,9 +14,9 @@ use Rattle.wc_model.specs.Language.Store.{Store}
 use Rattle.wc_model.specs.Language.Tree.{Text}
 use Rattle.wc_model.specs.Language.Views.{text_view}
 use Rattle.wc_model.specs.Text.Grammar.{IsProgramLast}
-use Rattle.wc_soundness.proofs.Carrying.{carried_holds}
-use Rattle.wc_soundness.specs.FirstNumbers.{AreFirst}
-use Rattle.wc_soundness.specs.Typing.{SameSlots}
+use Rattle.wc_laws_soundness.proofs.Carrying.{carried_holds}
+use Rattle.wc_laws_soundness.specs.FirstNumbers.{AreFirst}
+use Rattle.wc_laws_soundness.specs.Typing.{SameSlots}
 
 -- the carried numbers are the contents of the carried store
 held : (old new : Text) → IsProgramLast old → IsProgramLast new → (store : Store) → SameSlots (initial_of old) store → (numbers : List ℤ) → AreContents (frame_of_text old) store numbers → (first all : List ℤ) → first ≡ first_numbers (frame_of_text new) →

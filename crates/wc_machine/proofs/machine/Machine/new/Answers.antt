@@ -1,14 +1,14 @@
--- A new machine stands for the store of the declarations.
+-- A new machine represents the store of the declarations.
 use Rattle.std.proofs.Common.{◌-◌, length, ap, sym, ◌∙◌, subst, arith, rules}
-use Rattle.wc_flat.proofs.Images.{first_numbers_are_contents}
-use Rattle.wc_flat.specs.Contents.{frame_of_text, AreContents}
+use Rattle.wc_text_flat.proofs.Images.{first_numbers_are_contents}
+use Rattle.wc_text_flat.specs.Contents.{frame_of_text, AreContents}
 use Rattle.wc_machine.proofs.FirstPlaces.{last_bound}
 use Rattle.wc_machine.proofs.Scanning.{has_a_unit}
 use Rattle.wc_machine.proofs.machine.Machine.new.Goals as goal
 use Rattle.wc_model.specs.Language.Scans.{initial_of}
 use Rattle.wc_model.specs.Language.Views.{text_view}
-use Rattle.wc_soundness.specs.FirstNumbers.{AreFirst}
-use Rattle.wc_soundness.proofs.Places.{SameSlots-refl}
+use Rattle.wc_laws_soundness.specs.FirstNumbers.{AreFirst}
+use Rattle.wc_laws_soundness.proofs.Places.{SameSlots-refl}
 
 -- the first numbers are those of the declarations' store
 first_held : (g : _) (c : goal.In-Ok g) → AreContents (frame_of_text (text_view c.args.loaded.source)) (initial_of (text_view c.args.loaded.source)) (g.S.Store.numbers c.in-Ok.store)

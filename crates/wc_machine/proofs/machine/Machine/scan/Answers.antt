@@ -1,6 +1,6 @@
 -- A scan is the run of the program's flat code.
 use Rattle.std.proofs.Common.{◌≡◌, ◌-◌, ◌≤◌, length, refl, ap, sym, ◌∙◌, subst, arith}
-use Rattle.wc_flat.specs.Contents.{frame_of_text, AreContents}
+use Rattle.wc_text_flat.specs.Contents.{frame_of_text, AreContents}
 use Rattle.wc_machine.proofs.FirstPlaces.{AreFirst, first_places}
 use Rattle.wc_machine.proofs.Scanning.{has_a_unit, machine_runs, later, short_run, ran_is}
 use Rattle.wc_machine.proofs.machine.Machine.scan.Goals as goal
@@ -8,7 +8,7 @@ use Rattle.wc_machine.specs.Machines.{MachineState, Leaves, machine_view, text_o
 use Rattle.wc_model.specs.Language.Paths.{IsProgramBound}
 use Rattle.wc_model.specs.Language.Scans.{initial_of, scan_of}
 use Rattle.wc_model.specs.Language.Views.{text_view}
-use Rattle.wc_soundness.specs.Typing.{SameSlots}
+use Rattle.wc_laws_soundness.specs.Typing.{SameSlots}
 
 pub copy_image-requires-clause-weights : goal.copy_image-requires-clause-weights
 copy_image-requires-clause-weights g c =

@@ -1,6 +1,6 @@
 -- A scan that is watched is the run of the program's flat code, and what is kept of it is what is seen of the text.
 use Rattle.std.proofs.Common.{◌≡◌, ◌+◌, ◌-◌, ◌≤◌, ◌++◌, List, length, map, refl, ap, sym, ◌∙◌, subst, arith}
-use Rattle.wc_flat.specs.Contents.{frame_of_text, AreContents}
+use Rattle.wc_text_flat.specs.Contents.{frame_of_text, AreContents}
 use Rattle.wc_machine.proofs.FirstPlaces.{AreFirst, first_places}
 use Rattle.wc_machine.proofs.Scanning.{has_a_unit, machine_runs, later, short_run, ran_is}
 use Rattle.wc_machine.proofs.SeenScans.{scan_is_seen}
@@ -9,12 +9,12 @@ use Rattle.wc_machine.specs.Machines.{MachineState, Leaves, machine_view, text_o
 use Rattle.wc_model.specs.Language.Paths.{IsProgramBound}
 use Rattle.wc_model.specs.Language.Scans.{initial_of, scan_of}
 use Rattle.wc_model.specs.Language.Views.{text_view}
-use Rattle.wc_soundness.specs.Typing.{SameSlots}
+use Rattle.wc_laws_soundness.specs.Typing.{SameSlots}
 use Rattle.std.proofs.lemmas.Result.{IfOk-weaker}
 use Rattle.wc_machine.specs.Seeing.{IsSeen, kept_at}
 use Rattle.wc_machine.specs.declared.seen.SeenLine.{SeenLine}
-use Rattle.wc_trace_laws.specs.FlatSeen.{flat_seen_of_unit}
-use Rattle.wc_trace_laws.specs.Laws.{sources_of_text}
+use Rattle.wc_laws_trace.specs.FlatSeen.{flat_seen_of_unit}
+use Rattle.wc_laws_trace.specs.Laws.{sources_of_text}
 
 pub copy_image-requires-clause-weights : goal.copy_image-requires-clause-weights
 copy_image-requires-clause-weights g c =

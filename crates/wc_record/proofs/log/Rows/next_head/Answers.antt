@@ -1,4 +1,4 @@
--- The end is kept where there is one; else none was known before.
+-- The end is kept if there is one; else none was known before.
 use Rattle.std.proofs.Common.{◌≡◌, Option, Some, None, sym, ◌∙◌, subst}
 use Rattle.wc_record.proofs.LogSteps.{not_ended, read_on, reads_still, taken}
 use Rattle.wc_record.proofs.log.Rows.next_head.Goals as goal

@@ -1,4 +1,4 @@
--- Behind the first row stand the same log and the same records.
+-- After the first row are the same log and the same records.
 use Rattle.std.proofs.Common.{◌≡◌, [], ◌∷◌, subst, sym, arith}
 use Rattle.wc_record.proofs.LogSteps.{gives_as, none_read}
 use Rattle.wc_record.proofs.log.Rows.next_row.Goals as goal

@@ -15,7 +15,7 @@ of_fault P (Err e) h = h
 one_byte_more : (i : ℕ) (bytes : List ℕ) → i < length bytes → take (i + 1) bytes ≡ take i bytes ++ (get_or bytes i 0 ∷ [])
 one_byte_more i bytes h = take-add i 1 bytes ∙ ap (λ r. take i bytes ++ take 1 r) (drop-cons bytes i 0 h)
 
--- a piece, cut before a byte
+-- a chunk, cut before a byte
 cut_at : (i : ℕ) (bytes : List ℕ) → i < length bytes → take i bytes ++ (get_or bytes i 0 ∷ drop (suc i) bytes) ≡ bytes
 cut_at i bytes h = ap (λ r. take i bytes ++ r) (sym (drop-cons bytes i 0 h)) ∙ take-append-drop i bytes
 

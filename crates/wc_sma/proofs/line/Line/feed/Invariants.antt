@@ -2,7 +2,7 @@ use Rattle.std.proofs.Common.{◌≡◌, false, take}
 use Rattle.wc_sma.specs.Feeding.{Feeds}
 use Rattle.wc_sma.proofs.line.Line.feed.Given as goal
 
--- what stands before the byte is taken
+-- what precedes the byte is taken
 abbrev pub invariant-loop-byte : goal.invariant-loop-byte
 invariant-loop-byte g l = record {
   feeds : Feeds l.initial.self l.initial.indicator (g.W.ByteOut.bytes_taken l.initial.writer) l.self l.indicator (g.W.ByteOut.bytes_taken l.writer) (take l.byte-index l.piece);

@@ -1,6 +1,6 @@
 use Rattle.std.proofs.Common.{ap, sym, ◌∙◌}
 use Rattle.std.specs.Prelude.{option_map}
-use Rattle.wc_instrument_laws.proofs.Requests.{open_request_after}
+use Rattle.wc_laws_instrument.proofs.Requests.{open_request_after}
 use Rattle.wc_model.specs.Instrument.Requests.{open_request}
 use Rattle.wc_sma.proofs.Stepping.{command_behind, no_command_behind}
 use Rattle.wc_sma.specs.Seen.{seen_in}

@@ -1,6 +1,6 @@
 use Rattle.std.proofs.Common.{◌-◌, ◌/◌, ◌<◌, ◌++◌, length, ap, ◌∙◌, length-append, arith}
 use Rattle.wc_model.specs.Instrument.Answers.{last_digits}
-use Rattle.wc_instrument_laws.proofs.Answers.{length_last_digits}
+use Rattle.wc_laws_instrument.proofs.Answers.{length_last_digits}
 use Rattle.wc_sma.proofs.Digits.{one_more_digit}
 use Rattle.wc_sma.proofs.weight.Field.put_last_digits.Goals as goal
 

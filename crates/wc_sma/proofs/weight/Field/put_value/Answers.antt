@@ -2,7 +2,7 @@ use Rattle.std.proofs.Common.{◌≡◌, ◌/◌, ◌^◌, ◌++◌, length, ap,
 use Rattle.std.proofs.lemmas.Int.{ints}
 use Rattle.std.specs.Prelude.{pos, ◌<ℤ◌, unsigned_abs, decimal}
 use Rattle.wc_model.specs.Instrument.Answers.{fraction_text, minus_of}
-use Rattle.wc_instrument_laws.proofs.Answers.{length_value, length_three}
+use Rattle.wc_laws_instrument.proofs.Answers.{length_value, length_three}
 use Rattle.wc_sma.proofs.Digits.{minus_below_zero}
 use Rattle.wc_sma.proofs.weight.Field.put_value.Goals as goal
 

@@ -1,4 +1,4 @@
--- What is kept under a place is what stands at its index.
+-- What is kept under a place is what is at its index.
 use Rattle.std.proofs.Common.{◌≡◌, ◌<◌, ap, sym, ◌∙◌, subst, length, Some, to_z, of_z, w64}
 use Rattle.std.specs.Prelude.{slice_get}
 use Rattle.wc_store.proofs.Numbered.{IsKept, is_kept, not_missing}

@@ -1,8 +1,0 @@
-use Rattle.std.proofs.Common.{List, take}
-use Rattle.wc_columns.specs.Columns.{AreColumnsOf, IsWholeOf}
-use Rattle.wc_columns.specs.Held.{Held}
-use Rattle.wc_columns.proofs.lanes.whole.Given as goal
-
--- the columns so far are one
-abbrev pub invariant-loop-column : goal.invariant-loop-column
-invariant-loop-column l = (held : List (List Held)) → AreColumnsOf held l.fn.columns → IsWholeOf l.all (take l.column-index held)

@@ -1,8 +1,0 @@
-use Rattle.std.proofs.Common.{◌∙◌, sym}
-use Rattle.wc_columns.proofs.Joined.{both_spans}
-use Rattle.wc_columns.proofs.span.join.Goals as goal
-
-pub returns-in-Some-Some-clause-both : goal.returns-in-Some-Some-clause-both
-returns-in-Some-Some-clause-both c numbers others first second =
-    both_spans numbers others c.in-Some-Some.earlier c.in-Some-Some.later c.joined.result (sym c.in-Some-Some.is-0 ∙ first) (sym c.in-Some-Some.is-1 ∙ second)
-    c.joined.ensures.least c.joined.ensures.greatest c.joined.ensures.last

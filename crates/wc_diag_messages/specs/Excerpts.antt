@@ -1,0 +1,57 @@
+-- The line of a text that is referred to, as a message shows it, with marks under the offending slice.
+-- The profile's own.
+use Rattle.std.specs.Prelude.{ℕ, ◌-◌, max, nat_lt, List, [], ◌∷◌, ◌++◌, Option, Some, None, codes, drop, length, replicate, take, if◌then◌else◌}
+use Rattle.wc_diag_spans.specs.declared.finding.Spot.{Spot}
+use Rattle.wc_diag_messages.specs.Locations.{margin_text, number_text}
+use Rattle.wc_diag_messages.specs.Plain.{shown_text, words_after}
+
+-- the number of columns that bytes take on screen
+abbrev pub columns : List ℕ → ℕ
+columns bytes = length (shown_text bytes)
+
+-- where the offending slice starts; at the line's start if there is none
+abbrev pub spot_start : Option Spot → ℕ
+spot_start None = 0
+spot_start (Some spot) = spot.start
+
+-- the first byte that is shown: of a line above 120 bytes the one 60 before the offending slice
+abbrev pub first_shown : List ℕ → ℕ → ℕ
+first_shown line start = if nat_lt 120 (length line) then start - 60 else 0
+
+-- the part of a line that is shown: 120 bytes at most
+abbrev pub shown_part : List ℕ → Option Spot → List ℕ
+shown_part line spot = take 120 (drop (first_shown line (spot_start spot)) line)
+
+-- spaces under what is before a span, and a mark under each of its columns; one at least
+abbrev pub marks : List ℕ → ℕ → ℕ → List ℕ
+marks shown start long =
+    replicate (columns (take start shown)) 32
+    ++ replicate (max (columns (take long (drop start shown))) 1) 94
+
+-- what could be at the span, if something is known
+abbrev pub expected_text : List ℕ → List ℕ
+expected_text words = words_after (shown_text (codes " expected ")) words
+
+-- the marks under the part that is shown, and what could be there, if there is an offending slice
+abbrev pub marked_text : List ℕ → Option Spot → List ℕ → List ℕ
+marked_text line None words = []
+marked_text line (Some spot) words =
+    shown_text (codes " ")
+    ++ marks (shown_part line (Some spot)) (spot.start - first_shown line spot.start) spot.length
+    ++ expected_text words
+
+-- a line of the excerpt that has no number
+abbrev pub bar_line : List ℕ → List ℕ → List ℕ
+bar_line margin text = margin ++ shown_text (codes " |") ++ text ++ (10 ∷ [])
+
+-- the line of that number
+abbrev pub quoted_line : ℕ → List ℕ → List ℕ
+quoted_line number shown =
+    number_text number ++ shown_text (codes " | ") ++ shown_text shown ++ (10 ∷ [])
+
+-- the line that is referred to after its number, and under it the marks; nothing if no line is shown
+abbrev pub excerpt_text : ℕ → List ℕ → Option Spot → List ℕ → List ℕ
+excerpt_text number [] spot words = []
+excerpt_text number (byte ∷ rest) spot words =
+    bar_line (margin_text number) [] ++ quoted_line number (shown_part (byte ∷ rest) spot)
+    ++ bar_line (margin_text number) (marked_text (byte ∷ rest) spot words)

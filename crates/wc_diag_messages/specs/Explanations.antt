@@ -1,0 +1,94 @@
+-- What is said of a refusal: its number, what is named, the line, the column, the excerpt and the
+-- page are pinned; the words between them are not (the profile's own).
+use Rattle.std.specs.Prelude.{◌≡◌, ℕ, ◌+◌, ◌-◌, ◌==◌, ◌&&◌, min, Bool, true, false, nat_lt, List, [], ◌∷◌, ◌++◌, codes, length, take, if◌then◌else◌}
+use Rattle.wc_diag_spans.specs.Finds.{Finds}
+use Rattle.wc_diag_spans.specs.declared.finding.Finding.{Finding}
+use Rattle.wc_diag_spans.specs.declared.refusal.Part.{Part}
+use Rattle.wc_diag_spans.specs.declared.refusal.Part.TheVariants.{Job, Plate, Program, Next, Log}
+use Rattle.wc_diag_spans.specs.declared.refusal.Refusal.{Refusal}
+use Rattle.wc_diag_messages.specs.Excerpts.{excerpt_text}
+use Rattle.wc_diag_messages.specs.Locations.{beside_text, margin_text, number_text}
+use Rattle.wc_diag_messages.specs.Plain.{IsShown, shown_text}
+
+-- the part is a program
+abbrev pub is_program : Part → Bool
+is_program Job = false
+is_program Plate = false
+is_program Program = true
+is_program Next = true
+is_program Log = false
+
+-- the line that number of lines below others; none is above 4294967295
+abbrev pub line_under : ℕ → ℕ → ℕ
+line_under above line = min (above + line) 4294967295
+
+-- the line in what is named, if this one was found (0: none); else that of a program's refusal
+abbrev pub named_line : Refusal → ℕ → ℕ
+named_line refusal found =
+    if nat_lt 0 found then line_under refusal.above found
+    else if is_program refusal.part && nat_lt 0 refusal.place
+    then line_under refusal.above refusal.place
+    else 0
+
+-- the number of bytes of a slice of that length that are left out if 120 are quoted, if any are
+abbrev pub left_out_text : ℕ → List ℕ
+left_out_text long =
+    if nat_lt 120 long
+    then shown_text (codes "(and ") ++ number_text (long - 120)
+    ++ shown_text (codes " bytes more) ")
+    else []
+
+-- the slice of the text with which the first line begins, 120 bytes of it at most, between
+-- backquotes, if there is one
+abbrev pub quoted_text : List ℕ → List ℕ
+quoted_text [] = []
+quoted_text (byte ∷ rest) =
+    shown_text (codes "`") ++ shown_text (take 120 (byte ∷ rest)) ++ shown_text (codes "`")
+    ++ shown_text (codes " ") ++ left_out_text (length (byte ∷ rest))
+
+-- what was found of a refusal in the current text, and what is said of it: what is quoted is pinned,
+-- the rest is words
+pub record Knows (refusal : Refusal) (finding : Finding) (told : List ℕ) : Type 0 where
+  pub found : Finds refusal finding
+  pub said : List ℕ
+  pub told_is : told ≡ quoted_text finding.subject.items ++ shown_text said
+
+-- the first line: the number, and what is wrong
+abbrev pub headline : ℕ → List ℕ → List ℕ
+headline number told =
+    shown_text (codes "error[") ++ number_text number ++ shown_text (codes "]: ")
+    ++ told ++ (10 ∷ [])
+
+-- a line after the name of what it is in; nothing if none is known
+abbrev pub line_text : ℕ → List ℕ
+line_text line = if line == 0 then [] else shown_text (codes ":") ++ number_text line
+
+-- the second line: what is named, the line in it, and what follows it
+abbrev pub place_line : List ℕ → List ℕ → ℕ → List ℕ → List ℕ
+place_line margin name line beside =
+    margin ++ shown_text (codes "--> ") ++ shown_text name ++ line_text line ++ beside ++ (10 ∷ [])
+
+-- which page says more
+abbrev pub page_text : ℕ → List ℕ
+page_text number =
+    shown_text (codes " (run `explain ") ++ number_text number
+    ++ shown_text (codes "` for more)") ++ (10 ∷ [])
+
+-- the last line: what to write instead, and the page that says more
+abbrev pub help_line : ℕ → List ℕ → List ℕ
+help_line number advice = shown_text (codes "help: ") ++ shown_text advice ++ page_text number
+
+-- a message about a refusal
+pub record Explains (refusal : Refusal) (bytes : List ℕ) : Type 0 where
+  pub finding : Finding
+  pub told : List ℕ
+  pub knows : Knows refusal finding told
+  pub words : List ℕ
+  pub words_are : IsShown words
+  pub line : ℕ
+  pub line_is : line ≡ named_line refusal finding.line
+  pub advice : List ℕ
+  pub all :
+      bytes ≡ headline refusal.number told
+      ++ place_line (margin_text line) refusal.name.now line (beside_text refusal finding.spot)
+      ++ excerpt_text line finding.shown.items finding.spot words ++ help_line refusal.number advice

@@ -1,0 +1,11 @@
+pub mod Parts
+pub mod Plain
+pub mod Locations
+pub mod Excerpts
+pub mod Above
+pub mod Explanations
+pub mod Known
+pub mod Forms
+pub mod Paged
+pub mod Spotted
+pub mod Warned

@@ -1,0 +1,69 @@
+-- Where a refusal is, as a message says it next to the line that is named. The profile's own.
+use Rattle.std.specs.Prelude.{ℕ, ◌+◌, ◌==◌, Bool, List, [], ◌∷◌, ◌++◌, Option, Some, None, length, replicate, codes, if◌then◌else◌}
+use Rattle.std.specs.Fmt.{decimal}
+use Rattle.wc_diag_spans.specs.declared.finding.Spot.{Spot}
+use Rattle.wc_diag_spans.specs.declared.refusal.Part.{Part}
+use Rattle.wc_diag_spans.specs.declared.refusal.Part.TheVariants.{Job, Plate, Program, Next, Log}
+use Rattle.wc_diag_spans.specs.declared.refusal.Refusal.{Refusal}
+use Rattle.wc_diag_messages.specs.Plain.{shown_text}
+
+-- a number as it is written
+abbrev pub number_text : ℕ → List ℕ
+number_text number = shown_text (decimal number)
+
+-- as many spaces as the line's number has digits
+abbrev pub margin_text : ℕ → List ℕ
+margin_text line = replicate (length (number_text line)) 32
+
+-- the column of the offending slice, counted from 1; nothing if none is known
+abbrev pub column_text : Option Spot → List ℕ
+column_text None = []
+column_text (Some spot) = shown_text (codes ":") ++ number_text (spot.start + 1)
+
+-- the line with which a section of a job begins
+abbrev pub heading : Part → List ℕ
+heading Job = []
+heading Plate = codes "@plate"
+heading Program = codes "@program"
+heading Next = codes "@next"
+heading Log = codes "@log"
+
+-- what is counted in a part
+abbrev pub counted_name : Part → List ℕ
+counted_name Job = codes "line "
+counted_name Plate = codes "line "
+counted_name Program = codes "line "
+counted_name Next = codes "line "
+counted_name Log = codes "row "
+
+-- a line or a row by its number
+abbrev pub counted_text : Part → ℕ → List ℕ
+counted_text part place = shown_text (counted_name part) ++ number_text place
+
+-- a place in a section of a job; the section alone if no place is named
+abbrev pub section_text : Part → ℕ → List ℕ
+section_text part place =
+    if place == 0 then shown_text (heading part)
+    else counted_text part place ++ shown_text (codes " of ") ++ shown_text (heading part)
+
+-- the row of a log, if one is named; the lines of other parts are those of the file
+abbrev pub row_text : Part → ℕ → List ℕ
+row_text Job place = []
+row_text Plate place = []
+row_text Program place = []
+row_text Next place = []
+row_text Log place = if place == 0 then [] else counted_text Log place
+
+-- the place by which a refusal is counted, if it is not the line that is named
+abbrev pub place_text : Bool → Part → ℕ → List ℕ
+place_text in_job part place = if in_job then section_text part place else row_text part place
+
+-- words between brackets; no brackets around nothing
+abbrev pub in_brackets : List ℕ → List ℕ
+in_brackets [] = []
+in_brackets (byte ∷ rest) = shown_text (codes " (") ++ (byte ∷ rest) ++ shown_text (codes ")")
+
+-- what follows the line: the column, and the place that is counted
+abbrev pub beside_text : Refusal → Option Spot → List ℕ
+beside_text refusal spot =
+    column_text spot ++ in_brackets (place_text refusal.in_job refusal.part refusal.place)

@@ -1,0 +1,51 @@
+-- The page of a refusal: its lines, its number, and the answer with that number, are pinned; of the
+-- words that they are those of one entry of the catalogue, each in its line (the profile's own).
+use Rattle.std.specs.Prelude.{◌≡◌, ℕ, List, [], ◌∷◌, ◌++◌, codes, if◌then◌else◌}
+use Rattle.wc_diag_messages.specs.Locations.{number_text}
+use Rattle.wc_diag_messages.specs.Plain.{shown_text}
+use Rattle.wc_diag_texts.specs.Numbers.{is_from}
+use Rattle.wc_diag_texts.specs.declared.catalogue.Entry.{Entry}
+
+-- a line: what it says, and its words
+abbrev pub page_line : List ℕ → List ℕ → List ℕ
+page_line name words = shown_text name ++ shown_text (codes ": ") ++ shown_text words ++ (10 ∷ [])
+
+-- the first line: the number, and what it means
+abbrev pub number_line : ℕ → List ℕ → List ℕ
+number_line number told = number_text number ++ page_line [] told
+
+-- the line of the plate of which the pages of its refusals speak; nothing on others
+abbrev pub plate_line : ℕ → List ℕ → List ℕ
+plate_line number plate = if is_from 503 508 number then page_line (codes "plate A") plate else []
+
+-- the line that says how the smallest input is answered
+abbrev pub answer_line : ℕ → ℕ → List ℕ
+answer_line number place =
+    shown_text (codes "the answer to it: refused ") ++ number_text number
+    ++ shown_text (codes " ") ++ number_text place ++ (10 ∷ [])
+
+-- where it is raised, its place, and a smallest input
+pub record MetAt : Type 0 where
+  pub pass : List ℕ
+  pub place : List ℕ
+  pub input : List ℕ
+
+-- what an entry has of these
+abbrev pub met_at : Entry → MetAt
+met_at entry = record { pass = entry.pass.now; place = entry.place.now; input = entry.input.now }
+
+-- the lines of these
+abbrev pub met_lines : MetAt → List ℕ
+met_lines met =
+    page_line (codes "met at") met.pass ++ page_line (codes "place") met.place
+    ++ page_line (codes "a smallest input, in which ` / ` ends a line") met.input
+
+-- the page of that refusal: each line has its words of one entry, which has that number
+pub record TellsPage (number : ℕ) (bytes : List ℕ) : Type 0 where
+  pub entry : Entry
+  pub is : entry.number ≡ number
+  pub plate : List ℕ
+  pub all :
+      bytes ≡ number_line entry.number entry.sentence.now ++ met_lines (met_at entry)
+      ++ plate_line entry.number plate ++ answer_line entry.number entry.answer
+      ++ page_line (codes "help") entry.hint.now

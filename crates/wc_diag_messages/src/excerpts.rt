@@ -1,0 +1,135 @@
+ghost use Rattle.std.specs.Prelude.{◌≡◌, ◌-◌, ◌++◌, IfOk, OnOk, drop, take};
+ghost use Rattle.wc_diag_messages.specs.Excerpts.{bar_line, excerpt_text, first_shown, marked_text, marks, quoted_line, shown_part, spot_start};
+
+use crate::message::{Message, shown};
+use crate::placing::margin;
+use std::alloc::{AllocError, Global};
+use wc_diag_spans::{Finding, Spot};
+
+/// The number of bytes of a line, or of what is quoted, that are shown at most.
+pub(crate) const WIDEST: usize = 120;
+
+/// The bytes from a place on, at most that number.
+pub(crate) fn piece(text: &[u8], start: usize, length: usize) -> &[u8]
+    ensures { result.now ≡ take length (drop start text.now) }
+{
+    let (_, rest) = text.split_at(start.min(text.len()));
+    let (first, _) = rest.split_at(length.min(rest.len()));
+    first
+}
+
+/// Where the offending slice starts; the line's start if there is none.
+fn spot_start(spot: Option<Spot>) -> usize
+    ensures { result ≡ spot_start spot }
+{
+    match spot {
+        Some(spot) => spot.start,
+        None => 0,
+    }
+}
+
+/// The first byte of a line that is shown.
+fn first_shown(line: &[u8], start: usize) -> usize
+    ensures { result ≡ first_shown line.now start }
+{
+    if line.len() > WIDEST {
+        start.saturating_sub(WIDEST / 2)
+    } else {
+        0
+    }
+}
+
+/// The part of a line that is shown.
+fn shown_part(line: &[u8], spot: Option<Spot>) -> &[u8]
+    ensures { result.now ≡ shown_part line.now spot }
+{
+    piece(line, first_shown(line, spot_start(spot)), WIDEST)
+}
+
+/// Writes a mark under each column that some bytes of what is shown take.
+fn write_marks(
+    alloc: Global,
+    message: &mut Message,
+    part: &[u8],
+    start: usize,
+    length: usize,
+) -> Result<(), AllocError>
+    ensures { OnOk result (message.new.bytes.items
+        ≡ message.old.bytes.items ++ marks part.now start length) }
+{
+    let before = shown(alloc, piece(part, 0, start))?;
+    let meant = shown(alloc, piece(part, start, length))?;
+    message.repeat(b' ', before.as_bytes().len())?;
+    message.repeat(b'^', meant.as_bytes().len().max(1))
+}
+
+/// The marks under the offending slice of a line, and what could be there.
+fn marks_under(
+    alloc: Global,
+    line: &[u8],
+    spot: Option<Spot>,
+    words: &Message,
+) -> Result<Message, AllocError>
+    ensures { IfOk result (λ message. message.bytes.items
+        ≡ marked_text line.now spot words.now.bytes.items) }
+{
+    let mut message = Message::new(alloc);
+    let Some(meant) = spot else {
+        return Ok(message);
+    };
+    let start = meant.start.saturating_sub(first_shown(line, meant.start));
+    message.say(" ")?;
+    write_marks(
+        alloc,
+        &mut message,
+        shown_part(line, spot),
+        start,
+        meant.length,
+    )?;
+    message.say_before(" expected ", words)?;
+    Ok(message)
+}
+
+/// Writes a line that has no number.
+fn write_bar(message: &mut Message, margin: &Message, text: &Message) -> Result<(), AllocError>
+    ensures { OnOk result (message.new.bytes.items
+        ≡ message.old.bytes.items ++ bar_line margin.now.bytes.items text.now.bytes.items) }
+{
+    message.append(margin)?;
+    message.say(" |")?;
+    message.append(text)?;
+    message.end_line()
+}
+
+/// Writes a line after its number.
+fn write_quoted(message: &mut Message, number: u32, part: &[u8]) -> Result<(), AllocError>
+    ensures { OnOk result (message.new.bytes.items
+        ≡ message.old.bytes.items ++ quoted_line number part.now) }
+{
+    message.count(number as usize)?;
+    message.say(" | ")?;
+    message.add(part)?;
+    message.end_line()
+}
+
+/// Writes the line that is referred to, with its marks, if it is known.
+pub(crate) fn write_excerpt(
+    alloc: Global,
+    message: &mut Message,
+    number: u32,
+    finding: &Finding,
+    words: &Message,
+) -> Result<(), AllocError>
+    ensures { OnOk result (message.new.bytes.items
+        ≡ message.old.bytes.items
+        ++ excerpt_text number finding.now.shown.items finding.now.spot words.now.bytes.items) }
+{
+    if finding.shown.is_empty() {
+        return Ok(());
+    }
+    let margin = margin(alloc, number)?;
+    write_bar(message, &margin, &Message::new(alloc))?;
+    write_quoted(message, number, shown_part(&finding.shown, finding.spot))?;
+    let marked = marks_under(alloc, &finding.shown, finding.spot, words)?;
+    write_bar(message, &margin, &marked)
+}

@@ -1,0 +1,76 @@
+ghost use Rattle.std.specs.Prelude.{◌≡◌, ◌≤◌, ◌+◌, IfNone, IfSome, option_map};
+ghost use Rattle.wc_diag_messages.specs.Above.{StandsBelow, line_ends};
+ghost use Rattle.wc_diag_messages.specs.Parts.{text_of};
+ghost use Rattle.wc_model.specs.Run.JobSections.{sections_of};
+
+use wc_diag_spans::Part;
+use wc_job::sections;
+
+/// A section of a job.
+#[derive(Clone, Copy)]
+pub struct JobSection<'a> {
+    /// Its bytes.
+    pub text: &'a [u8],
+    /// The number of lines of the job above them.
+    pub above: u32,
+}
+
+/// The number of line feeds.
+fn line_feeds(text: &[u8]) -> usize
+    ensures { result ≡ line_ends text.now }
+{
+    text.iter().filter(|byte| **byte == b'\n').count()
+}
+
+/// The number of lines above what follows a section and the heading after it.
+fn behind_heading(above: u32, section: &[u8]) -> u32
+    ensures { above ≤ 2097152 → line_ends section.now ≤ 1048576
+        → result ≡ above + line_ends section.now + 1 }
+{
+    let feeds = line_feeds(section).min(1048576) as u32;
+    above.saturating_add(feeds).saturating_add(1)
+}
+
+/// The number of lines above the log, from the number above what follows the program and the heading after it.
+fn above_log(above: u32, next: Option<&[u8]>) -> u32
+    ensures none { IfNone next.entry (result ≡ above) }
+    ensures next { IfSome next.entry (λ text. above ≤ 2097152 → line_ends text.now ≤ 1048576
+        → result ≡ above + line_ends text.now + 1) }
+{
+    match next {
+        Some(text) => behind_heading(above, text),
+        None => above,
+    }
+}
+
+/// The section of a job that is this part, if the job has its headings.
+pub fn section_of(job: &[u8], part: Part) -> Option<JobSection<'_>>
+    ensures text { option_map (λ section. section.text.now) result
+        ≡ text_of part (sections_of job.now) }
+    ensures above { IfSome result (λ section. StandsBelow job.now part section.above) }
+{
+    let Ok(found) = sections(job) else {
+        return None;
+    };
+    let program = behind_heading(1, found.plate);
+    let next = behind_heading(program, found.program);
+    match part {
+        Part::Job => None,
+        Part::Plate => Some(JobSection {
+            text: found.plate,
+            above: 1,
+        }),
+        Part::Program => Some(JobSection {
+            text: found.program,
+            above: program,
+        }),
+        Part::Next => match found.next {
+            Some(text) => Some(JobSection { text, above: next }),
+            None => None,
+        },
+        Part::Log => Some(JobSection {
+            text: found.log,
+            above: above_log(next, found.next),
+        }),
+    }
+}

@@ -1,0 +1,102 @@
+ghost use Rattle.std.specs.Prelude.{◌≡◌, [], IfOk, OnOk};
+ghost use Rattle.wc_diag_messages.specs.Forms.{IsNameOf, IsPlainIn};
+ghost use Rattle.wc_diag_messages.specs.Warned.{CountsLeftOut, LeavesOut, TellsLeftOut, TellsLeftOutInJson, TellsLeftOutShortly, left_out_tokens};
+
+use crate::message::{Message, shown};
+use crate::object::{line_of, write_number, write_text};
+use json::Writer;
+use std::alloc::{AllocError, Global};
+use wc_diag_texts::Form;
+
+/// The number of warnings left out, in words.
+fn words_of(alloc: Global, count: usize) -> Result<Message, AllocError>
+    ensures { IfOk result (λ message. CountsLeftOut count message.bytes.items) }
+{
+    let mut message = Message::new(alloc);
+    message.say("and ")?;
+    message.count(count)?;
+    message.say(if count == 1 {
+        " more warning"
+    } else {
+        " more warnings"
+    })?;
+    Ok(message)
+}
+
+/// Likewise on a line for people.
+fn long_line(alloc: Global, count: usize) -> Result<Message, AllocError>
+    ensures { IfOk result (λ message. TellsLeftOut count message.bytes.items) }
+{
+    let mut message = words_of(alloc, count)?;
+    message.end_line()?;
+    Ok(message)
+}
+
+/// Likewise after the file.
+fn short_line(alloc: Global, file: &[u8], count: usize) -> Result<Message, AllocError>
+    ensures { IfOk result (λ message. TellsLeftOutShortly file.now count message.bytes.items) }
+{
+    let words = words_of(alloc, count)?;
+    let mut message = Message::new(alloc);
+    message.add(file)?;
+    message.say(": ")?;
+    message.append(&words)?;
+    message.end_line()?;
+    Ok(message)
+}
+
+/// Writes the object.
+fn write_object(writer: &mut Writer, name: &str, count: usize) -> Result<(), AllocError>
+    requires { writer.old.tokens ≡ [] }
+    ensures before { writer.new.before ≡ writer.old.before }
+    ensures tokens { OnOk result (writer.new.tokens ≡ left_out_tokens name.now count) }
+{
+    writer.begin_object()?;
+    write_text(writer, "file", name)?;
+    write_text(writer, "severity", "warning")?;
+    write_number(writer, "leftOut", count)?;
+    writer.end_object()?;
+    Ok(())
+}
+
+/// Likewise as an object on one line, of the file of that name.
+fn named_object(alloc: Global, file: &[u8], name: &str, count: usize) -> Result<Vec<u8>, AllocError>
+    requires { IsNameOf file.now name.now }
+    ensures { IfOk result (λ bytes. TellsLeftOutInJson file.now count bytes.items) }
+{
+    let _file = file;
+    let mut writer = Writer::new(Vec::new(alloc));
+    write_object(&mut writer, name, count)?;
+    let line = line_of(writer)?;
+    Ok(line)
+}
+
+/// Likewise as an object on one line.
+fn object(alloc: Global, file: &[u8], count: usize) -> Result<Vec<u8>, AllocError>
+    ensures { IfOk result (λ bytes. TellsLeftOutInJson file.now count bytes.items) }
+{
+    match str::from_utf8(file) {
+        Ok(name) => named_object(alloc, file, name, count),
+        Err(_) => {
+            let name = shown(alloc, file)?;
+            named_object(alloc, file, name.as_str(), count)
+        }
+    }
+}
+
+/// The number of warnings of a file left out, in that format, on a line with its line feed. The error is out of memory.
+pub fn warnings_left_out(
+    alloc: Global,
+    form: Form,
+    file: &[u8],
+    count: usize,
+) -> Result<Vec<u8>, AllocError>
+    ensures all { IfOk result (λ bytes. LeavesOut form file.now count bytes.items) }
+    ensures plain { IfOk result (λ bytes. IsPlainIn form bytes.items) }
+{
+    match form {
+        Form::Long => Ok(long_line(alloc, count)?.into_bytes()),
+        Form::Short => Ok(short_line(alloc, file, count)?.into_bytes()),
+        Form::Json => object(alloc, file, count),
+    }
+}

@@ -1,0 +1,31 @@
+//! What is said of a refusal, for people, editors and programs: what is wrong, where, the line with its offending slice,
+//! and what to write instead; and a page for each number. A message for people or editors has printable ASCII and line feeds
+//! alone. The fixed lines, on which machines rely, are not made here.
+#![tactic(auto)]
+
+mod excerpts;
+mod explaining;
+mod jobs;
+mod left_out;
+mod long;
+mod message;
+mod object;
+mod page;
+mod parts;
+mod placing;
+mod short;
+mod warned;
+mod warned_lines;
+mod warned_object;
+mod warned_page;
+mod warned_parts;
+mod warning_entries;
+
+pub use explaining::explained;
+pub use jobs::{JobSection, section_of};
+pub use left_out::warnings_left_out;
+pub use message::{Message, shown};
+pub use page::page as page_of;
+pub use warned::warning_message;
+pub use warned_page::warning_page;
+pub use wc_diag_spans::{Evidence, Part, Refusal};

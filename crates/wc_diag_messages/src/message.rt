@@ -1,0 +1,195 @@
+ghost use Rattle.std.specs.Prelude.{◌≡◌, ◌<◌, ◌/◌, ◌%◌, ◌∷◌, ◌++◌, ◌↔◌, [], IfOk, IsTrue, OnOk, codes, replicate, true};
+ghost use Rattle.std.specs.Fmt.{decimal};
+ghost use Rattle.std.specs.List.{list_all};
+ghost use Rattle.wc_diag_messages.specs.Plain.{IsShown, hex_digit, is_plain, shown_byte, shown_text, words_after};
+
+use std::alloc::{AllocError, Global};
+
+/// A text for people, of bytes that a terminal only shows: printable ASCII and line feeds.
+#[derive(Drop)]
+pub struct Message {
+    alloc: Global,
+    bytes: Vec<u8>,
+    ghost plain: { list_all is_plain bytes.items ≡ true },
+}
+
+/// A hexadecimal digit.
+fn digit(value: u8) -> u8
+    ensures plain { is_plain result ≡ true }
+    ensures digit { value < 16 → result ≡ hex_digit value }
+{
+    match value {
+        0..=9 => b'0' + value,
+        10..=15 => b'a' + (value - 10),
+        _ => b'?',
+    }
+}
+
+impl Message {
+    /// A text with nothing in it.
+    pub(crate) fn new(alloc: Global) -> Message
+        ensures nothing { result.bytes.items ≡ [] }
+        ensures shown { IsShown result.bytes.items }
+    {
+        Message {
+            alloc,
+            bytes: Vec::new(alloc),
+        }
+    }
+
+    /// The bytes: printable ASCII and line feeds.
+    pub fn as_bytes(&self) -> &[u8]
+        ensures plain { list_all is_plain result.now ≡ true }
+        ensures all { result.now ≡ self.now.bytes.items }
+    {
+        self.bytes.as_slice()
+    }
+
+    /// The bytes, without the message.
+    pub(crate) fn into_bytes(self) -> Vec<u8>
+        ensures all { result.items ≡ self.bytes.items }
+        ensures plain { list_all is_plain result.items ≡ true }
+    {
+        let Message { bytes, .. } = self;
+        bytes
+    }
+
+    /// The bytes as a text.
+    pub(crate) fn as_str(&self) -> &str
+        ensures { result.now ≡ self.now.bytes.items }
+    {
+        match str::from_utf8(self.as_bytes()) {
+            Ok(text) => text,
+            // Every byte is ASCII, so this is not reached.
+            Err(_) => "",
+        }
+    }
+
+    /// Whether it has no byte.
+    pub(crate) fn is_empty(&self) -> bool
+        ensures { IsTrue result ↔ self.now.bytes.items ≡ [] }
+    {
+        self.bytes.is_empty()
+    }
+
+    /// Adds a byte that is shown as it is.
+    fn put(&mut self, byte: u8) -> Result<(), AllocError>
+        requires { is_plain byte ≡ true }
+        ensures { OnOk result (self.new.bytes.items ≡ self.old.bytes.items ++ byte ∷ []) }
+    {
+        self.bytes.push(byte)?;
+        Ok(())
+    }
+
+    /// Adds `\x` and the two digits of a byte.
+    fn escape(&mut self, byte: u8) -> Result<(), AllocError>
+        ensures { OnOk result (self.new.bytes.items
+            ≡ self.old.bytes.items
+            ++ (92 ∷ 120 ∷ hex_digit (byte / 16) ∷ hex_digit (byte % 16) ∷ [])) }
+    {
+        self.put(b'\\')?;
+        self.put(b'x')?;
+        self.put(digit(byte / 16))?;
+        self.put(digit(byte % 16))
+    }
+
+    /// Adds a byte: printable ASCII as it is, a tab as a space, any other as `\x` and two digits.
+    fn show(&mut self, byte: u8) -> Result<(), AllocError>
+        ensures { OnOk result (self.new.bytes.items ≡ self.old.bytes.items ++ shown_byte byte) }
+    {
+        if byte >= 32 && byte <= 126 {
+            self.put(byte)
+        } else if byte == b'\t' {
+            self.put(b' ')
+        } else {
+            self.escape(byte)
+        }
+    }
+
+    /// Adds bytes on the line.
+    pub(crate) fn add(&mut self, text: &[u8]) -> Result<(), AllocError>
+        ensures { OnOk result (self.new.bytes.items ≡ self.old.bytes.items ++ shown_text text.now) }
+    {
+        for byte in text {
+            self.show(*byte)?;
+        }
+        Ok(())
+    }
+
+    /// Adds words on the line.
+    pub(crate) fn say(&mut self, text: &str) -> Result<(), AllocError>
+        ensures all { OnOk result (self.new.bytes.items
+            ≡ self.old.bytes.items ++ shown_text text.now) }
+        ensures shown { IsShown self.old.bytes.items → OnOk result (IsShown self.new.bytes.items) }
+    {
+        self.add(text.as_bytes())
+    }
+
+    /// Adds a number.
+    pub(crate) fn count(&mut self, number: usize) -> Result<(), AllocError>
+        ensures { OnOk result (self.new.bytes.items
+            ≡ self.old.bytes.items ++ shown_text (decimal number)) }
+    {
+        let text = format!(in self.alloc; "{number}")?;
+        self.say(&text)
+    }
+
+    /// Adds a slice of a text between backquotes.
+    pub(crate) fn quote(&mut self, text: &[u8]) -> Result<(), AllocError>
+        ensures { OnOk result (self.new.bytes.items
+            ≡ self.old.bytes.items
+            ++ (shown_text (codes "`") ++ shown_text text.now ++ shown_text (codes "`"))) }
+    {
+        self.say("`")?;
+        self.add(text)?;
+        self.say("`")
+    }
+
+    /// Adds a mark that number of times.
+    pub(crate) fn repeat(&mut self, mark: u8, times: usize) -> Result<(), AllocError>
+        requires { is_plain mark ≡ true }
+        ensures { OnOk result (self.new.bytes.items
+            ≡ self.old.bytes.items ++ replicate times mark) }
+    {
+        for _done in 0..times {
+            self.put(mark)?;
+        }
+        Ok(())
+    }
+
+    /// Adds all of another message.
+    pub(crate) fn append(&mut self, other: &Message) -> Result<(), AllocError>
+        ensures { OnOk result (self.new.bytes.items
+            ≡ self.old.bytes.items ++ other.now.bytes.items) }
+    {
+        self.bytes.extend_from_slice(&other.bytes)
+    }
+
+    /// Adds words after a mark; nothing if there are none.
+    pub(crate) fn say_before(&mut self, mark: &str, words: &Message) -> Result<(), AllocError>
+        ensures { OnOk result (self.new.bytes.items
+            ≡ self.old.bytes.items ++ words_after (shown_text mark.now) words.now.bytes.items) }
+    {
+        if words.is_empty() {
+            return Ok(());
+        }
+        self.say(mark)?;
+        self.append(words)
+    }
+
+    /// Ends the line.
+    pub(crate) fn end_line(&mut self) -> Result<(), AllocError>
+        ensures { OnOk result (self.new.bytes.items ≡ self.old.bytes.items ++ 10 ∷ []) }
+    {
+        self.put(b'\n')
+    }
+}
+
+/// Bytes as they are shown on one line: printable ASCII as it is, a tab as a space, any other byte as `\x` and two digits.
+pub fn shown(alloc: Global, text: &[u8]) -> Result<Message, AllocError>
+    ensures { IfOk result (λ message. message.bytes.items ≡ shown_text text.now) }
+{
+    let mut message = Message::new(alloc);
+    message.add(text)?;
+    Ok(message)
+}

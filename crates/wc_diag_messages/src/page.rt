@@ -1,0 +1,99 @@
+ghost use Rattle.std.specs.Prelude.{◌≡◌, ◌++◌, IfOk, IfSome, OnOk, is_some};
+ghost use Rattle.wc_diag_messages.specs.Paged.{TellsPage, answer_line, met_at, met_lines, number_line, page_line, plate_line};
+ghost use Rattle.wc_diag_texts.specs.Numbers.{is_refusal};
+
+use crate::message::Message;
+use std::alloc::{AllocError, Global};
+use wc_diag_texts::{Entry, entry_of};
+
+/// The plate of which the pages of plates speak.
+fn plate_a() -> &'static str {
+    "unit = \"kg\" / decimals = 3 / max = 15000 / e = 5 / zero_counts = 10000 / span_counts = 600000 / window = 4"
+}
+
+/// Writes a line of a page: what it says, and its words.
+fn write_line(message: &mut Message, name: &str, words: &str) -> Result<(), AllocError>
+    ensures { OnOk result (message.new.bytes.items
+        ≡ message.old.bytes.items ++ page_line name.now words.now) }
+{
+    message.say(name)?;
+    message.say(": ")?;
+    message.say(words)?;
+    message.end_line()
+}
+
+/// Writes the number, and what it means.
+fn write_number(message: &mut Message, number: u16, told: &str) -> Result<(), AllocError>
+    ensures { OnOk result (message.new.bytes.items
+        ≡ message.old.bytes.items ++ number_line number told.now) }
+{
+    message.count(number as usize)?;
+    write_line(message, "", told)
+}
+
+/// Writes where it is raised, its place, and a smallest input.
+fn write_met(message: &mut Message, entry: &Entry) -> Result<(), AllocError>
+    ensures { OnOk result (message.new.bytes.items
+        ≡ message.old.bytes.items ++ met_lines (met_at entry.now)) }
+{
+    write_line(message, "met at", entry.pass)?;
+    write_line(message, "place", entry.place)?;
+    write_line(
+        message,
+        "a smallest input, in which ` / ` ends a line",
+        entry.input,
+    )
+}
+
+/// Writes the plate of which the pages of its refusals speak.
+fn write_plate(message: &mut Message, number: u16, plate: &str) -> Result<(), AllocError>
+    ensures { OnOk result (message.new.bytes.items
+        ≡ message.old.bytes.items ++ plate_line number plate.now) }
+{
+    if number >= 503 && number <= 508 {
+        return write_line(message, "plate A", plate);
+    }
+    Ok(())
+}
+
+/// Writes how the smallest input is answered.
+fn write_answer(message: &mut Message, number: u16, place: u32) -> Result<(), AllocError>
+    ensures { OnOk result (message.new.bytes.items
+        ≡ message.old.bytes.items ++ answer_line number place) }
+{
+    message.say("the answer to it: refused ")?;
+    message.count(number as usize)?;
+    message.say(" ")?;
+    message.count(place as usize)?;
+    message.end_line()
+}
+
+/// The page of a refusal, as it is printed.
+fn page_message(alloc: Global, entry: &Entry) -> Result<Message, AllocError>
+    ensures { IfOk result (λ message. TellsPage entry.now.number message.bytes.items) }
+{
+    let plate = plate_a();
+    let mut message = Message::new(alloc);
+    write_number(&mut message, entry.number, entry.sentence)?;
+    write_met(&mut message, entry)?;
+    write_plate(&mut message, entry.number, plate)?;
+    write_answer(&mut message, entry.number, entry.answer)?;
+    write_line(&mut message, "help", entry.hint)?;
+    Ok(message)
+}
+
+/// The page of a refusal, if there is one of that number: what it means, where it is raised, a smallest input with its
+/// answer, and what to write instead. The error is out of memory.
+pub fn page(alloc: Global, number: u16) -> Result<Option<Message>, AllocError>
+    ensures known { IfOk result (λ page. is_some page ≡ is_refusal number) }
+    ensures told { IfOk result
+        (λ page. IfSome page (λ message. TellsPage number message.bytes.items)) }
+{
+    match entry_of(number) {
+        Some(entry) => match page_message(alloc, entry) {
+            Ok(message) => Ok(Some(message)),
+            Err(error) => Err(error),
+        },
+        None => Ok(None),
+    }
+}

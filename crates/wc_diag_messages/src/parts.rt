@@ -1,0 +1,142 @@
+ghost use Rattle.std.specs.Prelude.{◌≡◌, ℕ, List, ◌++◌, IfOk, OnOk};
+ghost use Rattle.wc_diag_messages.specs.Explanations.{left_out_text, quoted_text};
+ghost use Rattle.wc_diag_messages.specs.Known.{IsKnown};
+ghost use Rattle.wc_diag_messages.specs.Plain.{IsShown, shown_text};
+
+use crate::excerpts::{WIDEST, piece};
+use crate::message::{Message, shown};
+use crate::placing::named_line;
+use std::alloc::{AllocError, Global};
+use wc_diag_spans::{Finding, Refusal, find};
+use wc_diag_texts::{Case, entry_of, hint_of, sentence_of, words_of};
+
+/// What is said of a refusal, in whatever format.
+#[derive(Drop)]
+pub(crate) struct Parts {
+    /// What exactly is wrong.
+    pub(crate) finding: Finding,
+    /// The line in what is named; 0 if it is not known.
+    pub(crate) line: u32,
+    /// What is wrong, in words.
+    pub(crate) told: Message,
+    /// What could be there; empty if that is not known.
+    pub(crate) expected: Message,
+    /// What to write instead; empty if that is not known.
+    pub(crate) advice: Message,
+}
+
+/// What is said of what is quoted.
+fn sentence(number: u16, finding: &Finding) -> &'static str {
+    match (sentence_of(number, finding.case), entry_of(number)) {
+        (Some(sentence), _) => sentence,
+        (None, Some(entry)) => entry.sentence,
+        (None, None) => "a rule is broken",
+    }
+}
+
+/// What to write in place of what is refused; nothing if that is not known.
+fn hint<'a>(number: u16, finding: &'a Finding) -> &'a str {
+    if !finding.advice.is_empty() {
+        return &finding.advice;
+    }
+    match (hint_of(number, finding.hint), entry_of(number)) {
+        (Some(hint), _) => hint,
+        (None, Some(entry)) => entry.hint,
+        (None, None) => "",
+    }
+}
+
+/// Writes the number of bytes of a slice of that length left out of a quotation, if any are.
+fn write_left_out(message: &mut Message, length: usize) -> Result<(), AllocError>
+    ensures { OnOk result (message.new.bytes.items
+        ≡ message.old.bytes.items ++ left_out_text length) }
+{
+    if length <= WIDEST {
+        return Ok(());
+    }
+    message.say("(and ")?;
+    message.count(length - WIDEST)?;
+    message.say(" bytes more) ")
+}
+
+/// Writes the slice of the text with which a headline begins, if there is one.
+fn write_subject(message: &mut Message, subject: &[u8]) -> Result<(), AllocError>
+    ensures { OnOk result (message.new.bytes.items
+        ≡ message.old.bytes.items ++ quoted_text subject.now) }
+{
+    if subject.is_empty() {
+        return Ok(());
+    }
+    message.quote(piece(subject, 0, WIDEST))?;
+    message.say(" ")?;
+    write_left_out(message, subject.len())
+}
+
+/// Writes what follows a headline, if there is something.
+fn write_detail(message: &mut Message, detail: &str) -> Result<(), AllocError>
+    ensures { IsShown message.old.bytes.items → OnOk result (IsShown message.new.bytes.items) }
+{
+    if detail.is_empty() {
+        return Ok(());
+    }
+    message.say(": ")?;
+    message.say(detail)
+}
+
+/// What is said of what is quoted.
+fn statement_of(alloc: Global, number: u16, finding: &Finding) -> Result<Message, AllocError>
+    ensures { IfOk result (λ message. IsShown message.bytes.items) }
+{
+    let mut message = Message::new(alloc);
+    if matches!(finding.case, Case::Detailed) {
+        message.say(&finding.detail)?;
+        return Ok(message);
+    }
+    message.say(sentence(number, finding))?;
+    write_detail(&mut message, &finding.detail)?;
+    Ok(message)
+}
+
+/// What is wrong, in words.
+fn told_of(alloc: Global, number: u16, finding: &Finding) -> Result<Message, AllocError>
+    ensures { IfOk result (λ told. (said : List ℕ) × (told.bytes.items
+        ≡ quoted_text finding.now.subject.items ++ shown_text said)) }
+{
+    let said = statement_of(alloc, number, finding)?;
+    let mut message = Message::new(alloc);
+    write_subject(&mut message, &finding.subject)?;
+    message.append(&said)?;
+    Ok(message)
+}
+
+/// What is wrong, what could be there, and what to write instead.
+fn said_of(
+    alloc: Global,
+    number: u16,
+    finding: &Finding,
+) -> Result<(Message, Message, Message), AllocError>
+    ensures told { IfOk result (λ words. (said : List ℕ) × (words.0.bytes.items
+        ≡ quoted_text finding.now.subject.items ++ shown_text said)) }
+    ensures expected { IfOk result (λ words. IsShown words.1.bytes.items) }
+    ensures advice { IfOk result (λ words. IsShown words.2.bytes.items) }
+{
+    let told = told_of(alloc, number, finding)?;
+    let expected = shown(alloc, words_of(finding.awaits).as_bytes())?;
+    let advice = shown(alloc, hint(number, finding).as_bytes())?;
+    Ok((told, expected, advice))
+}
+
+/// What is said of a refusal.
+pub(crate) fn parts_of(alloc: Global, refusal: &Refusal<'_>) -> Result<Parts, AllocError>
+    ensures { IfOk result (λ parts. IsKnown refusal.now parts) }
+{
+    let finding = find(alloc, refusal)?;
+    let (told, expected, advice) = said_of(alloc, refusal.number, &finding)?;
+    Ok(Parts {
+        line: named_line(refusal, finding.line),
+        told,
+        expected,
+        advice,
+        finding,
+    })
+}

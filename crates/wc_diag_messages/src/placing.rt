@@ -1,0 +1,177 @@
+ghost use Rattle.std.specs.Prelude.{◌≡◌, ◌≤◌, ◌++◌, IfOk, IfSome, OnOk, length};
+ghost use Rattle.wc_diag_messages.specs.Explanations.{is_program, line_text, line_under, named_line};
+ghost use Rattle.wc_diag_messages.specs.Locations.{beside_text, column_text, counted_name, counted_text, heading, in_brackets, margin_text, place_text, row_text, section_text};
+
+use crate::message::Message;
+use std::alloc::{AllocError, Global};
+use wc_diag_spans::{Finding, Part, Refusal, Spot};
+
+/// Whether the part is a program.
+fn is_program(part: Part) -> bool
+    ensures { result ≡ is_program part }
+{
+    matches!(part, Part::Program | Part::Next)
+}
+
+/// The line that number of lines below others.
+fn line_under(above: u32, line: u32) -> u32
+    ensures { result ≡ line_under above line }
+{
+    above.saturating_add(line)
+}
+
+/// The line in what is named, if this one was found in the text; 0 if it is not known.
+pub(crate) fn named_line(refusal: &Refusal<'_>, found: u32) -> u32
+    ensures { result ≡ named_line refusal.now found }
+{
+    if found > 0 {
+        return line_under(refusal.above, found);
+    }
+    if is_program(refusal.part) && refusal.place > 0 {
+        return line_under(refusal.above, refusal.place);
+    }
+    0
+}
+
+/// As many spaces as a line's number has digits.
+pub(crate) fn margin(alloc: Global, line: u32) -> Result<Message, AllocError>
+    ensures { IfOk result (λ message. message.bytes.items ≡ margin_text line) }
+{
+    let mut number = Message::new(alloc);
+    number.count(line as usize)?;
+    let mut message = Message::new(alloc);
+    message.repeat(b' ', number.as_bytes().len())?;
+    Ok(message)
+}
+
+/// Writes a line after the name of what it is in, if it is known.
+pub(crate) fn write_line(message: &mut Message, line: u32) -> Result<(), AllocError>
+    ensures { OnOk result (message.new.bytes.items
+        ≡ message.old.bytes.items ++ line_text line) }
+{
+    if line == 0 {
+        return Ok(());
+    }
+    message.say(":")?;
+    message.count(line as usize)
+}
+
+/// Writes the column of the offending slice.
+pub(crate) fn write_column(message: &mut Message, finding: &Finding) -> Result<(), AllocError>
+    requires { IfSome finding.now.spot (λ spot. spot.start ≤ length finding.now.shown.items) }
+    ensures { OnOk result (message.new.bytes.items
+        ≡ message.old.bytes.items ++ column_text finding.now.spot) }
+{
+    match finding.spot {
+        Some(spot) => {
+            message.say(":")?;
+            message.count(spot.start + 1)
+        }
+        None => Ok(()),
+    }
+}
+
+/// The line with which a section of a job begins.
+fn heading(part: Part) -> &'static str
+    ensures { result.now ≡ heading part }
+{
+    match part {
+        Part::Job => "",
+        Part::Plate => "@plate",
+        Part::Program => "@program",
+        Part::Next => "@next",
+        Part::Log => "@log",
+    }
+}
+
+/// What is counted in a part.
+fn counted_name(part: Part) -> &'static str
+    ensures { result.now ≡ counted_name part }
+{
+    match part {
+        Part::Log => "row ",
+        _ => "line ",
+    }
+}
+
+/// Writes a line or a row by its number.
+fn write_counted(message: &mut Message, part: Part, place: u32) -> Result<(), AllocError>
+    ensures { OnOk result (message.new.bytes.items
+        ≡ message.old.bytes.items ++ counted_text part place) }
+{
+    message.say(counted_name(part))?;
+    message.count(place as usize)
+}
+
+/// Writes a place in a section of a job.
+fn write_in_section(message: &mut Message, part: Part, place: u32) -> Result<(), AllocError>
+    ensures { OnOk result (message.new.bytes.items
+        ≡ message.old.bytes.items ++ section_text part place) }
+{
+    if place == 0 {
+        return message.say(heading(part));
+    }
+    write_counted(message, part, place)?;
+    message.say(" of ")?;
+    message.say(heading(part))
+}
+
+/// Writes the row of a log.
+fn write_row(message: &mut Message, part: Part, place: u32) -> Result<(), AllocError>
+    ensures { OnOk result (message.new.bytes.items
+        ≡ message.old.bytes.items ++ row_text part place) }
+{
+    match part {
+        Part::Log => {
+            if place == 0 {
+                return Ok(());
+            }
+            write_counted(message, part, place)
+        }
+        _ => Ok(()),
+    }
+}
+
+/// The place by which the refusal is counted, if it is not the line that is named.
+pub(crate) fn place_words(alloc: Global, refusal: &Refusal<'_>) -> Result<Message, AllocError>
+    ensures { IfOk result (λ message. message.bytes.items
+        ≡ place_text refusal.now.in_job refusal.now.part refusal.now.place) }
+{
+    let mut message = Message::new(alloc);
+    if refusal.in_job {
+        write_in_section(&mut message, refusal.part, refusal.place)?;
+        return Ok(message);
+    }
+    write_row(&mut message, refusal.part, refusal.place)?;
+    Ok(message)
+}
+
+/// Writes words between brackets, if there are any.
+fn write_in_brackets(message: &mut Message, words: &Message) -> Result<(), AllocError>
+    ensures { OnOk result (message.new.bytes.items
+        ≡ message.old.bytes.items ++ in_brackets words.now.bytes.items) }
+{
+    if words.is_empty() {
+        return Ok(());
+    }
+    message.say(" (")?;
+    message.append(words)?;
+    message.say(")")
+}
+
+/// The column of the offending slice, and the place by which the refusal is counted.
+pub(crate) fn beside(
+    alloc: Global,
+    refusal: &Refusal<'_>,
+    finding: &Finding,
+) -> Result<Message, AllocError>
+    requires { IfSome finding.now.spot (λ spot. spot.start ≤ length finding.now.shown.items) }
+    ensures { IfOk result (λ message. message.bytes.items
+        ≡ beside_text refusal.now finding.now.spot) }
+{
+    let counted = place_words(alloc, refusal)?;
+    let mut message = Message::new(alloc);
+    write_column(&mut message, finding)?;
+    write_in_brackets(&mut message, &counted)?;
+    Ok(message)
+}

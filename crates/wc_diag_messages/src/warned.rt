@@ -1,0 +1,48 @@
+ghost use Rattle.std.specs.Prelude.{◌≤◌, ℕ, List, IfOk, IfSome, length};
+ghost use Rattle.wc_diag_messages.specs.Forms.{IsPlainIn};
+ghost use Rattle.wc_diag_messages.specs.Warned.{KnowsWarning, Warns};
+
+use crate::warned_lines::{long_warning, short_warning};
+use crate::warned_object::warning_object;
+use crate::warned_parts::{WarningParts, warning_parts};
+use std::alloc::{AllocError, Global};
+use wc_diag_texts::Form;
+use wc_diag_warnings::Warning;
+
+/// What is known of a warning, in that format.
+fn warned_in(
+    alloc: Global,
+    form: Form,
+    file: &[u8],
+    warning: &Warning<'_>,
+    parts: &WarningParts,
+) -> Result<Vec<u8>, AllocError>
+    requires { IfSome parts.now.finding.spot
+        (λ spot. spot.start ≤ length parts.now.finding.shown.items) }
+    ensures all { IfOk result (λ bytes. (text : List ℕ) → KnowsWarning text warning.now parts.now
+        → Warns form file.now text warning.now bytes.items) }
+    ensures plain { IfOk result (λ bytes. IsPlainIn form bytes.items) }
+{
+    match form {
+        Form::Long => Ok(long_warning(alloc, file, warning, parts)?.into_bytes()),
+        Form::Short => Ok(short_warning(alloc, file, warning, parts)?.into_bytes()),
+        Form::Json => warning_object(alloc, file, warning, parts),
+    }
+}
+
+/// What is said of a warning of a file's text, in that format: its number, the file, its line, the column, its name and the
+/// line of the text. Each line ends with a line feed. The error is out of memory.
+pub fn warning_message(
+    alloc: Global,
+    form: Form,
+    file: &[u8],
+    text: &[u8],
+    warning: &Warning<'_>,
+) -> Result<Vec<u8>, AllocError>
+    ensures all { IfOk result
+        (λ bytes. Warns form file.now text.now warning.now bytes.items) }
+    ensures plain { IfOk result (λ bytes. IsPlainIn form bytes.items) }
+{
+    let parts = warning_parts(alloc, text, warning)?;
+    warned_in(alloc, form, file, warning, &parts)
+}

@@ -1,0 +1,178 @@
+ghost use Rattle.std.specs.Prelude.{◌≡◌, ◌≤◌, ◌++◌, ℕ, [], true, List, IfOk, IfSome, OnOk, drop, length, take, unwrap_or};
+ghost use Rattle.wc_diag_spans.specs.Lines.{line_of_number};
+ghost use Rattle.wc_diag_messages.specs.Plain.{shown_text};
+ghost use Rattle.wc_diag_messages.specs.Warned.{KnowsWarning, StandsThere, named_text};
+
+use crate::excerpts::piece;
+use crate::message::{Message, shown};
+use crate::warning_entries::warning_of;
+use std::alloc::{AllocError, Global};
+use wc_diag_spans::{Finding, Spot, line_at};
+use wc_diag_texts::{Awaits, Case};
+use wc_diag_warnings::Warning;
+
+/// What is said of a warning, in whatever format.
+#[derive(Drop)]
+pub(crate) struct WarningParts {
+    /// The line that is shown with its offending slice.
+    pub(crate) finding: Finding,
+    /// What is suspicious, in words.
+    pub(crate) told: Message,
+    /// What to write instead.
+    pub(crate) advice: Message,
+}
+
+/// The line of that number, without its end; nothing if the text has none.
+fn line_shown(alloc: Global, text: &[u8], line: u32) -> Result<Vec<u8>, AllocError>
+    ensures { IfOk result (λ bytes. bytes.items ≡ unwrap_or (line_of_number line text.now) []) }
+{
+    match line_at(text, line) {
+        Some(found) => found.to_vec(alloc),
+        None => Ok(Vec::new(alloc)),
+    }
+}
+
+/// Whether a byte may be in a name or an address.
+fn is_part(byte: u8) -> bool {
+    byte.is_ascii_alphanumeric() || byte == b'_' || byte == b'%' || byte == b'.'
+}
+
+/// Whether the byte before a place of a line, and the one after the name there, are of no longer name.
+fn is_whole(line: &[u8], place: usize, name: &[u8]) -> bool {
+    let (before, behind) = line.split_at(place.min(line.len()));
+    let begins = match before.last() {
+        Some(byte) => !is_part(*byte),
+        None => true,
+    };
+    let ends = match behind.get(name.len()) {
+        Some(byte) => !is_part(*byte),
+        None => true,
+    };
+    begins && ends
+}
+
+/// Whether a name is at a place of a line, and no longer one.
+fn stands_at(line: &[u8], place: usize, name: &[u8]) -> bool
+    ensures { result ≡ true → take (length name.now) (drop place line.now) ≡ name.now }
+{
+    piece(line, place, name.len()) == name && is_whole(line, place, name)
+}
+
+/// The first byte of a line that is not a blank, and those after it.
+fn whole_spot(line: &[u8]) -> Option<Spot>
+    ensures { IfSome result (λ spot. spot.start ≤ length line.now) }
+{
+    for start in 0..line.len() {
+        if line[start] > b' ' {
+            let length = line.len() - start;
+            return Some(Spot { start, length });
+        }
+    }
+    None
+}
+
+/// Where a name is in a line for the first time.
+fn name_spot(line: &[u8], name: &[u8]) -> Option<Spot>
+    ensures within { IfSome result (λ spot. spot.start ≤ length line.now) }
+    ensures stands { IfSome result
+        (λ spot. take spot.length (drop spot.start line.now) ≡ name.now) }
+{
+    for start in 0..line.len() {
+        if stands_at(line, start, name) {
+            let length = name.len();
+            return Some(Spot { start, length });
+        }
+    }
+    None
+}
+
+/// Where a name is in a line for the first time; with no name what is on the line.
+fn spot_of(line: &[u8], name: &[u8]) -> Option<Spot>
+    ensures within { IfSome result (λ spot. spot.start ≤ length line.now) }
+    ensures stands { IfSome result (StandsThere name.now line.now) }
+{
+    if name.is_empty() {
+        return whole_spot(line);
+    }
+    name_spot(line, name)
+}
+
+/// The sentence of a warning.
+fn sentence(number: u8) -> &'static str {
+    match warning_of(number) {
+        Some(entry) => entry.sentence,
+        None => "is suspicious",
+    }
+}
+
+/// What to write instead.
+fn hint(number: u8) -> &'static str {
+    match warning_of(number) {
+        Some(entry) => entry.hint,
+        None => "",
+    }
+}
+
+/// Writes the name of which a warning is, if it is of one.
+fn write_name(message: &mut Message, name: &[u8]) -> Result<(), AllocError>
+    ensures { OnOk result (message.new.bytes.items
+        ≡ message.old.bytes.items ++ named_text name.now) }
+{
+    if name.is_empty() {
+        return Ok(());
+    }
+    message.quote(name)?;
+    message.say(" ")
+}
+
+/// What is suspicious, in words.
+fn told_of(alloc: Global, warning: &Warning<'_>) -> Result<Message, AllocError>
+    ensures { IfOk result (λ told. (said : List ℕ) × (told.bytes.items
+        ≡ named_text warning.now.name.now ++ shown_text said)) }
+{
+    let mut message = Message::new(alloc);
+    write_name(&mut message, warning.name)?;
+    message.say(sentence(warning.number))?;
+    Ok(message)
+}
+
+/// The line of a warning, with its offending slice.
+fn finding_of(alloc: Global, text: &[u8], warning: &Warning<'_>) -> Result<Finding, AllocError>
+    ensures shows { IfOk result (λ finding. finding.shown.items
+        ≡ unwrap_or (line_of_number warning.now.line text.now) []) }
+    ensures within { IfOk result (λ finding. IfSome finding.spot
+        (λ spot. spot.start ≤ length finding.shown.items)) }
+    ensures stands { IfOk result (λ finding. IfSome finding.spot
+        (StandsThere warning.now.name.now finding.shown.items)) }
+{
+    let shown = line_shown(alloc, text, warning.line)?;
+    Ok(Finding {
+        line: warning.line,
+        spot: spot_of(&shown, warning.name),
+        shown,
+        subject: Vec::new(alloc),
+        case: Case::Unknown,
+        detail: String::new(alloc),
+        awaits: Awaits::Nothing,
+        hint: Case::Unknown,
+        advice: String::new(alloc),
+    })
+}
+
+/// What is said of a warning of a text.
+pub(crate) fn warning_parts(
+    alloc: Global,
+    text: &[u8],
+    warning: &Warning<'_>,
+) -> Result<WarningParts, AllocError>
+    ensures { IfOk result (λ parts. KnowsWarning text.now warning.now parts) }
+{
+    let finding = finding_of(alloc, text, warning)?;
+    let told = told_of(alloc, warning)?;
+    let advice = shown(alloc, hint(warning.number).as_bytes())?;
+    Ok(WarningParts {
+        finding,
+        told,
+        advice,
+    })
+}

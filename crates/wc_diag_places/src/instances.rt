@@ -1,0 +1,59 @@
+use crate::pieces::{is_listed, line_at, span_of};
+use crate::span::Slice;
+use wc_diag_texts::Case;
+use wc_lexer::Token;
+use wc_model::{Source, Word};
+
+/// The type with which a unit declares a name; each line of the tree is a place.
+fn type_of<'a>(source: &Source<'a>, unit: usize, name: &[u8]) -> Option<Word<'a>> {
+    let declared = source
+        .units
+        .get(unit)?
+        .declarations
+        .iter()
+        .find(|declaration| {
+            declaration
+                .names
+                .iter()
+                .any(|word| word.text.eq_ignore_ascii_case(name))
+        })?;
+    Some(declared.type_name)
+}
+
+/// The instance that a slice of an instruction refers to: that of a field, or of the call.
+fn instance_in<'a>(tokens: &[Token<'a>], piece: &[Token<'a>], case: Case) -> Option<Token<'a>> {
+    match case {
+        Case::Field => piece.first().copied(),
+        _ if is_listed(tokens) => tokens.get(1).copied(),
+        _ if piece.len() > 1 => piece.first().copied(),
+        _ => None,
+    }
+}
+
+/// The type of the instance that is referred to, if its declaration names it.
+pub(crate) fn block_in(
+    source: &Source<'_>,
+    unit: usize,
+    tokens: &[Token<'_>],
+    piece: &[Token<'_>],
+    case: Case,
+) -> Option<Slice> {
+    let instance = instance_in(tokens, piece, case)?;
+    let named = type_of(source, unit, instance.text)?;
+    Some(Slice {
+        start: named.line as usize,
+        length: named.text.len(),
+        line: 0,
+    })
+}
+
+/// The bytes of some tokens, if there are any.
+pub(crate) fn slice_of(piece: &[Token<'_>]) -> Option<Slice> {
+    let line = line_at(Some(piece.first()?));
+    let (start, length) = span_of(piece);
+    Some(Slice {
+        start,
+        length,
+        line,
+    })
+}

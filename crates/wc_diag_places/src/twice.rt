@@ -1,0 +1,64 @@
+use wc_diag_texts::Case;
+use wc_model::{MOST_VARIABLES, Source, Unit, Word};
+
+/// Where a word is, if it is this name and is before a place.
+fn place_before(word: &Word<'_>, name: &[u8], place: u32) -> Option<u32> {
+    if word.line < place && word.text.eq_ignore_ascii_case(name) {
+        return Some(word.line);
+    }
+    None
+}
+
+/// The number of the unit that a place is in.
+pub(crate) fn unit_at(source: &Source<'_>, place: u32) -> usize {
+    let count = source
+        .units
+        .iter()
+        .take_while(|unit| unit.line <= place)
+        .count();
+    count.saturating_sub(1)
+}
+
+/// The number of variables of a unit up to a place.
+fn variables_until(unit: &Unit<'_>, place: u32) -> usize {
+    let mut count = 0_usize;
+    for declaration in &unit.declarations {
+        let words = declaration.names.iter();
+        count = count.saturating_add(words.filter(|word| word.line <= place).count());
+    }
+    count
+}
+
+/// In which way a unit has too much at a name (306): the rule on variables or on places is broken.
+pub(crate) fn case_of_room(source: &Source<'_>, place: u32) -> Case {
+    match source.units.get(unit_at(source, place)) {
+        Some(unit) if variables_until(unit, place) > MOST_VARIABLES => Case::Variable,
+        _ => Case::Plain,
+    }
+}
+
+/// Where the first of two is that have the name at a place: units or variables (301), labels (407), the label of a jump (406).
+pub(crate) fn first_of_two(
+    source: &Source<'_>,
+    number: u16,
+    name: &[u8],
+    place: u32,
+) -> Option<u32> {
+    let unit = source.units.get(unit_at(source, place))?;
+    match number {
+        301 if unit.name.line == place => source
+            .units
+            .iter()
+            .find_map(|unit| place_before(&unit.name, name, place)),
+        301 => unit
+            .declarations
+            .iter()
+            .flat_map(|declaration| declaration.names.iter())
+            .find_map(|word| place_before(word, name, place)),
+        406 | 407 => unit
+            .body
+            .iter()
+            .find_map(|line| place_before(line.label.as_ref()?, name, place)),
+        _ => None,
+    }
+}

@@ -1,0 +1,79 @@
+ghost use Rattle.std.specs.Prelude.{◌≡◌, None, OnOk, Some, []};
+
+use std::alloc::{AllocError, Global};
+use wc_diag_texts::{Awaits, Case};
+
+/// The offending bytes of a line.
+#[derive(Clone, Copy, PartialEq, Eq)]
+pub struct Spot {
+    /// The first of them, counted from 0.
+    pub start: usize,
+    /// Their number.
+    pub length: usize,
+}
+
+/// What exactly is wrong, as far as it is sure.
+#[derive(Drop)]
+pub struct Finding {
+    /// The line that is shown, counted from 1 in the current text; 0: none.
+    pub line: u32,
+    /// Its bytes.
+    pub shown: Vec<u8>,
+    /// The offending span in it.
+    pub spot: Option<Spot>,
+    /// The slice of the text with which the headline begins; empty: none.
+    pub subject: Vec<u8>,
+    /// What is said of it, by the number: the headline.
+    pub case: Case,
+    /// What follows the headline; empty: nothing.
+    pub detail: String,
+    /// What could be at the span.
+    pub awaits: Awaits,
+    /// What to write instead, by the number.
+    pub hint: Case,
+    /// What to write instead, with the available values; empty: nothing beyond the hint.
+    pub advice: String,
+}
+
+impl Finding {
+    /// Nothing beyond what the number says, on that line.
+    pub(crate) fn new(alloc: Global, line: u32) -> Finding
+        ensures nothing { (result.spot ≡ None) × (result.shown.items ≡ []) }
+        ensures line { result.line ≡ line }
+    {
+        Finding {
+            line,
+            shown: Vec::new(alloc),
+            spot: None,
+            subject: Vec::new(alloc),
+            case: Case::Unknown,
+            detail: String::new(alloc),
+            awaits: Awaits::Nothing,
+            hint: Case::Unknown,
+            advice: String::new(alloc),
+        }
+    }
+
+    /// Points to bytes of the line.
+    pub(crate) fn point(&mut self, start: usize, length: usize)
+        ensures spot { self.new.spot ≡ Some (record { start = start; length = length }) }
+        ensures line { self.new.line ≡ self.old.line }
+        ensures subject { self.new.subject.items ≡ self.old.subject.items }
+        ensures shown { self.new.shown.items ≡ self.old.shown.items }
+    {
+        self.spot = Some(Spot { start, length });
+    }
+
+    /// Says of a slice of the text what is said in that case.
+    pub(crate) fn tell(&mut self, subject: &[u8], case: Case) -> Result<(), AllocError>
+        ensures spot { self.new.spot ≡ self.old.spot }
+        ensures line { self.new.line ≡ self.old.line }
+        ensures subject { OnOk result (self.new.subject.items ≡ subject.now) }
+    {
+        self.subject.clear();
+        self.case = case;
+        self.hint = case;
+        self.subject.extend_from_slice(subject)?;
+        Ok(())
+    }
+}

@@ -1,0 +1,25 @@
+//! What exactly is wrong with what is refused, as whoever refused it reports: of a program's text its passes, of a plate its
+//! rules, of a log the row. The line of a plate that gives a value to a key is searched for: if that is not sure, none is
+//! shown.
+#![tactic(auto)]
+
+mod advice;
+mod differences;
+mod finding;
+mod lines;
+mod members;
+mod mistakes;
+mod near;
+mod parentheses;
+mod pieces;
+mod plates;
+mod programs;
+mod refusal;
+mod rows;
+mod searching;
+mod types;
+
+pub use finding::{Finding, Spot};
+pub use lines::line_at;
+pub use refusal::{Evidence, Part, Refusal};
+pub use searching::find;

@@ -1,0 +1,215 @@
+use crate::finding::Finding;
+use crate::lines::{behind, column_at, line_length, line_of, piece};
+use memchr::{memchr, memmem};
+use std::alloc::{AllocError, Global};
+use toml::de::Error;
+use wc_diag_texts::{Case, Values, text_with};
+use wc_plate::{BrokenRule, allows_interval, plate_of};
+
+/// The scale intervals that some plate may have.
+const INTERVALS: [i64; 6] = [1, 2, 5, 10, 20, 50];
+
+/// The line of a text that gives a value to a key, counted from 1, and where the key and its value start in it.
+#[derive(Clone, Copy)]
+struct KeyLine {
+    line: u32,
+    key: usize,
+    value: usize,
+    length: usize,
+}
+
+/// The number of leading spaces and tabs.
+fn blanks(text: &[u8]) -> usize {
+    text.iter()
+        .take_while(|byte| **byte == b' ' || **byte == b'\t')
+        .count()
+}
+
+/// The number of bytes of a value, up to a blank, a comment or the line's end.
+fn value_length(text: &[u8]) -> usize {
+    text.iter()
+        .take_while(|byte| **byte > b' ' && **byte != b'#')
+        .count()
+}
+
+/// Where that key is given its value, if the first line does so, with that number of lines above it.
+fn key_on(line: &[u8], above: usize, name: &str) -> Option<KeyLine> {
+    let key = blanks(line);
+    if !behind(line, key).starts_with(name.as_bytes()) {
+        return None;
+    }
+    let end = key.saturating_add(name.len());
+    let sign = end.saturating_add(blanks(behind(line, end)));
+    if behind(line, sign).first() != Some(&b'=') {
+        return None;
+    }
+    let value = sign.saturating_add(1);
+    let value = value.saturating_add(blanks(behind(line, value)));
+    Some(KeyLine {
+        line: above.saturating_add(1).min(u32::MAX as usize) as u32,
+        key,
+        value,
+        length: value_length(behind(line, value)).max(1),
+    })
+}
+
+/// Searches the text for the one line that gives a value to that key: once through it, line by line. Nothing is found if
+/// two do so, or if a text could run over lines.
+fn search_key(text: &[u8], name: &str) -> Option<KeyLine> {
+    // Three quotes of a kind in a row could begin a text that runs over lines.
+    if memmem::find(text, b"\"\"\"").is_some() || memmem::find(text, b"'''").is_some() {
+        return None;
+    }
+    let mut found = None;
+    let (mut start, mut number) = (0_usize, 0_usize);
+    for _line in 0..text.len() {
+        let rest = behind(text, start).iter();
+        let above = rest.take_while(|byte| **byte == b'\n').count();
+        start = start.saturating_add(above);
+        number = number.saturating_add(above);
+        if let Some(here) = key_on(behind(text, start), number, name) {
+            if found.is_some() {
+                return None;
+            }
+            found = Some(here);
+        }
+        match memchr(b'\n', behind(text, start)) {
+            Some(length) => start = start.saturating_add(length),
+            None => return found,
+        }
+    }
+    found
+}
+
+/// Points to a key or to its value, if one line gives it.
+fn point_to(finding: &mut Finding, text: &[u8], name: &str, is_key: bool) {
+    let Some(found) = search_key(text, name) else {
+        return;
+    };
+    finding.line = found.line;
+    if is_key {
+        finding.point(found.key, name.len());
+    } else {
+        finding.point(found.value, found.length);
+    }
+}
+
+/// A unit as a plate writes it.
+fn unit_word(unit: [u8; 3]) -> &'static str {
+    match &unit {
+        b"t  " => "t",
+        b"kg " => "kg",
+        _ => "g",
+    }
+}
+
+/// The scale intervals that are allowed with a unit and decimals, with commas between.
+fn allowed_intervals(alloc: Global, unit: [u8; 3], decimals: u32) -> Result<String, AllocError> {
+    let mut found = String::new(alloc);
+    for e in INTERVALS {
+        if allows_interval(unit, decimals, e) {
+            found = if found.is_empty() {
+                format!(in alloc; "{e}")?
+            } else {
+                format!(in alloc; "{found}, {e}")?
+            };
+        }
+    }
+    Ok(found)
+}
+
+/// The key whose value a rule on values refers to, and what is said of it if the rule's number does not say it.
+fn key_of(rule: BrokenRule<'_>) -> (&'static str, Case) {
+    match rule {
+        BrokenRule::Unit => ("unit", Case::Unknown),
+        BrokenRule::Decimals => ("decimals", Case::Unknown),
+        BrokenRule::Interval { .. } => ("e", Case::Unknown),
+        BrokenRule::Load { .. } => ("max", Case::Unknown),
+        BrokenRule::ZeroCounts => ("zero_counts", Case::ZeroCounts),
+        BrokenRule::SpanCounts { .. } => ("span_counts", Case::SpanCounts),
+        _ => ("window", Case::Unknown),
+    }
+}
+
+/// Which values a rule on values allows, if its number does not say it.
+fn advice_of(alloc: Global, rule: BrokenRule<'_>) -> Result<String, AllocError> {
+    match rule {
+        BrokenRule::Interval { unit, decimals } => {
+            let allowed = allowed_intervals(alloc, unit, decimals)?;
+            text_with(alloc, Values::Interval(unit_word(unit), decimals, &allowed))
+        }
+        BrokenRule::Load { e } => text_with(alloc, Values::Load(e)),
+        BrokenRule::SpanCounts { n } => text_with(alloc, Values::Span(n)),
+        _ => Ok(String::new(alloc)),
+    }
+}
+
+/// Says which rule is broken, and points to the key that is referred to.
+fn tell_rule(
+    alloc: Global,
+    finding: &mut Finding,
+    text: &[u8],
+    rule: BrokenRule<'_>,
+) -> Result<(), AllocError> {
+    match rule {
+        BrokenRule::UnknownKey { key, missing } => {
+            point_to(finding, text, key, true);
+            if let Some(missing) = missing {
+                finding.advice = text_with(alloc, Values::MissingKey(missing))?;
+            }
+            finding.tell(key.as_bytes(), Case::UnknownKey)
+        }
+        BrokenRule::MissingKey { key } => finding.tell(key.as_bytes(), Case::MissingKey),
+        BrokenRule::WrongKind { key } => {
+            point_to(finding, text, key, false);
+            let case = match key {
+                "unit" => Case::NoText,
+                _ => Case::NoWholeNumber,
+            };
+            finding.tell(key.as_bytes(), case)
+        }
+        rule => {
+            let (key, case) = key_of(rule);
+            point_to(finding, text, key, false);
+            finding.case = case;
+            finding.advice = advice_of(alloc, rule)?;
+            Ok(())
+        }
+    }
+}
+
+/// Says where a text stops being TOML, and why.
+fn tell_syntax(
+    alloc: Global,
+    finding: &mut Finding,
+    text: &[u8],
+    error: &Error,
+) -> Result<(), AllocError> {
+    let Some(span) = error.span() else {
+        return Err(AllocError);
+    };
+    let meant = piece(text, span.start, span.end.saturating_sub(span.start));
+    finding.line = line_of(text, span.start);
+    finding.point(column_at(text, span.start), line_length(meant).max(1));
+    let why = error.message();
+    finding.detail = format!(in alloc; "{why}")?;
+    Ok(())
+}
+
+/// Finds the fault of a plate: the rule of that number that its check names.
+pub(crate) fn find_plate_fault(
+    alloc: Global,
+    finding: &mut Finding,
+    text: &[u8],
+    number: u16,
+) -> Result<(), AllocError> {
+    match toml::table_from_slice(alloc, text) {
+        Ok(table) => match plate_of(&table) {
+            Err(rule) if rule.number() == number => tell_rule(alloc, finding, text, rule),
+            _ => Ok(()),
+        },
+        Err(error) if number == 501 => tell_syntax(alloc, finding, text, &error),
+        // a text that is too long was not read to its end
+        Err(_) => Ok(()),
+    }
+}

@@ -1,0 +1,267 @@
+ghost use Rattle.std.specs.Prelude.{◌≡◌, ◌≤◌, ◌<◌, IfOk, IfSome, None, OnOk, Some};
+ghost use Rattle.wc_diag_spans.specs.Lines.{column_at};
+ghost use Rattle.wc_diag_spans.specs.Meant.{HasLaterSpot, HasStop, StandsAt};
+ghost use Rattle.wc_diag_places.specs.LaterSpots.{RefusesLater};
+ghost use Rattle.wc_diag_places.specs.ReadingSpots.{StopsReading};
+
+use crate::advice::advice_at;
+use crate::differences::{difference_said, names_operator, words_at};
+use crate::finding::Finding;
+use crate::lines::{behind, column_at, front, piece};
+use crate::mistakes::{mistake_at, names_type, word_before};
+use crate::parentheses::lines_to_opening;
+use crate::pieces::{BYTE_ORDER_MARK, case_of_piece};
+use std::alloc::{AllocError, Global};
+use wc_built_in::{Keyword, keyword_named};
+use wc_diag_places::{RefusalSpan, read_by_places, spot_in, stop_of};
+use wc_diag_texts::{Awaits, Case, Values, sentence_of, text_with};
+use wc_model::{Fault, is_word};
+
+/// In which way a word does not begin a line, if only a colon could follow it.
+fn case_of_word(word: &[u8]) -> Case {
+    match keyword_named(word) {
+        Some(Keyword::SectionStart(_)) | Some(Keyword::SectionEnd) => Case::SectionWord,
+        Some(Keyword::UnitEnd(_)) => Case::UnitEnd,
+        Some(Keyword::Kept) => Case::LeftOut,
+        _ => Case::NoOperator,
+    }
+}
+
+/// In which way a token can't be where it is.
+fn case_of_token(token: &[u8]) -> Case {
+    match (keyword_named(token), token.first()) {
+        (Some(Keyword::UnitStart(_)), _) => Case::UnitWord,
+        (Some(Keyword::Kept), _) => Case::LeftOut,
+        (_, Some(b')')) => Case::Closing,
+        (_, Some(b'\n')) => Case::LineEnd,
+        _ => Case::Plain,
+    }
+}
+
+/// In which way a rule is broken at a slice of the text, which goes on like `text`.
+fn case_at(number: u16, text: &[u8], span: RefusalSpan) -> Case {
+    let token = front(text, span.length);
+    match (number, span.awaits) {
+        (101..=107, _) => case_of_piece(number, text, token),
+        (201, Awaits::LabelColon) => case_of_word(token),
+        (201..=208, _) => case_of_token(token),
+        (401, _) if names_type(token) => Case::BlockType,
+        _ => span.case,
+    }
+}
+
+/// The case of which the sentence speaks: some mistakes have a sentence of their own.
+fn case_said(case: Case, mistake: Case) -> Case {
+    match mistake {
+        Case::Limit | Case::Select | Case::Move | Case::StandardFunction | Case::Conversion =>
+            Case::StandardFunction,
+        Case::Configuration | Case::OwnType => Case::Configuration,
+        Case::StatementAssign
+        | Case::AtLabel
+        | Case::NoCondition
+        | Case::SecondProgram
+        | Case::EmptyText
+        | Case::TypedNumber
+        | Case::TypedTruth
+        | Case::SpacedDuration => mistake,
+        _ => case,
+    }
+}
+
+/// The number of bytes of a slice that are quoted: none if its sentence is given alone.
+fn quoted_length(text: &[u8], number: u16, case: Case, span: &RefusalSpan) -> usize {
+    match (number, case) {
+        (101, Case::ByteOrderMark) => BYTE_ORDER_MARK.len(),
+        (201, Case::LineEnd) | (202..=208, _) | (403, Case::AtLabel) => 0,
+        _ if span.below.is_some() || sentence_of(number, case).is_none() => 0,
+        (402, _) if names_operator(text, span) => 0,
+        _ => span.length,
+    }
+}
+
+/// What follows the sentence of a refusal on a line: which parenthesis is open, where the first of two is.
+fn detail_of(
+    alloc: Global,
+    text: &[u8],
+    number: u16,
+    line: u32,
+    span: &RefusalSpan,
+) -> Result<String, AllocError> {
+    if number == 205 {
+        if let Some(lines) = lines_to_opening(front(text, span.start)) {
+            return text_with(alloc, Values::OpenSince(line.saturating_sub(lines)));
+        }
+    }
+    if span.first != 0 && number != 406 {
+        return text_with(alloc, Values::FirstLine(span.first));
+    }
+    Ok(String::new(alloc))
+}
+
+/// The block whose input a word is, if it is used as an operator.
+fn block_of_input(word: &[u8]) -> &'static str {
+    if is_word(b"clk", word) {
+        "R_TRIG"
+    } else if is_word(b"s1", word) {
+        "SR"
+    } else if is_word(b"r1", word) {
+        "RS"
+    } else if is_word(b"cu", word) || is_word(b"pv", word) {
+        "CTU"
+    } else {
+        "TON, TOF and TP"
+    }
+}
+
+/// What is said in place of the sentence, with the available values; empty: nothing.
+fn said_there(
+    alloc: Global,
+    text: &[u8],
+    number: u16,
+    span: &RefusalSpan,
+    case: Case,
+    mistake: Case,
+) -> Result<String, AllocError> {
+    let word = piece(text, span.start, span.length);
+    match mistake {
+        Case::LabelAbove => text_with(alloc, Values::LabelLine(span.first)),
+        Case::InputOperator => text_with(alloc, Values::InputOf(block_of_input(word))),
+        Case::StatementAddress => text_with(
+            alloc,
+            Values::ForeignAddress(
+                str::from_utf8(word_before(text, span.start)).unwrap_or(""),
+                str::from_utf8(word).unwrap_or(""),
+            ),
+        ),
+        _ => difference_said(alloc, text, number, span, case),
+    }
+}
+
+/// Likewise for the offending slice, if it is on a line below.
+fn said_of(
+    alloc: Global,
+    text: &[u8],
+    number: u16,
+    span: &RefusalSpan,
+    case: Case,
+    mistake: Case,
+) -> Result<String, AllocError> {
+    let said = said_there(alloc, text, number, span, case, mistake)?;
+    let Some(below) = span.below else {
+        return Ok(said);
+    };
+    let sentence = match sentence_of(number, case) {
+        Some(sentence) if said.is_empty() => sentence,
+        _ => &said,
+    };
+    if sentence.is_empty() {
+        return Ok(String::new(alloc));
+    }
+    text_with(
+        alloc,
+        Values::Below(words_at(text, Some(below)), below.line, sentence),
+    )
+}
+
+/// The case by which the headline is made: what is said in place of the sentence is in the detail.
+fn case_told(said: &str, case: Case) -> Case {
+    if said.is_empty() {
+        case
+    } else {
+        Case::Detailed
+    }
+}
+
+/// What is said in place of the sentence, or what follows that.
+fn detail_or(
+    alloc: Global,
+    said: String,
+    text: &[u8],
+    number: u16,
+    line: u32,
+    span: &RefusalSpan,
+) -> Result<String, AllocError> {
+    if said.is_empty() {
+        return detail_of(alloc, text, number, line, span);
+    }
+    Ok(said)
+}
+
+/// Points to the slice at which a pass refuses a text, and says what is wrong with it.
+fn point_to_piece(
+    alloc: Global,
+    finding: &mut Finding,
+    text: &[u8],
+    number: u16,
+    span: RefusalSpan,
+) -> Result<(), AllocError>
+    ensures spot { finding.new.spot
+        ≡ Some (record { start = column_at text.now span.start; length = span.length }) }
+    ensures line { finding.new.line ≡ finding.old.line }
+    ensures quoted { OnOk result (StandsAt text.now span.start finding.new.subject.items) }
+{
+    finding.point(column_at(text, span.start), span.length);
+    finding.awaits = span.awaits;
+    let case = case_at(number, behind(text, span.start), span);
+    let mistake = mistake_at(text, number, span, case);
+    let case = case_said(case, mistake);
+    let length = quoted_length(text, number, case, &span);
+    let said = said_of(alloc, text, number, &span, case, mistake)?;
+    let advice = advice_at(alloc, text, number, &span, mistake)?;
+    let told = case_told(&said, case);
+    finding.detail = detail_or(alloc, said, text, number, finding.line, &span)?;
+    finding.tell(piece(text, span.start, length), told)?;
+    finding.hint = mistake;
+    finding.advice = advice;
+    Ok(())
+}
+
+/// Where a pass refuses a text, by the number of the refusal: the reading or a later one; nothing if none does.
+fn span_in(alloc: Global, text: &[u8], number: u16) -> Result<Option<RefusalSpan>, AllocError>
+    ensures stops { number < 300 → IfOk result
+        (λ found. IfSome found
+        (λ span. StopsReading text.now span.fault span.start span.length span.awaits)) }
+    ensures refuses { 300 ≤ number → IfOk result
+        (λ found. IfSome found
+        (λ span. RefusesLater text.now span.fault span.start span.length)) }
+{
+    if number < 300 {
+        return Ok(stop_of(alloc, text));
+    }
+    match read_by_places(alloc, text) {
+        Ok(placed) => Ok(spot_in(alloc, &placed)),
+        Err(Fault::Memory) => Err(AllocError),
+        Err(_) => Ok(None),
+    }
+}
+
+/// Finds the fault of a program's text on its line: where a pass refuses it.
+pub(crate) fn find_program_fault(
+    alloc: Global,
+    finding: &mut Finding,
+    text: &[u8],
+    number: u16,
+) -> Result<(), AllocError>
+    requires { finding.old.spot ≡ None }
+    ensures stopped { number < 300
+        → IfOk result (λ _. HasStop text.now number finding.old.line finding.new) }
+    ensures meant { 300 ≤ number
+        → IfOk result (λ _. HasLaterSpot text.now number finding.old.line finding.new) }
+{
+    if finding.line == 0 {
+        return Ok(());
+    }
+    let Some(span) = span_in(alloc, text, number)? else {
+        return Ok(());
+    };
+    match span.fault {
+        Fault::Refused {
+            number: told,
+            place,
+        } if told == number && place == finding.line => {
+            point_to_piece(alloc, finding, text, number, span)
+        }
+        Fault::Memory => Err(AllocError),
+        _ => Ok(()),
+    }
+}

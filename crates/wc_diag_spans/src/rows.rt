@@ -1,0 +1,196 @@
+ghost use Rattle.std.specs.Prelude.{◌≡◌, ◌≤◌, ◌++◌, IfOk, IfSome, None, OnOk, length};
+ghost use Rattle.wc_diag_spans.specs.Rows as rows;
+ghost use Rattle.wc_diag_spans.specs.Rows.{IsInField, MeansField, glued};
+ghost use Rattle.wc_record.specs.Told.{fields_told};
+
+use crate::finding::Finding;
+use crate::lines::{front, piece};
+use std::alloc::{AllocError, Global};
+use wc_diag_texts::Case;
+use wc_record::RefusedRow;
+
+/// The number of bytes of a field that are shown at most.
+const LONGEST_FIELD: usize = 16384;
+
+/// The maximum of a row's fields shown: a message shows fewer bytes of a line than that number of commas.
+const MOST_FIELDS: usize = 128;
+
+/// A field of a row as it is shown: an empty one after the last.
+fn shown_field(row: &RefusedRow, place: usize) -> &[u8]
+    ensures field { result.now ≡ rows.shown_field (fields_told row.now) place }
+    ensures short { length result.now ≤ 16384 }
+{
+    match row.field(place) {
+        Some(field) => front(field, LONGEST_FIELD),
+        None => b"",
+    }
+}
+
+/// Where one of the first three fields starts in the row as it is shown.
+fn field_start(row: &RefusedRow, place: usize) -> usize
+    ensures start { result ≡ rows.field_start (fields_told row.now) place }
+    ensures short { result ≤ 32770 }
+{
+    let second = shown_field(row, 0).len() + 1;
+    match place {
+        0 => 0,
+        1 => second,
+        _ => second + shown_field(row, 1).len() + 1,
+    }
+}
+
+/// Adds a field after those before it.
+fn add_field(text: &mut Vec<u8>, row: &RefusedRow, place: usize) -> Result<(), AllocError>
+    ensures { OnOk result (text.new.items
+        ≡ text.old.items ++ glued place (rows.shown_field (fields_told row.now) place)) }
+{
+    if place > 0 {
+        text.push(b',')?;
+    }
+    text.extend_from_slice(shown_field(row, place))
+}
+
+/// The row as it is shown: its fields, up to 128, with commas between.
+pub(crate) fn shown_row(alloc: Global, row: &RefusedRow) -> Result<Vec<u8>, AllocError>
+    ensures { IfOk result (λ text. text.items ≡ rows.shown_row (fields_told row.now)) }
+{
+    let mut text = Vec::new(alloc);
+    for place in 0..row.len().min(MOST_FIELDS) {
+        add_field(&mut text, row, place)?;
+    }
+    Ok(text)
+}
+
+/// Semicolons are where commas should be.
+fn has_semicolons(row: &RefusedRow) -> bool {
+    row.len() == 1 && shown_field(row, 0).contains(&b';')
+}
+
+/// What is wrong with the first row.
+fn case_of_heading(row: &RefusedRow) -> Case {
+    if row.len() == 0 {
+        Case::EmptyLog
+    } else if has_semicolons(row) {
+        Case::SemicolonHeading
+    } else {
+        Case::Heading
+    }
+}
+
+/// Says the number of fields of a row.
+fn tell_fields(finding: &mut Finding, row: &RefusedRow, place: u32) {
+    if place == 1 {
+        finding.case = case_of_heading(row);
+    } else if row.len() > 3 {
+        finding.case = Case::MoreFields;
+        finding.point(field_start(row, 2) + shown_field(row, 2).len(), 1);
+    } else if has_semicolons(row) {
+        finding.case = Case::Semicolons;
+    } else {
+        finding.case = Case::Plain;
+    }
+}
+
+/// What is wrong with a number of at most that number of digits.
+fn case_of_number(digits: &[u8], most: usize) -> Case {
+    if digits.is_empty() || digits.iter().any(|byte| !byte.is_ascii_digit()) {
+        Case::NoNumber
+    } else if digits.len() > most {
+        Case::TooLong
+    } else {
+        Case::Plain
+    }
+}
+
+/// The number of leading hexadecimal digits.
+fn hexadecimal_length(text: &[u8]) -> usize
+    ensures { result ≤ length text.now }
+{
+    text.iter()
+        .take_while(|byte| byte.is_ascii_hexdigit())
+        .count()
+}
+
+/// What is wrong with the number of hexadecimal digits.
+fn case_of_length(kind: &[u8], digits: usize) -> Case {
+    if kind.first() == Some(&b'I') {
+        Case::Inputs
+    } else if digits % 2 == 1 {
+        Case::OddDigits
+    } else {
+        Case::Plain
+    }
+}
+
+/// Says what is wrong with hexadecimal data.
+fn tell_hexadecimal(finding: &mut Finding, row: &RefusedRow) -> Result<(), AllocError>
+    ensures { IfSome finding.new.spot (IsInField (fields_told row.now) 2) }
+{
+    let data = shown_field(row, 2);
+    let start = field_start(row, 2);
+    let digits = hexadecimal_length(data);
+    if digits < data.len() {
+        finding.point(start + digits, 1);
+        return finding.tell(piece(data, digits, 1), Case::NoDigit);
+    }
+    finding.point(start, digits.max(1));
+    finding.case = case_of_length(shown_field(row, 1), digits);
+    Ok(())
+}
+
+/// What is wrong with the offending field, which is not empty.
+fn case_of_field(number: u16, row: &RefusedRow) -> Case {
+    let (kind, data) = (shown_field(row, 1), shown_field(row, 2));
+    match (number, kind) {
+        (602, _) => case_of_number(shown_field(row, 0), 13),
+        (604, [b'c' | b'l' | b'i' | b's' | b'p']) => Case::SmallLetter,
+        (605, _) => case_of_number(data.strip_prefix(b"-").unwrap_or(data), 10),
+        (608, [b'P']) => Case::Change,
+        _ => Case::Plain,
+    }
+}
+
+/// Says what is wrong with a field, and points to it.
+fn tell_field(
+    finding: &mut Finding,
+    row: &RefusedRow,
+    number: u16,
+    place: usize,
+) -> Result<(), AllocError>
+    ensures { IfSome finding.new.spot (IsInField (fields_told row.now) place) }
+{
+    let field = shown_field(row, place);
+    finding.point(field_start(row, place), field.len().max(1));
+    if field.is_empty() {
+        finding.case = Case::Missing;
+        return Ok(());
+    }
+    finding.tell(field, case_of_field(number, row))
+}
+
+/// Says which rule of its number a row breaks, and points to the offending field.
+pub(crate) fn tell_row(
+    finding: &mut Finding,
+    row: &RefusedRow,
+    number: u16,
+    place: u32,
+) -> Result<(), AllocError>
+    requires { finding.old.spot ≡ None }
+    ensures { IfSome finding.new.spot (MeansField number (fields_told row.now)) }
+{
+    match number {
+        601 => {
+            tell_fields(finding, row, place);
+            Ok(())
+        }
+        602 | 603 => tell_field(finding, row, number, 0),
+        604 => tell_field(finding, row, number, 1),
+        605 | 608 => tell_field(finding, row, number, 2),
+        606 => tell_hexadecimal(finding, row),
+        609 => {
+            finding.point(field_start(row, 1), shown_field(row, 1).len().max(1));
+            Ok(())
+        }
+        _ => Ok(()),
+    }
+}

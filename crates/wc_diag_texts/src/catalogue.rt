@@ -1,0 +1,283 @@
+ghost use Rattle.std.specs.Prelude.{◌≡◌, IfSome, is_some};
+ghost use Rattle.wc_diag_texts.specs.Numbers.{is_from, is_refusal};
+
+/// All that is said of a refusal by its number alone. docs/REFUSALS.md has the same, and a script holds one against the other.
+pub struct Entry {
+    pub number: u16,
+    /// The pass that refuses.
+    pub pass: &'static str,
+    /// What is wrong.
+    pub sentence: &'static str,
+    /// What its place is.
+    pub place: &'static str,
+    /// A smallest input, in which ` / ` ends a line.
+    pub input: &'static str,
+    /// The place in the answer to that input.
+    pub answer: u32,
+    /// What to write instead.
+    pub hint: &'static str,
+}
+
+/// The entry of a number among these, if there is one: a number without a row has no entry.
+macro_rules! entry_among {
+    ($among:expr; $($number:literal $pass:literal: $sentence:literal at $place:literal, $input:literal => $answer:literal, help $hint:literal;)*) => {
+        match $among {
+            $($number => Some(&Entry {
+                number: $number,
+                pass: $pass,
+                sentence: $sentence,
+                place: $place,
+                input: $input,
+                answer: $answer,
+                hint: $hint,
+            }),)*
+            _ => None,
+        }
+    };
+}
+
+/// The entry of a refusal, if there is one of that number.
+pub fn entry_of(number: u16) -> Option<&'static Entry>
+    ensures known { is_some result ≡ is_refusal number }
+    ensures number { IfSome result (λ entry. entry.now.number ≡ number) }
+{
+    match number {
+        101..=107 => token_entry(number),
+        201..=208 => reading_entry(number),
+        301..=308 => declaration_entry(number),
+        401..=411 => body_entry(number),
+        501..=508 => plate_entry(number),
+        601..=609 => log_entry(number),
+        701..=702 => job_entry(number),
+        _ => None,
+    }
+}
+
+/// The refusals of tokens.
+fn token_entry(number: u16) -> Option<&'static Entry>
+    ensures known { is_some result ≡ is_from 101 107 number }
+    ensures number { IfSome result (λ entry. entry.now.number ≡ number) }
+{
+    entry_among! {
+        number;
+        101 "tokens": "a byte is not allowed here"
+            at "the line of the byte", "!" => 1,
+            help "outside comments a text has letters, digits, spaces and the marks of the language; a comment is (* .. *)";
+        102 "tokens": "a comment is still open at the end of the text"
+            at "the line of its (*", "(*" => 1,
+            help "close the comment with *)";
+        103 "tokens": "comments cannot be nested"
+            at "the line of the outer (*", "(*(*" => 1,
+            help "close the comment with *) before the next one opens";
+        104 "tokens": "an identifier has two underscores in a row, one at its end, or more than 32 characters"
+            at "the line of the token", "_" => 1,
+            help "an identifier has at most 32 letters, digits and single underscores, and no underscore at its end";
+        105 "tokens": "a number has a wrong form or is out of range"
+            at "the line of the token", "+" => 1,
+            help "write an integer from -2147483648 to 2147483647, such as 12, -7 or 16#FF, or BOOL#0 or BOOL#1";
+        106 "tokens": "a duration has a wrong form or is out of range"
+            at "the line of the token", "T#" => 1,
+            help "write days to milliseconds in order, such as T#1d2h3m4s5ms, or one with a point, such as T#1.5s";
+        107 "tokens": "the text has more than 65536 bytes"
+            at "0", "(65537 spaces)" => 0,
+            help "shorten the text: it may have 65536 bytes";
+    }
+}
+
+/// The refusals of reading.
+fn reading_entry(number: u16) -> Option<&'static Entry>
+    ensures known { is_some result ≡ is_from 201 208 number }
+    ensures number { IfSome result (λ entry. entry.now.number ≡ number) }
+{
+    entry_among! {
+        number;
+        201 "reader": "a token is unexpected"
+            at "the line of the first token with which the text can't go on", "x" => 1,
+            help "an instruction is `label: OPERATOR operand`; `name : TYPE;` is declared between VAR and END_VAR";
+        202 "reader": "the file ends inside this unit"
+            at "the line of the unit's keyword", "PROGRAM" => 1,
+            help "close the unit with END_PROGRAM or END_FUNCTION_BLOCK";
+        203 "reader": "there must be exactly one PROGRAM, as the last unit"
+            at "the line of the unit after PROGRAM, or the text's last line", "(the empty text)" => 1,
+            help "write the function blocks first, and then one PROGRAM";
+        204 "reader": "a parenthesis is empty"
+            at "the line of the )", "PROGRAM P&( / )" => 2,
+            help "write at least one line between ( and )";
+        205 "reader": "a jump, a call, a return or a label is not allowed inside a parenthesis"
+            at "its line", "PROGRAM P&( / x:" => 2,
+            help "close the parenthesis before it, with a `)` on a line of its own";
+        206 "reader": "a parenthesis is not closed, or none is open"
+            at "the line of the ); the line of the innermost opening", "PROGRAM P)" => 1,
+            help "write one ) on a line of its own for each ( that is open";
+        207 "reader": "more than 8 parentheses are nested"
+            at "the line of the ninth opening", "PROGRAM P&( / &( / &( / &( / &( / &( / &( / &( / &(" => 9,
+            help "store the inner result in a variable, and use that";
+        208 "reader": "there are more than 64 units, or more than 1024 lines in a unit"
+            at "the line of the unit's keyword, or of the line that is too many", "(64 times FUNCTION_BLOCK a END_FUNCTION_BLOCK, a line each, then PROGRAM)" => 65,
+            help "split the body: a unit may have 1024 lines, a text 64 units";
+    }
+}
+
+/// The refusals of declarations.
+fn declaration_entry(number: u16) -> Option<&'static Entry>
+    ensures known { is_some result ≡ is_from 301 308 number }
+    ensures number { IfSome result (λ entry. entry.now.number ≡ number) }
+{
+    entry_among! {
+        number;
+        301 "tables": "a name is declared twice"
+            at "the second name", "PROGRAM P / VAR a, a : BOOL; END_VAR / END_PROGRAM" => 2,
+            help "choose another name; letter case makes no difference";
+        302 "tables": "the type is unknown or is not allowed here"
+            at "the type", "PROGRAM P / VAR a : b; END_VAR / END_PROGRAM" => 2,
+            help "types are BOOL, DINT, TIME, and in VAR R_TRIG, SR, RS, CTU, TON, TOF, TP and the blocks above";
+        303 "tables": "the initial value does not fit the type"
+            at "the literal", "PROGRAM P / VAR a : BOOL := 2; END_VAR / END_PROGRAM" => 2,
+            help "a BOOL takes TRUE, FALSE, 0 or 1, a DINT an integer, a TIME a duration, such as T#500ms";
+        304 "tables": "there is no such address"
+            at "the address", "PROGRAM P / LD % / END_PROGRAM" => 2,
+            help "the inputs are %IX0.0 to %IX0.15, %IX1.0 to %IX1.5 and %ID0 to %ID2, the outputs %QX0.0 to %QX0.15 and %QD0 to %QD3";
+        305 "tables": "an address is not allowed in a function block"
+            at "the address", "FUNCTION_BLOCK B / LD %IX0.0 / END_FUNCTION_BLOCK / PROGRAM P / END_PROGRAM" => 2,
+            help "declare a VAR_INPUT or VAR_OUTPUT in the block, and pass the address in its CAL";
+        306 "tables": "a unit has more than 256 variables, or a frame more than 4096 places"
+            at "the name that is too many", "(PROGRAM P, on line 2 a VAR section with 257 names of type BOOL, END_PROGRAM)" => 2,
+            help "use fewer variables or instances: a unit may have 256 variables, a frame 4096 places";
+        307 "tables": "the name is a reserved word"
+            at "the name", "PROGRAM R / END_PROGRAM" => 1,
+            help "choose another name: operators, keywords and types are reserved";
+        308 "tables": "the function block is not closed before"
+            at "the type", "FUNCTION_BLOCK B / VAR a : B; END_VAR / END_FUNCTION_BLOCK / PROGRAM P / END_PROGRAM" => 2,
+            help "move the block above the unit that uses it; a block cannot contain itself";
+    }
+}
+
+/// The refusals of bodies and of their cost.
+fn body_entry(number: u16) -> Option<&'static Entry>
+    ensures known { is_some result ≡ is_from 401 411 number }
+    ensures number { IfSome result (λ entry. entry.now.number ≡ number) }
+{
+    entry_among! {
+        number;
+        401 "verify": "the name is not declared"
+            at "the line of the instruction", "PROGRAM P / LD x / END_PROGRAM" => 2,
+            help "declare the name in VAR, VAR_INPUT or VAR_OUTPUT of this unit";
+        402 "verify": "the types do not match"
+            at "the line of the instruction, or of the )", "PROGRAM P / LDN 1 / END_PROGRAM" => 2,
+            help "a comparison gives a BOOL, such as GE 500; ST takes a variable of the type of the current result";
+        403 "verify": "there is no current result"
+            at "the line of the instruction", "PROGRAM P / NOT / END_PROGRAM" => 2,
+            help "begin with LD: no line that leads here has loaded a value";
+        404 "verify": "this may not be written"
+            at "the line of the instruction", "PROGRAM P / ST 1 / END_PROGRAM" => 2,
+            help "only variables, outputs, and inputs of instances can be written";
+        405 "verify": "this may not be read"
+            at "the line of the instruction", "PROGRAM P / VAR t : TON; END_VAR / LD t.IN / END_PROGRAM" => 3,
+            help "only the outputs of an instance can be read";
+        406 "verify": "no line below has the label"
+            at "the line of the jump", "PROGRAM P / JMP L / END_PROGRAM" => 2,
+            help "jumps only go forward: put the label on a line below the jump";
+        407 "verify": "the label is used twice in this body"
+            at "the line of the second label", "PROGRAM P / L: / L: / END_PROGRAM" => 3,
+            help "choose another label; letter case makes no difference";
+        408 "verify": "the divisor is not a whole-number literal, or it is 0"
+            at "the line of the instruction", "PROGRAM P / LD 1 / DIV 0 / END_PROGRAM" => 3,
+            help "DIV and MOD take an integer literal other than 0, such as DIV 10; DIV( and MOD( do not exist";
+        409 "verify": "the block has no input or output of that name"
+            at "the line of the call", "PROGRAM P / VAR t : TON; END_VAR / CAL t(x := 1) / END_PROGRAM" => 3,
+            help "`:=` takes the names that a block has in VAR_INPUT, `=>` those that it has in VAR_OUTPUT";
+        410 "verify": "an input or output is passed twice"
+            at "the line of the call", "PROGRAM P / VAR t : TON; END_VAR / CAL t(IN := 1, IN := 1) / END_PROGRAM" => 3,
+            help "name each input and output once";
+        411 "cost": "the unit may take more than 1000000 steps"
+            at "the line of the unit's keyword", "(the text below the table) of docs/REFUSALS.md: nineteen blocks, of which each calls the one before twice, and a program that calls the last one twice" => 94,
+            help "call fewer blocks: the longest path through a unit may have 1000000 steps";
+    }
+}
+
+/// The refusals of a plate.
+fn plate_entry(number: u16) -> Option<&'static Entry>
+    ensures known { is_some result ≡ is_from 501 508 number }
+    ensures number { IfSome result (λ entry. entry.now.number ≡ number) }
+{
+    entry_among! {
+        number;
+        501 "plate": "the plate is not TOML"
+            at "0", "plate x" => 0,
+            help "the plate has lines `key = value`";
+        502 "plate": "a key is missing, is unknown, or has a value of the wrong kind"
+            at "0", "(the empty plate)" => 0,
+            help "the keys are unit, decimals, max, e, zero_counts, span_counts and window, each once; unit is a text, the others are whole numbers, max and e in units of the last decimal, as e = 5 for 0.005 kg";
+        503 "plate": "unit must be g, kg or t"
+            at "0", "plate A with unit = \"lb\"" => 0,
+            help "write unit = \"g\", \"kg\" or \"t\"";
+        504 "plate": "decimals must be 0 to 3"
+            at "0", "plate A with decimals = 4" => 0,
+            help "write decimals = 0, 1, 2 or 3";
+        505 "plate": "e is not an allowed scale interval"
+            at "0", "plate A with e = 3" => 0,
+            help "e is 1, 2 or 5, with 0 or 3 decimals also 10, 20 or 50, and at least 5 g";
+        506 "plate": "max must be 500 to 10000 times e"
+            at "0", "plate A with max = 15001" => 0,
+            help "max is a multiple of e, from 500 to 10000 times e";
+        507 "plate": "zero_counts or span_counts is out of range"
+            at "0", "plate A with span_counts = 11999" => 0,
+            help "zero_counts is -8388608 to 8388607, span_counts four times max / e to 8000000";
+        508 "plate": "window must be 2 to 16"
+            at "0", "plate A with window = 1" => 0,
+            help "window is 2 to 16";
+    }
+}
+
+/// The refusals of a log.
+fn log_entry(number: u16) -> Option<&'static Entry>
+    ensures known { is_some result ≡ is_from 601 609 number }
+    ensures number { IfSome result (λ entry. entry.now.number ≡ number) }
+{
+    entry_among! {
+        number;
+        601 "log": "the row has not three fields, or the first row is not ms,kind,data"
+            at "the row", "(the empty log)" => 1,
+            help "the first row is ms,kind,data; each other has two commas too, also where it has no data, as 50,S,";
+        602 "log": "the moment is not a number of milliseconds below 2^40"
+            at "the row", "row ,S," => 2,
+            help "a row is ms,kind,data; the moment is a whole number of milliseconds, 0 to 1099511627775";
+        603 "log": "the moment is before that of the row above"
+            at "the row", "rows 1,S, / 0,S," => 3,
+            help "sort the rows by their moments";
+        604 "log": "the kind is none of C, L, I, S and P"
+            at "the row", "row 0,," => 2,
+            help "a row is ms,kind,data; the kinds are C, L, I, S and P";
+        605 "log": "the counts are not a whole number from -8388608 to 8388607"
+            at "the row", "row 0,C," => 2,
+            help "the counts are -8388608 to 8388607";
+        606 "log": "the data is not hexadecimal, or of the wrong length"
+            at "the row", "row 0,I," => 2,
+            help "an L row has pairs of hexadecimal digits, for at most 4096 bytes, an I row four digits";
+        607 "log": "there are more than 1000000 rows"
+            at "the row", "(the heading row and 1000000 rows 0,S,)" => 1000001,
+            help "split the log: it may have 1000000 rows";
+        608 "log": "a scan and a change have no data"
+            at "the row", "row 0,S,x" => 2,
+            help "leave the third field of a scan and of a change empty, as 10,S,";
+        609 "log": "there is no next program to change to"
+            at "the row", "row 0,P," => 2,
+            help "name the next program by --next of run, trace or show, or in a job by @next before @log; one run changes its program once";
+    }
+}
+
+/// The refusals of a job and of files.
+fn job_entry(number: u16) -> Option<&'static Entry>
+    ensures known { is_some result ≡ is_from 701 702 number }
+    ensures number { IfSome result (λ entry. entry.now.number ≡ number) }
+{
+    entry_among! {
+        number;
+        701 "job": "a job has the lines @plate, @program and @log, in this order, the first of them first"
+            at "0", "(the empty job)" => 0,
+            help "a job is a line @plate and the plate, a line @program and the program, a line @log and the log; each of the three is alone on its line, in small letters";
+        702 "job, files": "there are more than 1048576 bytes"
+            at "0", "(1048577 spaces)" => 0,
+            help "a plate and a job may have 1048576 bytes, a program 65536";
+    }
+}

@@ -1,0 +1,119 @@
+-- What is computed of the paths to an event is so. (No rule of the language.)
+use Rattle.std.proofs.Common.{◌≡◌, Bool, true, false, not, ◌&&◌, ◌||◌, List, [], ◌∷◌, ◌++◌, ◌⊎◌, inl, inr, refl, ap, sym, ◌∙◌, append_assoc}
+use Rattle.std.specs.List.{list_any}
+use Rattle.wc_model.specs.Language.Names.{Name}
+use Rattle.wc_diag_warnings.specs.Events.{Doing, Begins, Labels, Reads, Stores, Sets, Calls, Gives, Jumps, Returns, Happening}
+use Rattle.wc_diag_warnings.specs.Laws.{IsWay, at_start, from_mark, onward, by_jump, WaysAreThere}
+use Rattle.wc_diag_warnings.specs.Ways.{Passed, comes_by_jump, comes_down, doing_jumps, doing_leaves, is_on, passed}
+
+-- one of two truths holds, or both
+pub or_true : (a b : Bool) → (a || b) ≡ true → (a ≡ true) ⊎ (b ≡ true)
+or_true true b e = inl refl
+or_true false b e = inr e
+
+pub left_true : (a b : Bool) → (a && b) ≡ true → a ≡ true
+left_true true b e = refl
+left_true false b e = e
+
+pub right_true : (a b : Bool) → (a && b) ≡ true → b ≡ true
+right_true true b e = e
+right_true false b e = cc
+
+pub true_or : (a b : Bool) → b ≡ true → (a || b) ≡ true
+true_or true b e = refl
+true_or false b e = e
+
+pub or_left : (a b : Bool) → a ≡ true → (a || b) ≡ true
+or_left true b e = refl
+or_left false b e = cc
+
+pub both_true : (a b : Bool) → a ≡ true → b ≡ true → (a && b) ≡ true
+both_true true b e f = f
+both_true false b e f = e
+
+pub not_true : (a : Bool) → not a ≡ true → a ≡ false
+not_true true e = cc
+not_true false e = refl
+
+pub not_false : (a : Bool) → a ≡ false → not a ≡ true
+not_false true e = cc
+not_false false e = refl
+
+module _ (starts : Bool) (marks : Happening → Bool) where
+  -- each of these events that is on has a path to it
+  abbrev AllWays : List Happening → Type 0
+  AllWays [] = Unit {0}
+  AllWays (e ∷ before) = (is_on starts marks before e ≡ true → IsWay starts marks before e) × AllWays before
+
+  -- a jump that is on, among these followed by others
+  abbrev jumps_here : Name → Passed → Bool
+  jumps_here name j = j.on && doing_jumps j.event.doing name
+
+  jumped : (name : Name) (all between before : List Happening) (e : Happening) → all ≡ between ++ before → AllWays before → e.doing ≡ Labels name →
+      list_any (jumps_here name) (passed starts marks before) ≡ true → IsWay starts marks all e
+  jumped name all between [] e whole ways at found = cc
+  jumped name all between (jump ∷ before) e whole ways at found =
+      let here = is_on starts marks before jump && doing_jumps jump.doing name in
+      let others = list_any (jumps_here name) (passed starts marks before) in
+      elim (or_true here others found) [
+        | inl h ↦ by_jump all between before jump e name whole (ways.0 (left_true (is_on starts marks before jump) (doing_jumps jump.doing name) h)) (right_true (is_on starts marks before jump) (doing_jumps jump.doing name) h) at
+        | inr h ↦ jumped name all (between ++ jump ∷ []) before e (whole ∙ sym (append_assoc between (jump ∷ []) before)) ways.1 at h
+      ]
+
+  -- a path by a jump
+  came_by_jump : (doing : Doing) (before : List Happening) (e : Happening) → AllWays before → e.doing ≡ doing → comes_by_jump (passed starts marks before) doing ≡ true → IsWay starts marks before e
+  came_by_jump (Labels name) before e ways at found = jumped name before [] before e refl ways at found
+  came_by_jump Begins before e ways at found = cc
+  came_by_jump (Reads term) before e ways at found = cc
+  came_by_jump (Stores term) before e ways at found = cc
+  came_by_jump (Sets term) before e ways at found = cc
+  came_by_jump (Calls instance) before e ways at found = cc
+  came_by_jump (Gives instance input) before e ways at found = cc
+  came_by_jump (Jumps condition label) before e ways at found = cc
+  came_by_jump (Returns condition) before e ways at found = cc
+
+  -- a path from right above
+  came_down : (before : List Happening) (e : Happening) → AllWays before → comes_down starts marks (passed starts marks before) ≡ true → IsWay starts marks before e
+  came_down [] e ways found = at_start e found
+  came_down (last ∷ before) e ways found =
+      let on = is_on starts marks before last in
+      let goes = not_true (doing_leaves last.doing) (left_true (not (doing_leaves last.doing)) (on || marks last) found) in
+      elim (or_true on (marks last) (right_true (not (doing_leaves last.doing)) (on || marks last) found)) [
+        | inl h ↦ onward before last e (ways.0 h) goes
+        | inr h ↦ from_mark before last e h goes
+      ]
+
+  pub came : (before : List Happening) (e : Happening) → AllWays before → is_on starts marks before e ≡ true → IsWay starts marks before e
+  came before e ways found =
+      elim (or_true (comes_down starts marks (passed starts marks before)) (comes_by_jump (passed starts marks before) e.doing) found) [
+        | inl h ↦ came_down before e ways h
+        | inr h ↦ came_by_jump e.doing before e ways refl h
+      ]
+
+  pub all_ways : (before : List Happening) → AllWays before
+  all_ways [] = tt
+  all_ways (e ∷ before) = (came before e (all_ways before), all_ways before)
+
+  -- a jump that is on is found, whatever follows it
+  jump_found : (name : Name) (between before : List Happening) (jump : Happening) → is_on starts marks before jump ≡ true → doing_jumps jump.doing name ≡ true →
+      list_any (jumps_here name) (passed starts marks (between ++ jump ∷ before)) ≡ true
+  jump_found name [] before jump on jumps =
+      or_left (is_on starts marks before jump && doing_jumps jump.doing name) (list_any (jumps_here name) (passed starts marks before)) (both_true (is_on starts marks before jump) (doing_jumps jump.doing name) on jumps)
+  jump_found name (e ∷ between) before jump on jumps =
+      true_or (is_on starts marks (between ++ jump ∷ before) e && doing_jumps e.doing name) (list_any (jumps_here name) (passed starts marks (between ++ jump ∷ before))) (jump_found name between before jump on jumps)
+
+  -- a path is found
+  pub leads : {before : List Happening} {e : Happening} → IsWay starts marks before e → is_on starts marks before e ≡ true
+  leads (at_start e s) = or_left starts (comes_by_jump [] e.doing) s
+  leads (from_mark before last e m l) =
+      or_left (not (doing_leaves last.doing) && (is_on starts marks before last || marks last)) (comes_by_jump (passed starts marks (last ∷ before)) e.doing)
+      (both_true (not (doing_leaves last.doing)) (is_on starts marks before last || marks last) (not_false (doing_leaves last.doing) l) (true_or (is_on starts marks before last) (marks last) m))
+  leads (onward before last e w l) =
+      or_left (not (doing_leaves last.doing) && (is_on starts marks before last || marks last)) (comes_by_jump (passed starts marks (last ∷ before)) e.doing)
+      (both_true (not (doing_leaves last.doing)) (is_on starts marks before last || marks last) (not_false (doing_leaves last.doing) l) (or_left (is_on starts marks before last) (marks last) (leads w)))
+  leads (by_jump all between before jump e name whole w jumps at) =
+      true_or (comes_down starts marks (passed starts marks all)) (comes_by_jump (passed starts marks all) e.doing)
+      (ap (comes_by_jump (passed starts marks all)) at ∙ ap (λ es. list_any (jumps_here name) (passed starts marks es)) whole ∙ jump_found name between before jump (leads w) jumps)
+
+pub ways_there : WaysAreThere
+ways_there starts marks before e = (came starts marks before e (all_ways starts marks before), λ w. leads starts marks w)

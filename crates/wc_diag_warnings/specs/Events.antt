@@ -1,0 +1,81 @@
+-- What a body does, one event after the other in text order. (No rule of the language.)
+use Rattle.std.specs.Prelude.{ℕ, List, [], ◌∷◌, ◌++◌, Option, Some, None}
+use Rattle.std.specs.List.{flat_map}
+use Rattle.wc_model.specs.Language.Kinds.{BodyLine, AloneLine, PlainLine, NestedLine}
+use Rattle.wc_model.specs.Language.Names.{Name}
+use Rattle.wc_model.specs.Language.Tree.{Word, Term, Assignment, Step, Load, Store, Apply, Negate, Jump, Call, Return, Lines, End, Alone, Plain, Nested}
+use Rattle.wc_model.specs.declared.operator.Condition.{Condition}
+use Rattle.wc_model.specs.declared.operator.Direction.{Direction}
+use Rattle.wc_model.specs.declared.operator.Direction.TheVariants.{Into, OutOf}
+use Rattle.wc_model.specs.declared.operator.Storing.{Storing}
+use Rattle.wc_model.specs.declared.operator.Storing.TheVariants.{Result, Negation, Set, Reset}
+
+-- An instruction begins; a label is there; LD, an operator or an input of a call reads; ST, STN or an output of a call
+-- stores; S or R writes if the result is TRUE; an instance is called, or given an input; a jump or a return.
+pub data Doing : Type 0 where
+  Begins : Doing
+  Labels : (name : Name) → Doing
+  Reads : (term : Term) → Doing
+  Stores : (term : Term) → Doing
+  Sets : (term : Term) → Doing
+  Calls : (instance : Name) → Doing
+  Gives : (instance input : Name) → Doing
+  Jumps : (condition : Condition) (label : Name) → Doing
+  Returns : (condition : Condition) → Doing
+
+-- what is done, and at which line
+pub record Happening : Type 0 where
+  pub line : ℕ
+  pub doing : Doing
+
+abbrev pub at : ℕ → Doing → Happening
+at line doing = record { line = line; doing = doing }
+
+abbrev pub label_events : Option Word → List Happening
+label_events None = []
+label_events (Some word) = at word.line (Labels word.name) ∷ []
+
+abbrev pub storing_event : Storing → Term → Doing
+storing_event Result target = Stores target
+storing_event Negation target = Stores target
+storing_event Set target = Sets target
+storing_event Reset target = Sets target
+
+-- an item of a call's list: the value is read and given to the input, or the output is stored
+abbrev pub passing_events : Direction → ℕ → Name → Name → Term → List Happening
+passing_events Into line instance formal actual = at line (Reads actual) ∷ at line (Gives instance formal) ∷ []
+passing_events OutOf line instance formal actual = at line (Stores actual) ∷ []
+
+abbrev pub argument_events : ℕ → Name → Assignment → List Happening
+argument_events line instance a = passing_events a.direction line instance a.formal a.actual
+
+abbrev pub call_events : ℕ → Name → List Assignment → List Happening
+call_events line instance arguments = at line (Calls instance) ∷ flat_map (argument_events line instance) arguments
+
+abbrev pub step_events : ℕ → Step → List Happening
+step_events line (Load negated operand) = at line (Reads operand) ∷ []
+step_events line (Store storing target) = at line (storing_event storing target) ∷ []
+step_events line (Apply operator operand) = at line (Reads operand) ∷ []
+step_events line Negate = []
+step_events line (Jump condition label) = at line (Jumps condition label) ∷ []
+step_events line (Call condition instance arguments) = call_events line instance arguments
+step_events line (Return condition) = at line (Returns condition) ∷ []
+
+-- the operand of an opening line
+abbrev pub opening_events : ℕ → Option Term → List Happening
+opening_events line None = []
+opening_events line (Some operand) = at line (Reads operand) ∷ []
+
+-- what lines do: each its label, and then its instruction with the lines in its parenthesis
+abbrev pub events_of : Lines → List Happening
+events_of End = []
+events_of (Alone label rest) = label_events (Some label) ++ events_of rest
+events_of (Plain label line step rest) = label_events label ++ (at line Begins ∷ step_events line step) ++ events_of rest
+events_of (Nested label line operator operand inside close rest) =
+    label_events label ++ (at line Begins ∷ opening_events line operand ++ events_of inside) ++ events_of rest
+
+-- the events of an instruction
+abbrev pub line_events : BodyLine → List Happening
+line_events (AloneLine label) = []
+line_events (PlainLine label line step) = at line Begins ∷ step_events line step
+line_events (NestedLine label line operator operand inside close) = at line Begins ∷ opening_events line operand ++ events_of inside

@@ -1,0 +1,64 @@
+-- When a warning comes, in the words of the subject. (The profile's own.)
+use Rattle.std.specs.Prelude.{◌≡◌, ℕ, Bool, true, false, List, [], ◌∷◌, ◌++◌, ◌↔◌, Some, None, codes}
+use Rattle.std.specs.List.{list_any}
+use Rattle.wc_model.specs.Language.Declarations.{Variable, elementary_types, named_in, standard_blocks}
+use Rattle.wc_model.specs.Language.Names.{Name}
+use Rattle.wc_model.specs.declared.kind.Kind.{Kind}
+use Rattle.wc_model.specs.declared.source.Section.TheVariants.{Input, Output, Own}
+use Rattle.wc_model.specs.declared.source.UnitKind.{UnitKind}
+use Rattle.wc_model.specs.declared.source.UnitKind.TheVariants.{FunctionBlock, Program}
+use Rattle.wc_diag_warnings.specs.Addresses.{reads_valid, reads_weight, stores}
+use Rattle.wc_diag_warnings.specs.Events.{Begins, Labels, Happening}
+use Rattle.wc_diag_warnings.specs.Uses.{is_called, is_given, is_read, is_written}
+use Rattle.wc_diag_warnings.specs.Warnings.{declared_number, is_above_reached, is_timer, number_at}
+use Rattle.wc_diag_warnings.specs.Ways.{doing_jumps, doing_leaves, is_on}
+
+-- A run comes to an event after those before it, newest first. It begins at the body's start or at a marked
+-- event; it goes on to the next event, unless that before always leaves; and from a jump to a label ahead.
+pub data IsWay (starts : Bool) (marks : Happening → Bool) : List Happening → Happening → Type 0 where
+  at_start : (e : Happening) → starts ≡ true → IsWay starts marks [] e
+  from_mark : (before : List Happening) (last e : Happening) → marks last ≡ true → doing_leaves last.doing ≡ false → IsWay starts marks (last ∷ before) e
+  onward : (before : List Happening) (last e : Happening) → IsWay starts marks before last → doing_leaves last.doing ≡ false → IsWay starts marks (last ∷ before) e
+  by_jump : (all between before : List Happening) (jump e : Happening) (name : Name) → all ≡ between ++ jump ∷ before → IsWay starts marks before jump →
+      doing_jumps jump.doing name ≡ true → e.doing ≡ Labels name → IsWay starts marks all e
+
+-- what is computed of the paths to an event is so
+abbrev pub WaysAreThere : Type 0
+WaysAreThere = (starts : Bool) (marks : Happening → Bool) (before : List Happening) (e : Happening) → (is_on starts marks before e ≡ true) ↔ IsWay starts marks before e
+
+-- a variable that is not an instance, and one that is
+abbrev pub IsPlain : Variable → Type 0
+IsPlain v = (type : Kind) × (named_in elementary_types v.type_name ≡ Some type)
+
+abbrev pub IsInstance : Variable → Type 0
+IsInstance v = named_in elementary_types v.type_name ≡ None
+
+-- a variable that its own unit alone reads and writes: one of VAR, or of the program
+pub data IsAlone (v : Variable) : UnitKind → Type 0 where
+  of_var : (kind : UnitKind) → v.section ≡ Own → IsAlone v kind
+  of_program : IsAlone v Program
+
+-- which warning a declared name has
+pub data IsWarned (events : List Happening) (v : Variable) : UnitKind → ℕ → Type 0 where
+  unused : (kind : UnitKind) → IsPlain v → IsAlone v kind → is_read events v.name ≡ false → is_written events v.name ≡ false → IsWarned events v kind 1
+  only_written : (kind : UnitKind) → IsPlain v → IsAlone v kind → is_read events v.name ≡ false → is_written events v.name ≡ true → IsWarned events v kind 2
+  input_not_read : IsPlain v → v.section ≡ Input → is_read events v.name ≡ false → IsWarned events v FunctionBlock 2
+  only_read : (kind : UnitKind) → IsPlain v → IsAlone v kind → is_read events v.name ≡ true → is_written events v.name ≡ false → v.initial ≡ None → IsWarned events v kind 3
+  not_called : (kind : UnitKind) → IsInstance v → is_called events v.name ≡ false → IsWarned events v kind 4
+  output_not_written : IsPlain v → v.section ≡ Output → is_written events v.name ≡ false → IsWarned events v FunctionBlock 5
+  no_time : (kind : UnitKind) → IsInstance v → is_timer (named_in standard_blocks v.type_name) ≡ true → is_called events v.name ≡ true →
+      is_given events v.name (codes "pt") ≡ false → IsWarned events v kind 6
+
+-- a declared name has a warning of that number exactly then
+abbrev pub EachDeclaredWarningIsSo : Type 0
+EachDeclaredWarningIsSo = (kind : UnitKind) (events : List Happening) (v : Variable) (number : ℕ) → (declared_number kind events v ≡ Some number) ↔ IsWarned events v kind number
+
+-- which warning an event of a body has, after those before it
+pub data IsNoted (numbers : List ℕ) (events before : List Happening) (e : Happening) : ℕ → Type 0 where
+  not_reached : e.doing ≡ Begins → ¬ (IsWay true (λ any. false) before e) → is_above_reached before ≡ true → IsNoted numbers events before e 7
+  stored_again : (front back : List ℕ) (output : ℕ) → numbers ≡ front ++ output ∷ back → stores output e ≡ true → IsWay false (stores output) before e → IsNoted numbers events before e 8
+  unasked : reads_weight e ≡ true → list_any reads_valid events ≡ false → list_any reads_weight before ≡ false → IsNoted numbers events before e 9
+
+-- an event has a warning of that number exactly then
+abbrev pub EachEventWarningIsSo : Type 0
+EachEventWarningIsSo = (numbers : List ℕ) (events before : List Happening) (e : Happening) (number : ℕ) → (number_at numbers events before e ≡ Some number) ↔ IsNoted numbers events before e number

@@ -1,0 +1,74 @@
+ghost use Rattle.std.specs.Prelude.{◌≡◌, ◌<◌, Bool, IfSome, option_map};
+ghost use Rattle.std.specs.List.{list_any};
+ghost use Rattle.wc_built_in.specs.Direct.{direct_at};
+ghost use Rattle.wc_model.specs.Language.DirectVariables.{DirectVariable};
+ghost use Rattle.wc_model.specs.Language.Views.{term_view};
+ghost use Rattle.wc_diag_warnings.specs.Addresses.{is_direct, is_such, reads_valid, reads_weight, stores};
+ghost use Rattle.wc_diag_warnings.specs.Seen.{event_view, events_view};
+
+use crate::event::{Deed, Event};
+use wc_built_in::variable_at;
+use wc_model::Operand;
+
+/// The number of the first output among the directly represented variables.
+pub(crate) const FIRST_OUTPUT: u8 = 25;
+
+/// The number of directly represented variables; the outputs are the last of them.
+pub(crate) const DIRECT_VARIABLES: u8 = 45;
+
+/// The number of the directly represented variable that an operand is.
+fn direct_of(operand: &Operand<'_>) -> Option<u8>
+    ensures such { (test : DirectVariable → Bool)
+        → is_such test (option_map direct_at result) ≡ is_direct test (term_view operand.now) }
+    ensures small { IfSome result (λ number. number < 45) }
+{
+    match operand {
+        Operand::Address(word) => variable_at(word.text),
+        Operand::Literal(_) | Operand::Name(_) | Operand::Field { .. } => None,
+    }
+}
+
+/// Whether the event stores the directly represented variable of that number.
+pub(crate) fn stores(event: &Event<'_>, number: u8) -> bool
+    ensures { result ≡ stores number (event_view event.now) }
+{
+    match &event.deed {
+        Deed::Store(target) => direct_of(target) == Some(number),
+        _ => false,
+    }
+}
+
+/// Whether the event reads a weight, `%ID0` to `%ID2`.
+pub(crate) fn reads_weight(event: &Event<'_>) -> bool
+    ensures { result ≡ reads_weight (event_view event.now) }
+{
+    match &event.deed {
+        Deed::Read(operand) => match direct_of(operand) {
+            Some(number) => 22 <= number && number < FIRST_OUTPUT,
+            None => false,
+        },
+        _ => false,
+    }
+}
+
+/// Whether the event reads `%IX1.5`, which says that there is an indication.
+pub(crate) fn reads_valid(event: &Event<'_>) -> bool
+    ensures { result ≡ reads_valid (event_view event.now) }
+{
+    match &event.deed {
+        Deed::Read(operand) => direct_of(operand) == Some(21),
+        _ => false,
+    }
+}
+
+/// Whether some event reads `%IX1.5`.
+pub(crate) fn is_asked(events: &[Event<'_>]) -> bool
+    ensures { result ≡ list_any reads_valid (events_view events.now) }
+{
+    for event in events {
+        if reads_valid(event) {
+            return true;
+        }
+    }
+    false
+}

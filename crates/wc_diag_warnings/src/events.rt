@@ -1,0 +1,214 @@
+ghost use Rattle.std.specs.Prelude.{◌≡◌, ℕ, [], ◌∷◌, ◌++◌, IfOk, OnOk, IsOkUnless, map, option_map};
+ghost use Rattle.std.specs.List.{flat_map};
+ghost use Rattle.wc_model.specs.Language.Names.{name_of};
+ghost use Rattle.wc_model.specs.Language.Tree.{Lines};
+ghost use Rattle.wc_model.specs.Language.Views.{assignment_view, line_view, lines_view, term_view, word_view};
+ghost use Rattle.wc_diag_warnings.specs.Events.{Begins, argument_events, at, call_events, events_of, label_events, line_events, opening_events, storing_event};
+ghost use Rattle.wc_diag_warnings.specs.Seen.{deed_events, deed_view, events_view, instr_view};
+
+use crate::event::{Deed, Event};
+use std::alloc::Global;
+use wc_model::{Argument, Direction, Fault, Instr, Line, Operand, Storing, Word};
+
+/// Adds an event.
+fn put<'a>(events: &mut Vec<Event<'a>>, line: u32, deed: Deed<'a>) -> Result<(), Fault>
+    ensures added { OnOk result
+        (events_view events.new.items ≡ events_view events.old.items
+        ++ at line (deed_view deed.entry) ∷ []) }
+    ensures memory { IsOkUnless result Fault.Memory }
+{
+    match events.push(Event { line, deed }) {
+        Ok(()) => Ok(()),
+        Err(_) => Err(Fault::Memory),
+    }
+}
+
+/// What a store does.
+fn stored<'a>(storing: Storing, target: Operand<'a>) -> Deed<'a>
+    ensures { deed_view result ≡ storing_event storing (term_view target.entry) }
+{
+    match storing {
+        Storing::Result | Storing::Negation => Deed::Store(target),
+        Storing::Set | Storing::Reset => Deed::Set(target),
+    }
+}
+
+/// Adds the events of an item of a call's list.
+fn put_argument<'a>(
+    events: &mut Vec<Event<'a>>,
+    line: u32,
+    instance: &'a [u8],
+    argument: &Argument<'a>,
+) -> Result<(), Fault>
+    ensures added { OnOk result
+        (events_view events.new.items ≡ events_view events.old.items
+        ++ argument_events line (name_of instance.now) (assignment_view argument.now)) }
+    ensures memory { IsOkUnless result Fault.Memory }
+{
+    match argument.direction {
+        Direction::Into => {
+            put(events, line, Deed::Read(argument.value))?;
+            let input = argument.name;
+            put(events, line, Deed::Give { instance, input })
+        }
+        Direction::OutOf => put(events, line, Deed::Store(argument.value)),
+    }
+}
+
+/// Adds the events of a call's list.
+fn put_arguments<'a>(
+    events: &mut Vec<Event<'a>>,
+    line: u32,
+    instance: &'a [u8],
+    arguments: &[Argument<'a>],
+) -> Result<(), Fault>
+    ensures added { OnOk result
+        (events_view events.new.items ≡ events_view events.old.items
+        ++ flat_map (argument_events line (name_of instance.now))
+        (map assignment_view arguments.now)) }
+    ensures memory { IsOkUnless result Fault.Memory }
+{
+    for argument in arguments {
+        put_argument(events, line, instance, argument)?;
+    }
+    Ok(())
+}
+
+/// Adds the beginning of an instruction, and its one deed if it has one.
+fn put_step<'a>(events: &mut Vec<Event<'a>>, line: u32, deed: Option<Deed<'a>>) -> Result<(), Fault>
+    ensures added { OnOk result
+        (events_view events.new.items ≡ events_view events.old.items
+        ++ (at line Begins ∷ deed_events line deed.entry)) }
+    ensures memory { IsOkUnless result Fault.Memory }
+{
+    put(events, line, Deed::Begin)?;
+    match deed {
+        Some(deed) => put(events, line, deed),
+        None => Ok(()),
+    }
+}
+
+/// Adds the label of a line, if it has one.
+fn put_label<'a>(events: &mut Vec<Event<'a>>, label: Option<Word<'a>>) -> Result<(), Fault>
+    ensures added { OnOk result
+        (events_view events.new.items ≡ events_view events.old.items
+        ++ label_events (option_map word_view label.entry)) }
+    ensures memory { IsOkUnless result Fault.Memory }
+{
+    match label {
+        Some(word) => put(events, word.line, Deed::Label(word.text)),
+        None => Ok(()),
+    }
+}
+
+/// Adds the events of a call.
+fn put_call<'a>(
+    events: &mut Vec<Event<'a>>,
+    line: u32,
+    instance: &'a [u8],
+    arguments: &[Argument<'a>],
+) -> Result<(), Fault>
+    ensures added { OnOk result
+        (events_view events.new.items ≡ events_view events.old.items
+        ++ (at line Begins
+        ∷ call_events line (name_of instance.now) (map assignment_view arguments.now))) }
+    ensures memory { IsOkUnless result Fault.Memory }
+{
+    put_step(events, line, Some(Deed::Call(instance)))?;
+    put_arguments(events, line, instance, arguments)
+}
+
+/// What the operand of an opening line is: read.
+fn first_read<'a>(operand: &Option<Operand<'a>>) -> Option<Deed<'a>>
+    ensures { (line : ℕ) → deed_events line result
+        ≡ opening_events line (option_map term_view operand.now) }
+{
+    match operand {
+        Some(operand) => Some(Deed::Read(*operand)),
+        None => None,
+    }
+}
+
+/// Adds the events of a line, and of the lines in its parenthesis.
+#[cycle(putting)]
+fn put_line<'a>(events: &mut Vec<Event<'a>>, line: &Line<'a>) -> Result<(), Fault>
+    ensures added { OnOk result ((rest : Lines)
+        → events_view events.new.items ++ events_of rest
+        ≡ events_view events.old.items ++ events_of (line_view line.now rest)) }
+    ensures memory { IsOkUnless result Fault.Memory }
+{
+    put_label(events, line.label)?;
+    match &line.instr {
+        Some(instr) => put_instr(events, instr),
+        None => Ok(()),
+    }
+}
+
+/// Adds the events of an instruction, and of the lines in its parenthesis.
+#[cycle(putting)]
+fn put_instr<'a>(events: &mut Vec<Event<'a>>, instr: &Instr<'a>) -> Result<(), Fault>
+    ensures added { OnOk result (events_view events.new.items
+        ≡ events_view events.old.items ++ line_events (instr_view instr.now)) }
+    ensures memory { IsOkUnless result Fault.Memory }
+{
+    match instr {
+        Instr::Load { operand, line, .. } => put_step(events, *line, Some(Deed::Read(*operand))),
+        Instr::Store {
+            storing,
+            target,
+            line,
+        } => put_step(events, *line, Some(stored(*storing, *target))),
+        Instr::Apply { operand, line, .. } => put_step(events, *line, Some(Deed::Read(*operand))),
+        Instr::Defer {
+            operand,
+            inside,
+            line,
+            ..
+        } => {
+            put_step(events, *line, first_read(operand))?;
+            put_lines(events, inside)
+        }
+        Instr::Not { line } => put_step(events, *line, None),
+        Instr::Jump {
+            condition,
+            label,
+            line,
+        } => {
+            let condition = *condition;
+            put_step(events, *line, Some(Deed::Jump { condition, label }))
+        }
+        Instr::Call {
+            instance,
+            arguments,
+            line,
+            ..
+        } => put_call(events, *line, instance, arguments),
+        Instr::Return { condition, line } => {
+            put_step(events, *line, Some(Deed::Return(*condition)))
+        }
+    }
+}
+
+/// Adds the events of lines, in text order.
+#[cycle(putting)]
+fn put_lines<'a>(events: &mut Vec<Event<'a>>, lines: &[Line<'a>]) -> Result<(), Fault>
+    ensures added { OnOk result (events_view events.new.items
+        ≡ events_view events.old.items ++ events_of (lines_view lines.now)) }
+    ensures memory { IsOkUnless result Fault.Memory }
+{
+    for line in lines {
+        put_line(events, line)?;
+    }
+    Ok(())
+}
+
+/// The events of a body, in text order.
+pub(crate) fn events_of<'a>(alloc: Global, lines: &[Line<'a>]) -> Result<Vec<Event<'a>>, Fault>
+    ensures found { IfOk result (λ events. events_view events.items
+        ≡ events_of (lines_view lines.now)) }
+    ensures memory { IsOkUnless result Fault.Memory }
+{
+    let mut events = Vec::new(alloc);
+    put_lines(&mut events, lines)?;
+    Ok(events)
+}

@@ -1,0 +1,20 @@
+//! What is suspicious of a program text that the verifier accepts: variables, instances and outputs that do nothing, lines
+//! that no run reaches, outputs that are stored twice, weights that nobody asks about.
+#![tactic(auto)]
+
+mod addresses;
+mod again;
+mod body;
+mod declared;
+mod event;
+mod events;
+mod finding;
+mod laws;
+mod used;
+mod uses;
+mod warning;
+mod ways;
+
+pub use finding::find_warnings;
+pub use laws::{each_declared_warning_is_so, each_event_warning_is_so, ways_are_there};
+pub use warning::Warning;

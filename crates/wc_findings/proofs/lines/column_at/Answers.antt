@@ -1,5 +1,0 @@
-use Rattle.wc_findings.proofs.Columns.{back_begins}
-use Rattle.wc_findings.proofs.lines.column_at.Goals as goal
-
-pub loop-count-init : goal.loop-count-init
-loop-count-init c = back_begins c.front-above.result.now

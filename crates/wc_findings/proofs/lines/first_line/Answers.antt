@@ -1,5 +1,0 @@
-use Rattle.wc_findings.proofs.LineCuts.{first_cut}
-use Rattle.wc_findings.proofs.lines.first_line.Goals as goal
-
-pub returns : goal.returns
-returns c = first_cut c.args.text.now c.front.result.now c.line_length.result c.line_length.ensures.first c.line_length.ensures.within c.front.ensures

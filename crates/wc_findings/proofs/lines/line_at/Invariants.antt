@@ -1,6 +1,0 @@
-use Rattle.wc_findings.proofs.LineCuts.{StandsBehind}
-use Rattle.wc_findings.proofs.lines.line_at.Given as goal
-
--- the lines above were passed
-abbrev pub invariant-loop-passed : goal.invariant-loop-passed
-invariant-loop-passed l = StandsBehind l.text l._passed l.rest

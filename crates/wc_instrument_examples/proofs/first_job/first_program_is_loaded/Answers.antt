@@ -1,5 +1,0 @@
-use Rattle.wc_instrument_examples.proofs.FirstProgram.{first_is_loaded}
-use Rattle.wc_instrument_examples.proofs.first_job.first_program_is_loaded.Goals as goal
-
-pub returns : goal.returns
-returns c = first_is_loaded

@@ -1,5 +1,0 @@
-use Rattle.wc_instrument_laws.proofs.JobParts.{job_is_its_sections}
-use Rattle.wc_instrument_laws.proofs.laws.a_job_is_its_sections.Goals as goal
-
-pub returns : goal.returns
-returns c = job_is_its_sections

@@ -1,5 +1,0 @@
-use Rattle.wc_instrument_laws.proofs.Independence.{is_free_of_programs}
-use Rattle.wc_instrument_laws.proofs.laws.answers_are_free_of_programs.Goals as goal
-
-pub returns : goal.returns
-returns g c = is_free_of_programs

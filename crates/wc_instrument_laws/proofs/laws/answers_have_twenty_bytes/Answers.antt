@@ -1,5 +1,0 @@
-use Rattle.wc_instrument_laws.proofs.Answers.{length_answer}
-use Rattle.wc_instrument_laws.proofs.laws.answers_have_twenty_bytes.Goals as goal
-
-pub returns : goal.returns
-returns c = length_answer

@@ -1,5 +1,0 @@
-use Rattle.wc_instrument_laws.proofs.CutReports.{reports_can_be_cut}
-use Rattle.wc_instrument_laws.proofs.laws.reports_of_cut_logs.Goals as goal
-
-pub returns : goal.returns
-returns c c' = reports_can_be_cut

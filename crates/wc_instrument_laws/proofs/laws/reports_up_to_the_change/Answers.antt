@@ -1,5 +1,0 @@
-use Rattle.wc_instrument_laws.proofs.Changes.{reports_up_to_the_change}
-use Rattle.wc_instrument_laws.proofs.laws.reports_up_to_the_change.Goals as goal
-
-pub returns : goal.returns
-returns c = reports_up_to_the_change

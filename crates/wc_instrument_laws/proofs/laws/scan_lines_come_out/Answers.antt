@@ -1,5 +1,0 @@
-use Rattle.wc_instrument_laws.proofs.WrittenLines.{scan_lines_come_out}
-use Rattle.wc_instrument_laws.proofs.laws.scan_lines_come_out.Goals as goal
-
-pub returns : goal.returns
-returns g c = scan_lines_come_out

@@ -1,5 +1,0 @@
-use Rattle.wc_instrument_laws.proofs.Requests.{is_cut_anywhere}
-use Rattle.wc_instrument_laws.proofs.laws.streams_are_cut_anywhere.Goals as goal
-
-pub returns : goal.returns
-returns c = is_cut_anywhere

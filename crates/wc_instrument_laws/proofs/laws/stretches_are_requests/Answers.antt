@@ -1,5 +1,0 @@
-use Rattle.wc_instrument_laws.proofs.Requests.{stretch_is_request}
-use Rattle.wc_instrument_laws.proofs.laws.stretches_are_requests.Goals as goal
-
-pub returns : goal.returns
-returns c = stretch_is_request

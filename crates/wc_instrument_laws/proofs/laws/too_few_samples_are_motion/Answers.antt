@@ -1,5 +1,0 @@
-use Rattle.wc_instrument_laws.proofs.Indication.{too_few_samples}
-use Rattle.wc_instrument_laws.proofs.laws.too_few_samples_are_motion.Goals as goal
-
-pub returns : goal.returns
-returns c = too_few_samples

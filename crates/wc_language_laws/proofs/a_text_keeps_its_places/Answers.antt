@@ -1,5 +1,0 @@
-use Rattle.wc_language_laws.proofs.Keeping.{keeps_its_places}
-use Rattle.wc_language_laws.proofs.a_text_keeps_its_places.Goals as goal
-
-pub returns : goal.returns
-returns c = keeps_its_places

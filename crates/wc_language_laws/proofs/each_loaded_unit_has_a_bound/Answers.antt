@@ -1,5 +1,0 @@
-use Rattle.wc_language_laws.proofs.UnitBounds.{bounds_of_loaded}
-use Rattle.wc_language_laws.proofs.each_loaded_unit_has_a_bound.Goals as goal
-
-pub returns : goal.returns
-returns c = bounds_of_loaded

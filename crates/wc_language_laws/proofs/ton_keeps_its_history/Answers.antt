@@ -1,5 +1,0 @@
-use Rattle.wc_language_laws.proofs.Delaying.{ton_fits}
-use Rattle.wc_language_laws.proofs.ton_keeps_its_history.Goals as goal
-
-pub returns : goal.returns
-returns c = ton_fits

@@ -1,5 +1,0 @@
-use Rattle.wc_language_laws.proofs.Pulsing.{tp_fits}
-use Rattle.wc_language_laws.proofs.tp_keeps_its_history.Goals as goal
-
-pub returns : goal.returns
-returns c = tp_fits

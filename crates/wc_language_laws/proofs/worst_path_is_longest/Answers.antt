@@ -1,5 +1,0 @@
-use Rattle.wc_language_laws.proofs.Longest.{longest_of_worst}
-use Rattle.wc_language_laws.proofs.worst_path_is_longest.Goals as goal
-
-pub returns : goal.returns
-returns c = longest_of_worst

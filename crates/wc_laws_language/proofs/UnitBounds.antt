@@ -1,0 +1,68 @@
+-- Each unit of a loaded text has a bound: run alone from its own first values it is never stuck, and its trace is a path.
+use Rattle.std.proofs.Common.{ℕ, ◌≤◌, List, [], ◌∷◌, length, Some, None, subst, inl, inr}
+use Rattle.std.specs.List.{AllByRecursion, flat_map}
+use Rattle.wc_laws_language.proofs.Longest.{Found, WorstFrom, best_path, best_path_is_worst, longest_of_worst}
+use Rattle.wc_laws_language.proofs.TracesArePaths.{TraceIs, program_trace_is_path}
+use Rattle.wc_laws_language.specs.Laws.{HasABound, EachLoadedUnitHasABound}
+use Rattle.wc_model.specs.Language.BodyRules.{text_body_checks}
+use Rattle.wc_model.specs.Language.Checks.{Spot, spots_behind}
+use Rattle.wc_model.specs.Language.Faults.{MOST_STEPS, FirstTooLong, IsShortEnough}
+use Rattle.wc_model.specs.Language.Meaning.{Outcome, Done, Stuck, program_means}
+use Rattle.wc_model.specs.Language.Paths.{Onward, IsPath, IsLongest}
+use Rattle.wc_model.specs.Language.Scopes.{Scope}
+use Rattle.wc_model.specs.Language.Store.{Store, initial_store}
+use Rattle.wc_model.specs.Language.Traces.{Item}
+use Rattle.wc_model.specs.Language.Tree.{ProgramUnit}
+use Rattle.wc_model.specs.Language.WorstPaths.{IsWorstPath}
+use Rattle.wc_laws_soundness.proofs.Programs.{Any, first_store_fits, program_ends}
+use Rattle.wc_laws_soundness.proofs.Spelled.{spelled_text_nests}
+use Rattle.wc_laws_soundness.proofs.Steps.{clean_first, clean_second}
+use Rattle.wc_laws_soundness.proofs.Texts.{none_broken, rules_at}
+use Rattle.wc_laws_soundness.specs.Laws.{UnitsNestSimply}
+use Rattle.wc_laws_soundness.specs.Sound.{Clean, AreClean, EndsWell}
+
+-- an outcome that ends well has a path
+pub path_of : (scope : Scope) (first : Store) (outcome : Outcome) → TraceIs (IsPath scope) outcome → EndsWell Any first outcome → (path : List Item) × IsPath scope path
+path_of scope first (Done result store trace) path well = (trace, path)
+path_of scope first (Stuck reason) path well = absurd well
+
+-- a unit that has a path has a longest one
+pub longest_there : (scope : Scope) (path : List Item) → IsPath scope path → (found : Found)
+    → WorstFrom (λ way. IsPath scope) (λ way. IsWorstPath scope) Onward found → (n : ℕ) × IsLongest scope n
+longest_there scope path is (Some best) worst = (length best, longest_of_worst scope best worst.0)
+longest_there scope path is None none = absurd (none path is)
+
+-- a clean unit after clean units has a longest path
+clean_is_bounded : (before : List ProgramUnit) (unit : ProgramUnit) → AreClean (unit ∷ before) → (n : ℕ) × IsLongest (record { before = before; unit = unit }) n
+clean_is_bounded before unit clean =
+    let scope : Scope = record { before = before; unit = unit } in
+    let first = initial_store before unit in
+    let well = program_ends before unit 0 first clean (first_store_fits before unit) in
+    let there = path_of scope first (program_means before unit 0 first) (program_trace_is_path before unit 0 first) well in
+    longest_there scope there.0 there.1 (best_path scope) (best_path_is_worst scope)
+
+-- a longest path is within the limit if each path is
+within_limit : (spot : Spot ProgramUnit) (n : ℕ) → IsLongest (record { before = spot.before; unit = spot.item }) n → IsShortEnough spot → n ≤ MOST_STEPS
+within_limit spot n longest short = subst (λ (m : ℕ). m ≤ MOST_STEPS) longest.reached (short longest.path longest.is_path)
+
+-- if no unit is too long, the first is not, and no other is
+none_too_long : (spot : Spot ProgramUnit) (spots : List (Spot ProgramUnit)) → FirstTooLong (spot ∷ spots) None → IsShortEnough spot × FirstTooLong spots None
+none_too_long spot spots (inl long) = absurd (let e = long.1 in cc)
+none_too_long spot spots (inr short) = short
+
+-- the units after clean ones
+bounds_behind : (before units : List ProgramUnit) → Clean (flat_map rules_at (spots_behind before units)) → UnitsNestSimply units → AreClean before
+    → FirstTooLong (spots_behind before units) None → AllByRecursion HasABound (spots_behind before units)
+bounds_behind before [] clean simple earlier short = tt
+bounds_behind before (unit ∷ units) clean simple earlier short =
+    let spot : Spot ProgramUnit = record { before = before; item = unit; behind = units } in
+    let rest = flat_map rules_at (spots_behind (unit ∷ before) units) in
+    let own : AreClean (unit ∷ before) = (clean_first (rules_at spot) rest clean, simple.0, earlier) in
+    let bounded = clean_is_bounded before unit own in
+    let costs = none_too_long spot (spots_behind (unit ∷ before) units) short in
+    ((bounded.0, bounded.1, within_limit spot bounded.0 bounded.1 costs.0), bounds_behind (unit ∷ before) units (clean_second (rules_at spot) rest clean) simple.1 own costs.1)
+
+-- each unit of a loaded text has a bound
+pub bounds_of_loaded : EachLoadedUnitHasABound
+bounds_of_loaded bytes text loaded =
+    bounds_behind [] text (none_broken (text_body_checks text) loaded.bodies) (spelled_text_nests _ text loaded.read.spelled) tt loaded.costs

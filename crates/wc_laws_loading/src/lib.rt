@@ -1,0 +1,25 @@
+//! Laws of loading a text from its bytes: it is loaded or refused, never both, as one text, with one refusal. Each function has
+//! an empty body: its clause is the law.
+#![tactic(auto)]
+
+ghost use Rattle.wc_laws_loading.specs.Laws.{LoadedOrRefused, NeverBoth, OneRefusal, OneText};
+
+/// Any bytes are loaded as a text, or refused with a number and a line.
+pub fn bytes_are_loaded_or_refused()
+    ensures { LoadedOrRefused }
+{}
+
+/// Bytes that are loaded are not refused.
+pub fn what_is_loaded_is_not_refused()
+    ensures { NeverBoth }
+{}
+
+/// Bytes have one refusal at most: one number, at one line.
+pub fn one_refusal()
+    ensures { OneRefusal }
+{}
+
+/// Bytes are loaded as one text at most.
+pub fn one_loaded_text()
+    ensures { OneText }
+{}

@@ -1,5 +1,0 @@
-use Rattle.wc_loading_laws.proofs.LoadLaws.{loaded_or_refused}
-use Rattle.wc_loading_laws.proofs.bytes_are_loaded_or_refused.Goals as goal
-
-pub returns : goal.returns
-returns c = loaded_or_refused

@@ -1,5 +1,0 @@
-use Rattle.wc_loading_laws.proofs.LoadLaws.{never_both}
-use Rattle.wc_loading_laws.proofs.what_is_loaded_is_not_refused.Goals as goal
-
-pub returns : goal.returns
-returns c = never_both

@@ -1,6 +1,0 @@
-use Rattle.std.proofs.Common.{◌≡◌, ◌++◌, replicate}
-use Rattle.wc_messages.proofs.message.Message.repeat.Given as goal
-
--- so many marks were added
-abbrev pub invariant-loop-done : goal.invariant-loop-done
-invariant-loop-done l = l.self.bytes.items ≡ l.initial.self.bytes.items ++ replicate l._done l.mark

@@ -1,0 +1,63 @@
+//! All of a text is written, and the devices that fail in tests.
+use std::alloc::{AllocError, Global};
+use wc_model::{ByteIn, ByteOut, FuseIn, FuseOut, WriteFault, write_whole};
+
+/// Whether a text is written so by a writer of n bytes a call and in all, and these bytes are then there.
+fn is_written(
+    alloc: Global,
+    per_call: usize,
+    in_all: usize,
+    answer: Result<(), WriteFault>,
+    written: &[u8],
+) -> Result<bool, AllocError> {
+    let mut writer = FuseOut::new(alloc, per_call, in_all)?;
+    let given = write_whole(&mut writer, b"S 0 2 0");
+    let failures = if answer.is_ok() { 0 } else { 1 };
+    Ok(given == answer && writer.failures() == failures && writer.written() == written)
+}
+
+/// Whether the next read gives this chunk.
+fn gives(reader: &mut FuseIn<'_>, piece: &[u8]) -> bool {
+    let mut room = [0; 2];
+    match reader.read(&mut room) {
+        Ok(count) => room.get(..count) == Some(piece),
+        Err(_) => false,
+    }
+}
+
+/// A reader of a head and of two chunks, which then fails, twice as it is asked twice.
+fn gives_its_pieces_and_fails() -> bool {
+    let mut reader = FuseIn::new(b"ab", b"xyz", 2, true);
+    let first = gives(&mut reader, b"ab") && gives(&mut reader, b"xy") && gives(&mut reader, b"z");
+    let second = gives(&mut reader, b"xy") && gives(&mut reader, b"z") && reader.failures() == 0;
+    let mut room = [0; 2];
+    let failed = reader.read(&mut room).is_err() && reader.read(&mut room).is_err();
+    first && second && failed && reader.failures() == 2 && reader.spent() == 15
+}
+
+/// A reader of nothing that ends.
+fn ends() -> bool {
+    let mut reader = FuseIn::new(b"", b"", 3, false);
+    gives(&mut reader, b"") && reader.failures() == 0 && reader.spent() == 1
+}
+
+#[test]
+fn all_of_a_text_is_written(rt: HostRuntime) {
+    assert!(rt; is_written(rt.alloc(), 1, 7, Ok(()), b"S 0 2 0") == Ok(true));
+}
+
+#[test]
+fn a_front_is_written_before_a_fault(rt: HostRuntime) {
+    assert!(rt; is_written(rt.alloc(), 2, 5, Err(WriteFault), b"S 0 2") == Ok(true));
+    assert!(rt; is_written(rt.alloc(), 0, 5, Err(WriteFault), b"") == Ok(true));
+}
+
+#[test]
+fn a_fuse_gives_its_pieces_and_fails(rt: HostRuntime) {
+    assert!(rt; gives_its_pieces_and_fails());
+}
+
+#[test]
+fn a_fuse_ends(rt: HostRuntime) {
+    assert!(rt; ends());
+}

@@ -1,0 +1,87 @@
+//! A change that may be refused memory.
+use std::alloc::Global;
+use wc_controller::load;
+use wc_cost::Loaded;
+use wc_machine::Machine;
+use wc_model::{Fault, Image, Outputs, Steps};
+use wc_store::SlotStore;
+
+/// What a change came to.
+#[derive(Clone, Copy)]
+pub(crate) enum Change {
+    /// A text or a machine was not to be had, so it was not asked for.
+    Unloaded,
+    /// It was made.
+    Made,
+    /// The old machine came back as it was.
+    HandedBack,
+    /// The old machine came back, and it is not as it was.
+    Spoiled,
+}
+
+/// One scan with the first input set, if its time is not before the last.
+fn scanned(machine: &mut Machine<'_, SlotStore>, ms: u64) -> Option<(Steps, Outputs)> {
+    if ms < machine.last() || ms > 1_099_511_627_775 {
+        return None;
+    }
+    let image = Image {
+        inputs: 1,
+        status: 0,
+        weights: [0, 0, 0],
+    };
+    let steps = machine.scan(ms, &image);
+    Some((steps, machine.outputs()))
+}
+
+/// Whether two machines have the same outputs, last time and bound, and the same next scan.
+fn are_alike(one: &mut Machine<'_, SlotStore>, other: &mut Machine<'_, SlotStore>) -> bool {
+    let same = one.outputs() == other.outputs() && one.last() == other.last();
+    same && one.bound() == other.bound() && scanned(one, 100) == scanned(other, 100)
+}
+
+/// Asks one of two machines that are alike for a change.
+fn change_one<'a>(
+    alloc: Global,
+    machine: Machine<'a, SlotStore>,
+    other: &mut Machine<'a, SlotStore>,
+    next: Loaded<'a>,
+) -> Change {
+    match machine.change(alloc, next) {
+        Ok(_) => Change::Made,
+        Err((mut back, fault)) => {
+            if fault == Fault::Memory && are_alike(&mut back, other) {
+                Change::HandedBack
+            } else {
+                Change::Spoiled
+            }
+        }
+    }
+}
+
+/// A machine over a text that has made one scan.
+fn machine_of<'a>(alloc: Global, text: &'a [u8]) -> Result<Machine<'a, SlotStore>, Fault> {
+    match load(alloc, text) {
+        Ok(loaded) => match Machine::new(alloc, loaded) {
+            Ok(mut machine) => {
+                let _scan = scanned(&mut machine, 10);
+                Ok(machine)
+            }
+            Err(fault) => Err(fault),
+        },
+        Err(fault) => Err(fault),
+    }
+}
+
+/// Asks a machine over a text for the change to the next.
+pub(crate) fn change_of(alloc: Global, program: &[u8], next: &[u8]) -> Change {
+    let Ok(machine) = machine_of(alloc, program) else {
+        return Change::Unloaded;
+    };
+    let Ok(mut other) = machine_of(alloc, program) else {
+        return Change::Unloaded;
+    };
+    match load(alloc, next) {
+        Ok(next) => change_one(alloc, machine, &mut other, next),
+        Err(_) => Change::Unloaded,
+    }
+}

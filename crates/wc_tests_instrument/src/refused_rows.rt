@@ -1,0 +1,34 @@
+//! The row that is reported if a log is refused: the line on which it starts, and its fields.
+use crate::logs::rows_left;
+use std::alloc::Global;
+use wc_model::Device;
+use wc_record::{RefusedRow, Rows};
+
+/// The row at which a log ends.
+fn last_row(alloc: Global, text: &[u8]) -> RefusedRow {
+    let mut told = RefusedRow::new(alloc);
+    let mut device = Device::new(text);
+    let mut rows = Rows::new(alloc, &mut device);
+    let _left = rows_left(&mut rows, 100);
+    rows.tell(alloc, &mut told);
+    drop(rows);
+    told
+}
+
+/// It starts on that line, has n fields, and its last field is this.
+fn is_told(alloc: Global, text: &[u8], line: u32, count: usize, last: &[u8]) -> bool {
+    let told = last_row(alloc, text);
+    let field = told.field(count.saturating_sub(1)).unwrap_or_default();
+    told.line() == line && told.len() == count && field == last
+}
+
+#[test]
+fn a_refused_row_is_told(rt: HostRuntime) {
+    let alloc = rt.alloc();
+    assert!(rt; is_told(alloc, b"", 1, 0, b""));
+    assert!(rt; is_told(alloc, b"ms,kind,data\n\n0,S\n", 3, 2, b"S"));
+    assert!(rt; is_told(alloc, b"ms,kind,data\r\n\r\n0,S,x\r\n1,S,\r\n", 3, 3, b"x"));
+    assert!(rt; is_told(alloc, b"ms,kind,data\n0,S,\"x\ny\"\n", 2, 3, b"x\ny"));
+    assert!(rt; is_told(alloc, b"ms,kind,data\n0,S,\"x\n", 2, 3, b"x\n"));
+    assert!(rt; is_told(alloc, b"ms,kind,data\n0,X,", 2, 3, b""));
+}

@@ -1,0 +1,156 @@
+//! What a job is read into, and its sections.
+use std::alloc::Global;
+use wc_job::{ReadFault, read_whole, sections};
+use wc_model::{ByteIn, Device, FuseIn};
+
+/// The text is read as it is.
+fn is_read(alloc: Global, text: &[u8]) -> bool {
+    let mut device = Device::new(text);
+    match read_whole(alloc, &mut device) {
+        Ok(bytes) => bytes.as_slice() == text && device.failures() == 0,
+        Err(_) => false,
+    }
+}
+
+/// As many letters as a test wants in one chunk.
+static LETTERS: [u8; 5000] = [b'x'; 5000];
+
+/// A reader of a head of n letters, then n times a chunk of n, which then ends or fails.
+fn letters(head: usize, piece: usize, times: u32, fails: bool) -> Option<FuseIn<'static>> {
+    match (LETTERS.get(..head), LETTERS.get(..piece)) {
+        (Some(head), Some(piece)) => Some(FuseIn::new(head, piece, times, fails)),
+        _ => None,
+    }
+}
+
+/// The number of bytes a reader still gives.
+fn bytes_behind(reader: &mut FuseIn<'_>) -> usize {
+    let mut room = [0; 16];
+    match reader.read(&mut room) {
+        Ok(count) => count,
+        Err(_) => 0,
+    }
+}
+
+/// N bytes of the reader are read, and none are after them.
+fn reads(alloc: Global, reader: Option<FuseIn<'_>>, count: usize) -> bool {
+    let Some(mut reader) = reader else {
+        return false;
+    };
+    match read_whole(alloc, &mut reader) {
+        Ok(bytes) => bytes.len() == count
+            && reader.failures() == 0
+            && bytes_behind(&mut reader) == 0,
+        Err(_) => false,
+    }
+}
+
+/// What a fault is called.
+fn called(fault: ReadFault) -> &'static str {
+    match fault {
+        ReadFault::TooLong => "too long",
+        ReadFault::Read => "read",
+        ReadFault::Memory => "memory",
+    }
+}
+
+/// The reader is refused so; it failed so often, and n bytes are left after what was read.
+fn refuses(
+    alloc: Global,
+    reader: Option<FuseIn<'_>>,
+    fault: &str,
+    failures: u64,
+    behind: usize,
+) -> bool {
+    let Some(mut reader) = reader else {
+        return false;
+    };
+    match read_whole(alloc, &mut reader) {
+        Ok(_) => false,
+        Err(met) => called(met) == fault
+            && reader.failures() == failures
+            && bytes_behind(&mut reader) == behind,
+    }
+}
+
+#[test]
+fn known_bytes(rt: HostRuntime) {
+    assert!(rt; is_read(rt.alloc(), b""));
+    assert!(rt; is_read(rt.alloc(), b"@plate\n"));
+    assert!(rt; is_read(rt.alloc(), b"\0\r\n\xff"));
+}
+
+#[test]
+fn pieces_up_to_the_longest(rt: HostRuntime) {
+    assert!(rt; reads(rt.alloc(), letters(4, 7, 1428, false), 10000));
+    assert!(rt; reads(rt.alloc(), letters(0, 5000, 2, false), 10000));
+    assert!(rt; reads(rt.alloc(), letters(3576, 5000, 209, false), 1048576));
+}
+
+#[test]
+fn a_job_that_is_too_long_is_read_no_further(rt: HostRuntime) {
+    assert!(rt;
+        refuses(
+            rt.alloc(),
+            letters(3577, 5000, 209, false),
+            "too long",
+            0,
+            0
+        )
+    );
+    assert!(rt; refuses(rt.alloc(), letters(580, 4000, 262, false), "too long", 0, 3));
+    assert!(rt; refuses(rt.alloc(), letters(577, 4000, 262, true), "too long", 0, 0));
+}
+
+#[test]
+fn a_reader_of_a_job_that_fails(rt: HostRuntime) {
+    assert!(rt; refuses(rt.alloc(), letters(0, 5, 1000, true), "read", 1, 0));
+    assert!(rt; refuses(rt.alloc(), letters(0, 0, 0, true), "read", 1, 0));
+    assert!(rt; refuses(rt.alloc(), letters(576, 4000, 262, true), "read", 1, 0));
+}
+
+/// The job has these sections.
+fn are_sections(job: &[u8], plate: &[u8], program: &[u8], log: &[u8]) -> bool {
+    match sections(job) {
+        Ok(found) => found.plate == plate && found.program == program && found.log == log,
+        Err(_) => false,
+    }
+}
+
+#[test]
+fn three_sections(rt: HostRuntime) {
+    let plain = b"@plate\na = 1\n@program\nP\n@log\nms\n0\n";
+    assert!(rt; are_sections(plain, b"a = 1\n", b"P\n", b"ms\n0\n"));
+    let returns = b"@plate\r\na\r\n@program\r\nP\r\n@log\r\nms\r\n0";
+    assert!(rt; are_sections(returns, b"a\r\n", b"P\r\n", b"ms\r\n0"));
+    let again = b"@plate\n@log\n@plate\n@program\r\n@program\n@log\n@log\n@program\n";
+    assert!(rt; are_sections(again, b"@log\n@plate\n", b"@program\n", b"@log\n@program\n"));
+    assert!(rt; are_sections(b"@plate\n@program\n@log\n", b"", b"", b""));
+    let beside = b"@plate\n @program\n@program \n@program\r\r\n@program\n\n@log\n@log";
+    assert!(rt;
+        are_sections(
+            beside,
+            b" @program\n@program \n@program\r\r\n",
+            b"\n",
+            b"@log"
+        )
+    );
+}
+
+/// The job has these two programs, and this log.
+fn are_programs(job: &[u8], program: &[u8], next: Option<&[u8]>, log: &[u8]) -> bool {
+    match sections(job) {
+        Ok(found) => found.program == program && found.next == next && found.log == log,
+        Err(_) => false,
+    }
+}
+
+#[test]
+fn next_section(rt: HostRuntime) {
+    let plain = b"@plate\n@program\nP\n@next\nQ\n@log\nms\n";
+    assert!(rt; are_programs(plain, b"P\n", Some(b"Q\n"), b"ms\n"));
+    let twice = b"@plate\n@next\n@program\n@next\r\n@next\n@log\n@next\n";
+    assert!(rt; are_programs(twice, b"", Some(b"@next\n"), b"@next\n"));
+    let beside = b"@plate\n@program\n @next\n@next \n@log\n@next\n";
+    assert!(rt; are_programs(beside, b" @next\n@next \n", None, b"@next\n"));
+}

@@ -1,0 +1,18 @@
+//! Texts that are verified.
+use crate::texts::checked;
+use std::alloc::Global;
+
+/// The number of units a verified text has, and the number of places the second of them.
+fn kept(alloc: Global, text: &[u8]) -> (usize, usize) {
+    match checked(alloc, text) {
+        Ok(checked) => (checked.source().units.len(), checked.tables().size(1)),
+        Err(_) => (0, 0),
+    }
+}
+
+#[test]
+fn a_verified_text_is_kept(rt: HostRuntime) {
+    let text =
+        b"FUNCTION_BLOCK B\nVAR_INPUT i : BOOL; END_VAR\nEND_FUNCTION_BLOCK\nPROGRAM P\nVAR a : B; END_VAR\nEND_PROGRAM\n";
+    assert!(rt; kept(rt.alloc(), text) == (2, 46));
+}

@@ -1,0 +1,50 @@
+//! A program that is changed between two scans: which place of the old one each place carries on.
+
+use crate::texts::loaded;
+use std::alloc::Global;
+use wc_cost::Loaded;
+use wc_model::Place;
+
+/// It counts from 5 on, and a timer of a tenth of a second runs.
+const COUNTING: &[u8] =
+    b"PROGRAM P\nVAR n : DINT := 5; t : TON; END_VAR\nLD n\nADD 1\nST n\nST %QD0\n\
+    CAL t(IN := %IX0.0, PT := T#100ms)\nLD t.Q\nST %QX0.0\nEND_PROGRAM\n";
+
+/// The same timer and number in another order, with other first values, and one variable more.
+const SUMMING: &[u8] =
+    b"PROGRAM Q\nVAR t : TON; N : DINT := 50; k : DINT := 7; END_VAR\nLD n\nADD k\nST %QD0\n\
+    CAL t(IN := %IX0.0, PT := T#100ms)\nLD t.Q\nST %QX0.0\nEND_PROGRAM\n";
+
+/// The old place whose value a place of a text keeps; nothing if there is no such place.
+fn carried(new: &Loaded<'_>, old: &Loaded<'_>, place: u16) -> Option<Place> {
+    if usize::from(place) < new.size() {
+        new.carry(old, Place(place))
+    } else {
+        None
+    }
+}
+
+/// The places of the summing program carry on those of the counting one: an address, a field, a number that is
+/// elsewhere, and nothing for what is new.
+fn are_carried(new: &Loaded<'_>, old: &Loaded<'_>) -> bool {
+    let address = carried(new, old, 44) == Some(Place(44));
+    let field = carried(new, old, 50) == Some(Place(51));
+    let number = carried(new, old, 51) == Some(Place(45));
+    new.size() == 53 && address && field && number && carried(new, old, 52).is_none()
+}
+
+/// The same from the counting program that is loaded, if the summing one can be.
+fn are_carried_from(alloc: Global, old: &Loaded<'_>) -> bool {
+    match loaded(alloc, SUMMING) {
+        Ok(new) => are_carried(&new, old),
+        Err(_) => false,
+    }
+}
+
+#[test]
+fn places_are_carried_by_name(rt: HostRuntime) {
+    match loaded(rt.alloc(), COUNTING) {
+        Ok(old) => assert!(rt; are_carried_from(rt.alloc(), &old)),
+        Err(_) => assert!(rt; false),
+    }
+}

@@ -1,0 +1,228 @@
+//! Declarations of texts: names, types, frames and places.
+use crate::texts::tabled;
+use std::alloc::Global;
+use wc_declare::{DeclaredType, Entity, Formal, Located, Tables};
+use wc_model::{Direction, Fault, Kind, Operand, Path, Place, SlotKind, StandardBlock, Word};
+
+/// A block of ten places, and a program with a timer, two instances of the block and plain variables.
+const PLANT: &[u8] =
+    b"FUNCTION_BLOCK Dose\nVAR_INPUT x : BOOL; y : DINT; END_VAR\nVAR_OUTPUT z : TIME; END_VAR\nVAR c : CTU; w : BOOL; END_VAR\nEND_FUNCTION_BLOCK\nPROGRAM P\nVAR a : BOOL; t : TON; one, two : DOSE; n : DINT := 5; END_VAR\nEND_PROGRAM";
+
+/// Of the names of a block and a program each is at this place, or nowhere.
+fn are_at_places(tables: &Tables<'_>) -> bool {
+    for (unit, names, wanted) in [
+        (0, &[b"Z".as_slice()] as &[&[u8]], Some(Place(2))),
+        (1, &[b"A".as_slice()], Some(Place(45))),
+        (1, &[b"n".as_slice()], Some(Place(72))),
+        (1, &[b"m".as_slice()], None),
+        (1, &[b"T".as_slice(), b"start".as_slice()], Some(Place(51))),
+        (1, &[b"one".as_slice(), b"x".as_slice()], Some(Place(52))),
+        (1, &[b"two".as_slice(), b"x".as_slice()], Some(Place(62))),
+        (
+            1,
+            &[b"two".as_slice(), b"c".as_slice(), b"m".as_slice()],
+            Some(Place(70)),
+        ),
+        (1, &[b"two".as_slice()], None),
+    ] {
+        if tables.place(unit, &Path::Names(names)) != wanted {
+            return false;
+        }
+    }
+    true
+}
+
+/// Addresses have places in a program, and none in a block.
+fn are_addresses_at_places(tables: &Tables<'_>) -> bool {
+    let first = tables.place(1, &Path::Address(b"%IX0.0")) == Some(Place(0));
+    let last = tables.place(1, &Path::Address(b"%qd3")) == Some(Place(44));
+    first && last && tables.place(0, &Path::Address(b"%IX0.0")) == None
+}
+
+/// The number of plain variables a unit has, and the place of the last; nothing of no unit.
+fn fields(tables: &Tables<'_>, unit: usize) -> Option<(usize, Option<Place>)> {
+    if unit >= tables.units() {
+        return None;
+    }
+    let fields = tables.fields(unit);
+    match fields.last() {
+        Some(field) => Some((fields.len(), Some(field.place))),
+        None => Some((0, None)),
+    }
+}
+
+/// Block and program have their sizes and their plain variables.
+fn have_sizes(tables: &Tables<'_>) -> bool {
+    let block = tables.size(0) == 10 && fields(tables, 0) == Some((4, Some(Place(9))));
+    let program = tables.size(1) == 73 && fields(tables, 1) == Some((2, Some(Place(72))));
+    block && program && fields(tables, 2) == None
+}
+
+/// The inputs and outputs of a timer and of the block have their kinds and places, and neither is the other.
+fn have_formals(tables: &Tables<'_>) -> bool {
+    let timer = DeclaredType::Standard(StandardBlock::Ton);
+    let pt = Formal {
+        kind: Kind::Time,
+        place: 1,
+    };
+    let y = Formal {
+        kind: Kind::Dint,
+        place: 1,
+    };
+    let (into, out_of) = (Direction::Into, Direction::OutOf);
+    let timers = tables.formal(timer, into, b"pt") == Some(pt)
+        && tables.formal(timer, into, b"Q") == None
+        && tables.formal(timer, out_of, b"pt") == None;
+    let block = DeclaredType::Block(0);
+    timers
+        && tables.formal(block, into, b"Y") == Some(y)
+        && tables.formal(block, into, b"z") == None
+}
+
+/// Variables of the program have their type, and their places begin there.
+fn begin_somewhere(tables: &Tables<'_>) -> bool {
+    let timer = Located {
+        declared: DeclaredType::Standard(StandardBlock::Ton),
+        first: 46,
+    };
+    let two = Located {
+        declared: DeclaredType::Block(0),
+        first: 62,
+    };
+    let own = tables.variable(1, b"T") == Some(timer) && tables.variable(1, b"two") == Some(two);
+    own && tables.variable(0, b"two") == None
+}
+
+/// What is at a place of the program, and is of this kind.
+fn standing(kind: Kind, readable: bool, writable: bool, place: u16) -> Option<Entity> {
+    Some(Entity {
+        kind: Some(kind),
+        readable,
+        writable,
+        place: Some(Place(place)),
+    })
+}
+
+/// The names of the program represent these. An instance is there, but has no kind and no place: to load or store it is a
+/// fault of its kind.
+fn are_named(tables: &Tables<'_>) -> bool {
+    let instance = Entity {
+        kind: None,
+        readable: true,
+        writable: true,
+        place: None,
+    };
+    let own = tables.entity(1, &Operand::Name(b"N")) == standing(Kind::Dint, true, true, 72);
+    let timer = tables.entity(1, &Operand::Name(b"t")) == Some(instance);
+    own && timer && tables.entity(1, &Operand::Name(b"x")) == None
+}
+
+/// An input of an instance is written, and its output read; an address of an input is read.
+fn are_guarded(tables: &Tables<'_>) -> bool {
+    let x = Operand::Field {
+        instance: b"two",
+        field: b"x",
+    };
+    let z = Operand::Field {
+        instance: b"ONE",
+        field: b"z",
+    };
+    let address = Word {
+        text: b"%ix0.3",
+        line: 1,
+    };
+    let input = tables.entity(1, &x) == standing(Kind::Bool, false, true, 62);
+    let output = tables.entity(1, &z) == standing(Kind::Time, true, false, 54);
+    let bit = tables.entity(1, &Operand::Address(address)) == standing(Kind::Bool, true, false, 3);
+    input && output && bit
+}
+
+/// The kind of a place of a unit's frame, and the number that it holds at first.
+fn slot(alloc: Global, tables: &Tables<'_>, unit: usize, place: usize) -> Option<(SlotKind, i64)> {
+    match tables.frame(alloc, unit) {
+        Ok(frame) => match (frame.kinds.get(place), frame.initials.get(place)) {
+            (Some(kind), Some(number)) => Some((*kind, *number)),
+            _ => None,
+        },
+        Err(_) => None,
+    }
+}
+
+/// The frames of block and program have these places.
+fn have_slots(alloc: Global, tables: &Tables<'_>) -> bool {
+    for (unit, place, wanted) in [
+        (1, 0, Some((SlotKind::Bool, 0))),
+        (1, 24, Some((SlotKind::Dint, 0))),
+        (1, 51, Some((SlotKind::Moment, 0))),
+        (1, 72, Some((SlotKind::Dint, 5))),
+        (1, 73, None),
+        (0, 2, Some((SlotKind::Time, 0))),
+    ] {
+        if slot(alloc, tables, unit, place) != wanted {
+            return false;
+        }
+    }
+    true
+}
+
+/// All that the tables of the block and the program say.
+fn are_right(alloc: Global) -> bool {
+    match tabled(alloc, PLANT) {
+        Ok(tables) => {
+            let places = are_at_places(&tables) && are_addresses_at_places(&tables);
+            let inside = have_sizes(&tables) && have_formals(&tables) && begin_somewhere(&tables);
+            let names = are_named(&tables) && are_guarded(&tables);
+            places && inside && names && have_slots(alloc, &tables)
+        }
+        Err(_) => false,
+    }
+}
+
+#[test]
+fn names_stand_for_what_is_declared(rt: HostRuntime) {
+    assert!(rt; are_right(rt.alloc()));
+}
+
+/// Variables with initial values have them in the frame.
+fn have_first_values(alloc: Global, tables: &Tables<'_>) -> bool {
+    for (place, kind, number) in [
+        (45, SlotKind::Bool, 1),
+        (46, SlotKind::Time, -1000),
+        (47, SlotKind::Bool, 1),
+        (52, SlotKind::Phase, 0),
+    ] {
+        if slot(alloc, tables, 0, place) != Some((kind, number)) {
+            return false;
+        }
+    }
+    true
+}
+
+/// Likewise for their text.
+fn are_first_values(alloc: Global) -> bool {
+    let text =
+        b"PROGRAM P\nVAR a : BOOL := 1; b : TIME := T#-1s; c : BOOL := TRUE; d : TOF; END_VAR\nEND_PROGRAM";
+    match tabled(alloc, text) {
+        Ok(tables) => have_first_values(alloc, &tables),
+        Err(_) => false,
+    }
+}
+
+#[test]
+fn frames_have_first_values(rt: HostRuntime) {
+    assert!(rt; are_first_values(rt.alloc()));
+}
+
+/// A text is refused so.
+fn is_refused(alloc: Global, text: &[u8], number: u16, place: u32) -> bool {
+    match tabled(alloc, text) {
+        Ok(_) => false,
+        Err(fault) => fault == Fault::Refused { number, place },
+    }
+}
+
+#[test]
+fn names_are_refused(rt: HostRuntime) {
+    let twice = b"PROGRAM P\nVAR a : BOOL;\nA : DINT; END_VAR\nEND_PROGRAM";
+    assert!(rt; is_refused(rt.alloc(), twice, 301, 3));
+}

@@ -1,0 +1,258 @@
+//! Short lines, which the reader takes in place, next to the same after a label, which it goes over token by token.
+ghost use Rattle.std.specs.Prelude.{◌≤◌};
+
+use std::alloc::Global;
+use wc_model::{Condition, Instr, Operand, Operator, Storing, Value};
+use wc_reader::read;
+
+/// What an operand is: a number for its form, and its value or the number of letters it has.
+fn operand_numbers(operand: &Operand<'_>) -> (u8, i64) {
+    match operand {
+        Operand::Literal(value) => match value {
+            Value::Bool(truth) => (1, i64::from(*truth)),
+            Value::Dint(number) => (2, i64::from(*number)),
+            Value::Time(time) => (3, i64::from(*time)),
+        },
+        Operand::Address(word) => (4, word.text.len() as i64),
+        Operand::Name(name) => (5, name.len() as i64),
+        Operand::Field { .. } => (6, 0),
+    }
+}
+
+/// A number for a condition.
+fn condition_number(condition: Condition) -> u8
+    ensures { result ≤ 2 }
+{
+    match condition {
+        Condition::Always => 0,
+        Condition::IfTrue => 1,
+        Condition::IfFalse => 2,
+    }
+}
+
+/// A number for what is stored.
+fn storing_number(storing: Storing) -> u8
+    ensures { result ≤ 3 }
+{
+    match storing {
+        Storing::Result => 0,
+        Storing::Negation => 1,
+        Storing::Set => 2,
+        Storing::Reset => 3,
+    }
+}
+
+/// What an instruction is: a number for its word, its operand and its line.
+fn numbers(instr: &Instr<'_>) -> (u8, (u8, i64), u32) {
+    match instr {
+        Instr::Load {
+            negated,
+            operand,
+            line,
+        } => (10 + u8::from(*negated), operand_numbers(operand), *line),
+        Instr::Store {
+            storing,
+            target,
+            line,
+        } => (
+            20 + storing_number(*storing),
+            operand_numbers(target),
+            *line,
+        ),
+        Instr::Apply {
+            operator,
+            operand,
+            line,
+        } => (
+            30 + u8::from(*operator == Operator::Add),
+            operand_numbers(operand),
+            *line,
+        ),
+        Instr::Jump {
+            condition,
+            label,
+            line,
+        } => (
+            40 + condition_number(*condition),
+            (5, label.len() as i64),
+            *line,
+        ),
+        Instr::Call {
+            condition,
+            arguments,
+            line,
+            ..
+        } => (
+            50 + condition_number(*condition),
+            (7, arguments.len() as i64),
+            *line,
+        ),
+        _ => (0, (0, 0), 0),
+    }
+}
+
+/// The instruction that is at that place of the program's body, counted from 0.
+fn instruction_at(alloc: Global, text: &[u8], place: usize) -> (u8, (u8, i64), u32) {
+    let Ok(source) = read(alloc, text) else {
+        return (1, (0, 0), 0);
+    };
+    let Some(unit) = source.units.first() else {
+        return (2, (0, 0), 0);
+    };
+    let Some(line) = unit.body.get(place) else {
+        return (3, (0, 0), 0);
+    };
+    match &line.instr {
+        Some(instr) => numbers(instr),
+        None => (4, (0, 0), 0),
+    }
+}
+
+/// The number of letters and the line of the label at that place of the program's body.
+fn label_at(alloc: Global, text: &[u8], place: usize) -> (usize, u32) {
+    let Ok(source) = read(alloc, text) else {
+        return (0, 1);
+    };
+    let Some(unit) = source.units.first() else {
+        return (0, 2);
+    };
+    let Some(line) = unit.body.get(place) else {
+        return (0, 3);
+    };
+    match line.label {
+        Some(label) => (label.text.len(), label.line),
+        None => (0, 0),
+    }
+}
+
+/// The number of letters the name and the type of the declaration at that place have, and their lines.
+fn declaration_at(alloc: Global, text: &[u8], place: usize) -> (usize, u32, usize, u32) {
+    let Ok(source) = read(alloc, text) else {
+        return (0, 1, 0, 0);
+    };
+    let Some(unit) = source.units.first() else {
+        return (0, 2, 0, 0);
+    };
+    let Some(declaration) = unit.declarations.get(place) else {
+        return (0, 3, 0, 0);
+    };
+    let type_name = declaration.type_name;
+    match declaration.names.first() {
+        Some(name) => (
+            name.text.len(),
+            name.line,
+            type_name.text.len(),
+            type_name.line,
+        ),
+        None => (0, 4, 0, 0),
+    }
+}
+
+#[test]
+fn an_operator_and_its_operand_are_a_line(rt: HostRuntime) {
+    for (text, place, wanted) in [
+        (
+            b"PROGRAM P\nLDN abc\nEND_PROGRAM".as_slice(),
+            0,
+            (11, (5, 3), 2),
+        ),
+        (
+            b"PROGRAM P\nL: LDN abc\nEND_PROGRAM".as_slice(),
+            0,
+            (11, (5, 3), 2),
+        ),
+        (
+            b"PROGRAM P\nLD %IX0.7\nEND_PROGRAM".as_slice(),
+            0,
+            (10, (4, 6), 2),
+        ),
+        (
+            b"PROGRAM P\nL: LD %IX0.7\nEND_PROGRAM".as_slice(),
+            0,
+            (10, (4, 6), 2),
+        ),
+        (
+            b"PROGRAM P\nLD 1\nADD -5\nEND_PROGRAM".as_slice(),
+            1,
+            (31, (2, -5), 3),
+        ),
+        (
+            b"PROGRAM P\nLD T#2s\nAND TRUE\nEND_PROGRAM".as_slice(),
+            0,
+            (10, (3, 2000), 2),
+        ),
+        (
+            b"PROGRAM P\nLD T#2s\nAND TRUE\nEND_PROGRAM".as_slice(),
+            1,
+            (30, (1, 1), 3),
+        ),
+    ] {
+        assert!(rt; instruction_at(rt.alloc(), text, place) == wanted);
+    }
+}
+
+#[test]
+fn what_is_stored_is_a_line(rt: HostRuntime) {
+    let text = b"PROGRAM P\nST abcd\nSTN b\nS c\nR %QX0.0\nL: R a\nEND_PROGRAM";
+    for (place, wanted) in [
+        (0, (20, (5, 4), 2)),
+        (1, (21, (5, 1), 3)),
+        (2, (22, (5, 1), 4)),
+        (3, (23, (4, 6), 5)),
+        (4, (23, (5, 1), 6)),
+    ] {
+        assert!(rt; instruction_at(rt.alloc(), text, place) == wanted);
+    }
+}
+
+#[test]
+fn a_jump_and_its_label_are_a_line(rt: HostRuntime) {
+    let text = b"PROGRAM P\nJMP on\nJMPC off\n\nJMPCN o\nL: JMPCN on\nEND_PROGRAM";
+    for (place, wanted) in [
+        (0, (40, (5, 2), 2)),
+        (1, (41, (5, 3), 3)),
+        (2, (42, (5, 1), 5)),
+        (3, (42, (5, 2), 6)),
+    ] {
+        assert!(rt; instruction_at(rt.alloc(), text, place) == wanted);
+    }
+}
+
+#[test]
+fn a_label_alone_is_a_line(rt: HostRuntime) {
+    let text = b"PROGRAM P\n\non:\noff: LD 1\nEND_PROGRAM";
+    for (place, wanted) in [(0, (2, 3)), (1, (3, 4))] {
+        assert!(rt; label_at(rt.alloc(), text, place) == wanted);
+    }
+    for (place, wanted) in [(0, (4, (0, 0), 0)), (1, (10, (2, 1), 4))] {
+        assert!(rt; instruction_at(rt.alloc(), text, place) == wanted);
+    }
+}
+
+#[test]
+fn a_call_and_its_list_are_a_line(rt: HostRuntime) {
+    let text =
+        b"PROGRAM P\nCAL a(x := 1, y := b, z := %IX0.0)\nCALC a(x := 1)\nCALCN a\nL: CALCN a(x := 1, y := b)\nEND_PROGRAM";
+    for (place, wanted) in [
+        (0, (50, (7, 3), 2)),
+        (1, (51, (7, 1), 3)),
+        (2, (52, (7, 0), 4)),
+        (3, (52, (7, 2), 5)),
+    ] {
+        assert!(rt; instruction_at(rt.alloc(), text, place) == wanted);
+    }
+}
+
+#[test]
+fn a_name_and_its_type_are_a_declaration(rt: HostRuntime) {
+    let text =
+        b"PROGRAM P\nVAR abc : BOOL;\nde : DINT;\nf\n: TON; g : BOOL := TRUE;\nEND_VAR\nEND_PROGRAM";
+    for (place, wanted) in [
+        (0, (3, 2, 4, 2)),
+        (1, (2, 3, 4, 3)),
+        (2, (1, 4, 3, 5)),
+        (3, (1, 5, 4, 5)),
+    ] {
+        assert!(rt; declaration_at(rt.alloc(), text, place) == wanted);
+    }
+}

@@ -1,0 +1,21 @@
+//! Flat code: what it means on numbers alone, when it is a lowered program text, and that it then
+//! means what the text means. Each function has an empty body: its clause is the law, or an example
+//! that computes.
+#![tactic(auto)]
+
+mod bounds;
+mod examples;
+mod meaning;
+
+pub use bounds::{
+    flat_code_has_the_worst_path, flat_code_is_short, laid_code_keeps_within, laid_code_nests,
+};
+pub use examples::{
+    block_is_called, body_is_laid, jump_passes_over, nothing_else_has_a_meaning, parentheses_defer,
+    timer_is_called,
+};
+pub use meaning::{
+    calls_are_runs, ended_bodies_are_over, first_numbers_are_contents, flat_code_means_the_text,
+    flat_code_scans_the_text, held_numbers_stay_held, outputs_are_numbers,
+    skipped_lines_are_dropped,
+};

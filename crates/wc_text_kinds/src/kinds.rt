@@ -1,0 +1,48 @@
+ghost use Rattle.std.specs.Prelude.{◌≡◌};
+ghost use Rattle.wc_model.specs.Language.BodyRules.{is_bool};
+ghost use Rattle.wc_model.specs.Language.Kinds.{is_kind, kind_after_operator, same_result};
+
+use crate::operators::compares;
+use wc_model::{Kind, Operator};
+
+/// Whether two kinds are the same.
+pub fn is_kind(a: Kind, b: Kind) -> bool
+    ensures { result ≡ is_kind a b }
+{
+    matches!(
+        (a, b),
+        (Kind::Bool, Kind::Bool) | (Kind::Dint, Kind::Dint) | (Kind::Time, Kind::Time)
+    )
+}
+
+/// Whether two results are of the same kind, or there is none of either.
+pub fn same_result(a: Option<Kind>, b: Option<Kind>) -> bool
+    ensures { result ≡ same_result a b }
+{
+    match (a, b) {
+        (Some(a), Some(b)) => is_kind(a, b),
+        (None, None) => true,
+        _ => false,
+    }
+}
+
+/// Whether there is a kind, and it is BOOL.
+pub fn is_bool(kind: Option<Kind>) -> bool
+    ensures { result ≡ is_bool kind }
+{
+    match kind {
+        Some(kind) => is_kind(Kind::Bool, kind),
+        None => false,
+    }
+}
+
+/// The kind of the result after an operator, from that before it.
+pub fn kind_after_operator(operator: Operator, kind: Option<Kind>) -> Option<Kind>
+    ensures { result ≡ kind_after_operator operator kind }
+{
+    if compares(operator) {
+        Some(Kind::Bool)
+    } else {
+        kind
+    }
+}

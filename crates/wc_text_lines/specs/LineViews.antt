@@ -1,0 +1,86 @@
+-- What the reader's states on a line represent.
+use Rattle.std.specs.Prelude.{Some, None, true, false, map, option_map}
+use Rattle.wc_laws_grammar.specs.LineMoves as lines
+use Rattle.wc_laws_grammar.specs.Words.{step_of}
+use Rattle.wc_model.specs.Language.Tree as tree
+use Rattle.wc_model.specs.Language.Views.{assignment_view, name_view, term_view, word_view}
+use Rattle.wc_text_lines.specs.Words.{operating_view}
+use Rattle.wc_text_lines.specs.declared.line_state.Begun.{Begun}
+use Rattle.wc_text_lines.specs.declared.line_state.Formal.{Formal}
+use Rattle.wc_text_lines.specs.declared.line_state.InList.{InList}
+use Rattle.wc_text_lines.specs.declared.line_state.InList.TheVariants.{AtFirst, AtNext, AtAssign, AtValue, AtEnd}
+use Rattle.wc_text_lines.specs.declared.line_state.InLine.{InLine}
+use Rattle.wc_text_lines.specs.declared.line_state.InLine.TheVariants.{Operated, Jumped, Called, Instanced, Listing, Named, Formed}
+use Rattle.wc_text_lines.specs.declared.line_state.LineForm.{LineForm}
+use Rattle.wc_text_lines.specs.declared.line_state.LineForm.TheVariants.{Instructs, Opens}
+use Rattle.wc_text_lines.specs.declared.line_state.LineState.{LineState}
+use Rattle.wc_text_lines.specs.declared.line_state.LineState.TheVariants.{Worded, Labelled, LabelAlone, Instructing}
+use Rattle.wc_text_lines.specs.declared.line_state.Listed.{Listed}
+use Rattle.wc_text_lines.specs.declared.line_state.OperandOf.{OperandOf}
+use Rattle.wc_text_lines.specs.declared.line_state.OperandOf.TheVariants.{OfStep, OfOpening, OfArgument}
+use Rattle.wc_text_lines.specs.declared.line_state.Step.{Step}
+use Rattle.wc_text_lines.specs.declared.line_state.Step.TheVariants.{Operate, Negate, Jump, Call, Return}
+
+-- an instruction that has started
+abbrev pub begun_view : Begun → lines.Begun
+begun_view begun = record { label = option_map word_view begun.label; line = begun.line }
+
+-- a call whose list has started
+abbrev pub listed_view : Listed → lines.Listed
+listed_view call = record { condition = call.condition; instance = name_view call.instance; arguments = map assignment_view call.arguments.items }
+
+-- an instruction
+abbrev pub step_view : Step → tree.Step
+step_view (Operate operating operand) = step_of (operating_view operating) (term_view operand)
+step_view Negate = tree.Negate
+step_view (Jump condition label) = tree.Jump condition (name_view label)
+step_view (Call call) = tree.Call call.condition (name_view call.instance) (map assignment_view call.arguments.items)
+step_view (Return condition) = tree.Return condition
+
+-- the input or output that one of a call's list names
+abbrev pub formal_view : Formal → lines.Formal
+formal_view formal = record { direction = formal.direction; name = name_view formal.word }
+
+-- whose operand is here
+abbrev pub owner_view : OperandOf → lines.OperandOf
+owner_view (OfStep operating) = lines.OfStep (operating_view operating)
+owner_view (OfOpening operator) = lines.OfOpening operator
+owner_view (OfArgument call formal) = lines.OfArgument (listed_view call) (formal_view formal)
+
+-- where a call's list is
+abbrev pub item_view : InList → lines.InList
+item_view AtFirst = lines.AtFirst
+item_view AtNext = lines.AtNext
+item_view (AtAssign name) = lines.AtAssign (name_view name)
+item_view (AtValue formal) = lines.AtValue (formal_view formal)
+item_view AtEnd = lines.AtEnd
+
+-- what a whole line with an instruction is
+abbrev pub form_view : lines.Begun → LineForm → lines.LineForm
+form_view begun (Instructs step) = lines.Instructs begun.label begun.line (step_view step)
+form_view begun (Opens operator operand) = lines.Opens begun.label begun.line operator (option_map term_view operand)
+
+-- what may be a whole line, before its end
+abbrev pub whole_view : lines.Begun → LineForm → lines.LineState
+whole_view begun (Instructs step) = lines.Stepped begun (step_view step)
+whole_view begun (Opens operator None) = lines.Bracketed begun operator
+whole_view begun (Opens operator (Some operand)) = lines.BracketedWith begun operator (term_view operand)
+
+-- how far an instruction has been read that has started
+abbrev pub in_line_view : lines.Begun → InLine → lines.LineState
+in_line_view begun (Operated operating) = lines.Operated begun (operating_view operating)
+in_line_view begun (Jumped condition) = lines.Jumped begun condition
+in_line_view begun (Called condition) = lines.Called begun condition
+in_line_view begun (Instanced condition instance) = lines.Instanced begun condition (name_view instance)
+in_line_view begun (Listing call item) = lines.Listing begun (listed_view call) (item_view item)
+in_line_view begun (Named owner name false) = lines.Named begun (owner_view owner) (name_view name)
+in_line_view begun (Named owner name true) = lines.Pointed begun (owner_view owner) (name_view name)
+in_line_view begun (Formed form false) = whole_view begun form
+in_line_view begun (Formed form true) = lines.Ended (form_view begun form)
+
+-- how far a line has been read
+abbrev pub line_state_view : LineState → lines.LineState
+line_state_view (Worded label) = lines.Worded (word_view label)
+line_state_view (Labelled label) = lines.Labelled (word_view label)
+line_state_view (LabelAlone label) = lines.Ended (lines.LabelAlone (word_view label))
+line_state_view (Instructing begun at) = in_line_view (begun_view begun) at

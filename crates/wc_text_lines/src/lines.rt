@@ -1,0 +1,340 @@
+ghost use Rattle.std.specs.Prelude.{◌≡◌, ℕ, Bool, IfOk, Option, option_map};
+ghost use Rattle.wc_laws_grammar.specs.LineMoves as lines;
+ghost use Rattle.wc_laws_grammar.specs.Words as words;
+ghost use Rattle.wc_model.specs.Text.Grammar.{Setting, InBody, InParentheses};
+ghost use Rattle.wc_model.specs.Language.Names.{name_of};
+ghost use Rattle.wc_model.specs.Language.Tree as tree;
+ghost use Rattle.wc_model.specs.Language.Views.{term_view, word_view};
+ghost use Rattle.wc_text_lines.specs.LineViews.{begun_view, in_line_view, line_state_view, step_view, whole_view};
+ghost use Rattle.wc_text_lines.specs.Words.{operating_view, operation_view, symbol_view};
+
+use crate::calls::{at_instance, at_list};
+use crate::line_state::{Begun, InLine, LineForm, LineState, OperandOf, Step};
+use crate::operands::{at_operand, behind_name};
+use crate::operators::{Operating, Operation, is_transfer, operation_named, operation_of};
+use crate::words::word;
+use std::alloc::{AllocError, Global};
+use wc_lexer::{Shape, Token};
+use wc_model::{Condition, Operand, Operator, Word};
+
+/// What begins with an operator.
+#[inline(always)]
+fn begun_with<'a>(operation: Operation) -> InLine<'a>
+    ensures { (label : Option tree.Word) (line : ℕ)
+        → in_line_view (record { label = label; line = line }) result
+        ≡ lines.behind_operator label line (operation_view operation) }
+{
+    match operation {
+        Operation::Operates(operating) => InLine::Operated(operating),
+        Operation::Negates => InLine::Formed(LineForm::Instructs(Step::Negate), false),
+        Operation::Jumps(condition) => InLine::Jumped(condition),
+        Operation::Calls(condition) => InLine::Called(condition),
+        Operation::Returns(condition) => InLine::Formed(
+            LineForm::Instructs(Step::Return(condition)),
+            false,
+        ),
+    }
+}
+
+/// After an operator.
+#[inline(always)]
+fn behind_operator<'a>(label: Option<Word<'a>>, line: u32, operation: Operation) -> LineState<'a>
+    ensures { line_state_view result
+        ≡ lines.behind_operator (option_map word_view label.entry) line (operation_view operation) }
+{
+    LineState::Instructing(Begun { label, line }, begun_with(operation))
+}
+
+/// After a token that has to be an operator.
+#[inline(always)]
+fn at_operator<'a>(label: Option<Word<'a>>, token: Token<'a>) -> Option<LineState<'a>>
+    ensures { option_map line_state_view result
+        ≡ lines.at_operator (option_map word_view label.entry) token.entry.line
+        (words.operation_of (symbol_view token.entry)) }
+{
+    match operation_of(token) {
+        Some(operation) => Some(behind_operator(label, token.line, operation)),
+        None => None,
+    }
+}
+
+/// After a line's first identifier that no colon follows. One that is not an operator may still
+/// be a label: what is wrong is the token after it.
+fn operator_or_label<'a>(token: Token<'a>) -> LineState<'a>
+    ensures { line_state_view result
+        ≡ lines.operator_or_label
+        (record { line = token.entry.line; name = name_of token.entry.text.now })
+        (words.found words.operations (name_of token.entry.text.now)) }
+{
+    match operation_named(token.text) {
+        Some(operation) => behind_operator(None, token.line, operation),
+        None => LineState::Worded(word(token)),
+    }
+}
+
+/// After the first token of a line of a body; `colon` says whether a colon follows it.
+#[inline(always)]
+pub fn at_start<'a>(token: Token<'a>, colon: bool) -> Option<LineState<'a>>
+    ensures { option_map line_state_view result
+        ≡ lines.line_move InBody lines.Start (symbol_view token.entry) token.entry.line colon }
+{
+    match token.shape {
+        Shape::Identifier if colon => Some(LineState::Worded(word(token))),
+        Shape::Identifier => Some(operator_or_label(token)),
+        _ => at_operator(None, token),
+    }
+}
+
+/// After the first token of a line in parentheses, where no label, jump, call or return may be.
+#[inline(always)]
+pub fn at_start_inside<'a>(token: Token<'a>) -> Option<LineState<'a>>
+    ensures { (colon : Bool)
+        → option_map line_state_view result
+        ≡ lines.line_move InParentheses lines.Start
+        (symbol_view token.entry) token.entry.line colon }
+{
+    match operation_of(token) {
+        Some(operation) => {
+            if is_transfer(operation) {
+                None
+            } else {
+                Some(behind_operator(None, token.line, operation))
+            }
+        }
+        None => None,
+    }
+}
+
+/// After the token that follows a label's colon.
+fn at_labelled<'a>(label: Word<'a>, token: Token<'a>) -> Option<LineState<'a>>
+    ensures { option_map line_state_view result
+        ≡ lines.at_labelled (word_view label.entry) (symbol_view token.entry) token.entry.line }
+{
+    match token.shape {
+        Shape::LineEnd => Some(LineState::LabelAlone(label)),
+        _ => at_operator(Some(label), token),
+    }
+}
+
+/// After the token that follows a deferrable operator, which may open a parenthesis.
+#[inline(always)]
+fn at_applied<'a>(operator: Operator, token: Token<'a>) -> Result<Option<InLine<'a>>, AllocError>
+    ensures { IfOk result
+        (λ next. (begun : lines.Begun)
+        → option_map (in_line_view begun) next
+        ≡ lines.at_operated begun (words.Applies operator)
+        (symbol_view token.entry) token.entry.line) }
+{
+    match token.shape {
+        Shape::Opening => Ok(Some(InLine::Formed(LineForm::Opens(operator, None), false))),
+        _ => at_operand(OperandOf::OfStep(Operating::Applies(operator)), token),
+    }
+}
+
+/// After the token that follows an operator that takes an operand.
+#[inline(always)]
+fn at_operated<'a>(operating: Operating, token: Token<'a>) -> Result<Option<InLine<'a>>, AllocError>
+    ensures { IfOk result
+        (λ next. (begun : lines.Begun)
+        → option_map (in_line_view begun) next
+        ≡ lines.at_operated begun (operating_view operating)
+        (symbol_view token.entry) token.entry.line) }
+{
+    match operating {
+        Operating::Applies(operator) => at_applied(operator, token),
+        Operating::Loads(_) | Operating::Stores(_) => at_operand(
+            OperandOf::OfStep(operating),
+            token,
+        ),
+    }
+}
+
+/// After the token that follows an operator's bracket.
+fn at_bracketed<'a>(operator: Operator, token: Token<'a>) -> Result<Option<InLine<'a>>, AllocError>
+    ensures { IfOk result
+        (λ next. (begun : lines.Begun)
+        → option_map (in_line_view begun) next
+        ≡ lines.at_bracketed begun operator (symbol_view token.entry) token.entry.line) }
+{
+    match token.shape {
+        Shape::LineEnd => Ok(Some(InLine::Formed(LineForm::Opens(operator, None), true))),
+        _ => at_operand(OperandOf::OfOpening(operator), token),
+    }
+}
+
+/// After the token that follows a jump's operator: its label.
+fn at_target<'a>(condition: Condition, token: Token<'a>) -> Option<InLine<'a>>
+    ensures { (begun : lines.Begun) (setting : Setting) (line : ℕ) (colon : Bool)
+        → option_map (in_line_view begun) result
+        ≡ lines.line_move setting (lines.Jumped begun condition)
+        (symbol_view token.entry) line colon }
+{
+    match token.shape {
+        Shape::Identifier => {
+            let step = Step::Jump(condition, word(token));
+            Some(InLine::Formed(LineForm::Instructs(step), false))
+        }
+        _ => None,
+    }
+}
+
+/// After the token that follows a call's operator: its instance.
+fn at_called<'a>(condition: Condition, token: Token<'a>) -> Option<InLine<'a>>
+    ensures { (begun : lines.Begun) (setting : Setting) (line : ℕ) (colon : Bool)
+        → option_map (in_line_view begun) result
+        ≡ lines.line_move setting (lines.Called begun condition)
+        (symbol_view token.entry) line colon }
+{
+    match token.shape {
+        Shape::Identifier => Some(InLine::Instanced(condition, word(token))),
+        _ => None,
+    }
+}
+
+/// After the token that follows a whole instruction: the line's end.
+#[inline(always)]
+fn at_step_end<'a>(step: Step<'a>, token: Token<'a>) -> Option<InLine<'a>>
+    ensures { (begun : lines.Begun) (setting : Setting) (line : ℕ) (colon : Bool)
+        → option_map (in_line_view begun) result
+        ≡ lines.line_move setting (lines.Stepped begun (step_view step.entry))
+        (symbol_view token.entry) line colon }
+{
+    match token.shape {
+        Shape::LineEnd => Some(InLine::Formed(LineForm::Instructs(step), true)),
+        _ => None,
+    }
+}
+
+/// After the token that follows the operand of an opening line: the line's end.
+fn at_opening_end<'a>(
+    operator: Operator,
+    operand: Operand<'a>,
+    token: Token<'a>,
+) -> Option<InLine<'a>>
+    ensures { (begun : lines.Begun) (setting : Setting) (line : ℕ) (colon : Bool)
+        → option_map (in_line_view begun) result
+        ≡ lines.line_move setting
+        (lines.BracketedWith begun operator (term_view operand.entry))
+        (symbol_view token.entry) line colon }
+{
+    match token.shape {
+        Shape::LineEnd => Some(InLine::Formed(LineForm::Opens(operator, Some(operand)), true)),
+        _ => None,
+    }
+}
+
+/// After the token that follows an operator's bracket, or after the operand after it.
+fn at_opening<'a>(
+    operator: Operator,
+    operand: Option<Operand<'a>>,
+    token: Token<'a>,
+) -> Result<Option<InLine<'a>>, AllocError>
+    ensures { IfOk result
+        (λ next. (begun : lines.Begun) (setting : Setting) (colon : Bool)
+        → option_map (in_line_view begun) next
+        ≡ lines.line_move setting (whole_view begun (LineForm.Opens operator operand.entry))
+        (symbol_view token.entry) token.entry.line colon) }
+{
+    match operand {
+        Some(operand) => Ok(at_opening_end(operator, operand, token)),
+        None => at_bracketed(operator, token),
+    }
+}
+
+/// After the token that follows what may be a whole line.
+#[inline(always)]
+fn at_whole<'a>(form: LineForm<'a>, token: Token<'a>) -> Result<Option<InLine<'a>>, AllocError>
+    ensures { IfOk result
+        (λ next. (begun : lines.Begun) (setting : Setting) (colon : Bool)
+        → option_map (in_line_view begun) next
+        ≡ lines.line_move setting (whole_view begun form.entry)
+        (symbol_view token.entry) token.entry.line colon) }
+{
+    match form {
+        LineForm::Instructs(step) => Ok(at_step_end(step, token)),
+        LineForm::Opens(operator, operand) => at_opening(operator, operand, token),
+    }
+}
+
+/// After one more token of an instruction; none if none goes on so.
+#[inline(always)]
+fn in_line_move<'a>(
+    alloc: Global,
+    state: InLine<'a>,
+    token: Token<'a>,
+) -> Result<Option<InLine<'a>>, AllocError>
+    ensures { IfOk result
+        (λ next. (begun : lines.Begun) (setting : Setting) (colon : Bool)
+        → option_map (in_line_view begun) next
+        ≡ lines.line_move setting (in_line_view begun state.entry)
+        (symbol_view token.entry) token.entry.line colon) }
+{
+    match state {
+        InLine::Operated(operating) => at_operated(operating, token),
+        InLine::Jumped(condition) => Ok(at_target(condition, token)),
+        InLine::Called(condition) => Ok(at_called(condition, token)),
+        InLine::Instanced(condition, instance) => Ok(at_instance(
+            alloc, condition, instance, token,
+        )),
+        InLine::Listing(call, item) => at_list(call, item, token),
+        InLine::Named(owner, name, pointed) => behind_name(owner, name, pointed, token),
+        InLine::Formed(form, ended) => {
+            if ended {
+                Ok(None)
+            } else {
+                at_whole(form, token)
+            }
+        }
+    }
+}
+
+/// On the line of an instruction, if it goes on so.
+#[inline(always)]
+fn instructing<'a>(begun: Begun<'a>, state: Option<InLine<'a>>) -> Option<LineState<'a>>
+    ensures { option_map line_state_view result
+        ≡ option_map (in_line_view (begun_view begun.entry)) state.entry }
+{
+    match state {
+        Some(state) => Some(LineState::Instructing(begun, state)),
+        None => None,
+    }
+}
+
+/// After the token that follows a label: its colon.
+fn at_colon<'a>(label: Word<'a>, token: Token<'a>) -> Option<LineState<'a>>
+    ensures { (setting : Setting) (line : ℕ) (colon : Bool)
+        → option_map line_state_view result
+        ≡ lines.line_move setting (lines.Worded (word_view label.entry))
+        (symbol_view token.entry) line colon }
+{
+    match token.shape {
+        Shape::Colon => Some(LineState::Labelled(label)),
+        _ => None,
+    }
+}
+
+/// After one more token of a line that has started; none if no line goes on so.
+#[inline(always)]
+pub fn line_move<'a>(
+    alloc: Global,
+    state: LineState<'a>,
+    token: Token<'a>,
+) -> Result<Option<LineState<'a>>, AllocError>
+    ensures { IfOk result
+        (λ next. (setting : Setting) (colon : Bool)
+        → option_map line_state_view next
+        ≡ lines.line_move setting (line_state_view state.entry)
+        (symbol_view token.entry) token.entry.line colon) }
+{
+    match state {
+        LineState::Worded(label) => Ok(at_colon(label, token)),
+        LineState::Labelled(label) => Ok(at_labelled(label, token)),
+        LineState::LabelAlone(_) => Ok(None),
+        LineState::Instructing(begun, state) => {
+            match in_line_move(alloc, state, token) {
+                Ok(next) => Ok(instructing(begun, next)),
+                Err(error) => Err(error),
+            }
+        }
+    }
+}

@@ -1,0 +1,265 @@
+ghost use Rattle.std.specs.Prelude.{◌≡◌, ℕ, Bool, IfOk, Some, option_map};
+ghost use Rattle.wc_laws_grammar.specs.LineMoves as lines;
+ghost use Rattle.wc_model.specs.Text.Grammar.{Setting};
+ghost use Rattle.wc_model.specs.Text.Marks as marks;
+ghost use Rattle.wc_model.specs.Language.Tree as tree;
+ghost use Rattle.wc_model.specs.Language.Views.{name_view, term_view};
+ghost use Rattle.wc_text_lines.specs.LineViews.{formal_view, in_line_view, listed_view, owner_view};
+ghost use Rattle.wc_text_lines.specs.Words.{operating_view, symbol_view};
+
+use crate::line_state::{Formal, InLine, InList, LineForm, Listed, OperandOf, Step};
+use crate::operators::Operating;
+use crate::words::{truth, word};
+use std::alloc::AllocError;
+use wc_lexer::{Shape, Token};
+use wc_model::{Argument, Operand, Operator, Value, Word};
+
+/// The call with one more argument.
+fn with_argument<'a>(
+    call: Listed<'a>,
+    formal: Formal<'a>,
+    value: Operand<'a>,
+) -> Result<Listed<'a>, AllocError>
+    ensures { IfOk result
+        (λ more.
+        listed_view more
+        ≡ lines.with_argument (listed_view call.entry) (formal_view formal.entry)
+        (term_view value.entry)) }
+{
+    let mut call = call;
+    call.arguments.push(Argument {
+        direction: formal.direction,
+        name: formal.word.text,
+        value,
+    })?;
+    Ok(call)
+}
+
+/// After a whole operand.
+fn behind_operand<'a>(
+    owner: OperandOf<'a>,
+    operand: Operand<'a>,
+) -> Result<Option<InLine<'a>>, AllocError>
+    ensures { IfOk result
+        (λ next. (begun : lines.Begun)
+        → option_map (in_line_view begun) next
+        ≡ Some (lines.behind_operand begun (owner_view owner.entry) (term_view operand.entry))) }
+{
+    match owner {
+        OperandOf::OfStep(operating) => {
+            let step = Step::Operate(operating, operand);
+            Ok(Some(InLine::Formed(LineForm::Instructs(step), false)))
+        }
+        OperandOf::OfOpening(operator) => {
+            let form = LineForm::Opens(operator, Some(operand));
+            Ok(Some(InLine::Formed(form, false)))
+        }
+        OperandOf::OfArgument(call, formal) => {
+            let call = with_argument(call, formal, operand)?;
+            Ok(Some(InLine::Listing(call, InList::AtEnd)))
+        }
+    }
+}
+
+/// After a literal where an operand is.
+fn behind_literal<'a>(owner: OperandOf<'a>, value: Value) -> Result<Option<InLine<'a>>, AllocError>
+    ensures { IfOk result
+        (λ next. (begun : lines.Begun)
+        → option_map (in_line_view begun) next
+        ≡ Some (lines.behind_operand begun (owner_view owner.entry) (tree.Constant value))) }
+{
+    behind_operand(owner, Operand::Literal(value))
+}
+
+/// After the first token of an operand; none if none begins so.
+pub(crate) fn at_operand<'a>(
+    owner: OperandOf<'a>,
+    token: Token<'a>,
+) -> Result<Option<InLine<'a>>, AllocError>
+    ensures { IfOk result
+        (λ next. (begun : lines.Begun)
+        → option_map (in_line_view begun) next
+        ≡ lines.at_operand begun (owner_view owner.entry)
+        (symbol_view token.entry) token.entry.line) }
+{
+    match token.shape {
+        Shape::Identifier => match truth(token.text) {
+            Some(value) => behind_literal(owner, Value::Bool(value)),
+            None => Ok(Some(InLine::Named(owner, word(token), false))),
+        },
+        Shape::Whole(number) => behind_literal(owner, Value::Dint(number)),
+        Shape::Duration(milliseconds) => behind_literal(owner, Value::Time(milliseconds)),
+        Shape::Truth(value) => behind_literal(owner, Value::Bool(value)),
+        Shape::Address => behind_operand(owner, Operand::Address(word(token))),
+        _ => Ok(None),
+    }
+}
+
+/// After the token that follows an argument's name that is the whole operand.
+fn behind_value<'a>(
+    call: Listed<'a>,
+    formal: Formal<'a>,
+    name: Word<'a>,
+    token: Token<'a>,
+) -> Result<Option<InLine<'a>>, AllocError>
+    ensures { IfOk result
+        (λ next. (begun : lines.Begun)
+        → option_map (in_line_view begun) next
+        ≡ lines.behind_name begun
+        (lines.OfArgument (listed_view call.entry) (formal_view formal.entry))
+        (name_view name.entry) (symbol_view token.entry)) }
+{
+    match token.shape {
+        Shape::LineEnd => Ok(Some(InLine::Named(OperandOf::OfArgument(call, formal), name, false))),
+        Shape::Comma => {
+            let call = with_argument(call, formal, Operand::Name(name.text))?;
+            Ok(Some(InLine::Listing(call, InList::AtNext)))
+        }
+        Shape::Closing => {
+            let call = with_argument(call, formal, Operand::Name(name.text))?;
+            Ok(Some(InLine::Formed(LineForm::Instructs(Step::Call(call)), false)))
+        }
+        _ => Ok(None),
+    }
+}
+
+/// After the token that follows an instruction's name that is the whole operand.
+fn behind_step_name<'a>(
+    operating: Operating,
+    name: Word<'a>,
+    token: Token<'a>,
+) -> Option<InLine<'a>>
+    ensures { (begun : lines.Begun)
+        → option_map (in_line_view begun) result
+        ≡ lines.behind_name begun (lines.OfStep (operating_view operating))
+        (name_view name.entry) (symbol_view token.entry) }
+{
+    match token.shape {
+        Shape::LineEnd => {
+            let step = Step::Operate(operating, Operand::Name(name.text));
+            Some(InLine::Formed(LineForm::Instructs(step), true))
+        }
+        _ => None,
+    }
+}
+
+/// After the token that follows an opening line's name that is the whole operand.
+fn behind_opening_name<'a>(
+    operator: Operator,
+    name: Word<'a>,
+    token: Token<'a>,
+) -> Option<InLine<'a>>
+    ensures { (begun : lines.Begun)
+        → option_map (in_line_view begun) result
+        ≡ lines.behind_name begun (lines.OfOpening operator)
+        (name_view name.entry) (symbol_view token.entry) }
+{
+    match token.shape {
+        Shape::LineEnd => Some(InLine::Formed(
+            LineForm::Opens(operator, Some(Operand::Name(name.text))),
+            true,
+        )),
+        _ => None,
+    }
+}
+
+/// After the token that follows a name that is the whole operand.
+fn behind_whole_name<'a>(
+    owner: OperandOf<'a>,
+    name: Word<'a>,
+    token: Token<'a>,
+) -> Result<Option<InLine<'a>>, AllocError>
+    ensures { IfOk result
+        (λ next. (begun : lines.Begun)
+        → option_map (in_line_view begun) next
+        ≡ lines.behind_name begun (owner_view owner.entry) (name_view name.entry)
+        (symbol_view token.entry)) }
+{
+    match owner {
+        OperandOf::OfStep(operating) => Ok(behind_step_name(operating, name, token)),
+        OperandOf::OfOpening(operator) => Ok(behind_opening_name(operator, name, token)),
+        OperandOf::OfArgument(call, formal) => behind_value(call, formal, name, token),
+    }
+}
+
+/// After the token that follows a name.
+fn at_named<'a>(
+    owner: OperandOf<'a>,
+    name: Word<'a>,
+    token: Token<'a>,
+) -> Result<Option<InLine<'a>>, AllocError>
+    ensures { IfOk result
+        (λ next. (begun : lines.Begun) (setting : Setting) (line : ℕ) (colon : Bool)
+        → option_map (in_line_view begun) next
+        ≡ lines.line_move setting
+        (lines.Named begun (owner_view owner.entry) (name_view name.entry))
+        (symbol_view token.entry) line colon) }
+{
+    match token.shape {
+        Shape::Point => Ok(Some(InLine::Named(owner, name, true))),
+        _ => behind_whole_name(owner, name, token),
+    }
+}
+
+/// After the line end after a field's point: only in a call's list line ends are passed over.
+fn behind_point<'a>(owner: OperandOf<'a>, instance: Word<'a>) -> Option<InLine<'a>>
+    ensures { (begun : lines.Begun)
+        → option_map (in_line_view begun) result
+        ≡ lines.at_field begun (owner_view owner.entry)
+        (name_view instance.entry) marks.LineEnd }
+{
+    match owner {
+        OperandOf::OfArgument(call, formal) => Some(InLine::Named(
+            OperandOf::OfArgument(call, formal),
+            instance,
+            true,
+        )),
+        _ => None,
+    }
+}
+
+/// After the token that follows a field's point.
+fn at_field<'a>(
+    owner: OperandOf<'a>,
+    instance: Word<'a>,
+    token: Token<'a>,
+) -> Result<Option<InLine<'a>>, AllocError>
+    ensures { IfOk result
+        (λ next. (begun : lines.Begun)
+        → option_map (in_line_view begun) next
+        ≡ lines.at_field begun (owner_view owner.entry)
+        (name_view instance.entry) (symbol_view token.entry)) }
+{
+    match token.shape {
+        Shape::Identifier => {
+            let operand = Operand::Field {
+                instance: instance.text,
+                field: token.text,
+            };
+            behind_operand(owner, operand)
+        }
+        Shape::LineEnd => Ok(behind_point(owner, instance)),
+        _ => Ok(None),
+    }
+}
+
+/// After the token that follows a name, or after the point after it.
+pub(crate) fn behind_name<'a>(
+    owner: OperandOf<'a>,
+    name: Word<'a>,
+    pointed: bool,
+    token: Token<'a>,
+) -> Result<Option<InLine<'a>>, AllocError>
+    ensures { IfOk result
+        (λ next. (begun : lines.Begun) (setting : Setting) (line : ℕ) (colon : Bool)
+        → option_map (in_line_view begun) next
+        ≡ lines.line_move setting
+        (in_line_view begun (InLine.Named owner.entry name.entry pointed))
+        (symbol_view token.entry) line colon) }
+{
+    if pointed {
+        at_field(owner, name, token)
+    } else {
+        at_named(owner, name, token)
+    }
+}

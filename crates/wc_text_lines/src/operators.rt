@@ -1,0 +1,81 @@
+ghost use Rattle.std.specs.Prelude.{◌≡◌, option_map};
+ghost use Rattle.wc_laws_grammar.specs.Words as words;
+ghost use Rattle.wc_model.specs.Language.Names.{name_of};
+ghost use Rattle.wc_text_lines.specs.Meanings.{operation_meant};
+ghost use Rattle.wc_text_lines.specs.Words.{operation_view, symbol_view};
+
+use wc_built_in::{Keyword, keyword_named};
+use wc_lexer::{Shape, Token};
+use wc_model::{Condition, Operator, Storing};
+
+/// An operator that takes an operand.
+#[derive(Clone, Copy)]
+pub enum Operating {
+    /// LD, or LDN if negated.
+    Loads(bool),
+    /// ST, STN, S, R.
+    Stores(Storing),
+    /// An operator that a parenthesis may defer.
+    Applies(Operator),
+}
+
+/// An operator (IEC 61131-3:2003, table 52).
+#[derive(Clone, Copy)]
+pub enum Operation {
+    /// With an operand.
+    Operates(Operating),
+    /// NOT.
+    Negates,
+    /// JMP, JMPC, JMPCN.
+    Jumps(Condition),
+    /// CAL, CALC, CALCN.
+    Calls(Condition),
+    /// RET, RETC, RETCN.
+    Returns(Condition),
+}
+
+/// The operator that a reserved word is.
+fn operation_meant(keyword: Keyword) -> Option<Operation>
+    ensures { option_map operation_view result ≡ operation_meant keyword }
+{
+    let operation = match keyword {
+        Keyword::Load(negated) => Operation::Operates(Operating::Loads(negated)),
+        Keyword::Store(storing) => Operation::Operates(Operating::Stores(storing)),
+        Keyword::Apply(operator) => Operation::Operates(Operating::Applies(operator)),
+        Keyword::Not => Operation::Negates,
+        Keyword::Jump(condition) => Operation::Jumps(condition),
+        Keyword::Call(condition) => Operation::Calls(condition),
+        Keyword::Return(condition) => Operation::Returns(condition),
+        _ => return None,
+    };
+    Some(operation)
+}
+
+/// The operator that the word is.
+pub fn operation_named(text: &[u8]) -> Option<Operation>
+    ensures { option_map operation_view result ≡ words.found words.operations (name_of text.now) }
+{
+    match keyword_named(text) {
+        Some(keyword) => operation_meant(keyword),
+        None => None,
+    }
+}
+
+/// The operator that the token is.
+pub fn operation_of(token: Token) -> Option<Operation>
+    ensures { option_map operation_view result ≡ words.operation_of (symbol_view token.entry) }
+{
+    match token.shape {
+        Shape::Identifier => operation_named(token.text),
+        Shape::And => Some(Operation::Operates(Operating::Applies(Operator::And))),
+        Shape::AndNot => Some(Operation::Operates(Operating::Applies(Operator::Andn))),
+        _ => None,
+    }
+}
+
+/// Whether it is a jump, a call or a return.
+pub fn is_transfer(operation: Operation) -> bool
+    ensures { result ≡ words.is_transfer (operation_view operation) }
+{
+    !matches!(operation, Operation::Operates(_) | Operation::Negates)
+}

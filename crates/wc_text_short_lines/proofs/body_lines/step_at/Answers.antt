@@ -1,0 +1,13 @@
+use Rattle.wc_lexer.specs.Views.{token_view}
+use Rattle.wc_model.specs.Text.Reading.{mark_of_token}
+use Rattle.wc_text_lines.proofs.Outcomes.{some-map}
+use Rattle.wc_text_short_lines.proofs.ShortLines.{is_line_of}
+use Rattle.wc_text_lines.specs.LineViews.{step_view}
+use Rattle.wc_text_bodies.specs.BodyViews.{position_view}
+use Rattle.wc_text_lines.specs.Words.{operation_view}
+use Rattle.wc_text_short_lines.proofs.body_lines.step_at.Goals as goal
+
+pub returns-in-Some : goal.returns-in-Some
+returns-in-Some c =
+    some-map c.step_with.result (λ step makes units. is_line_of (position_view units c.args.body.now) c.args.first (mark_of_token (token_view c.args.second))
+    (operation_view c.in-Some.operation) (step_view step) c.in-Identifier.is (c.in-Some.ensures units) makes) c.step_with.ensures

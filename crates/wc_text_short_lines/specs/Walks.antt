@@ -1,0 +1,23 @@
+-- The walk over the tokens of a text, with the state at which it stops. (No rule of the language.)
+use Rattle.std.specs.Prelude.{ℕ, false, List, [], ◌∷◌, Some, None, Result, Err}
+use Rattle.wc_laws_grammar.specs.Moves.{Met, State, at_end, colon_next, judge, move}
+use Rattle.wc_model.specs.Language.Tree.{Text}
+use Rattle.wc_model.specs.Text.Marks.{Mark}
+use Rattle.wc_model.specs.Text.ReadingFaults.{UnexpectedToken}
+
+-- The state at which a walk stops, and what it says there: the text, or what is found.
+pub record Stopping : Type 0 where
+  pub state : State
+  pub told : Result Text Met
+
+-- where the walk over the tokens left stops: at the state that refuses a token, or after the last one
+abbrev pub walk : State → List Mark → (last_line : ℕ) → Stopping
+walk state [] last_line = record { state = state; told = at_end state last_line }
+walk state (mark ∷ marks) last_line =
+    elim (judge state mark.symbol mark.line (colon_next marks false)) as (λ _. Stopping) [
+      | Some met ↦ record { state = state; told = Err met }
+      | None ↦ elim (move state mark.symbol mark.line (colon_next marks false)) as (λ _. Stopping) [
+        | Some next ↦ walk next marks last_line
+        | None ↦ record { state = state; told = Err (record { fault = UnexpectedToken; line = mark.line }) }
+      ]
+    ]

@@ -1,0 +1,259 @@
+ghost use Rattle.std.specs.Prelude.{◌≡◌, ◌+◌, ◌≤◌, ◌<◌, length, drop, IfOk, IfSome, List, OnOk};
+ghost use Rattle.wc_laws_grammar.specs.LineMoves as lines;
+ghost use Rattle.wc_laws_grammar.specs.Moves as moves;
+ghost use Rattle.wc_lexer.specs.Views.{token_view};
+ghost use Rattle.wc_model.specs.Language.Tree.{ProgramUnit};
+ghost use Rattle.wc_model.specs.Language.Views.{assignment_view};
+ghost use Rattle.wc_model.specs.Text.Grammar.{sign_of};
+ghost use Rattle.wc_model.specs.Text.Reading.{mark_of_token};
+ghost use Rattle.wc_text_lines.specs.LineViews.{listed_view};
+ghost use Rattle.wc_text_short_lines.specs.Several.{BeginsCall, GoesOn, IsArgument, ListEnds, ListsOn};
+ghost use Rattle.wc_text_bodies.specs.BodyViews.{IsCounted, position_view};
+ghost use Rattle.wc_text_lines.specs.Words.{marks_of};
+
+use crate::body_lines::{operand_of, operation_at, take_line};
+use std::alloc::{AllocError, Global};
+use wc_lexer::{Shape, Token};
+use wc_model::{Argument, Direction};
+use wc_text_bodies::{Body, add_step};
+use wc_text_lines::{Begun, Listed, Operation, Step, word};
+
+/// Which way a value goes by the sign between a formal and an actual parameter.
+fn direction_of(sign: Token<'_>) -> Option<Direction>
+    ensures { IfSome result
+        (λ direction. (mark_of_token (token_view sign.entry)).symbol ≡ sign_of direction) }
+{
+    match sign.shape {
+        Shape::Assign => Some(Direction::Into),
+        Shape::Arrow => Some(Direction::OutOf),
+        _ => None,
+    }
+}
+
+/// The argument that the tokens are: an input or output, its `:=` or `=>` and an operand of one token.
+fn argument_of<'a>(name: Token<'a>, sign: Token<'a>, operand: Token<'a>) -> Option<Argument<'a>>
+    ensures { IfSome result
+        (λ argument.
+        IsArgument (mark_of_token (token_view name.entry)) (mark_of_token (token_view sign.entry))
+        (mark_of_token (token_view operand.entry)) (assignment_view argument)) }
+{
+    match (name.shape, direction_of(sign)) {
+        (Shape::Identifier, Some(direction)) => match operand_of(operand) {
+            Some(value) => Some(Argument {
+                direction,
+                name: name.text,
+                value,
+            }),
+            None => None,
+        },
+        _ => None,
+    }
+}
+
+/// Adds an argument after a call's others.
+fn add_argument<'a>(call: &mut Listed<'a>, argument: Argument<'a>) -> Result<(), AllocError>
+    ensures { OnOk result
+        (listed_view call.new
+        ≡ lines.with_argument (listed_view call.old)
+        (lines.formal_of (assignment_view argument.entry))
+        (assignment_view argument.entry).actual) }
+{
+    call.arguments.push(argument)?;
+    Ok(())
+}
+
+/// Reads an argument and the comma after it, and returns the number of their tokens: none if they
+/// are not here.
+fn take_argument<'a>(call: &mut Listed<'a>, tokens: &[Token<'a>]) -> Result<usize, AllocError>
+    ensures goes_on { IfOk result
+        (λ taken.
+        ListsOn (listed_view call.old) (marks_of tokens.now) (listed_view call.new)
+        (marks_of (drop taken tokens.now))) }
+    ensures within { IfOk result (λ taken. taken ≤ length tokens.now) }
+{
+    let [input, assign, operand, comma, ..] = tokens else {
+        return Ok(0);
+    };
+    let Shape::Comma = comma.shape else {
+        return Ok(0);
+    };
+    match argument_of(*input, *assign, *operand) {
+        Some(argument) => {
+            add_argument(call, argument)?;
+            Ok(4)
+        }
+        None => Ok(0),
+    }
+}
+
+/// Reads an argument and its comma at that index, if they are there, and says where the next
+/// token is.
+fn take_argument_at<'a>(
+    call: &mut Listed<'a>,
+    tokens: &[Token<'a>],
+    index: usize,
+) -> Result<usize, AllocError>
+    requires { index ≤ length tokens.now }
+    ensures goes_on { IfOk result
+        (λ next.
+        ListsOn (listed_view call.old) (marks_of (drop index tokens.now)) (listed_view call.new)
+        (marks_of (drop next tokens.now))) }
+    ensures on { IfOk result (λ next. index ≤ next) }
+    ensures within { IfOk result (λ next. next ≤ length tokens.now) }
+{
+    let (_, left) = tokens.split_at(index);
+    let taken = take_argument(call, left)?;
+    Ok(index + taken)
+}
+
+/// Reads the arguments that commas follow, and returns the number of their tokens.
+fn take_arguments<'a>(call: &mut Listed<'a>, tokens: &[Token<'a>]) -> Result<usize, AllocError>
+    ensures goes_on { IfOk result
+        (λ taken.
+        ListsOn (listed_view call.old) (marks_of tokens.now) (listed_view call.new)
+        (marks_of (drop taken tokens.now))) }
+    ensures within { IfOk result (λ taken. taken ≤ length tokens.now) }
+{
+    let mut place = 0;
+    for _index in 0..tokens.len() {
+        let next = take_argument_at(call, tokens, place)?;
+        if next == place {
+            return Ok(next);
+        }
+        place = next;
+    }
+    Ok(place)
+}
+
+/// Reads the last argument with the list's end and the line's, and returns the number of their
+/// tokens: none if they are not here.
+fn take_last<'a>(call: &mut Listed<'a>, tokens: &[Token<'a>]) -> Result<usize, AllocError>
+    ensures ends { IfOk result
+        (λ taken. 0 < taken
+        → ListEnds (listed_view call.old) (marks_of tokens.now) (listed_view call.new)
+        (marks_of (drop taken tokens.now))) }
+    ensures within { IfOk result (λ taken. taken ≤ length tokens.now) }
+{
+    let [input, assign, operand, closing, end, ..] = tokens else {
+        return Ok(0);
+    };
+    let (Shape::Closing, Shape::LineEnd) = (closing.shape, end.shape) else {
+        return Ok(0);
+    };
+    match argument_of(*input, *assign, *operand) {
+        Some(argument) => {
+            add_argument(call, argument)?;
+            Ok(5)
+        }
+        None => Ok(0),
+    }
+}
+
+/// Reads a call's arguments with the list's end and the line's, and returns the number of their
+/// tokens: none if no such list is here.
+fn take_list<'a>(call: &mut Listed<'a>, tokens: &[Token<'a>]) -> Result<usize, AllocError>
+    ensures ends { IfOk result
+        (λ taken. 0 < taken
+        → ListEnds (listed_view call.old) (marks_of tokens.now) (listed_view call.new)
+        (marks_of (drop taken tokens.now))) }
+    ensures within { IfOk result (λ taken. taken ≤ length tokens.now) }
+{
+    let before = take_arguments(call, tokens)?;
+    let (_, behind) = tokens.split_at(before);
+    let last = take_last(call, behind)?;
+    if last == 0 {
+        return Ok(0);
+    }
+    Ok(before + last)
+}
+
+/// The call whose list begins with these tokens: its operator, its instance, the bracket and the
+/// first input.
+fn call_at<'a>(
+    alloc: Global,
+    body: &Body<'a>,
+    operator: Token<'a>,
+    instance: Token<'a>,
+    opening: Token<'a>,
+    input: Token<'a>,
+) -> Option<Listed<'a>>
+    requires { IsCounted body.now }
+    ensures { IfSome result
+        (λ call. (units : List ProgramUnit)
+        → BeginsCall (position_view units body.now) (mark_of_token (token_view operator.entry))
+        (mark_of_token (token_view instance.entry)) (mark_of_token (token_view opening.entry))
+        (mark_of_token (token_view input.entry)) (listed_view call)) }
+{
+    match (operator.shape, instance.shape, opening.shape, input.shape) {
+        (Shape::Identifier, Shape::Identifier, Shape::Opening, Shape::Identifier) => {
+            match operation_at(body, operator.text) {
+                Some(Operation::Calls(condition)) => Some(Listed {
+                    condition,
+                    instance: word(instance),
+                    arguments: Vec::new(alloc),
+                }),
+                _ => None,
+            }
+        }
+        _ => None,
+    }
+}
+
+/// Reads a call with a list on one line, and returns the number of its tokens: none if no such
+/// line is here.
+fn take_call<'a>(
+    alloc: Global,
+    body: &mut Body<'a>,
+    tokens: &[Token<'a>],
+) -> Result<usize, AllocError>
+    requires { IsCounted body.old }
+    ensures goes_on { IfOk result
+        (λ taken. (units : List ProgramUnit)
+        → GoesOn (moves.AtLine (position_view units body.old)) (marks_of tokens.now)
+        (moves.AtLine (position_view units body.new)) (marks_of (drop taken tokens.now))) }
+    ensures counted { OnOk result (IsCounted body.new) }
+    ensures within { IfOk result (λ taken. taken ≤ length tokens.now) }
+{
+    let [operator, instance, opening, input, ..] = tokens else {
+        return Ok(0);
+    };
+    match call_at(alloc, body, *operator, *instance, *opening, *input) {
+        Some(call) => {
+            let mut call = call;
+            let (_, list) = tokens.split_at(3);
+            let taken = take_list(&mut call, list)?;
+            if taken == 0 {
+                return Ok(0);
+            }
+            let begun = Begun {
+                label: None,
+                line: operator.line,
+            };
+            add_step(body, begun, Step::Call(call))?;
+            Ok(3 + taken)
+        }
+        None => Ok(0),
+    }
+}
+
+/// Reads a short line and a call on one line, if each is here, and returns the number of their
+/// tokens.
+#[inline(always)]
+pub fn take_line_and_call<'a>(
+    alloc: Global,
+    body: &mut Body<'a>,
+    tokens: &[Token<'a>],
+) -> Result<usize, AllocError>
+    requires { IsCounted body.old }
+    ensures goes_on { IfOk result
+        (λ taken. (units : List ProgramUnit)
+        → GoesOn (moves.AtLine (position_view units body.old)) (marks_of tokens.now)
+        (moves.AtLine (position_view units body.new)) (marks_of (drop taken tokens.now))) }
+    ensures counted { OnOk result (IsCounted body.new) }
+    ensures within { IfOk result (λ taken. taken ≤ length tokens.now) }
+{
+    let before = take_line(body, tokens)?;
+    let (_, behind) = tokens.split_at(before);
+    let taken = take_call(alloc, body, behind)?;
+    Ok(before + taken)
+}

@@ -1,5 +1,0 @@
-use Rattle.wc_unchanged_laws.proofs.Declared.{fail_only_by_addresses}
-use Rattle.wc_unchanged_laws.proofs.outputs_fail_only_by_their_addresses.Goals as goal
-
-pub returns : goal.returns
-returns c = fail_only_by_addresses

@@ -1,0 +1,129 @@
+-- Where names lead in the other text, step by step alongside the one that is gone through.
+use Rattle.std.proofs.Common.{◌≡◌, Bool, true, false, ◌&&◌, List, [], ◌∷◌, map, length, Option, Some, None, option_map, refl, sym, ap, subst, ◌∙◌}
+use Rattle.std.proofs.Math.Bool.{and-true}
+use Rattle.std.proofs.lemmas.List.Folds.{list_all-map}
+use Rattle.std.specs.List.{list_all}
+use Rattle.std.specs.Prelude.{if◌then◌else◌, option_and_then}
+use Rattle.wc_model.specs.Language.Carried.{Lead, ToPlace, ToField, lead_by, lead_from, same_block, same_lead}
+use Rattle.wc_model.specs.Language.Declarations.{Variable, VariableType, Elementary, Standard, Block, block_named, type_named, variable_named}
+use Rattle.wc_model.specs.Language.Names.{Name}
+use Rattle.wc_model.specs.Language.Scopes.{Scope, type_of}
+use Rattle.wc_model.specs.Language.Store.{Content, standard_fields}
+use Rattle.wc_model.specs.Language.Tree.{ProgramUnit}
+use Rattle.wc_model.specs.declared.block.StandardBlock.{StandardBlock}
+use Rattle.wc_model.specs.declared.block.StandardBlock.TheVariants.{RTrig}
+use Rattle.wc_model.specs.declared.kind.Kind.{Kind}
+use Rattle.wc_names.specs.Numbered.{numbered_type}
+use Rattle.wc_names.specs.declared.declared_type.DeclaredType.TheVariants as numbered
+use Rattle.wc_laws_soundness.proofs.Carrying.{at_once, is_field, one_block}
+use Rattle.wc_view_changes.specs.Forms.{has_form}
+use Rattle.wc_view_changes.specs.Shown.{Plain, Instance}
+use Rattle.wc_view_changes.specs.Sides.{numbered_side, side_lead}
+
+-- what a name and those after it lead to, by the type of the name
+pub lead_is : (name : Name) (names : List Name) (scope : Scope) → lead_from (name ∷ names) scope.before scope.unit ≡ lead_by (lead_from names) scope.before (type_of scope name) names
+lead_is name names scope = by (variable_named scope.unit name)
+  where
+    by : (o : Option Variable) → (elim o as (λ x. Option Lead) [ Some v ↦ lead_by (lead_from names) scope.before (type_named scope.before v.type_name) names | None ↦ None ])
+        ≡ lead_by (lead_from names) scope.before (elim o as (λ x. Option VariableType) [ Some v ↦ type_named scope.before v.type_name | None ↦ None ]) names
+    by None = refl
+    by (Some v) = refl
+
+-- straight from a block of the text no field is led to
+pub never_field : (field : Name) (before : List ProgramUnit) (unit : ProgramUnit) (block : StandardBlock) → lead_from (field ∷ []) before unit ≡ Some (ToField block) → ⊥
+never_field field before unit block e = at_once before (variable_named unit field) block e
+
+pub not_field : (lead : Option Lead) (block : StandardBlock) → ((b : StandardBlock) → lead ≡ Some (ToField b) → ⊥) → (same_lead lead (Some (ToField block)) ≡ false) × (same_lead (Some (ToField block)) lead ≡ false)
+not_field None block never = (refl, refl)
+not_field (Some (ToPlace kind)) block never = (refl, refl)
+not_field (Some (ToField b)) block never = absurd (never b refl)
+
+-- the other lead of one name is that of a place of the kind exactly if the type is the kind
+plain_old : (before : List ProgramUnit) (type : Option VariableType) (kind : Kind) (content : Content) → same_lead (lead_by (lead_from []) before type []) (Some (ToPlace kind)) ≡ has_form (option_and_then (numbered_type before) type) (Plain kind content)
+plain_old before None kind content = refl
+plain_old before (Some (Elementary k)) kind content = refl
+plain_old before (Some (Standard b)) kind content = refl
+plain_old before (Some (Block name)) kind content = by (block_named before name)
+  where
+    by : (o : Option (ProgramUnit × List ProgramUnit)) → same_lead (elim o as (λ x. Option Lead) [ Some found ↦ lead_from [] found.1 found.0 | None ↦ None ]) (Some (ToPlace kind))
+        ≡ has_form (option_map (λ found. numbered.Block (length found.1)) o) (Plain kind content)
+    by None = refl
+    by (Some found) = refl
+
+pub plain_kept : (side : Option Scope) (scope : Scope) (name : Name) (kind : Kind) (content : Content) → type_of scope name ≡ Some (Elementary kind) →
+    same_lead (side_lead side (name ∷ [])) (lead_from (name ∷ []) scope.before scope.unit) ≡ has_form (numbered_side side name) (Plain kind content)
+plain_kept side scope name kind content typed = ap (same_lead (side_lead side (name ∷ []))) (lead_is name [] scope ∙ ap (λ t. lead_by (lead_from []) scope.before t []) typed) ∙ by side
+  where
+    by : (s : Option Scope) → same_lead (side_lead s (name ∷ [])) (Some (ToPlace kind)) ≡ has_form (numbered_side s name) (Plain kind content)
+    by None = refl
+    by (Some old) = ap (λ l. same_lead l (Some (ToPlace kind))) (lead_is name [] old) ∙ plain_old old.before (type_of old name) kind content
+
+-- a field of another block is not one of this one's
+field_old : (b block : StandardBlock) (field : Name) → is_field block field ≡ true → (t : Bool) → is_field b field ≡ t → (s : Bool) → same_block b block ≡ s → same_lead (if t then Some (ToField b) else None) (Some (ToField block)) ≡ s
+field_old b block field is true e s f = f
+field_old b block field is false e true f = let same = one_block b block f in absurd (let x : is_field block field ≡ false = subst (λ c. is_field c field ≡ false) same e in let y : false ≡ true = sym x ∙ is in cc)
+field_old b block field is false e false f = refl
+
+-- the other lead of a field of an instance is that of a field of the same block exactly if the type is the block
+standard_old : (before : List ProgramUnit) (type : Option VariableType) (block : StandardBlock) (field : Name) → is_field block field ≡ true → same_lead (lead_by (lead_from (field ∷ [])) before type (field ∷ [])) (Some (ToField block)) ≡ has_form (option_and_then (numbered_type before) type) (Instance block)
+standard_old before None block field is = refl
+standard_old before (Some (Elementary k)) block field is = refl
+standard_old before (Some (Standard b)) block field is = field_old b block field is (is_field b field) refl (same_block b block) refl
+standard_old before (Some (Block name)) block field is = by (block_named before name)
+  where
+    by : (o : Option (ProgramUnit × List ProgramUnit)) → same_lead (elim o as (λ x. Option Lead) [ Some found ↦ lead_from (field ∷ []) found.1 found.0 | None ↦ None ]) (Some (ToField block))
+        ≡ has_form (option_map (λ found. numbered.Block (length found.1)) o) (Instance block)
+    by None = refl
+    by (Some found) = (not_field (lead_from (field ∷ []) found.1 found.0) block (λ b. never_field field found.1 found.0 b)).0
+
+field_kept : (side : Option Scope) (scope : Scope) (name : Name) (block : StandardBlock) (field : Name) → type_of scope name ≡ Some (Standard block) → is_field block field ≡ true →
+    same_lead (side_lead side (name ∷ field ∷ [])) (lead_from (name ∷ field ∷ []) scope.before scope.unit) ≡ has_form (numbered_side side name) (Instance block)
+field_kept side scope name block field typed is =
+    ap (same_lead (side_lead side (name ∷ field ∷ []))) (lead_is name (field ∷ []) scope ∙ ap (λ t. lead_by (lead_from (field ∷ [])) scope.before t (field ∷ [])) typed ∙ ap (λ b. if b then Some (ToField block) else None) is) ∙ by side
+  where
+    by : (s : Option Scope) → same_lead (side_lead s (name ∷ field ∷ [])) (Some (ToField block)) ≡ has_form (numbered_side s name) (Instance block)
+    by None = refl
+    by (Some old) = ap (λ l. same_lead l (Some (ToField block))) (lead_is name (field ∷ []) old) ∙ standard_old old.before (type_of old name) block field is
+
+-- a test that answers alike for each of some fields
+and-self : (t : Bool) → (t && t) ≡ t
+and-self true = refl
+and-self false = refl
+
+all_alike : {X : Type 0} (p good : X → Bool) (t : Bool) → ((x : X) → good x ≡ true → p x ≡ t) → (xs : List X) → list_all good xs ≡ true → (t && list_all p xs) ≡ t
+all_alike p good t h [] g = and-true t
+all_alike {X} p good t h (x ∷ xs) g = by (good x) refl g (all_alike p good t h xs)
+  where
+    by : (b : Bool) → good x ≡ b → (b && list_all good xs) ≡ true → (list_all good xs ≡ true → (t && list_all p xs) ≡ t) → (t && (p x && list_all p xs)) ≡ t
+    by true is g rest = ap (λ y. t && (y && list_all p xs)) (h x is) ∙ (ap (λ y. t && y) (rest g) ∙ and-self t)
+    by false is g rest = cc
+
+is_some_list : {X : Type 0} → List X → Bool
+is_some_list [] = false
+is_some_list (x ∷ xs) = true
+
+alike : {X : Type 0} (p good : X → Bool) (t : Bool) → ((x : X) → good x ≡ true → p x ≡ t) → (xs : List X) → is_some_list xs ≡ true → list_all good xs ≡ true → list_all p xs ≡ t
+unfolding is_some_list
+alike p good t h [] some g = cc
+alike {X} p good t h (x ∷ xs) some g = by (good x) refl g
+  where
+    by : (b : Bool) → good x ≡ b → (b && list_all good xs) ≡ true → (p x && list_all p xs) ≡ t
+    by true is g = ap (λ y. y && list_all p xs) (h x is) ∙ all_alike p good t h xs g
+    by false is g = cc
+
+-- a standard block has fields, each of which is its own
+has_fields : (b : StandardBlock) → is_some_list (standard_fields b) ≡ true
+unfolding is_some_list
+has_fields RTrig = refl
+has_fields other = refl
+
+own_fields : (b : StandardBlock) → list_all (λ f. is_field b f.0) (standard_fields b) ≡ true
+own_fields RTrig = refl
+own_fields other = refl
+
+pub standard_kept : (side : Option Scope) (scope : Scope) (name : Name) (block : StandardBlock) → type_of scope name ≡ Some (Standard block) →
+    list_all (λ path. same_lead (side_lead side path) (lead_from path scope.before scope.unit)) (map (λ (f : Name × Content). name ∷ f.0 ∷ []) (standard_fields block)) ≡ has_form (numbered_side side name) (Instance block)
+standard_kept side scope name block typed =
+    list_all-map (λ path. same_lead (side_lead side path) (lead_from path scope.before scope.unit)) (λ (f : Name × Content). name ∷ f.0 ∷ []) (standard_fields block)
+    ∙ alike (λ (f : Name × Content). same_lead (side_lead side (name ∷ f.0 ∷ [])) (lead_from (name ∷ f.0 ∷ []) scope.before scope.unit)) (λ f. is_field block f.0) (has_form (numbered_side side name) (Instance block))
+    (λ f is. field_kept side scope name block f.0 typed is) (standard_fields block) (has_fields block) (own_fields block)

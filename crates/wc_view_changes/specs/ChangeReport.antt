@@ -1,0 +1,125 @@
+-- What is reported about a change of the program before it is made: for each variable of the new program whether it keeps its
+-- value, else its first one and why; and each variable of the old program that is lost. (The profile's own.)
+use Rattle.std.specs.Prelude.{ℕ, Bool, true, false, List, [], ◌∷◌, ◌++◌, reverse, Option, Some, None, option_map, codes}
+use Rattle.std.specs.Fmt.{signed_decimal}
+use Rattle.std.specs.List.{flat_map, list_all}
+use Rattle.wc_model.specs.Language.Carried.{keeps}
+use Rattle.wc_model.specs.Language.Declarations.{VariableType, Elementary, Standard, Block, block_named}
+use Rattle.wc_model.specs.Language.Names.{Name}
+use Rattle.wc_model.specs.Language.Scopes.{type_of}
+use Rattle.wc_model.specs.Language.Store.{Content, Path, Plain as Held, Moment, Phase}
+use Rattle.wc_model.specs.Language.Tree.{ProgramUnit, Text}
+use Rattle.wc_model.specs.Language.Views.{text_view}
+use Rattle.wc_model.specs.declared.block.StandardBlock.{StandardBlock}
+use Rattle.wc_model.specs.declared.block.StandardBlock.TheVariants.{RTrig, Sr, Rs, Ctu, Ton, Tof, Tp}
+use Rattle.wc_model.specs.declared.kind.Kind.{Kind}
+use Rattle.wc_model.specs.declared.kind.Kind.TheVariants.{Bool as KindBool, Dint as KindDint, Time as KindTime}
+use Rattle.wc_model.specs.declared.source.Source.{Source}
+use Rattle.wc_model.specs.declared.value.Value.TheVariants.{Bool as Truth, Dint, Time}
+use Rattle.wc_view_changes.specs.Shown.{Form, Plain, Instance, Shown, names_of, paths_of, shown_of}
+
+-- the types as a text spells them
+abbrev pub kind_text : Kind → List ℕ
+kind_text KindBool = codes "BOOL"
+kind_text KindDint = codes "DINT"
+kind_text KindTime = codes "TIME"
+
+abbrev pub block_text : StandardBlock → List ℕ
+block_text RTrig = codes "R_TRIG"
+block_text Sr = codes "SR"
+block_text Rs = codes "RS"
+block_text Ctu = codes "CTU"
+block_text Ton = codes "TON"
+block_text Tof = codes "TOF"
+block_text Tp = codes "TP"
+
+-- what a place holds, as a literal of the language
+abbrev pub content_text : Content → List ℕ
+content_text (Held (Truth false)) = codes "FALSE"
+content_text (Held (Truth true)) = codes "TRUE"
+content_text (Held (Dint number)) = signed_decimal number
+content_text (Held (Time time)) = codes "T#" ++ (signed_decimal time ++ codes "ms")
+content_text (Moment moment) = []
+content_text (Phase phase) = []
+
+-- the type of a variable, and its first value if it has one of its own
+abbrev pub form_text : Form → List ℕ
+form_text (Plain kind content) = kind_text kind ++ (32 ∷ content_text content)
+form_text (Instance block) = block_text block
+
+-- its type alone
+abbrev pub form_type : Form → List ℕ
+form_type (Plain kind content) = kind_text kind
+form_type (Instance block) = block_text block
+
+-- What is under names, with its type as it is spelled: what has a line of its own, as a variable of an elementary type and an
+-- instance of a standard block have, or an instance of a block of the text, which has none. (The profile's own.)
+pub data Found : Type 0 where
+  Line : (type : List ℕ) → Found
+  Group : (type : List ℕ) → Found
+
+-- what names lead to in a text, if to anything
+abbrev pub found_by : (List ProgramUnit → ProgramUnit → Option Found) → List ProgramUnit → Option VariableType → List Name → Option Found
+found_by onward before None names = None
+found_by onward before (Some (Elementary kind)) [] = Some (Line (kind_text kind))
+found_by onward before (Some (Elementary kind)) (name ∷ names) = None
+found_by onward before (Some (Standard block)) [] = Some (Line (block_text block))
+found_by onward before (Some (Standard block)) (name ∷ names) = None
+found_by onward before (Some (Block block)) [] = option_map (λ found. Group found.0.spelled) (block_named before block)
+found_by onward before (Some (Block block)) (name ∷ names) = elim (block_named before block) [ Some found ↦ onward found.1 found.0 | None ↦ None ]
+
+abbrev pub found_from : List Name → List ProgramUnit → ProgramUnit → Option Found
+found_from [] before unit = None
+found_from (name ∷ names) before unit = found_by (found_from names) before (type_of (record { before = before; unit = unit }) name) names
+
+abbrev pub found_reversed : List ProgramUnit → List Name → Option Found
+found_reversed [] names = None
+found_reversed (program ∷ before) names = found_from names before program
+
+abbrev pub found_in : Text → List Name → Option Found
+found_in text names = found_reversed (reverse text) names
+
+-- its type
+abbrev pub found_type : Found → List ℕ
+found_type (Line type) = type
+found_type (Group type) = type
+
+-- it has a line
+abbrev pub has_line : Option Found → Bool
+has_line None = false
+has_line (Some (Line type)) = true
+has_line (Some (Group type)) = false
+
+-- why a variable begins with its first value: the old text has none of its names, or one of another type
+abbrev pub reason_text : Option (List ℕ) → List ℕ
+reason_text None = codes "new"
+reason_text (Some type) = codes "was " ++ type
+
+-- the names of a variable, with a dot after each instance
+abbrev pub path_text : Shown → List ℕ
+path_text s = flat_map (λ instance. instance ++ 46 ∷ []) s.instances ++ s.name
+
+-- the line of a variable of the new program
+abbrev pub line_text : Bool → List ℕ → Form → Option (List ℕ) → List ℕ
+line_text true path form old_type = codes "kept " ++ (path ++ 10 ∷ [])
+line_text false path form old_type = codes "first " ++ (path ++ (32 ∷ (form_text form ++ (32 ∷ (reason_text old_type ++ 10 ∷ [])))))
+
+-- The line of a variable of the old program that is lost: it has none if something with a line is under its names in the
+-- new program, since that line says `kept` or `was`. (The profile's own.)
+abbrev pub lost_text : Bool → List ℕ → Form → List ℕ
+lost_text true path form = []
+lost_text false path form = codes "lost " ++ (path ++ (32 ∷ (form_type form ++ 10 ∷ [])))
+
+-- a variable keeps its value if each of its places does
+abbrev pub is_kept : Text → Text → Shown → Bool
+is_kept old new s = list_all (λ path. keeps old new (Path path)) (paths_of s)
+
+abbrev pub line_of : Text → Text → Shown → List ℕ
+line_of old new s = line_text (is_kept old new s) (path_text s) s.form (option_map found_type (found_in old (names_of s)))
+
+abbrev pub lost_of : Text → Shown → List ℕ
+lost_of new s = lost_text (has_line (found_in new (names_of s))) (path_text s) s.form
+
+-- the lines of all variables of the new program, and after them those of the old one that are lost, in the order of declaration
+abbrev pub change_report : Source → Source → List ℕ
+change_report old new = flat_map (line_of (text_view old) (text_view new)) (shown_of new) ++ flat_map (lost_of (text_view new)) (shown_of old)

@@ -1,0 +1,85 @@
+-- The variables of a program through all depths of its instances, in the order of declaration: defined over the code's own
+-- tree, which keeps each name as it is spelled, while the view of a text folds letter case. (The profile's own.)
+use Rattle.std.specs.Prelude.{ℕ, true, false, List, [], ◌∷◌, ◌++◌, map, reverse, Option, Some, None}
+use Rattle.std.specs.List.{flat_map}
+use Rattle.wc_model.specs.Language.Declarations.{VariableType, Elementary, Standard, Block, same_name}
+use Rattle.wc_model.specs.Language.Names.{Name, name_of}
+use Rattle.wc_model.specs.Language.Scopes.{Scope, type_of}
+use Rattle.wc_model.specs.Language.Store.{Content, first_content, standard_fields}
+use Rattle.wc_model.specs.Language.Views.{unit_view}
+use Rattle.wc_model.specs.declared.block.StandardBlock.{StandardBlock}
+use Rattle.wc_model.specs.declared.kind.Kind.{Kind}
+use Rattle.wc_model.specs.declared.source.Decl.{Decl}
+use Rattle.wc_model.specs.declared.source.Initial.{Initial}
+use Rattle.wc_model.specs.declared.source.Source.{Source}
+use Rattle.wc_model.specs.declared.source.Unit.{Unit as CodeUnit}
+
+-- what is in a frame under one name: a plain variable of a kind with what it holds at first, or a standard block's instance
+pub data Form : Type 0 where
+  Plain : (kind : Kind) (content : Content) → Form
+  Instance : (block : StandardBlock) → Form
+
+-- such a variable, with the instances through which the program reaches it, the outermost first
+pub record Shown : Type 0 where
+  pub instances : List (List ℕ)
+  pub name : List ℕ
+  pub form : Form
+
+-- a name as it is declared, and the first value that is written after it
+pub record Declared : Type 0 where
+  pub name : List ℕ
+  pub initial : Option Initial
+
+-- the names of a declaration, and those of a unit, in the order of declaration
+abbrev pub declared_in : Decl → List Declared
+declared_in d = map (λ word. record { name = word.text.now; initial = d.initial }) d.names.items
+
+abbrev pub declared_of : CodeUnit → List Declared
+declared_of unit = flat_map declared_in unit.declarations.items
+
+-- the unit as the definitions see it, with those before it
+abbrev pub seen : List CodeUnit → CodeUnit → Scope
+seen before unit = record { before = map unit_view before; unit = unit_view unit }
+
+-- the same variable, seen from outside an instance
+abbrev pub inside : List ℕ → Shown → Shown
+inside instance s = record { instances = instance ∷ s.instances; name = s.name; form = s.form }
+
+-- what a declared name adds, by the type that it has; `of_block` gives the variables of an instance of a block of the text
+abbrev pub shown_by : (Name → List Shown) → Declared → Option VariableType → List Shown
+shown_by of_block v None = []
+shown_by of_block v (Some (Elementary kind)) = record { instances = []; name = v.name; form = Plain kind (first_content kind v.initial) } ∷ []
+shown_by of_block v (Some (Standard block)) = record { instances = []; name = v.name; form = Instance block } ∷ []
+shown_by of_block v (Some (Block name)) = map (inside v.name) (of_block name)
+
+-- what declared names of a unit add, one after another
+abbrev pub shown_all : (Name → List Shown) → Scope → List Declared → List Shown
+shown_all of_block scope vs = flat_map (λ v. shown_by of_block v (type_of scope (name_of v.name))) vs
+
+-- the variables of an instance of the block of that name, among these units, newest first
+abbrev pub shown_in : List CodeUnit → Name → List Shown
+shown_in [] name = []
+shown_in (unit ∷ before) name = elim (same_name (name_of unit.name.text.now) name) [ true ↦ shown_all (shown_in before) (seen before unit) (declared_of unit) | false ↦ shown_in before name ]
+
+-- the variables of a unit
+abbrev pub shown_from : List CodeUnit → CodeUnit → List Shown
+shown_from before unit = shown_all (shown_in before) (seen before unit) (declared_of unit)
+
+-- the variables of a text's program, which is last
+abbrev pub shown_reversed : List CodeUnit → List Shown
+shown_reversed [] = []
+shown_reversed (program ∷ before) = shown_from before program
+
+abbrev pub shown_of : Source → List Shown
+shown_of source = shown_reversed (reverse source.units.items)
+
+-- the names that lead to a variable, and its places: its own, or each field of the instance
+abbrev pub names_of : Shown → List Name
+names_of s = map name_of s.instances ++ name_of s.name ∷ []
+
+abbrev pub paths_at : Form → List Name → List (List Name)
+paths_at (Plain kind content) names = names ∷ []
+paths_at (Instance block) names = map (λ field. names ++ field.0 ∷ []) (standard_fields block)
+
+abbrev pub paths_of : Shown → List (List Name)
+paths_of s = paths_at s.form (names_of s)

@@ -1,0 +1,234 @@
+ghost use Rattle.std.specs.Prelude.{◌≡◌, ◌++◌, ◌∷◌, [], ℕ, List, Option, OnOk, IsOkUnless, option_map};
+ghost use Rattle.wc_model.specs.Language.Names.{name_of};
+ghost use Rattle.wc_model.specs.Language.Scopes.{Scope};
+ghost use Rattle.wc_model.specs.Language.Views.{text_view};
+ghost use Rattle.wc_model.specs.declared.source.Initial.{Initial};
+ghost use Rattle.wc_model.specs.declared.source.Unit.{Unit as CodeUnit};
+ghost use Rattle.wc_view_changes.specs.ChangeReport.{found_type, line_text, lost_text};
+ghost use Rattle.wc_view_changes.specs.Forms.{form_view, has_form};
+ghost use Rattle.wc_view_changes.specs.Shown.{declared_of};
+ghost use Rattle.wc_view_changes.specs.Sides.{IsAt, IsSide, declaration_lines, line_numbered, lines_between, numbered_side, pass_text, side_found, variable_lines};
+
+use crate::form::{Form, first_value, is_kept};
+use crate::lines::{put_first, put_kept, put_lost};
+use crate::other::{is_line, other_type, type_text, unit_of};
+use std::alloc::Global;
+use wc_model::{Decl, Fault, Value, put_bytes};
+use wc_names::DeclaredType;
+use wc_verify::Checked;
+
+/// Whose variables are listed.
+#[derive(Clone, Copy)]
+pub(crate) enum Pass {
+    /// Those of the new text: each keeps its value or begins with its first one.
+    New,
+    /// Those of the old text, if they are lost.
+    Old,
+}
+
+/// Two texts that are gone through side by side.
+#[derive(Clone, Copy)]
+pub(crate) struct Texts<'a, 'b, 'c, 'd> {
+    /// Where the lines take their memory.
+    pub alloc: Global,
+    pub pass: Pass,
+    /// The text whose variables are listed.
+    pub own: &'a Checked<'b>,
+    /// The text next to it.
+    pub other: &'c Checked<'d>,
+}
+
+/// The units of two texts to which the same names lead, by their numbers.
+#[derive(Clone, Copy)]
+pub(crate) struct UnitPair {
+    /// In the text whose variables are listed.
+    pub unit: usize,
+    /// In the text next to it, if there is one.
+    pub other: Option<usize>,
+}
+
+/// Puts one more name and a dot after the names that have led so far.
+fn go_into(names: &mut Vec<u8>, name: &[u8]) -> Result<(), Fault>
+    ensures longer { OnOk result
+        (names.new.items ≡ names.old.items ++ (name.now ++ (46 ∷ []))) }
+    ensures memory { IsOkUnless result Fault.Memory }
+{
+    put_bytes(names, name)?;
+    put_bytes(names, b".")
+}
+
+/// Puts the line of a variable of the new text: that it keeps its value, or begins with its first one and why.
+fn describe_new(
+    out: &mut Vec<u8>,
+    texts: Texts<'_, '_, '_, '_>,
+    prefix: &[u8],
+    name: &[u8],
+    form: Form,
+    was: Option<DeclaredType>,
+) -> Result<(), Fault>
+    ensures line { OnOk result ((unit : Option ℕ) (side : Option Scope)
+        → IsSide (text_view texts.entry.other.now.source) unit side
+        → was ≡ numbered_side side (name_of name.now)
+        → out.new.items ≡ out.old.items
+        ++ line_text (has_form was (form_view form)) (prefix.now ++ name.now) (form_view form)
+        (option_map found_type (side_found side (name_of name.now ∷ [])))) }
+    ensures memory { IsOkUnless result Fault.Memory }
+{
+    if is_kept(form, was) {
+        return put_kept(out, prefix, name);
+    }
+    put_first(
+        texts.alloc,
+        out,
+        prefix,
+        name,
+        form,
+        type_text(texts.other, was),
+    )
+}
+
+/// Puts the line of a variable of the old text, if it is lost.
+fn describe_old(
+    out: &mut Vec<u8>,
+    prefix: &[u8],
+    name: &[u8],
+    form: Form,
+    becomes: Option<DeclaredType>,
+) -> Result<(), Fault>
+    ensures line { OnOk result
+        (out.new.items ≡ out.old.items
+        ++ lost_text (line_numbered becomes) (prefix.now ++ name.now) (form_view form)) }
+    ensures memory { IsOkUnless result Fault.Memory }
+{
+    if is_line(becomes) {
+        return Ok(());
+    }
+    put_lost(out, prefix, name, form)
+}
+
+/// Puts the line of a variable of one place, or of a standard block's instance.
+fn describe_form(
+    out: &mut Vec<u8>,
+    texts: Texts<'_, '_, '_, '_>,
+    prefix: &[u8],
+    name: &[u8],
+    form: Form,
+    there: Option<DeclaredType>,
+) -> Result<(), Fault>
+    ensures line { OnOk result ((unit : Option ℕ) (side : Option Scope)
+        → IsSide (text_view texts.entry.other.now.source) unit side
+        → there ≡ numbered_side side (name_of name.now)
+        → out.new.items ≡ out.old.items
+        ++ pass_text texts.entry.pass (has_form there (form_view form)) (prefix.now ++ name.now)
+        (form_view form) (side_found side (name_of name.now ∷ []))) }
+    ensures memory { IsOkUnless result Fault.Memory }
+{
+    match texts.pass {
+        Pass::New => describe_new(out, texts, prefix, name, form, there),
+        Pass::Old => describe_old(out, prefix, name, form, there),
+    }
+}
+
+/// Puts the lines of what a declared name of a unit of a text adds. The names that lead to the unit, each with a dot after it,
+/// are borrowed for those that lead further, and are as before.
+#[cycle(describing)]
+fn describe_variable(
+    out: &mut Vec<u8>,
+    texts: Texts<'_, '_, '_, '_>,
+    names: &mut Vec<u8>,
+    units: UnitPair,
+    name: &[u8],
+    literal: Option<Value>,
+) -> Result<(), Fault>
+    ensures lines { OnOk result ((side : Option Scope) (before : List CodeUnit) (u : CodeUnit)
+        (initial : Option Initial)
+        → IsSide (text_view texts.entry.other.now.source) units.other side
+        → IsAt texts.entry.own.now.source units.unit before u
+        → literal ≡ option_map (λ i. i.value) initial
+        → out.new.items ≡ out.old.items ++ variable_lines texts.entry.pass side before u names.old.items
+        (record { name = name.now; initial = initial })) }
+    ensures names { OnOk result (names.new.items ≡ names.old.items) }
+    ensures memory { IsOkUnless result Fault.Memory }
+{
+    let Some(located) = texts.own.tables().variable(units.unit, name) else {
+        return Ok(());
+    };
+    let there = other_type(texts.other, units.other, name);
+    match located.declared {
+        DeclaredType::Elementary(kind) => {
+            let form = Form::Plain(kind, first_value(kind, literal));
+            describe_form(out, texts, names.as_slice(), name, form, there)
+        }
+        DeclaredType::Standard(block) => {
+            let form = Form::Instance(block);
+            describe_form(out, texts, names.as_slice(), name, form, there)
+        }
+        DeclaredType::Block(block) => {
+            // A block precedes the unit that has its instance, so only what has no place is passed over.
+            if units.unit <= block || texts.own.tables().size(block) == 0 {
+                return Ok(());
+            }
+            let length = names.len();
+            go_into(names, name)?;
+            let inner = UnitPair {
+                unit: block,
+                other: unit_of(there),
+            };
+            describe_unit(out, texts, names, inner)?;
+            names.truncate(length);
+            Ok(())
+        }
+    }
+}
+
+/// Puts the lines of what a declaration of a unit of a text adds.
+#[cycle(describing)]
+fn describe_declaration(
+    out: &mut Vec<u8>,
+    texts: Texts<'_, '_, '_, '_>,
+    names: &mut Vec<u8>,
+    units: UnitPair,
+    declaration: &Decl<'_>,
+) -> Result<(), Fault>
+    ensures lines { OnOk result ((side : Option Scope) (before : List CodeUnit) (u : CodeUnit)
+        → IsSide (text_view texts.entry.other.now.source) units.other side
+        → IsAt texts.entry.own.now.source units.unit before u
+        → out.new.items ≡ out.old.items
+        ++ declaration_lines texts.entry.pass side before u names.old.items declaration.now) }
+    ensures names { OnOk result (names.new.items ≡ names.old.items) }
+    ensures memory { IsOkUnless result Fault.Memory }
+{
+    let literal = match declaration.initial {
+        Some(initial) => Some(initial.value),
+        None => None,
+    };
+    for word in &declaration.names {
+        describe_variable(out, texts, names, units, word.text, literal)?;
+    }
+    Ok(())
+}
+
+/// Puts the lines of the variables of a unit of a text, next to the unit of the other text to which the same names lead.
+#[cycle(describing)]
+pub(crate) fn describe_unit(
+    out: &mut Vec<u8>,
+    texts: Texts<'_, '_, '_, '_>,
+    names: &mut Vec<u8>,
+    units: UnitPair,
+) -> Result<(), Fault>
+    ensures lines { OnOk result ((side : Option Scope) (before : List CodeUnit) (u : CodeUnit)
+        → IsSide (text_view texts.entry.other.now.source) units.other side
+        → IsAt texts.entry.own.now.source units.unit before u
+        → out.new.items ≡ out.old.items
+        ++ lines_between texts.entry.pass side before u names.old.items (declared_of u)) }
+    ensures names { OnOk result (names.new.items ≡ names.old.items) }
+    ensures memory { IsOkUnless result Fault.Memory }
+{
+    let Some(u) = texts.own.source().units.get(units.unit) else {
+        return Ok(());
+    };
+    for declaration in &u.declarations {
+        describe_declaration(out, texts, names, units, declaration)?;
+    }
+    Ok(())
+}

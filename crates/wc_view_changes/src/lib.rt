@@ -1,0 +1,12 @@
+//! What a change of the program keeps, reported before it is made: a line for each variable of the new program, and for
+//! each of the old one that is lost.
+#![tactic(auto)]
+
+mod describing;
+mod form;
+mod lines;
+mod other;
+mod report;
+
+pub use lines::put_value;
+pub use report::changes;

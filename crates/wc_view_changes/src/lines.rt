@@ -1,0 +1,136 @@
+ghost use Rattle.std.specs.Prelude.{◌≡◌, ◌++◌, ◌∷◌, [], ℕ, List, Option, OnOk, IsOkUnless, true, false, option_map};
+ghost use Rattle.std.specs.Fmt.{signed_decimal};
+ghost use Rattle.wc_model.specs.Language.Store.{Plain};
+ghost use Rattle.wc_view_changes.specs.ChangeReport.{content_text, line_text, lost_text, reason_text};
+ghost use Rattle.wc_view_changes.specs.ChangeReport as texts;
+ghost use Rattle.wc_view_changes.specs.Shown as shown;
+ghost use Rattle.wc_view_changes.specs.Forms.{form_view};
+
+use crate::form::{Form, block_text, form_type, kind_text};
+use std::alloc::Global;
+use wc_model::{Fault, Value, put_bytes};
+
+/// Puts a number in decimal digits, with bytes before it and after it.
+fn put_number(
+    alloc: Global,
+    out: &mut Vec<u8>,
+    before: &str,
+    number: i32,
+    behind: &str,
+) -> Result<(), Fault>
+    ensures number { OnOk result
+        (out.new.items
+        ≡ out.old.items ++ (before.now ++ (signed_decimal number ++ behind.now))) }
+    ensures memory { IsOkUnless result Fault.Memory }
+{
+    match format!(in alloc; "{before}{number}{behind}") {
+        Ok(text) => put_bytes(out, text.as_bytes()),
+        Err(_) => Err(Fault::Memory),
+    }
+}
+
+/// Puts a value as a literal of the language. `Memory` is the only fault.
+pub fn put_value(alloc: Global, out: &mut Vec<u8>, value: Value) -> Result<(), Fault>
+    ensures value { OnOk result
+        (out.new.items ≡ out.old.items ++ content_text (Plain value)) }
+    ensures memory { IsOkUnless result Fault.Memory }
+{
+    match value {
+        Value::Bool(false) => put_bytes(out, b"FALSE"),
+        Value::Bool(true) => put_bytes(out, b"TRUE"),
+        Value::Dint(number) => put_number(alloc, out, "", number, ""),
+        Value::Time(time) => put_number(alloc, out, "T#", time, "ms"),
+    }
+}
+
+/// Puts a type, and the first value of what has one of its own.
+fn put_form(alloc: Global, out: &mut Vec<u8>, form: Form) -> Result<(), Fault>
+    ensures form { OnOk result
+        (out.new.items ≡ out.old.items ++ texts.form_text (form_view form)) }
+    ensures memory { IsOkUnless result Fault.Memory }
+{
+    match form {
+        Form::Instance(block) => put_bytes(out, block_text(block)),
+        Form::Plain(kind, value) => {
+            put_bytes(out, kind_text(kind))?;
+            put_bytes(out, b" ")?;
+            put_value(alloc, out, value)
+        }
+    }
+}
+
+/// Puts why a variable begins with its first value, and the end of its line.
+fn put_reason(out: &mut Vec<u8>, old_type: Option<&[u8]>) -> Result<(), Fault>
+    ensures reason { OnOk result
+        (out.new.items ≡ out.old.items
+        ++ (reason_text (option_map (λ spelled. spelled.now) old_type.entry) ++ (10 ∷ []))) }
+    ensures memory { IsOkUnless result Fault.Memory }
+{
+    let Some(spelled) = old_type else {
+        return put_bytes(out, b"new\n");
+    };
+    put_bytes(out, b"was ")?;
+    put_bytes(out, spelled)?;
+    put_bytes(out, b"\n")
+}
+
+/// Puts what a line says first, and the names of its variable.
+fn put_names(out: &mut Vec<u8>, word: &[u8], prefix: &[u8], name: &[u8]) -> Result<(), Fault>
+    ensures names { OnOk result
+        (out.new.items ≡ out.old.items ++ (word.now ++ (prefix.now ++ name.now))) }
+    ensures memory { IsOkUnless result Fault.Memory }
+{
+    put_bytes(out, word)?;
+    put_bytes(out, prefix)?;
+    put_bytes(out, name)
+}
+
+/// Puts the line of a variable that keeps its value.
+pub(crate) fn put_kept(out: &mut Vec<u8>, prefix: &[u8], name: &[u8]) -> Result<(), Fault>
+    ensures line { (form : shown.Form) (old : Option (List ℕ)) → OnOk result
+        (out.new.items ≡ out.old.items ++ line_text true (prefix.now ++ name.now) form old) }
+    ensures memory { IsOkUnless result Fault.Memory }
+{
+    put_names(out, b"kept ", prefix, name)?;
+    put_bytes(out, b"\n")
+}
+
+/// Puts the line of a variable that begins with its first value.
+pub(crate) fn put_first(
+    alloc: Global,
+    out: &mut Vec<u8>,
+    prefix: &[u8],
+    name: &[u8],
+    form: Form,
+    old_type: Option<&[u8]>,
+) -> Result<(), Fault>
+    ensures line { OnOk result
+        (out.new.items ≡ out.old.items
+        ++ line_text false (prefix.now ++ name.now) (form_view form)
+        (option_map (λ spelled. spelled.now) old_type.entry)) }
+    ensures memory { IsOkUnless result Fault.Memory }
+{
+    put_names(out, b"first ", prefix, name)?;
+    put_bytes(out, b" ")?;
+    put_form(alloc, out, form)?;
+    put_bytes(out, b" ")?;
+    put_reason(out, old_type)
+}
+
+/// Puts the line of a variable of the old program that is lost.
+pub(crate) fn put_lost(
+    out: &mut Vec<u8>,
+    prefix: &[u8],
+    name: &[u8],
+    form: Form,
+) -> Result<(), Fault>
+    ensures line { OnOk result
+        (out.new.items ≡ out.old.items
+        ++ lost_text false (prefix.now ++ name.now) (form_view form)) }
+    ensures memory { IsOkUnless result Fault.Memory }
+{
+    put_names(out, b"lost ", prefix, name)?;
+    put_bytes(out, b" ")?;
+    put_bytes(out, form_type(form))?;
+    put_bytes(out, b"\n")
+}

@@ -1,0 +1,56 @@
+ghost use Rattle.std.specs.Prelude.{◌≡◌, ◌++◌, IfOk, IsOkUnless, OnOk};
+ghost use Rattle.wc_model.specs.Language.Views.{text_view};
+ghost use Rattle.wc_view_changes.specs.ChangeReport.{change_report};
+ghost use Rattle.wc_view_changes.specs.Sides.{lines_beside};
+
+use crate::describing::{Pass, Texts, UnitPair, describe_unit};
+use std::alloc::Global;
+use wc_cost::Loaded;
+use wc_model::Fault;
+
+/// Puts the lines of the variables of a text's program, next to the program of the other text.
+fn describe_program(out: &mut Vec<u8>, texts: Texts<'_, '_, '_, '_>) -> Result<(), Fault>
+    ensures lines { OnOk result
+        (out.new.items ≡ out.old.items
+        ++ lines_beside texts.entry.pass (text_view texts.entry.other.now.source)
+        texts.entry.own.now.source) }
+    ensures memory { IsOkUnless result Fault.Memory }
+{
+    let Some(unit) = texts.own.source().units.len().checked_sub(1) else {
+        return Ok(());
+    };
+    let other = texts.other.source().units.len().checked_sub(1);
+    let mut names = Vec::new(texts.alloc);
+    describe_unit(out, texts, &mut names, UnitPair { unit, other })
+}
+
+/// What a change from a program to another would keep, with no change made: a line for each variable of the new program,
+/// through all depths of instances and in the order of declaration. `kept` and its names are printed if it keeps its value,
+/// else `first`, its names, its type, its first value, and why: `new`, or `was` and the type that the old program has under
+/// these names. A standard function block is kept whole or not at all, and has one line. After them comes a line for each
+/// variable of the old program that is lost, in its order of declaration: `lost`, its names and its type, if the new
+/// program has no variable and no standard function block of these names. `Memory` is the only fault.
+pub fn changes(alloc: Global, old: &Loaded<'_>, new: &Loaded<'_>) -> Result<Vec<u8>, Fault>
+    ensures report { IfOk result
+        (λ lines. lines.items ≡ change_report old.now.source new.now.source) }
+    ensures memory { IsOkUnless result Fault.Memory }
+{
+    let old = old.checked();
+    let new = new.checked();
+    let mut lines = Vec::new(alloc);
+    let kept = Texts {
+        alloc,
+        pass: Pass::New,
+        own: new,
+        other: old,
+    };
+    describe_program(&mut lines, kept)?;
+    let lost = Texts {
+        alloc,
+        pass: Pass::Old,
+        own: old,
+        other: new,
+    };
+    describe_program(&mut lines, lost)?;
+    Ok(lines)
+}

@@ -1,0 +1,54 @@
+-- What held after the rows of some time. (The profile's own.)
+use Rattle.std.specs.Prelude.{◌≡◌, ℕ, ◌-◌, ◌<◌, Bool, not, ℤ, pos, List, Option, Some, None, map, max, get_or, if◌then◌else◌}
+use Rattle.std.specs.Int.{bit_at}
+use Rattle.std.specs.List.{filter_map, fold, last_or, list_any}
+use Rattle.wc_view_columns.specs.Spans.{span_of}
+use Rattle.wc_view_columns.specs.declared.bits.Bits.{Bits}
+use Rattle.wc_view_columns.specs.declared.span.Span.{Span}
+use Rattle.wc_view_columns.specs.declared.state.State.{State}
+use Rattle.wc_model.specs.Instrument.Indication as indication
+use Rattle.wc_model.specs.Instrument.Plates.{PlateData}
+use Rattle.wc_model.specs.Instrument.WeighingHistories.{History}
+use Rattle.wc_model.specs.declared.image.Outputs.{Outputs}
+
+-- what holds after a row: the weights that are valid, the net weight only while a tare is active, and the image
+pub record Held : Type 0 where
+  pub gross : Option ℤ
+  pub net : Option ℤ
+  pub motion : Bool
+  pub over : Bool
+  pub under : Bool
+  pub invalid : Bool
+  pub inputs : ℕ
+  pub outputs : Outputs
+
+-- so of a scale of this plate and history
+abbrev pub held_at : PlateData → History → ℕ → Outputs → Held
+held_at p history inputs outputs = record {
+  gross = indication.gross p history;
+  net = if indication.is_tare_active p history then indication.net p history else None;
+  motion = not (indication.is_stable p history);
+  over = indication.is_over p history;
+  under = indication.is_under p history;
+  invalid = not (indication.is_valid p history);
+  inputs = inputs;
+  outputs = outputs;
+}
+
+-- Which bits were 1 in one of some values, which were 0 in one, and the last value.
+pub record AreBitsOf (values : List ℕ) (bits : Bits) : Type 0 where
+  pub high : (i : ℕ) → i < 16 → bit_at bits.high i ≡ fold max 0 (map (λ value. bit_at value i) values)
+  pub low : (i : ℕ) → i < 16 → bit_at bits.low i ≡ fold max 0 (map (λ value. 1 - bit_at value i) values)
+  pub last : Some bits.last ≡ last_or None values
+
+-- What held after some rows: of the numbers their spans, and of each flag whether it was set after one of them.
+pub record IsStateOf (held : List Held) (state : State) : Type 0 where
+  pub gross : state.gross ≡ span_of (filter_map (λ h. h.gross) held)
+  pub net : state.net ≡ span_of (filter_map (λ h. h.net) held)
+  pub motion : state.motion ≡ list_any (λ h. h.motion) held
+  pub over : state.over ≡ list_any (λ h. h.over) held
+  pub under : state.under ≡ list_any (λ h. h.under) held
+  pub invalid : state.invalid ≡ list_any (λ h. h.invalid) held
+  pub inputs : AreBitsOf (map (λ h. h.inputs) held) state.inputs
+  pub outputs : AreBitsOf (map (λ h. h.outputs.bits) held) state.outputs
+  pub words : (other : Span) (i : ℕ) → i < 4 → Some (get_or state.words i other) ≡ span_of (map (λ h. get_or h.outputs.words i (pos 0)) held)

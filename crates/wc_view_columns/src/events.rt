@@ -1,0 +1,124 @@
+ghost use Rattle.std.specs.Prelude.{◌≡◌, ◌+◌, max};
+ghost use Rattle.std.specs.Option.{option_or};
+ghost use Rattle.wc_view_columns.specs.Happened.{AreBoth, counted};
+
+use wc_sma::{Command, Status};
+use wc_view_decode::Answer;
+
+/// A request of the line that was answered.
+#[derive(Clone, Copy)]
+pub struct Request {
+    /// The timestamp of its end in milliseconds.
+    pub ms: u64,
+    pub command: Command,
+    /// Its answer, if one could be read.
+    pub answer: Option<Answer>,
+}
+
+/// Whether an answer says that its command was refused.
+fn is_refusal(answer: Option<Answer>) -> bool {
+    match answer {
+        Some(Answer::Weight(reading)) => {
+            matches!(reading.status, Status::ZeroRefused | Status::TareRefused)
+        }
+        _ => false,
+    }
+}
+
+/// The later request, if there is one, else the earlier.
+fn last_of(earlier: Option<Request>, later: Option<Request>) -> Option<Request>
+    ensures { result ≡ option_or later earlier }
+{
+    if later.is_some() { later } else { earlier }
+}
+
+/// What happened in some time.
+#[derive(Clone, Copy)]
+pub struct Events {
+    /// How often a zero or a tare was set, each refused, and the tare cleared.
+    pub zeros: u32,
+    pub zeros_refused: u32,
+    pub tares: u32,
+    pub tares_refused: u32,
+    pub clears: u32,
+    /// How often the program was changed.
+    pub changes: u32,
+    pub scans: u32,
+    /// The steps of the longest scan.
+    pub steps: u32,
+    pub requests: u32,
+    /// The last request.
+    pub last: Option<Request>,
+}
+
+impl Events {
+    /// Nothing.
+    pub fn none() -> Events
+        ensures steps { result.steps ≡ 0 }
+        ensures requests { result.requests ≡ 0 }
+    {
+        Events {
+            zeros: 0,
+            zeros_refused: 0,
+            tares: 0,
+            tares_refused: 0,
+            clears: 0,
+            changes: 0,
+            scans: 0,
+            steps: 0,
+            requests: 0,
+            last: None,
+        }
+    }
+
+    /// These and later ones.
+    pub fn joined(&self, later: &Events) -> Events
+        ensures steps { result.steps ≡ max self.now.steps later.now.steps }
+        ensures both { AreBoth self.now later.now result }
+    {
+        Events {
+            zeros: self.zeros.saturating_add(later.zeros),
+            zeros_refused: self.zeros_refused.saturating_add(later.zeros_refused),
+            tares: self.tares.saturating_add(later.tares),
+            tares_refused: self.tares_refused.saturating_add(later.tares_refused),
+            clears: self.clears.saturating_add(later.clears),
+            changes: self.changes.saturating_add(later.changes),
+            scans: self.scans.saturating_add(later.scans),
+            steps: self.steps.max(later.steps),
+            requests: self.requests.saturating_add(later.requests),
+            last: last_of(self.last, later.last),
+        }
+    }
+
+    /// One more scan of n steps.
+    pub fn scan(&mut self, steps: u32)
+        ensures steps { self.new.steps ≡ max self.old.steps steps }
+        ensures scans { self.new.scans ≡ counted (self.old.scans + 1) }
+    {
+        self.scans = self.scans.saturating_add(1);
+        self.steps = self.steps.max(steps);
+    }
+
+    /// One more request.
+    pub(crate) fn request(&mut self, request: Request)
+        ensures count { self.new.requests ≡ counted (self.old.requests + 1) }
+    {
+        self.mark(request);
+        self.requests = self.requests.saturating_add(1);
+        self.last = Some(request);
+    }
+
+    /// Counts what a request did.
+    fn mark(&mut self, request: Request)
+        ensures requests { self.new.requests ≡ self.old.requests }
+    {
+        match (request.command, is_refusal(request.answer)) {
+            (Command::Zero, true) => self.zeros_refused = self.zeros_refused.saturating_add(1),
+            (Command::Zero, false) => self.zeros = self.zeros.saturating_add(1),
+            (Command::TakeTare, true) => self.tares_refused = self.tares_refused.saturating_add(1),
+            (Command::TakeTare, false) => self.tares = self.tares.saturating_add(1),
+            (Command::Clear, _) => self.clears = self.clears.saturating_add(1),
+            _ => {}
+        }
+    }
+}

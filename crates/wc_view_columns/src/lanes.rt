@@ -1,0 +1,135 @@
+ghost use Rattle.std.specs.Prelude.{◌≡◌, ◌++◌, not, List, Some, None};
+ghost use Rattle.wc_view_columns.specs.Columns.{AreColumnsOf, IsLevelOf, IsWholeOf, level_of};
+ghost use Rattle.wc_view_columns.specs.Held.{Held, IsStateOf};
+ghost use Rattle.wc_view_columns.specs.declared.columns.Column.{Column};
+
+use crate::bits::Level;
+use crate::columns::Column;
+use std::alloc::{AllocError, Global};
+use std::fmt;
+
+/// What is shown of columns besides their weights, and its name.
+#[derive(Clone, Copy)]
+pub enum Lane {
+    Motion,
+    Over,
+    Under,
+    Invalid,
+    Requests,
+    /// `%IX0` of that number.
+    Input(u32),
+    /// `%QX0` of that number.
+    Output(u32),
+    /// `%QD` of that number.
+    Word(usize),
+    Scans,
+}
+
+impl fmt::Display for Lane {
+    fn fmt<W: fmt::Write>(&self, f: &mut fmt::Formatter<W>) -> fmt::Result {
+        match self {
+            Lane::Motion => write!(f, "in motion"),
+            Lane::Over => write!(f, "over"),
+            Lane::Under => write!(f, "under"),
+            Lane::Invalid => write!(f, "not valid"),
+            Lane::Requests => write!(f, "requests"),
+            Lane::Input(number) => write!(f, "%IX0.{number}"),
+            Lane::Output(number) => write!(f, "%QX0.{number}"),
+            Lane::Word(number) => write!(f, "%QD{number}"),
+            Lane::Scans => write!(f, "steps"),
+        }
+    }
+}
+
+/// High if it is so, else low.
+fn level_of(is_so: bool) -> Level
+    ensures { result ≡ level_of is_so (not is_so) }
+{
+    if is_so { Level::High } else { Level::Low }
+}
+
+impl Lane {
+    /// What it is in a column, if it has two values.
+    pub fn level(self, column: &Column) -> Level
+        ensures { IsLevelOf self column.now result }
+    {
+        match self {
+            Lane::Motion => level_of(column.state.motion),
+            Lane::Over => level_of(column.state.over),
+            Lane::Under => level_of(column.state.under),
+            Lane::Invalid => level_of(column.state.invalid),
+            Lane::Input(number) => column.state.inputs.level(number),
+            Lane::Output(number) => column.state.outputs.level(number),
+            _ => Level::Low,
+        }
+    }
+
+    /// Whether something is to be seen in it: something held or happened, or a value changed.
+    fn is_shown(self, all: &Column) -> bool {
+        match self {
+            Lane::Motion => all.state.motion,
+            Lane::Over => all.state.over,
+            Lane::Under => all.state.under,
+            Lane::Invalid => all.state.invalid,
+            Lane::Requests => all.events.requests != 0,
+            Lane::Input(_) | Lane::Output(_) => self.level(all) == Level::Both,
+            Lane::Word(number) => match all.state.words.get(number) {
+                Some(word) => word.varies(),
+                None => false,
+            },
+            Lane::Scans => all.events.scans != 0,
+        }
+    }
+}
+
+/// Columns and one more as one.
+fn with_column(all: Option<Column>, column: &Column) -> Column
+    ensures first { all ≡ None → result ≡ column.now }
+    ensures more { (before : Column) (held others : List Held) → all ≡ Some before
+        → IsStateOf held before.state → IsStateOf others column.now.state
+        → IsStateOf (held ++ others) result.state }
+{
+    match all {
+        Some(all) => all.joined(column),
+        None => *column,
+    }
+}
+
+/// All columns as one; none if there are none.
+pub fn whole(columns: &[Column]) -> Option<Column>
+    ensures { (held : List (List Held)) → AreColumnsOf held columns.now → IsWholeOf result held }
+{
+    let mut all: Option<Column> = None;
+    for column in columns {
+        all = Some(with_column(all, column));
+    }
+    all
+}
+
+/// Adds a lane, if something is to be seen in it.
+fn add(lanes: &mut Vec<Lane>, all: &Column, lane: Lane) -> Result<(), AllocError> {
+    if lane.is_shown(all) {
+        lanes.push(lane)?;
+    }
+    Ok(())
+}
+
+/// The lanes in which something is to be seen, from above.
+pub fn lanes_of(alloc: Global, all: &Column) -> Result<Vec<Lane>, AllocError> {
+    let mut lanes = Vec::new(alloc);
+    for lane in [Lane::Motion, Lane::Over, Lane::Under, Lane::Invalid] {
+        add(&mut lanes, all, lane)?;
+    }
+    add(&mut lanes, all, Lane::Requests)?;
+    for number in 0..16 {
+        add(&mut lanes, all, Lane::Input(number))?;
+    }
+    for number in 0..16 {
+        add(&mut lanes, all, Lane::Output(number))?;
+    }
+    for number in 0..4 {
+        add(&mut lanes, all, Lane::Word(number))?;
+    }
+    add(&mut lanes, all, Lane::Scans)?;
+    Ok(lanes)
+}

@@ -1,0 +1,72 @@
+ghost use Rattle.std.specs.Prelude.{◌≡◌, ◌<ℤ◌, ℤ, List, ◌++◌, None, Some, true, false};
+ghost use Rattle.std.specs.Int.{int_max, int_min};
+ghost use Rattle.std.specs.Option.{option_to_list};
+ghost use Rattle.wc_view_columns.specs.Spans.{span_of};
+
+/// The least, the greatest and the last of some numbers.
+#[derive(Clone, Copy, PartialEq, Eq)]
+pub struct Span {
+    pub least: i32,
+    pub greatest: i32,
+    pub last: i32,
+}
+
+impl Span {
+    /// Of one number.
+    pub(crate) fn at(number: i32) -> Span
+        ensures least { result.least ≡ number }
+        ensures greatest { result.greatest ≡ number }
+        ensures last { result.last ≡ number }
+    {
+        Span {
+            least: number,
+            greatest: number,
+            last: number,
+        }
+    }
+
+    /// Of one number or none.
+    pub(crate) fn of(number: Option<i32>) -> Option<Span>
+        ensures { result ≡ span_of (option_to_list number) }
+    {
+        match number {
+            Some(number) => Some(Span::at(number)),
+            None => None,
+        }
+    }
+
+    /// Of these numbers and then others.
+    pub(crate) fn joined(self, later: Span) -> Span
+        ensures least { result.least ≡ int_min self.least later.least }
+        ensures greatest { result.greatest ≡ int_max self.greatest later.greatest }
+        ensures last { result.last ≡ later.last }
+    {
+        Span {
+            least: self.least.min(later.least),
+            greatest: self.greatest.max(later.greatest),
+            last: later.last,
+        }
+    }
+
+    /// Whether the numbers differ.
+    pub fn varies(self) -> bool
+        ensures varies { result ≡ true → self.least <ℤ self.greatest }
+        ensures stays { result ≡ false → ¬ (self.least <ℤ self.greatest) }
+    {
+        self.least < self.greatest
+    }
+}
+
+/// Of some numbers and then others, either of which may be empty.
+pub fn join(earlier: Option<Span>, later: Option<Span>) -> Option<Span>
+    ensures first { earlier ≡ None → result ≡ later }
+    ensures second { later ≡ None → result ≡ earlier }
+    ensures both { (numbers others : List ℤ) → earlier ≡ span_of numbers → later ≡ span_of others
+        → result ≡ span_of (numbers ++ others) }
+{
+    match (earlier, later) {
+        (Some(earlier), Some(later)) => Some(earlier.joined(later)),
+        (Some(span), None) => Some(span),
+        (None, span) => span,
+    }
+}

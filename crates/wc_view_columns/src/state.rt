@@ -1,0 +1,119 @@
+ghost use Rattle.std.specs.Prelude.{◌≡◌, ◌<◌, ◌||◌, ℕ, ℤ, pos, List, [], ◌∷◌, ◌++◌, Some, None, get_or, if◌then◌else◌};
+ghost use Rattle.wc_view_columns.specs.Held.{Held, IsStateOf, held_at};
+ghost use Rattle.wc_view_columns.specs.Spans.{span_of};
+ghost use Rattle.wc_view_columns.specs.declared.span.Span.{Span};
+ghost use Rattle.wc_indicator.specs.Kept.{StandsForHistory, Tells};
+ghost use Rattle.wc_model.specs.Instrument.Indication as told;
+ghost use Rattle.wc_model.specs.Instrument.Plates.{PlateData};
+ghost use Rattle.wc_model.specs.Instrument.WeighingHistories.{History};
+
+use crate::bits::Bits;
+use crate::span::{Span, join};
+use wc_indicator::Indicator;
+use wc_model::Outputs;
+
+/// What held at a moment, or over some of them: it holds on until a row changes it.
+#[derive(Clone, Copy, PartialEq, Eq)]
+pub struct State {
+    /// The gross weight, if it was valid.
+    pub gross: Option<Span>,
+    /// The net weight, if it was valid and a tare was active.
+    pub net: Option<Span>,
+    /// The scale was not stable.
+    pub motion: bool,
+    pub over: bool,
+    pub under: bool,
+    /// There was no valid weight.
+    pub invalid: bool,
+    pub inputs: Bits,
+    pub outputs: Bits,
+    pub words: [Span; 4],
+}
+
+/// The spans of four words.
+fn words_of(outputs: &Outputs) -> [Span; 4]
+    ensures { (other : Span) (i : ℕ) → i < 4
+        → Some (get_or result i other) ≡ span_of (get_or outputs.now.words i (pos 0) ∷ []) }
+{
+    let [first, second, third, fourth] = outputs.words;
+    [
+        Span::at(first),
+        Span::at(second),
+        Span::at(third),
+        Span::at(fourth),
+    ]
+}
+
+/// The spans of some words and then of others.
+fn joined_words(earlier: [Span; 4], later: [Span; 4]) -> [Span; 4]
+    ensures { (words others : ℕ → List ℤ)
+        → ((other : Span) (i : ℕ) → i < 4 → Some (get_or earlier i other) ≡ span_of (words i))
+        → ((other : Span) (i : ℕ) → i < 4 → Some (get_or later i other) ≡ span_of (others i))
+        → (other : Span) (i : ℕ) → i < 4
+        → Some (get_or result i other) ≡ span_of (words i ++ others i) }
+{
+    [
+        earlier[0].joined(later[0]),
+        earlier[1].joined(later[1]),
+        earlier[2].joined(later[2]),
+        earlier[3].joined(later[3]),
+    ]
+}
+
+/// Whether one of two holds.
+fn either(one: bool, other: bool) -> bool
+    ensures { result ≡ (one || other) }
+{
+    one || other
+}
+
+/// The net weight while a tare is active.
+fn net_of(indicator: &Indicator) -> Option<i32>
+    ensures { Tells
+        (λ p history. if told.is_tare_active p history then told.net p history else None)
+        indicator.now result }
+{
+    if indicator.tare_active() {
+        indicator.net()
+    } else {
+        None
+    }
+}
+
+impl State {
+    /// What holds at an indicator, with these inputs and outputs.
+    pub fn at(indicator: &Indicator, inputs: u16, outputs: &Outputs) -> State
+        ensures { (p : PlateData) (history : History) → StandsForHistory indicator.now p history
+            → IsStateOf (held_at p history inputs outputs.now ∷ []) result }
+    {
+        State {
+            gross: Span::of(indicator.gross()),
+            net: Span::of(net_of(indicator)),
+            motion: !indicator.stable(),
+            over: indicator.over(),
+            under: indicator.under(),
+            invalid: !indicator.valid(),
+            inputs: Bits::at(inputs),
+            outputs: Bits::at(outputs.bits),
+            words: words_of(outputs),
+        }
+    }
+
+    /// What held over these moments and later ones.
+    pub(crate) fn joined(&self, later: &State) -> State
+        ensures { (held others : List Held) → IsStateOf held self.now → IsStateOf others later.now
+            → IsStateOf (held ++ others) result }
+    {
+        State {
+            gross: join(self.gross, later.gross),
+            net: join(self.net, later.net),
+            motion: either(self.motion, later.motion),
+            over: either(self.over, later.over),
+            under: either(self.under, later.under),
+            invalid: either(self.invalid, later.invalid),
+            inputs: self.inputs.joined(later.inputs),
+            outputs: self.outputs.joined(later.outputs),
+            words: joined_words(self.words, later.words),
+        }
+    }
+}

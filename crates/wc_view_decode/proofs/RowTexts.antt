@@ -1,0 +1,66 @@
+-- Texts that are put together part by part.
+use Rattle.std.proofs.Common.{◌≡◌, ◌<◌, ◌+◌, ℕ, suc, ℤ, List, [], ◌∷◌, ◌++◌, length, take, get_or, Result, Ok, Err, OnOk, ◌==◌, if◌then◌else◌, refl, sym, ap, ◌∙◌, arith, rules}
+use Rattle.std.proofs.Math.Seq.{take-suc}
+use Rattle.std.proofs.lemmas.List.{append_assoc, append-nil}
+use Rattle.std.specs.Fmt.{signed_decimal}
+use Rattle.wc_view_decode.specs.Forms.{answer_form, answer_forms, named_words, passed_on}
+use Rattle.wc_view_decode.specs.declared.answer.Answer.{Answer}
+use Rattle.wc_view_decode.specs.declared.form.DecodeForm.{DecodeForm}
+use Rattle.wc_view_decode.specs.declared.form.DecodeForm.TheVariants.{Text, Table}
+
+-- a part more after a text
+pub one_more : (old p q t u : List ℕ) → t ≡ old ++ p → u ≡ t ++ q → u ≡ old ++ (p ++ q)
+one_more old p q t u e f = f ∙ ap (λ x. x ++ q) e ∙ append_assoc old p q
+
+-- the last part
+pub last_more : {E : Type 0} (r : Result Unit E) (old p q t u : List ℕ) → t ≡ old ++ p → OnOk r (u ≡ t ++ q) → OnOk r (u ≡ old ++ (p ++ q))
+last_more (Ok done) old p q t u e f = one_more old p q t u e f
+last_more (Err fault) old p q t u e f = tt
+
+-- four words, each after its name
+four_words : (old t1 t2 t3 t4 n1 n2 n3 n4 : List ℕ) (ws : List ℤ) (d : ℤ) → length ws ≡ 4
+    → t1 ≡ old ++ n1 ++ signed_decimal (get_or ws 0 d) → t2 ≡ t1 ++ n2 ++ signed_decimal (get_or ws 1 d)
+    → t3 ≡ t2 ++ n3 ++ signed_decimal (get_or ws 2 d) → t4 ≡ t3 ++ n4 ++ signed_decimal (get_or ws 3 d)
+    → t4 ≡ old ++ named_words (n1 ∷ n2 ∷ n3 ∷ n4 ∷ []) ws
+unfolding named_words
+four_words old t1 t2 t3 t4 n1 n2 n3 n4 (a ∷ b ∷ c ∷ e ∷ []) d size e1 e2 e3 e4 = rw (e4, e3, e2, e1) (search (rules, append_assoc, append-nil))
+four_words old t1 t2 t3 t4 n1 n2 n3 n4 [] d size e1 e2 e3 e4 = absurd (omega arith)
+four_words old t1 t2 t3 t4 n1 n2 n3 n4 (a ∷ []) d size e1 e2 e3 e4 = absurd (omega arith)
+four_words old t1 t2 t3 t4 n1 n2 n3 n4 (a ∷ b ∷ []) d size e1 e2 e3 e4 = absurd (omega arith)
+four_words old t1 t2 t3 t4 n1 n2 n3 n4 (a ∷ b ∷ c ∷ []) d size e1 e2 e3 e4 = absurd (omega arith)
+four_words old t1 t2 t3 t4 n1 n2 n3 n4 (a ∷ b ∷ c ∷ e ∷ x ∷ more) d size e1 e2 e3 e4 = absurd (omega arith)
+
+pub four_put : {E : Type 0} (r : Result Unit E) (old t1 t2 t3 t4 n1 n2 n3 n4 : List ℕ) (ws : List ℤ) (d : ℤ) → length ws ≡ 4
+    → t1 ≡ old ++ n1 ++ signed_decimal (get_or ws 0 d) → t2 ≡ t1 ++ n2 ++ signed_decimal (get_or ws 1 d)
+    → t3 ≡ t2 ++ n3 ++ signed_decimal (get_or ws 2 d) → OnOk r (t4 ≡ t3 ++ n4 ++ signed_decimal (get_or ws 3 d))
+    → OnOk r (t4 ≡ old ++ named_words (n1 ∷ n2 ∷ n3 ∷ n4 ∷ []) ws)
+four_put (Ok u) old t1 t2 t3 t4 n1 n2 n3 n4 ws d size e1 e2 e3 e4 = four_words old t1 t2 t3 t4 n1 n2 n3 n4 ws d size e1 e2 e3 e4
+four_put (Err e) old t1 t2 t3 t4 n1 n2 n3 n4 ws d size e1 e2 e3 e4 = tt
+
+-- an answer after others
+answers_behind : (form : DecodeForm) (ms : ℕ) (front back : List Answer) → answer_forms form ms (front ++ back) ≡ answer_forms form ms front ++ answer_forms form ms back
+answers_behind form ms [] back = refl
+answers_behind form ms (a ∷ front) back =
+    ap (λ rest. answer_form form ms a ++ rest) (answers_behind form ms front back)
+    ∙ sym (append_assoc (answer_form form ms a) (answer_forms form ms front) (answer_forms form ms back))
+
+pub one_answer_more : (form : DecodeForm) (ms : ℕ) (answers : List Answer) (n : ℕ) (other : Answer) → n < length answers
+    → answer_forms form ms (take (n + 1) answers) ≡ answer_forms form ms (take n answers) ++ answer_form form ms (get_or answers n other)
+one_answer_more form ms answers n other within =
+    let next : n + 1 ≡ suc n = omega arith in
+    rw next (ap (answer_forms form ms) (take-suc answers n other within) ∙ answers_behind form ms (take n answers) (get_or answers n other ∷ [])
+    ∙ ap (λ text. answer_forms form ms (take n answers) ++ text) (append-nil (answer_form form ms (get_or answers n other))))
+
+-- bytes that are passed on after others
+pub passed_behind : (form : DecodeForm) (front back : List ℕ) → passed_on form (front ++ back) ≡ passed_on form front ++ passed_on form back
+passed_behind Text front back = refl
+passed_behind Table [] back = refl
+passed_behind Table (byte ∷ front) back =
+    ap (λ rest. (if byte == 34 then 34 ∷ 34 ∷ [] else byte ∷ []) ++ rest) (passed_behind Table front back)
+    ∙ sym (append_assoc (if byte == 34 then 34 ∷ 34 ∷ [] else byte ∷ []) (passed_on Table front) (passed_on Table back))
+
+pub one_passed_more : (form : DecodeForm) (bytes : List ℕ) (n other : ℕ) → n < length bytes
+    → passed_on form (take (n + 1) bytes) ≡ passed_on form (take n bytes) ++ passed_on form (get_or bytes n other ∷ [])
+one_passed_more form bytes n other within =
+    let next : n + 1 ≡ suc n = omega arith in
+    rw next (ap (passed_on form) (take-suc bytes n other within) ∙ passed_behind form (take n bytes) (get_or bytes n other ∷ []))

@@ -1,0 +1,21 @@
+use Rattle.std.proofs.Common.{◌∙◌, ap}
+use Rattle.std.specs.Int.{from_be_bytes}
+use Rattle.wc_view_decode.proofs.Digits.{word_again, word_decoded}
+use mir.Syntax.{w16}
+use Rattle.wc_view_decode.proofs.fields.bits.Goals as goal
+
+pub returns-in-Ok : goal.returns-in-Ok
+returns-in-Ok c word below e =
+    let decoded = word_decoded c.args.field.now word below e in
+    let given = c.decode_to_slice.ensures.value in
+    let both = rw decoded at given in
+    c.from_be_bytes.ensures ∙ ap (from_be_bytes w16) both.1 ∙ word_again word
+
+pub returns-in-Err : goal.returns-in-Err
+returns-in-Err c word below e =
+    let decoded = word_decoded c.args.field.now word below e in
+    let given = c.decode_to_slice.ensures.value in
+    let both = rw decoded at given in
+    let done = both.0 in
+    let failed = c.in-Err.is in
+    cc

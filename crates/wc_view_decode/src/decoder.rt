@@ -1,0 +1,165 @@
+ghost use Rattle.std.specs.Prelude.{◌≡◌, ◌≤◌, ◌==◌, ◌∷◌, [], true, false, length, IsOkUnless};
+ghost use Rattle.std.specs.List.{position_or_len};
+ghost use Rattle.wc_view_decode.specs.Decoding.{longest_line, without_end};
+ghost use Rattle.wc_view_decode.specs.Forms.{heading};
+ghost use Rattle.wc_view_decode.specs.Standing.{Finishes, PutsLine, Stands, TakesBytes};
+
+use crate::entry_forms::put_entry;
+use crate::form::DecodeForm;
+use crate::lines::line_entry;
+use crate::unknown_lines::{put_closing, put_opening, put_passed, put_passed_on, put_unknown};
+use std::alloc::Global;
+use wc_model::{Fault, put_bytes};
+
+/// The most bytes before the line feed of a line that is looked at.
+const LONGEST_LINE: usize = 65536;
+
+/// A decoder: the current line, as far as it was read, or that it is too long and written as it comes.
+#[derive(Drop)]
+pub(crate) struct Decoder {
+    pub(crate) form: DecodeForm,
+    pub(crate) line: Vec<u8>,
+    pub(crate) is_long: bool,
+}
+
+/// A decoder that has taken nothing.
+pub(crate) fn new_decoder(alloc: Global, form: DecodeForm) -> Decoder
+    ensures form { result.form ≡ form }
+    ensures stands { Stands result [] (heading form) }
+{
+    Decoder {
+        form,
+        line: Vec::new(alloc),
+        is_long: false,
+    }
+}
+
+/// The number of bytes before the line feed.
+fn length_before_end(line: &[u8]) -> usize
+    ensures before { result ≡ position_or_len (λ byte. byte == 10) line.now }
+    ensures within { result ≤ length line.now }
+{
+    line.iter().take_while(|byte| **byte != b'\n').count()
+}
+
+/// A line without its line feed.
+fn without_end(line: &[u8]) -> &[u8]
+    ensures { result.now ≡ without_end line.now }
+{
+    line.split_at(length_before_end(line)).0
+}
+
+/// Appends what is written for a line to a text.
+fn put_line(alloc: Global, form: DecodeForm, line: &[u8], text: &mut Vec<u8>) -> Result<(), Fault>
+    ensures line { PutsLine form line.now result text.old.items text.new.items }
+    ensures memory { IsOkUnless result Fault.Memory }
+{
+    match line_entry(alloc, line) {
+        Ok(Some(entry)) => put_entry(text, form, &entry),
+        Ok(None) => put_unknown(text, form, without_end(line)),
+        Err(fault) => Err(fault),
+    }
+}
+
+/// Takes the line feed of the current line.
+fn end_line(alloc: Global, decoder: &mut Decoder, text: &mut Vec<u8>) -> Result<(), Fault>
+    requires { decoder.old.is_long ≡ false }
+    ensures form { decoder.new.form ≡ decoder.old.form }
+    ensures takes { TakesBytes decoder.old decoder.new (10 ∷ []) result text.old.items
+        text.new.items }
+    ensures memory { IsOkUnless result Fault.Memory }
+{
+    put_bytes(&mut decoder.line, b"\n")?;
+    put_line(alloc, decoder.form, &decoder.line, text)?;
+    decoder.line.clear();
+    Ok(())
+}
+
+/// Writes a line that is too long as far as it was read.
+fn begin_long(decoder: &mut Decoder, byte: u8, text: &mut Vec<u8>) -> Result<(), Fault>
+    requires short { decoder.old.is_long ≡ false }
+    requires full { length decoder.old.line.items ≡ longest_line }
+    requires inside { ¬ (byte ≡ 10) }
+    ensures form { decoder.new.form ≡ decoder.old.form }
+    ensures takes { TakesBytes decoder.old decoder.new (byte ∷ []) result text.old.items
+        text.new.items }
+    ensures memory { IsOkUnless result Fault.Memory }
+{
+    put_opening(text, decoder.form)?;
+    put_passed_on(text, decoder.form, &decoder.line)?;
+    put_passed(text, decoder.form, byte)?;
+    decoder.line.clear();
+    decoder.is_long = true;
+    Ok(())
+}
+
+/// Takes a byte of a line that is too long.
+fn take_of_long(decoder: &mut Decoder, byte: u8, text: &mut Vec<u8>) -> Result<(), Fault>
+    requires { decoder.old.is_long ≡ true }
+    ensures form { decoder.new.form ≡ decoder.old.form }
+    ensures takes { TakesBytes decoder.old decoder.new (byte ∷ []) result text.old.items
+        text.new.items }
+    ensures memory { IsOkUnless result Fault.Memory }
+{
+    if byte == b'\n' {
+        decoder.is_long = false;
+        return put_closing(text, decoder.form);
+    }
+    put_passed(text, decoder.form, byte)
+}
+
+/// Takes a byte of a report.
+fn take_byte(
+    alloc: Global,
+    decoder: &mut Decoder,
+    byte: u8,
+    text: &mut Vec<u8>,
+) -> Result<(), Fault>
+    ensures form { decoder.new.form ≡ decoder.old.form }
+    ensures takes { TakesBytes decoder.old decoder.new (byte ∷ []) result text.old.items
+        text.new.items }
+    ensures memory { IsOkUnless result Fault.Memory }
+{
+    if decoder.is_long {
+        return take_of_long(decoder, byte, text);
+    }
+    if byte == b'\n' {
+        return end_line(alloc, decoder, text);
+    }
+    if decoder.line.len() == LONGEST_LINE {
+        return begin_long(decoder, byte, text);
+    }
+    put_bytes(&mut decoder.line, &[byte])
+}
+
+/// Takes bytes of a report, and appends what is written of them to a text. `Memory` is the only fault.
+pub(crate) fn take_bytes(
+    alloc: Global,
+    decoder: &mut Decoder,
+    bytes: &[u8],
+    text: &mut Vec<u8>,
+) -> Result<(), Fault>
+    ensures form { decoder.new.form ≡ decoder.old.form }
+    ensures takes { TakesBytes decoder.old decoder.new bytes.now result text.old.items
+        text.new.items }
+    ensures memory { IsOkUnless result Fault.Memory }
+{
+    for byte in bytes {
+        take_byte(alloc, decoder, *byte, text)?;
+    }
+    Ok(())
+}
+
+/// Appends what is missing at a report's end to a text. `Memory` is the only fault.
+pub(crate) fn finish(decoder: &Decoder, text: &mut Vec<u8>) -> Result<(), Fault>
+    ensures finishes { Finishes decoder.now result text.old.items text.new.items }
+    ensures memory { IsOkUnless result Fault.Memory }
+{
+    if decoder.is_long {
+        return put_closing(text, decoder.form);
+    }
+    if decoder.line.is_empty() {
+        return Ok(());
+    }
+    put_unknown(text, decoder.form, &decoder.line)
+}

@@ -1,0 +1,188 @@
+ghost use Rattle.std.specs.Prelude.{◌≡◌, ◌<◌, ◌≤◌, ◌^◌, IfErr, IfOk, IsErrOf, length, take};
+ghost use Rattle.wc_view_decode.specs.Decoding.{DecodesAll, HasReadCause, is_used_up};
+ghost use Rattle.wc_view_decode.specs.Forms.{heading};
+ghost use Rattle.wc_view_decode.specs.Running.{DecodesPiece, DecodesRest, Ends, ReadsPiece, WritesText};
+ghost use Rattle.wc_model.specs.Run.Writing.{HasFailedSince};
+
+use crate::decoder::{Decoder, finish, new_decoder, take_bytes};
+use crate::form::{DecodeFault, DecodeForm};
+use std::alloc::Global;
+use wc_model::{ByteIn, ByteOut, write_whole};
+
+/// The number of bytes read at once.
+const PIECE: usize = 4096;
+
+/// The most bytes and calls that are spent on a report.
+const MOST_SPENT: u64 = 2147483648;
+
+/// Whether as much was read as may be.
+fn is_used_up(start: u64, spent: u64) -> bool
+    ensures { result ≡ is_used_up start spent }
+{
+    spent == u64::MAX || spent.saturating_sub(start) >= MOST_SPENT
+}
+
+/// Reads once into a buffer, up to the limit: the number of bytes, 0 at the end.
+fn read_piece<R: ByteIn>(input: &mut R, start: u64, buffer: &mut [u8]) -> Result<usize, DecodeFault>
+    requires { 0 < length buffer.old }
+    ensures piece { ReadsPiece (R.bytes_left input.old) (R.bytes_left input.new) result buffer.new }
+    ensures steady { IfOk result (λ n. R.failure_count input.new ≡ R.failure_count input.old) }
+    ensures spends { IfOk result (λ n. (R.spent_count input.old < R.spent_count input.new)
+        × (R.spent_count input.old < 2 ^ 64)) }
+    ensures fault { IfErr result (λ fault. fault ≡ DecodeFault.Read) }
+    ensures cause { IfErr result (λ fault. HasReadCause (R.failure_count input.old)
+        (R.failure_count input.new) start (R.spent_count input.new)) }
+{
+    if is_used_up(start, input.spent()) {
+        return Err(DecodeFault::Read);
+    }
+    match input.read(buffer) {
+        Ok(count) => Ok(count),
+        Err(_) => Err(DecodeFault::Read),
+    }
+}
+
+/// The first n bytes.
+fn first_bytes(bytes: &[u8], count: usize) -> &[u8]
+    requires { count ≤ length bytes.now }
+    ensures { result.now ≡ take count bytes.now }
+{
+    bytes.split_at(count).0
+}
+
+/// Writes a text.
+fn write_text<W: ByteOut>(output: &mut W, text: &[u8]) -> Result<(), DecodeFault>
+    ensures text { WritesText (W.bytes_taken output.old) (W.bytes_taken output.new) result
+        text.now }
+    ensures steady { IfOk result (λ done. W.failure_count output.new ≡ W.failure_count output.old) }
+    ensures fault { IfErr result (λ fault. fault ≡ DecodeFault.Write) }
+    ensures cause { IfErr result
+        (λ fault. HasFailedSince (W.failure_count output.old) (W.failure_count output.new)) }
+{
+    match write_whole(output, text) {
+        Ok(()) => Ok(()),
+        Err(_) => Err(DecodeFault::Write),
+    }
+}
+
+/// Decodes a chunk of a report, and writes what is said of it.
+fn decode_piece<W: ByteOut>(
+    alloc: Global,
+    decoder: &mut Decoder,
+    piece: &[u8],
+    output: &mut W,
+) -> Result<(), DecodeFault>
+    ensures form { decoder.new.form ≡ decoder.old.form }
+    ensures piece { DecodesPiece decoder.old decoder.new piece.now result
+        (W.bytes_taken output.old) (W.bytes_taken output.new) }
+    ensures steady { ¬ IsErrOf result DecodeFault.Write
+        → W.failure_count output.new ≡ W.failure_count output.old }
+    ensures fault { IfErr result (λ fault. ¬ (fault ≡ DecodeFault.Read)) }
+    ensures cause { IsErrOf result DecodeFault.Write
+        → HasFailedSince (W.failure_count output.old) (W.failure_count output.new) }
+{
+    let mut text = Vec::new(alloc);
+    match take_bytes(alloc, decoder, piece, &mut text) {
+        Ok(()) => write_text(output, &text),
+        Err(_) => Err(DecodeFault::Memory),
+    }
+}
+
+/// Writes what is missing at a report's end.
+fn finish_report<W: ByteOut>(
+    alloc: Global,
+    decoder: &Decoder,
+    output: &mut W,
+) -> Result<(), DecodeFault>
+    ensures ends { Ends decoder.now result (W.bytes_taken output.old) (W.bytes_taken output.new) }
+    ensures steady { ¬ IsErrOf result DecodeFault.Write
+        → W.failure_count output.new ≡ W.failure_count output.old }
+    ensures fault { IfErr result (λ fault. ¬ (fault ≡ DecodeFault.Read)) }
+    ensures cause { IsErrOf result DecodeFault.Write
+        → HasFailedSince (W.failure_count output.old) (W.failure_count output.new) }
+{
+    let mut text = Vec::new(alloc);
+    match finish(decoder, &mut text) {
+        Ok(()) => write_text(output, &text),
+        Err(_) => Err(DecodeFault::Memory),
+    }
+}
+
+/// Decodes a report with the decoder in its initial state.
+fn decode_rest<R: ByteIn, W: ByteOut>(
+    alloc: Global,
+    decoder: &mut Decoder,
+    input: &mut R,
+    output: &mut W,
+) -> Result<(), DecodeFault>
+    ensures rest { DecodesRest decoder.old result (R.bytes_left input.old) (R.bytes_left input.new)
+        (W.bytes_taken output.old) (W.bytes_taken output.new) }
+    ensures read { IsErrOf result DecodeFault.Read
+        → HasReadCause (R.failure_count input.old) (R.failure_count input.new)
+        (R.spent_count input.old) (R.spent_count input.new) }
+    ensures reader { ¬ IsErrOf result DecodeFault.Read
+        → R.failure_count input.new ≡ R.failure_count input.old }
+    ensures write { IsErrOf result DecodeFault.Write
+        → HasFailedSince (W.failure_count output.old) (W.failure_count output.new) }
+    ensures steady { ¬ IsErrOf result DecodeFault.Write
+        → W.failure_count output.new ≡ W.failure_count output.old }
+{
+    let start = input.spent();
+    let mut buffer = [0; PIECE];
+    'pieces: loop {
+        let count = match read_piece(input, start, &mut buffer) {
+            Ok(count) => count,
+            Err(fault) => return Err(fault),
+        };
+        if count == 0 {
+            return finish_report(alloc, decoder, output);
+        }
+        let piece = first_bytes(&buffer, count);
+        if let Err(fault) = decode_piece(alloc, decoder, piece, output) {
+            return Err(fault);
+        }
+    }
+}
+
+/// The line before all others.
+fn heading(form: DecodeForm) -> &'static [u8]
+    ensures { result.now ≡ heading form }
+{
+    match form {
+        DecodeForm::Text => b"",
+        DecodeForm::Table => {
+            b"ms,kind,steps,q0,q1,q2,q3,q4,q5,q6,q7,q8,q9,q10,q11,q12,q13,q14,q15,d0,d1,d2,d3,answer\n"
+        }
+    }
+}
+
+/// Decodes a report line by line: for each scan, answer and refusal what it says, for people or as a row of a table after a
+/// heading; a line that is not of a report is passed on after a mark. A chunk of at most 4096 bytes is read, decoded and
+/// written before more is read, so no more is kept than a line of 65536 bytes; one that is longer is passed on as it comes.
+/// `Read` comes only if a read failed or as much was read as may be (2147483648 bytes and calls), `Write` only if a
+/// write failed; at a fault a prefix of what is said of the lines that were read is written.
+pub fn decode<R: ByteIn, W: ByteOut>(
+    alloc: Global,
+    input: &mut R,
+    output: &mut W,
+    form: DecodeForm,
+) -> Result<(), DecodeFault>
+    // Each line of the report is written as what it says.
+    ensures decoded { DecodesAll form result (R.bytes_left input.old) (R.bytes_left input.new)
+        (W.bytes_taken output.old) (W.bytes_taken output.new) }
+    ensures read { IsErrOf result DecodeFault.Read
+        → HasReadCause (R.failure_count input.old) (R.failure_count input.new)
+        (R.spent_count input.old) (R.spent_count input.new) }
+    ensures reader { ¬ IsErrOf result DecodeFault.Read
+        → R.failure_count input.new ≡ R.failure_count input.old }
+    ensures write { IsErrOf result DecodeFault.Write
+        → HasFailedSince (W.failure_count output.old) (W.failure_count output.new) }
+    ensures steady { ¬ IsErrOf result DecodeFault.Write
+        → W.failure_count output.new ≡ W.failure_count output.old }
+{
+    let mut decoder = new_decoder(alloc, form);
+    if let Err(fault) = write_text(output, heading(form)) {
+        return Err(fault);
+    }
+    decode_rest(alloc, &mut decoder, input, output)
+}

@@ -1,0 +1,162 @@
+use crate::steps::RunSteps;
+use wc_plate::Plate;
+use wc_sma::MassUnit;
+use wc_view_columns::{Column, Span, join};
+use wc_view_decode::unit_text;
+
+/// Where the curves begin at the left, and how wide and high they are, in tenths.
+pub(crate) const LEFT: u64 = 1300;
+
+pub(crate) const WIDTH: u64 = 7200;
+
+pub(crate) const TOP: u64 = 720;
+
+pub(crate) const HEIGHT: u64 = 2400;
+
+/// What a plate says of weights; if no row came, nothing is known of it.
+#[derive(Clone, Copy)]
+pub(crate) struct WeightScale {
+    pub(crate) max: i64,
+    pub(crate) decimals: u32,
+    pub(crate) unit: &'static str,
+}
+
+impl WeightScale {
+    /// The scale of a plate.
+    pub(crate) fn of(plate: Option<Plate>) -> WeightScale {
+        let Some(plate) = plate else {
+            return WeightScale {
+                max: 1,
+                decimals: 0,
+                unit: "",
+            };
+        };
+        WeightScale {
+            max: i64::from(plate.max()),
+            decimals: plate.decimals().unsigned_abs(),
+            unit: match MassUnit::of_letters(&plate.unit()) {
+                Some(unit) => unit_text(unit),
+                None => "",
+            },
+        }
+    }
+}
+
+/// What is drawn, and where.
+#[derive(Clone, Copy)]
+pub struct View<'p> {
+    pub(crate) columns: &'p [Column],
+    /// The first moment in milliseconds, and the number of milliseconds of a column.
+    pub(crate) start: u64,
+    pub(crate) width: u64,
+    pub(crate) scale: WeightScale,
+    pub(crate) steps: RunSteps,
+    /// The weights at the lower and the upper edge.
+    low: i64,
+    high: i64,
+}
+
+/// The upper edge for weights up to one: Max or more, and less if they are all below a third of it.
+fn upper_edge(greatest: i64, max: i64) -> i64 {
+    if greatest.saturating_mul(3) < max && max < greatest.saturating_mul(100) {
+        greatest
+    } else {
+        greatest.max(max)
+    }
+}
+
+/// The weights of some columns.
+fn weights(columns: &[Column]) -> Option<Span> {
+    let mut all = None;
+    for column in columns {
+        all = join(all, join(column.state.gross, column.state.net));
+    }
+    all
+}
+
+/// The part of a length that so much of a whole is.
+pub(crate) fn part(length: u64, some: u64, whole: u64) -> u64 {
+    length.saturating_mul(some).checked_div(whole).unwrap_or(0)
+}
+
+impl<'p> View<'p> {
+    /// A view with space for all weights and zero, for Max if it is not far above, and a little more.
+    pub fn new(
+        columns: &'p [Column],
+        start: u64,
+        width: u64,
+        plate: Option<Plate>,
+        steps: RunSteps,
+    ) -> View<'p> {
+        let scale = WeightScale::of(plate);
+        let (least, greatest) = match weights(columns) {
+            Some(span) => (i64::from(span.least), i64::from(span.greatest)),
+            None => (0, 0),
+        };
+        let low = least.min(0);
+        let high = upper_edge(greatest, scale.max);
+        let room = high.saturating_sub(low) / 20;
+        View {
+            columns,
+            start,
+            width,
+            scale,
+            steps,
+            low: low.saturating_sub(room),
+            high: high.saturating_add(room).saturating_add(1),
+        }
+    }
+
+    /// The number of milliseconds drawn.
+    pub(crate) fn time(&self) -> u64 {
+        (self.columns.len() as u64)
+            .max(1)
+            .saturating_mul(self.width)
+    }
+
+    /// The moment at which a column begins.
+    pub(crate) fn moment(&self, index: usize) -> u64 {
+        let passed = (index as u64).saturating_mul(self.width);
+        self.start.saturating_add(passed)
+    }
+
+    /// Where a column begins, in tenths.
+    pub(crate) fn x(&self, index: usize) -> u64 {
+        let count = (self.columns.len() as u64).max(1);
+        part(WIDTH, index as u64, count).saturating_add(LEFT)
+    }
+
+    /// Where a moment is, in tenths.
+    pub(crate) fn x_at(&self, ms: u64) -> u64 {
+        let passed = ms.saturating_sub(self.start);
+        part(WIDTH, passed, self.time()).saturating_add(LEFT)
+    }
+
+    /// The column in which the program was changed.
+    pub(crate) fn change(&self) -> Option<usize> {
+        self.columns
+            .iter()
+            .position(|column| column.events.changes != 0)
+    }
+
+    /// The weights at the lower and the upper edge.
+    pub(crate) fn edges(&self) -> (i64, i64) {
+        (self.low, self.high)
+    }
+
+    /// Where a weight is, in tenths.
+    pub(crate) fn y(&self, weight: i64) -> u64 {
+        height_at(TOP, HEIGHT, self.low, self.high, weight)
+    }
+}
+
+/// How far above one number another is, 0 if it is not.
+fn above(high: i64, low: i64) -> u64 {
+    if low < high { high.abs_diff(low) } else { 0 }
+}
+
+/// Where a number is between two at the edges of a height below a top, in tenths.
+pub(crate) fn height_at(top: u64, height: u64, low: i64, high: i64, number: i64) -> u64 {
+    let below = above(high, number.max(low));
+    part(height, below, above(high, low)).saturating_add(top)
+}

@@ -1,0 +1,28 @@
+ghost use Rattle.wc_controller.specs.InputRuns.{RunsUnsaid};
+ghost use Rattle.wc_record.specs.Told.{fields_told};
+
+use crate::chosen::Chosen;
+use crate::trace_form::TraceForm;
+use crate::tracer::Tracer;
+use std::alloc::Global;
+use wc_controller::{Ending, RefusedRow, RunInputs, run_files};
+use wc_model::{ByteIn, ByteOut};
+
+/// Runs a log as `run_files` does, and in place of its report writes the items of the scans that are chosen, in the format asked
+/// for: rows for people, or a JSON object for each scan. If the run ends well and no scan was chosen, the text says so; the
+/// last object has the number of scans in any case. A refusal is reported as there, after the scans before it. No clause says what
+/// is written of a scan; a write fault and out of memory end the run, as they end that of a report.
+pub fn trace_files<P: ByteIn, T: ByteIn, N: ByteIn, L: ByteIn, W: ByteOut>(
+    alloc: Global,
+    chosen: Chosen,
+    form: TraceForm,
+    inputs: &mut RunInputs<P, T, N, L>,
+    writer: &mut W,
+    told: &mut RefusedRow,
+) -> Ending
+    ensures { RunsUnsaid inputs.old inputs.new (fields_told told.new) result
+        (W.failure_count writer.old) (W.failure_count writer.new) }
+{
+    let mut tracer = Tracer::new(alloc, chosen, form);
+    run_files(alloc, &mut tracer, inputs, writer, told)
+}

@@ -1,0 +1,49 @@
+-- Texts that are put one after another.
+use Rattle.std.proofs.Common.{◌≡◌, ◌∙◌, ℕ, ◌+◌, List, [], ◌∷◌, ◌++◌, Bool, false, cond, length, take, drop, sym, ap, Option, Some, None}
+use Rattle.std.proofs.lemmas.List.{append_assoc, drop_at, take-append-drop, take_at}
+use Rattle.std.specs.Prelude.{option_map}
+use Rattle.wc_view_trace_rows.specs.Columns.{gap, with_cell}
+
+-- a space, a name, `=` and a text
+pub four_pieces : (old first second third new name text : List ℕ) → first ≡ old ++ 32 ∷ [] → second ≡ first ++ name → third ≡ second ++ 61 ∷ [] → new ≡ third ++ text
+    → new ≡ old ++ 32 ∷ (name ++ 61 ∷ text)
+four_pieces old first second third new name text one two three four =
+    four ∙ ap (λ l. l ++ text) (three ∙ ap (λ l. l ++ 61 ∷ []) (two ∙ ap (λ l. l ++ name) one))
+    ∙ append_assoc ((old ++ 32 ∷ []) ++ name) (61 ∷ []) text
+    ∙ append_assoc (old ++ 32 ∷ []) name (61 ∷ text)
+    ∙ append_assoc old (32 ∷ []) (name ++ 61 ∷ text)
+
+-- two texts, or three
+pub two_texts : (old first new a b : List ℕ) → first ≡ old ++ a → new ≡ first ++ b → new ≡ old ++ (a ++ b)
+two_texts old first new a b one two = two ∙ ap (λ l. l ++ b) one ∙ append_assoc old a b
+
+pub three_texts : (old first second new a b c : List ℕ) → first ≡ old ++ a → second ≡ first ++ b → new ≡ second ++ c → new ≡ old ++ (a ++ (b ++ c))
+three_texts old first second new a b c one two three = three ∙ ap (λ l. l ++ c) (two_texts old first second a b one two) ∙ append_assoc old (a ++ b) c ∙ ap (λ l. old ++ l) (append_assoc a b c)
+
+-- a cell of a row
+pub one_cell : (column start : ℕ) (old first new text : List ℕ) (cell : Option (List ℕ)) → cell ≡ Some text → first ≡ old ++ gap column (drop start old) → new ≡ first ++ text
+    → new ≡ take start old ++ with_cell column cell (drop start old)
+one_cell column start old first new text cell is one two =
+    two_texts old first new (gap column (drop start old)) text one two
+    ∙ ap (λ l. l ++ (gap column (drop start old) ++ text)) (sym (take-append-drop start old))
+    ∙ append_assoc (take start old) (drop start old) (gap column (drop start old) ++ text)
+    ∙ ap (λ c. take start old ++ with_cell column c (drop start old)) (sym is)
+
+-- the result of a line of a body
+pub numbered : {A B : Type 0} (b : Bool) (f : A → B) (number : Option A) (n : A) → b ≡ false → number ≡ Some n → cond b None (option_map f number) ≡ Some (f n)
+numbered b f number n is there = ap (λ x. cond x None (option_map f number)) is ∙ ap (option_map f) there
+
+-- the row that follows a text
+pub row_put : (old front first second new : List ℕ) (result written : Option (List ℕ)) (r w : ℕ) (start : ℕ) → start ≡ length old → first ≡ old ++ front
+    → second ≡ take start first ++ with_cell r result (drop start first)
+    → new ≡ take start second ++ with_cell w written (drop start second)
+    → new ++ 10 ∷ [] ≡ old ++ (with_cell w written (with_cell r result front) ++ 10 ∷ [])
+row_put old front first second new result written r w start is one two three =
+    let cut = λ (t : List ℕ). take_at old t start (sym is) in
+    let left = λ (t : List ℕ). drop_at old t start (sym is) in
+    let second_is : second ≡ old ++ with_cell r result front =
+    two ∙ (λ i. take start (one i) ++ with_cell r result (drop start (one i))) ∙ (λ i. cut front i ++ with_cell r result (left front i)) in
+    let new_is : new ≡ old ++ with_cell w written (with_cell r result front) =
+    three ∙ (λ i. take start (second_is i) ++ with_cell w written (drop start (second_is i)))
+    ∙ (λ i. cut (with_cell r result front) i ++ with_cell w written (left (with_cell r result front) i)) in
+    ap (λ l. l ++ 10 ∷ []) new_is ∙ append_assoc old (with_cell w written (with_cell r result front)) (10 ∷ [])

@@ -1,0 +1,57 @@
+-- What a legend says: the lines of the text, what they name, and the kinds of the program's places. (No rule of the language.)
+use Rattle.std.specs.Prelude.{◌≡◌, ℕ, zero, suc, ◌+◌, ◌-◌, ◌==◌, ◌&&◌, nat_le, List, [], ◌∷◌, length, Option, Some, None, option_and_then, slice_get, slice_range, if◌then◌else◌}
+use Rattle.wc_built_in.specs.Fields.{value_kind}
+use Rattle.wc_model.specs.Language.CarriedPlaces.{frame_of_text}
+use Rattle.wc_model.specs.Language.Frames.{slot_kinds}
+use Rattle.wc_model.specs.Language.Tree.{Text}
+use Rattle.wc_model.specs.declared.kind.Kind.{Kind}
+use Rattle.wc_view_trace_rows.specs.Notes.{note_among}
+use Rattle.wc_view_trace_rows.specs.declared.legend.Legend.{Legend}
+use Rattle.wc_view_trace_rows.specs.declared.notes.Note.{Note}
+
+-- where the lines of a text start, with n bytes before it, and where one would start after the last
+abbrev pub starts_from : ℕ → List ℕ → List ℕ
+starts_from n [] = (n + 1) ∷ []
+starts_from n (byte ∷ bytes) = if byte == 10 then (n + 1) ∷ starts_from (n + 1) bytes else starts_from (n + 1) bytes
+
+abbrev pub line_starts : List ℕ → List ℕ
+line_starts bytes = 0 ∷ starts_from 0 bytes
+
+-- a legend is that of a text with these bytes: it has them, where their lines start, and the kinds of the program's places
+pub record IsLegendOf (legend : Legend) (bytes : List ℕ) (text : Text) : Type 0 where
+  pub text_is : legend.text.items ≡ bytes
+  pub starts_are : legend.starts.items ≡ line_starts bytes
+  pub kinds_are : legend.kinds.items ≡ slot_kinds (frame_of_text text)
+
+-- the part of a text from one byte up to another, if they are in it
+abbrev pub part_of : List ℕ → ℕ → ℕ → List ℕ
+part_of text from to = if nat_le from to && nat_le to (length text) then slice_range text from to else []
+
+-- the line of that number, counted from 1: it begins where the legend says, and ends before the byte before the next one
+abbrev pub bytes_between : List ℕ → Option ℕ → Option ℕ → List ℕ
+bytes_between text None next = []
+bytes_between text (Some start) None = []
+bytes_between text (Some start) (Some next) = part_of text start (next - 1)
+
+abbrev pub line_of : Legend → ℕ → List ℕ
+line_of legend zero = []
+line_of legend (suc n) = bytes_between legend.text.items (slice_get legend.starts.items n) (slice_get legend.starts.items (suc n))
+
+-- the kind of the values that a place holds
+abbrev pub kind_at : Legend → ℕ → Option Kind
+kind_at legend place = option_and_then value_kind (slice_get legend.kinds.items place)
+
+abbrev pub note_of : Legend → ℕ → ℕ → Option Note
+note_of legend line index = note_among legend.notes.notes.items line index
+
+-- the name that a note speaks of
+abbrev pub name_of : Legend → Note → List ℕ
+name_of legend note = part_of legend.notes.names.items note.start note.end
+
+-- the kind of the literal that a line loads
+abbrev pub noted_kind : Option Note → Option Kind
+noted_kind None = None
+noted_kind (Some note) = note.kind
+
+abbrev pub literal_kind : Legend → ℕ → Option Kind
+literal_kind legend line = noted_kind (note_of legend line 0)

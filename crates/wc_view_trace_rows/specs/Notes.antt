@@ -1,0 +1,17 @@
+-- The notes of a text, line by line. (No rule of the language.)
+use Rattle.std.specs.Prelude.{ℕ, ◌==◌, List, filter, Option, Some, None, slice_get, if◌then◌else◌}
+use Rattle.std.specs.List.Sorted.{IsNonDecreasingBy}
+use Rattle.wc_view_trace_rows.specs.declared.notes.Note.{Note}
+
+-- notes are in the order of their lines
+abbrev pub AreInOrder : List Note → Type 0
+AreInOrder notes = IsNonDecreasingBy (λ (note : Note). note.line) notes
+
+-- a note, if it is one of that line
+abbrev pub of_line : ℕ → Option Note → Option Note
+of_line line None = None
+of_line line (Some note) = if note.line == line then Some note else None
+
+-- the note of a line of that number among its notes, counted from 0
+abbrev pub note_among : List Note → ℕ → ℕ → Option Note
+note_among notes line index = slice_get (filter (λ (note : Note). note.line == line) notes) index

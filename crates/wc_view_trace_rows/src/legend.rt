@@ -1,0 +1,139 @@
+ghost use Rattle.std.specs.Prelude.{◌≡◌, ◌+◌, ◌++◌, ◌∷◌, [], IfOk, IsOkUnless, OnOk, length};
+ghost use Rattle.wc_model.specs.Language.CarriedPlaces.{frame_of_text};
+ghost use Rattle.wc_model.specs.Language.Frames.{slot_kinds};
+ghost use Rattle.wc_model.specs.Language.Views.{text_view};
+ghost use Rattle.wc_view_trace_rows.specs.Legends.{IsLegendOf, kind_at, line_of, line_starts, literal_kind, name_of, note_of};
+
+use crate::notes::{Note, Notes, note_among, note_units};
+use std::alloc::Global;
+use wc_cost::Loaded;
+use wc_model::{Fault, Kind, Place, SlotKind, or_memory, put_bytes};
+
+/// What a trace says of a program: the lines of a program's text, what they name, and the kinds of its places.
+#[derive(Drop)]
+pub struct Legend {
+    text: Vec<u8>,
+    starts: Vec<usize>,
+    notes: Notes,
+    kinds: Vec<SlotKind>,
+}
+
+/// Puts where a line starts.
+fn put_start(starts: &mut Vec<usize>, start: usize) -> Result<(), Fault>
+    ensures puts { OnOk result (starts.new.items ≡ starts.old.items ++ start ∷ []) }
+    ensures memory { IsOkUnless result Fault.Memory }
+{
+    match starts.push(start) {
+        Ok(()) => Ok(()),
+        Err(_) => Err(Fault::Memory),
+    }
+}
+
+/// Puts where the lines of a text start, and where one would start after the last.
+fn put_starts(starts: &mut Vec<usize>, text: &[u8]) -> Result<(), Fault>
+    ensures puts { OnOk result (starts.new.items ≡ starts.old.items ++ line_starts text.now) }
+    ensures memory { IsOkUnless result Fault.Memory }
+{
+    put_start(starts, 0)?;
+    for (index, byte) in text.iter().enumerate() {
+        if *byte == b'\n' {
+            put_start(starts, index + 1)?;
+        }
+    }
+    put_start(starts, text.len() + 1)
+}
+
+impl Legend {
+    /// The legend of a text that is loaded. `Memory` is the only fault.
+    pub fn new(alloc: Global, text: &[u8], loaded: &Loaded<'_>) -> Result<Legend, Fault>
+        ensures legend { IfOk result (λ legend. IsLegendOf legend text.now (text_view loaded.now.source)) }
+        ensures memory { IsOkUnless result Fault.Memory }
+    {
+        let mut legend = Legend {
+            text: Vec::new(alloc),
+            starts: Vec::new(alloc),
+            notes: Notes::new(alloc),
+            kinds: Vec::new(alloc),
+        };
+        legend.copy(text, loaded)?;
+        Ok(legend)
+    }
+
+    /// Takes over what is said of a text and its program, since both are borrowed for the time of a call.
+    fn copy(&mut self, text: &[u8], loaded: &Loaded<'_>) -> Result<(), Fault>
+        ensures text { OnOk result (self.new.text.items ≡ self.old.text.items ++ text.now) }
+        ensures starts { OnOk result
+            (self.new.starts.items ≡ self.old.starts.items ++ line_starts text.now) }
+        ensures kinds { OnOk result (self.new.kinds.items ≡ self.old.kinds.items
+            ++ slot_kinds (frame_of_text (text_view loaded.now.source))) }
+        ensures memory { IsOkUnless result Fault.Memory }
+    {
+        put_bytes(&mut self.text, text)?;
+        put_starts(&mut self.starts, text)?;
+        note_units(&mut self.notes, loaded.checked().source())?;
+        or_memory(self.kinds.extend_from_slice(loaded.kinds()))
+    }
+
+    /// The bytes of a line of the text, counted from 1, without its end.
+    pub fn line(&self, number: u32) -> &[u8]
+        ensures { result.now ≡ line_of self.now number }
+    {
+        let next = number as usize;
+        if next == 0 {
+            return b"";
+        }
+        let (Some(start), Some(next)) = (self.starts.get(next - 1), self.starts.get(next)) else {
+            return b"";
+        };
+        match self.text.get(*start..next.saturating_sub(1)) {
+            Some(line) => line,
+            None => b"",
+        }
+    }
+
+    /// The note of a line of that number among its notes, counted from 0.
+    pub fn note(&self, line: u32, index: usize) -> Option<Note>
+        ensures { result ≡ note_of self.now line index }
+    {
+        note_among(&self.notes.notes, line, index)
+    }
+
+    /// The kind of the literal that a line loads.
+    pub(crate) fn literal_kind(&self, line: u32) -> Option<Kind>
+        ensures { result ≡ literal_kind self.now line }
+    {
+        match self.note(line, 0) {
+            Some(note) => note.kind,
+            None => None,
+        }
+    }
+
+    /// The name that a note speaks of.
+    pub fn name(&self, note: &Note) -> &[u8]
+        ensures { result.now ≡ name_of self.now note.now }
+    {
+        match self.notes.names.get(note.start..note.end) {
+            Some(name) => name,
+            None => b"",
+        }
+    }
+
+    /// The number of places the program's frame has.
+    pub(crate) fn places(&self) -> usize
+        ensures { result ≡ length self.now.kinds.items }
+    {
+        self.kinds.len()
+    }
+
+    /// The kind of a place of the instance that begins there.
+    pub fn kind(&self, base: usize, place: Place) -> Option<Kind>
+        ensures { result ≡ kind_at self.now (base + place.0) }
+    {
+        match self.kinds.get(base.saturating_add(usize::from(place.0))) {
+            Some(SlotKind::Bool) => Some(Kind::Bool),
+            Some(SlotKind::Dint) => Some(Kind::Dint),
+            Some(SlotKind::Time) => Some(Kind::Time),
+            _ => None,
+        }
+    }
+}

@@ -1,0 +1,212 @@
+ghost use Rattle.std.specs.Prelude.{◌≡◌, ◌+◌, ◌<◌, ◌++◌, ◌∷◌, [], OnOk, IfOk, length, IsOkUnless};
+ghost use Rattle.wc_view_trace_rows.specs.LevelViews.{level_view, levels_view};
+ghost use Rattle.wc_model.specs.Language.Kinds.{kind_after_operator};
+ghost use Rattle.wc_view_trace_rows.specs.Levels.{after_seen, closed, fresh, level_left, levels_after, levels_at, note_said, opened, operated, said_of, written_kind};
+
+use crate::legend::Legend;
+use crate::notes::Note;
+use std::alloc::Global;
+use wc_machine::SeenLine;
+use wc_model::{Code, Fault, Kind, Operator};
+use wc_text_kinds::kind_after_operator;
+
+/// What is known of a body while its lines are gone through: the kind of its result, the kinds of those that are put by, and
+/// the number of items of the list of its last call that were passed.
+#[derive(Drop)]
+struct BodyLevel {
+    kind: Option<Kind>,
+    put_by: Vec<Option<Kind>>,
+    items: usize,
+}
+
+/// The bodies that are being executed, the program first.
+#[derive(Drop)]
+pub(crate) struct Levels {
+    levels: Vec<BodyLevel>,
+}
+
+/// What is said of a row besides its numbers: the kind of the result, the kind of what is written, and the note of the
+/// place to which it is written, or of the instance that is called.
+#[derive(Clone, Copy)]
+pub struct Said {
+    /// The kind of the result after it.
+    pub result: Option<Kind>,
+    /// The kind of what it writes.
+    pub written: Option<Kind>,
+    /// What it writes to, or the instance that it calls.
+    pub note: Option<Note>,
+}
+
+impl BodyLevel {
+    /// A body of which no line is passed.
+    fn new(alloc: Global) -> BodyLevel
+        ensures { level_view result ≡ fresh }
+    {
+        BodyLevel {
+            kind: None,
+            put_by: Vec::new(alloc),
+            items: 0,
+        }
+    }
+
+    /// Puts the kind of the result by, and takes this one.
+    #[tactic(auto, using(crate::proofs::Bodies::one_put_by))]
+    fn open(&mut self, kind: Option<Kind>) -> Result<(), Fault>
+        ensures opens { OnOk result (level_view self.new ≡ opened (level_view self.old) kind) }
+        ensures memory { IsOkUnless result Fault.Memory }
+    {
+        match self.put_by.push(self.kind) {
+            Ok(()) => {}
+            Err(_) => return Err(Fault::Memory),
+        }
+        self.kind = kind;
+        Ok(())
+    }
+
+    #[tactic(auto, using(crate::proofs::Bodies::one_taken, crate::proofs::Bodies::none_taken))]
+    /// Closes a parenthesis: the operator takes the result that was last put by.
+    fn close(&mut self, operator: Operator)
+        ensures { level_view self.new
+            ≡ closed (level_view self.old) (level_view self.old).put_by (kind_after_operator operator) }
+    {
+        match self.put_by.pop() {
+            Some(kind) => self.kind = kind_after_operator(operator, kind),
+            None => self.kind = kind_after_operator(operator, None),
+        }
+    }
+
+    /// Passes a line: the kind of the result is the one after it then.
+    fn pass(&mut self, legend: &Legend, seen: &SeenLine) -> Result<(), Fault>
+        ensures passes { OnOk result
+            (level_view self.new ≡ after_seen legend.now seen.now (level_view self.old)) }
+        ensures memory { IsOkUnless result Fault.Memory }
+    {
+        match seen.line {
+            Code::LoadNumber { .. } => {
+                self.kind = legend.literal_kind(seen.source);
+                Ok(())
+            }
+            Code::LoadPlace { place, .. } => {
+                self.kind = legend.kind(seen.base, place);
+                Ok(())
+            }
+            Code::Open => self.open(None),
+            Code::OpenNumber { .. } => self.open(legend.literal_kind(seen.source)),
+            Code::OpenPlace { place } => self.open(legend.kind(seen.base, place)),
+            _ => {
+                self.operate(&seen.line);
+                Ok(())
+            }
+        }
+    }
+
+    /// Passes a line that loads nothing.
+    fn operate(&mut self, line: &Code)
+        ensures { level_view self.new ≡ operated line.now (level_view self.old) }
+    {
+        match *line {
+            Code::ApplyNumber { operator, .. } | Code::ApplyPlace { operator, .. } => {
+                self.kind = kind_after_operator(operator, self.kind);
+            }
+            Code::Close { operator } => self.close(operator),
+            Code::Call { .. } => self.items = 0,
+            Code::ArgumentNumber { .. } | Code::ArgumentPlace { .. } => {
+                self.items = self.items.saturating_add(1);
+            }
+            _ => {}
+        }
+    }
+
+    /// What is said of a line that was passed.
+    fn said(&self, legend: &Legend, seen: &SeenLine) -> Said
+        ensures { result ≡ said_of legend.now seen.now (level_view self.now) }
+    {
+        Said {
+            result: self.kind,
+            written: written_kind(legend, seen),
+            note: note_said(legend, seen, self.items),
+        }
+    }
+}
+
+/// The kind of what a line writes.
+fn written_kind(legend: &Legend, seen: &SeenLine) -> Option<Kind>
+    ensures { result ≡ written_kind legend.now seen.now.base seen.now.line }
+{
+    match seen.line {
+        Code::Store { target, .. }
+        | Code::ArgumentNumber { target, .. }
+        | Code::ArgumentPlace { target, .. } => legend.kind(seen.base, target),
+        _ => None,
+    }
+}
+
+/// The note of what a line writes to, or of the instance that it calls, after that many items of the call's list.
+fn note_said(legend: &Legend, seen: &SeenLine, items: usize) -> Option<Note>
+    ensures { result ≡ note_said legend.now seen.now.source items seen.now.line }
+{
+    match seen.line {
+        Code::ArgumentNumber { .. } | Code::ArgumentPlace { .. } => legend.note(seen.source, items),
+        Code::Store { .. } | Code::Call { .. } | Code::Standard { .. } => {
+            legend.note(seen.source, 0)
+        }
+        _ => None,
+    }
+}
+
+impl Levels {
+    /// The program before its first line.
+    pub(crate) fn new(alloc: Global) -> Levels
+        ensures { levels_view result ≡ [] }
+    {
+        Levels {
+            levels: Vec::new(alloc),
+        }
+    }
+
+    /// Begins a body.
+    fn begin(&mut self, alloc: Global) -> Result<(), Fault>
+        ensures begins { OnOk result (levels_view self.new ≡ levels_view self.old ++ fresh ∷ []) }
+        ensures one { OnOk result
+            (length self.new.levels.items ≡ length self.old.levels.items + 1) }
+        ensures memory { IsOkUnless result Fault.Memory }
+    {
+        match self.levels.push(BodyLevel::new(alloc)) {
+            Ok(()) => Ok(()),
+            Err(_) => Err(Fault::Memory),
+        }
+    }
+
+    /// Goes to the body at that depth of calls; one that is deeper is left, and one that is new begins.
+    fn go_to(&mut self, alloc: Global, depth: u32) -> Result<(), Fault>
+        ensures there { OnOk result (depth < length self.new.levels.items) }
+        ensures goes { OnOk result (levels_view self.new ≡ levels_at depth (levels_view self.old)) }
+        ensures memory { IsOkUnless result Fault.Memory }
+    {
+        let count = depth as usize + 1;
+        self.levels.truncate(count);
+        for _level in self.levels.len()..count {
+            self.begin(alloc)?;
+        }
+        Ok(())
+    }
+
+    /// Passes a row, and says what is known of it.
+    pub(crate) fn follow(
+        &mut self,
+        alloc: Global,
+        legend: &Legend,
+        seen: &SeenLine,
+    ) -> Result<Said, Fault>
+        ensures says { IfOk result (λ said. said
+            ≡ said_of legend.now seen.now (level_left legend.now seen.now (levels_view self.old))) }
+        ensures follows { OnOk result
+            (levels_view self.new ≡ levels_after legend.now seen.now (levels_view self.old)) }
+        ensures memory { IsOkUnless result Fault.Memory }
+    {
+        self.go_to(alloc, seen.depth)?;
+        let level = &mut self.levels[seen.depth as usize];
+        level.pass(legend, seen)?;
+        Ok(level.said(legend, seen))
+    }
+}

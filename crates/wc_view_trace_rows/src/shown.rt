@@ -1,0 +1,153 @@
+ghost use Rattle.std.specs.Prelude.{◌≡◌, ◌≤◌, ◌++◌, ◌∷◌, [], IsOkUnless, OnOk, drop, length, take};
+ghost use Rattle.std.specs.Str.{is_utf8};
+ghost use Rattle.wc_view_trace_rows.specs.Columns.{columns_of, first_columns, fitted, line_shown};
+ghost use Rattle.wc_view_trace_rows.specs.Shown.{acting_length, between_words, shown, shown_byte, shown_first, single_spaces};
+
+use wc_model::{Fault, put_bytes};
+
+/// A byte as it is shown: a control character is not sent to a terminal, and of a text that is not
+/// UTF-8 no byte is that is not ASCII.
+fn printable(byte: u8, is_utf8: bool) -> u8
+    ensures { result ≡ shown_byte is_utf8 byte }
+{
+    match byte {
+        b'\t' => b' ',
+        0..32 | 127 => b'?',
+        128.. if !is_utf8 => b'?',
+        _ => byte,
+    }
+}
+
+/// The number of bytes of the character at the start of a UTF-8 text if a terminal would act on it: a
+/// control character above ASCII, or one that turns the direction of writing; else 0.
+fn hidden_length(text: &[u8]) -> usize
+    ensures { result ≡ acting_length text.now }
+{
+    match text {
+        [0xC2, 0x80..=0x9F, ..] => 2,
+        [0xE2, 0x80, 0x8E | 0x8F | 0xAA..=0xAE, ..] => 3,
+        [0xE2, 0x81, 0xA6..=0xA9, ..] => 3,
+        _ => 0,
+    }
+}
+
+/// The number of columns that a text takes: in UTF-8 the bytes that begin a character.
+pub(crate) fn columns_of(text: &[u8]) -> usize
+    ensures { result ≡ columns_of text.now }
+{
+    text.iter()
+        .filter(|byte| !matches!(byte, 0x80..=0xBF))
+        .count()
+}
+
+/// The number of bytes of a text that take that many columns.
+fn bytes_of(text: &[u8], columns: usize) -> usize
+    ensures front { take result text.now ≡ first_columns columns text.now }
+    ensures within { result ≤ length text.now }
+{
+    let mut left = columns;
+    for (index, byte) in text.iter().enumerate() {
+        if matches!(byte, 0x80..=0xBF) {
+            continue;
+        }
+        if left == 0 {
+            return index;
+        }
+        left = left.saturating_sub(1);
+    }
+    text.len()
+}
+
+/// Whether a text is UTF-8.
+fn is_text(bytes: &[u8]) -> bool
+    ensures { result ≡ is_utf8 bytes.now }
+{
+    str::from_utf8(bytes).is_ok()
+}
+
+/// The byte that is shown of a character on which a terminal would act, or of any other byte.
+fn first_shown(length: usize, byte: u8, is_utf8: bool) -> u8
+    ensures { result ≡ shown_first is_utf8 length byte }
+{
+    if length > 0 {
+        b'?'
+    } else {
+        printable(byte, is_utf8)
+    }
+}
+
+/// Puts a byte, unless it is a space that follows a space.
+fn put_single(text: &mut Vec<u8>, before: u8, byte: u8) -> Result<(), Fault>
+    ensures puts { OnOk result (text.new.items ≡ text.old.items ++ single_spaces before (byte ∷ [])) }
+    ensures memory { IsOkUnless result Fault.Memory }
+{
+    if byte == b' ' && before == b' ' {
+        return Ok(());
+    }
+    put_bytes(text, &[byte])
+}
+
+/// Puts bytes as they are shown, and a single space for several.
+fn put_shown(text: &mut Vec<u8>, bytes: &[u8]) -> Result<(), Fault>
+    ensures puts { OnOk result (text.new.items ≡ text.old.items ++ shown bytes.now) }
+    ensures memory { IsOkUnless result Fault.Memory }
+{
+    let is_utf8 = is_text(bytes);
+    let (mut before, mut hidden) = (b' ', 0_usize);
+    for (index, byte) in bytes.iter().enumerate() {
+        if hidden > 0 {
+            hidden = hidden.saturating_sub(1);
+            continue;
+        }
+        let length = hidden_length(bytes.split_at(index).1);
+        let shown = first_shown(length, *byte, is_utf8);
+        put_single(text, before, shown)?;
+        hidden = length.saturating_sub(1);
+        before = shown;
+    }
+    Ok(())
+}
+
+/// A line without the blanks at its ends.
+fn words_of(line: &[u8]) -> &[u8]
+    ensures { result.now ≡ between_words line.now }
+{
+    line.trim_ascii()
+}
+
+/// What a text has from there on.
+pub(crate) fn bytes_from(text: &[u8], start: usize) -> &[u8]
+    ensures { result.now ≡ drop start text.now }
+{
+    match text.get(start..) {
+        Some(bytes) => bytes,
+        None => b"",
+    }
+}
+
+/// Fits what a text has from there on into that many columns: if it does not, its first part is left, and two dots.
+fn fit(text: &mut Vec<u8>, start: usize, columns: usize) -> Result<(), Fault>
+    requires { start ≤ length text.old.items }
+    ensures fits { OnOk result (text.new.items
+        ≡ take start text.old.items ++ fitted columns (drop start text.old.items)) }
+    ensures memory { IsOkUnless result Fault.Memory }
+{
+    let put = bytes_from(text, start);
+    if columns_of(put) <= columns {
+        return Ok(());
+    }
+    let kept = bytes_of(put, columns.saturating_sub(2));
+    text.truncate(start + kept);
+    put_bytes(text, b"..")
+}
+
+/// Puts a line of the text without the blanks at its ends. If it does not fit into that many columns
+/// its first part is put, and two dots.
+pub(crate) fn put_line(text: &mut Vec<u8>, line: &[u8], columns: usize) -> Result<(), Fault>
+    ensures puts { OnOk result (text.new.items ≡ text.old.items ++ line_shown columns line.now) }
+    ensures memory { IsOkUnless result Fault.Memory }
+{
+    let start = text.len();
+    put_shown(text, words_of(line))?;
+    fit(text, start, columns)
+}

@@ -1,0 +1,63 @@
+ghost use Rattle.std.specs.Prelude.{◌≡◌, ◌++◌, IsOkUnless, OnOk, decimal};
+ghost use Rattle.wc_view_trace_rows.specs.Steps.{heading, heading_end, none_chosen, steps_line};
+
+use wc_model::{Fault, put_bytes};
+use wc_report::put_number;
+
+/// Puts a number between two texts.
+fn put_between(text: &mut Vec<u8>, before: &[u8], number: u64, after: &[u8]) -> Result<(), Fault>
+    ensures puts { OnOk result
+        (text.new.items ≡ text.old.items ++ (before.now ++ (decimal number ++ after.now))) }
+    ensures memory { IsOkUnless result Fault.Memory }
+{
+    put_bytes(text, before)?;
+    put_number(text, number)?;
+    put_bytes(text, after)
+}
+
+/// What is in a heading after the moment.
+fn heading_end(is_changed: bool) -> &'static [u8]
+    ensures { result.now ≡ heading_end is_changed }
+{
+    if is_changed {
+        b" ms, next program\n"
+    } else {
+        b" ms\n"
+    }
+}
+
+/// Puts the heading of a scan: its number among those of the run, from 1, its moment in milliseconds, and whether the next program
+/// has replaced the first. `Memory` is the only fault.
+pub(crate) fn put_heading(
+    text: &mut Vec<u8>,
+    number: u32,
+    ms: u64,
+    is_changed: bool,
+) -> Result<(), Fault>
+    ensures puts { OnOk result
+        (text.new.items ≡ text.old.items ++ heading number ms is_changed) }
+    ensures memory { IsOkUnless result Fault.Memory }
+{
+    put_between(text, b"scan ", u64::from(number), b" at ")?;
+    put_between(text, b"", ms, heading_end(is_changed))
+}
+
+/// Puts that none of the scans was chosen, of which there are that many. `Memory` is the only fault.
+pub fn put_none_chosen(text: &mut Vec<u8>, scans: u32) -> Result<(), Fault>
+    ensures puts { OnOk result (text.new.items ≡ text.old.items ++ none_chosen scans) }
+    ensures memory { IsOkUnless result Fault.Memory }
+{
+    if scans == 0 {
+        return put_bytes(text, b"the log has no scan\n");
+    }
+    put_between(text, b"none of ", u64::from(scans), b" scans is chosen\n")
+}
+
+/// Puts the number of steps a scan took, and the most that one takes. `Memory` is the only fault.
+pub(crate) fn put_steps(text: &mut Vec<u8>, steps: usize, bound: u32) -> Result<(), Fault>
+    ensures puts { OnOk result (text.new.items ≡ text.old.items ++ steps_line steps bound) }
+    ensures memory { IsOkUnless result Fault.Memory }
+{
+    put_between(text, b"steps ", steps as u64, b" of at most ")?;
+    put_between(text, b"", u64::from(bound), b"\n")
+}

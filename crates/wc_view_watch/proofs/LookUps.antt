@@ -1,0 +1,123 @@
+-- The names of a list by their numbers, and where each is.
+use Rattle.std.proofs.Common.{◌≡◌, ℕ, suc, ◌+◌, ◌≤◌, List, [], ◌∷◌, ◌++◌, Bool, Bor, true, false, cond, length, map, take, drop, Option, Some, None, refl, sym, ap, ◌∙◌, arith, append-nil, length-append, Vec, Global}
+use Rattle.std.proofs.lemmas.Grind.{flat_map-append}
+use Rattle.std.proofs.lemmas.List.{append_assoc, take-append-drop, take_all, take_more}
+use Rattle.std.proofs.lemmas.Option.{get_or_from_slice_get, slice_get-map, slice_get_within}
+use Rattle.std.specs.List.{flat_map, onto_first, position_from}
+use Rattle.std.specs.Prelude.{◌==◌, ◌||◌, is_some, not, option_and_then, option_map, slice_get}
+use Rattle.wc_model.specs.Language.Tree.{Text}
+use Rattle.wc_names.proofs.Lists.{from_index}
+use Rattle.wc_text_variables.proofs.Readings.{known}
+use Rattle.wc_text_variables.specs.Numbered.{variable_named}
+use Rattle.wc_text_variables.specs.Names.{named_location}
+use Rattle.wc_view_watch.specs.Names.{names_in}
+use Rattle.wc_view_watch.specs.Unknown.{has_meaning, is_unknown, with_commas}
+use Rattle.wc_view_watch.specs.Watching.{AreLookedUp}
+use Rattle.wc_text_variables.specs.declared.variables.NamedVariable.{NamedVariable}
+use Rattle.wc_view_watch.specs.declared.watched_names.WatchedNames.{WatchedNames}
+
+-- a name of the list
+pub name_at : (names : List (Bor (List ℕ))) (list : List ℕ) (index : ℕ) (name : Bor (List ℕ)) → map (λ one. one.now) names ≡ names_in list → slice_get names index ≡ Some name
+    → slice_get (names_in list) index ≡ Some name.now
+name_at names list index name are there =
+    ap (λ all. slice_get all index) (sym are) ∙ slice_get-map (λ (one : Bor (List ℕ)). one.now) names index ∙ ap (option_map (λ (one : Bor (List ℕ)). one.now)) there
+
+-- and what it means
+pub meaning_at : (f : List ℕ → Option NamedVariable) (all : List (Option NamedVariable)) (names : List (List ℕ)) (index : ℕ) (name : List ℕ) → all ≡ map f names
+    → slice_get names index ≡ Some name → slice_get all index ≡ Some (f name)
+meaning_at f all names index name are there = ap (λ xs. slice_get xs index) are ∙ slice_get-map f names index ∙ ap (option_map f) there
+
+pub same_meaning : (f : List ℕ → Option NamedVariable) (all : List (Option NamedVariable)) (names : List (List ℕ)) (index : ℕ) (name : List ℕ) (w : Option NamedVariable) → all ≡ map f names
+    → slice_get names index ≡ Some name → slice_get all index ≡ Some w → f name ≡ w
+same_meaning f all names index name w are there found = let e : Some (f name) ≡ Some w = sym (meaning_at f all names index name are there) ∙ found in cc (e)
+
+-- the names from one on are it, and those after it
+rest_at : (names : List (List ℕ)) (index : ℕ) (name : List ℕ) → slice_get names index ≡ Some name → drop index names ≡ name ∷ drop (index + 1) names
+rest_at names index name there =
+    from_index names index name (slice_get_within names index name there) (sym (get_or_from_slice_get names index name name there))
+
+-- the names up to one are those before it, and it
+next_name : (names : List (List ℕ)) (index : ℕ) (name : List ℕ) → slice_get names index ≡ Some name → take (index + 1) names ≡ take index names ++ name ∷ []
+next_name names index name there =
+    take_more names index name (slice_get_within names index name there) ∙ ap (λ n. take index names ++ n ∷ []) (get_or_from_slice_get names index name name there)
+
+-- what is put of each name, with one name more
+pub one_name_more : (g : List ℕ → List ℕ) (names : List (List ℕ)) (index : ℕ) (name old line new : List ℕ) → slice_get names index ≡ Some name
+    → line ≡ old ++ flat_map g (take index names) → new ≡ line ++ g name → new ≡ old ++ flat_map g (take (index + 1) names)
+one_name_more g names index name old line new there so_far put =
+    put ∙ ap (λ l. l ++ g name) so_far ∙ append_assoc old (flat_map g (take index names)) (g name)
+    ∙ ap (λ t. old ++ t) (ap (λ t. flat_map g (take index names) ++ t) (sym (append-nil (g name))) ∙ sym (flat_map-append g (take index names) (name ∷ [])) ∙ ap (flat_map g) (sym (next_name names index name there)))
+
+-- and of all names
+pub all_names : (g : List ℕ → List ℕ) (names : List (List ℕ)) (index : ℕ) (old line : List ℕ) → length names ≤ index → line ≡ old ++ flat_map g (take index names) → line ≡ old ++ flat_map g names
+all_names g names index old line past so_far = so_far ∙ ap (λ t. old ++ flat_map g t) (take_all index names past)
+
+-- the parts of a line
+pub four_pieces : (old first second third new a b c d : List ℕ) → first ≡ old ++ a → second ≡ first ++ b → third ≡ second ++ c → new ≡ third ++ d → new ≡ old ++ (a ++ (b ++ (c ++ d)))
+four_pieces old first second third new a b c d one two three four =
+    four ∙ ap (λ l. l ++ d) (three ∙ ap (λ l. l ++ c) (two ∙ ap (λ l. l ++ b) one))
+    ∙ append_assoc ((old ++ a) ++ b) c d ∙ append_assoc (old ++ a) b (c ++ d) ∙ append_assoc old a (b ++ (c ++ d))
+
+-- the names of a list, each with a comma, have one byte more than the list
+onto_longer : (x : ℕ) (parts : List (List ℕ)) (n : ℕ) → length (with_commas parts) ≡ suc n → length (with_commas (onto_first x parts)) ≡ suc (suc n)
+onto_longer x [] n e = absurd (cc (e))
+onto_longer x (part ∷ parts) n e = ap suc e
+
+whole_length : (list : List ℕ) → length (with_commas (names_in list)) ≡ suc (length list)
+whole_length [] = refl
+whole_length (x ∷ list) = by (x == 44) (whole_length list)
+  where
+    by : (b : Bool) → length (with_commas (names_in list)) ≡ suc (length list) → length (with_commas (cond b ([] ∷ names_in list) (onto_first x (names_in list)))) ≡ suc (suc (length list))
+    by true rest = ap suc rest
+    by false rest = onto_longer x (names_in list) (length list) rest
+
+pub start_within : (list : List ℕ) (index : ℕ) → length (with_commas (take index (names_in list))) ≤ suc (length list)
+start_within list index =
+    let names : List (List ℕ) = names_in list in
+    let cut : length (with_commas (take index names)) + length (with_commas (drop index names)) ≡ length (with_commas names) =
+    sym (length-append (with_commas (take index names)) (with_commas (drop index names)))
+    ∙ ap length (sym (flat_map-append (λ (name : List ℕ). name ++ 44 ∷ []) (take index names) (drop index names)))
+    ∙ ap (λ all. length (with_commas all)) (take-append-drop index names) in
+    omega (arith, cut, whole_length list)
+
+-- a name more, with its comma
+pub start_more : (list : List ℕ) (index : ℕ) (name : List ℕ) → slice_get (names_in list) index ≡ Some name
+    → length (with_commas (take (index + 1) (names_in list))) ≡ length (with_commas (take index (names_in list))) + length name + 1
+start_more list index name there =
+    let names : List (List ℕ) = names_in list in
+    let whole : with_commas (take (index + 1) names) ≡ with_commas (take index names) ++ ((name ++ 44 ∷ []) ++ []) =
+    ap with_commas (next_name names index name there) ∙ flat_map-append (λ (one : List ℕ). one ++ 44 ∷ []) (take index names) (name ∷ []) in
+    let one : length (with_commas (take (index + 1) names)) ≡ length (with_commas (take index names)) + length ((name ++ 44 ∷ []) ++ []) = ap length whole ∙ length-append (with_commas (take index names)) ((name ++ 44 ∷ []) ++ []) in
+    let two : length ((name ++ 44 ∷ []) ++ []) ≡ length name + 1 = ap length (append-nil (name ++ 44 ∷ [])) ∙ length-append name (44 ∷ []) in
+    omega (arith, one, two)
+
+-- whether a name is known, by what was looked up
+pub is_known_at : (names : WatchedNames) (list : List ℕ) (text : Text) (next : Option Text) (index : ℕ) (name : List ℕ) → AreLookedUp names list text next
+    → slice_get (names_in list) index ≡ Some name
+    → not (is_some (option_and_then (λ found. found) (slice_get names.watched.items index))
+    || is_some (option_and_then (λ all. option_and_then (λ found. found) (slice_get all.items index)) names.next)) ≡ is_unknown text next name
+is_known_at names list text next index name looked there =
+    (λ i. not (here i || ahead names.next next looked.ahead i))
+  where
+    here : is_some (option_and_then (λ (found : Option NamedVariable). found) (slice_get names.watched.items index)) ≡ is_some (named_location text name)
+    here = ap (λ (o : Option (Option NamedVariable)). is_some (option_and_then (λ found. found) o)) (meaning_at (variable_named text) names.watched.items (names_in list) index name looked.here there) ∙ known text name
+
+    ahead : (all : Option (Vec (Option NamedVariable) Global)) (other : Option Text) → option_map (λ found. found.items) all ≡ option_map (λ one. map (variable_named one) (names_in list)) other
+        → is_some (option_and_then (λ found. option_and_then (λ one. one) (slice_get found.items index)) all) ≡ has_meaning other name
+    ahead None None e = refl
+    ahead None (Some other) e = absurd (cc (e))
+    ahead (Some all) None e = absurd (cc (e))
+    ahead (Some all) (Some other) e =
+        let are : all.items ≡ map (variable_named other) (names_in list) = cc (e) in
+        ap (λ (o : Option (Option NamedVariable)). is_some (option_and_then (λ found. found) o)) (meaning_at (variable_named other) all.items (names_in list) index name are there) ∙ known other name
+
+-- the first unknown name among those from this one on
+pub found_here : (p : List ℕ → Bool) (names : List (List ℕ)) (index : ℕ) (name : List ℕ) → slice_get names index ≡ Some name → p name ≡ true
+    → position_from p index (drop index names) ≡ Some index
+found_here p names index name there is =
+    ap (position_from p index) (rest_at names index name there) ∙ ap (λ b. cond b (Some index) (position_from p (index + 1) (drop (index + 1) names))) is
+
+pub found_later : (p : List ℕ → Bool) (names : List (List ℕ)) (index : ℕ) (name : List ℕ) → slice_get names index ≡ Some name → p name ≡ false
+    → position_from p index (drop index names) ≡ position_from p (index + 1) (drop (index + 1) names)
+found_later p names index name there is =
+    ap (position_from p index) (rest_at names index name there) ∙ ap (λ b. cond b (Some index) (position_from p (index + 1) (drop (index + 1) names))) is

@@ -1,0 +1,72 @@
+-- What an observer that watches variables has looked up, and what it has kept. (No rule of the language.)
+use Rattle.std.specs.Prelude.{◌≡◌, ⊤, ℕ, List, [], map, Option, Some, None, option_map}
+use Rattle.wc_machine.specs.Machines.{MachineState, StandsFor}
+use Rattle.wc_model.specs.Instrument.Plates.{PlateData}
+use Rattle.wc_model.specs.Language.Tree.{Text}
+use Rattle.wc_model.specs.Run.Rows.{Past}
+use Rattle.wc_model.specs.Say.ProgramReport.{Logic}
+use Rattle.wc_run.specs.Logics.{logic_after}
+use Rattle.wc_run.specs.declared.fault.RunFault.{RunFault}
+use Rattle.wc_run.specs.declared.fault.RunFault.TheVariants.{Refused}
+use Rattle.wc_text_variables.specs.Numbered.{variable_named}
+use Rattle.wc_view_watch.specs.Names.{names_in}
+use Rattle.wc_view_watch.specs.Plans.{scans_so_far}
+use Rattle.wc_view_watch.specs.Ring.{RingState, HoldsLast}
+use Rattle.wc_view_watch.specs.Unknown.{IsFirstUnknown}
+use Rattle.wc_view_watch.specs.declared.names.UnknownName.{UnknownName}
+use Rattle.wc_view_watch.specs.declared.watched_names.WatchedNames.{WatchedNames}
+use Rattle.wc_view_watch.specs.declared.watcher.Watcher.{Watcher}
+
+-- the names of the list, what they mean in the text that runs, and in the next one, if there is one
+pub record AreLookedUp (names : WatchedNames) (list : List ℕ) (text : Text) (next : Option Text) : Type 0 where
+  pub listed : map (λ name. name.now) names.names.items ≡ names_in list
+  pub here : names.watched.items ≡ map (variable_named text) (names_in list)
+  pub ahead : option_map (λ all. all.items) names.next ≡ option_map (λ other. map (variable_named other) (names_in list)) next
+
+-- the text that runs after a change: the next one, if there is one
+abbrev pub text_behind : Text → Option Text → Text
+text_behind text None = text
+text_behind text (Some other) = other
+
+-- so of a logic; with none nothing is looked up
+abbrev pub FitLogic : WatchedNames → List ℕ → Option Logic → Type 0
+FitLogic names list None = ⊤
+FitLogic names list (Some logic) = AreLookedUp names list logic.text logic.next
+
+-- the machine runs the logic, and with none there is no machine
+abbrev pub RunsLogic : Option MachineState → Option Logic → Type 0
+RunsLogic None None = ⊤
+RunsLogic None (Some logic) = ⊥
+RunsLogic (Some machine) None = ⊥
+RunsLogic (Some machine) (Some logic) = StandsFor machine logic.text logic.store
+
+-- the last n texts are kept, if these are asked for
+abbrev pub KeepsLast : Option RingState → Option ℕ → List (List ℕ) → Type 0
+KeepsLast None None texts = ⊤
+KeepsLast None (Some number) texts = ⊥
+KeepsLast (Some ring) None texts = ⊥
+KeepsLast (Some ring) (Some number) texts = HoldsLast ring number texts
+
+-- what is written at once of a scan: all of it, or nothing, if the last n are kept
+abbrev pub written_now : Option ℕ → List ℕ → List ℕ
+written_now None text = text
+written_now (Some number) text = []
+
+-- the names are those of the logic after the rows so far, and the last scans of these rows are kept
+pub record HasSeen (watcher : Watcher) (plate : PlateData) (logic : Option Logic) (past : Past) : Type 0 where
+  pub names : FitLogic watcher.names watcher.list.now (logic_after plate logic past)
+  pub scans : KeepsLast watcher.last watcher.number (scans_so_far watcher.list.now plate logic past)
+
+-- it watches what it watched
+pub record WatchesAs (old new : Watcher) : Type 0 where
+  pub list : new.list ≡ old.list
+  pub number : new.number ≡ old.number
+
+-- it refuses to begin with 401, and has found an unknown name
+abbrev pub RefusesFor : Watcher → RunFault → Type 0
+RefusesFor watcher (Refused number place) = (number ≡ 401) × (place ≡ 0) × ((name : UnknownName) × (watcher.unknown ≡ Some name))
+RefusesFor watcher fault = ⊥
+
+-- it has found a name of the list that is unknown, and has the first one
+abbrev pub HasRefused : List ℕ → Watcher → Option Logic → Type 0
+HasRefused list watcher logic = (name : UnknownName) × (watcher.unknown ≡ Some name) × IsFirstUnknown list logic name

@@ -1,0 +1,37 @@
+ghost use Rattle.std.specs.Prelude.{◌≡◌, ◌+◌, ◌≤◌, IfOk, IsOkUnless, length, map};
+ghost use Rattle.wc_view_watch.specs.Names.{names_in};
+
+use std::alloc::Global;
+use wc_model::Fault;
+
+/// A name of a list that no program has: where it is in the list.
+#[derive(Clone, Copy, PartialEq, Eq)]
+pub struct UnknownName {
+    /// Its first byte, counted from 0.
+    pub start: usize,
+    /// The number of bytes it has.
+    pub length: usize,
+}
+
+/// The names of a list, which are between its commas. `Memory` is the only fault.
+pub(crate) fn names_of<'n>(alloc: Global, list: &'n [u8]) -> Result<Vec<&'n [u8]>, Fault>
+    ensures names { IfOk result (λ names. map (λ name. name.now) names.items ≡ names_in list.now) }
+    ensures memory { IsOkUnless result Fault.Memory }
+{
+    match list.split(|byte| *byte == b',').collect(alloc) {
+        Ok(names) => Ok(names),
+        Err(_) => Err(Fault::Memory),
+    }
+}
+
+/// A name that is in a list, or the first bytes of the list that it has.
+pub(crate) fn within(name: UnknownName, list: &[u8]) -> UnknownName
+    ensures inside { result.start + result.length ≤ length list.now }
+    ensures same { name.start + name.length ≤ length list.now → result ≡ name }
+{
+    let start = name.start.min(list.len());
+    UnknownName {
+        start,
+        length: name.length.min(list.len() - start),
+    }
+}

@@ -1,8 +1,0 @@
-use Rattle.std.proofs.Common.{Global, Vec, map}
-use Rattle.std.specs.Prelude.{ℕ}
-use Rattle.wc_watch.proofs.RingSteps.{none_kept}
-use Rattle.wc_watch.proofs.last_texts.LastTexts.new.Goals as goal
-
-pub returns-in-Ok-clause-empty : goal.returns-in-Ok-clause-empty
-returns-in-Ok-clause-empty c =
-    none_kept (map (λ (text : Vec ℕ Global). text.items) c.in-Ok.texts.items) c.args.number c.requires.some c.in-Ok.ensures.empty
